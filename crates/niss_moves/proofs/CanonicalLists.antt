@@ -5,12 +5,12 @@ use Rattle.niss_moves.proofs.Names.{may_follow, IsCanonical, last_turn, canonica
 use Rattle.niss_moves.proofs.Names.{all_canonical, CanonicalMembers, CanonicalGrows, CanonicalInOrder, Turn, Face, opposite, same_face}
 use Rattle.niss_moves.proofs.Names.{goes_first}
 use Rattle.std.specs.List.{All, AllPairs, Contains, filter}
-use Rattle.std.proofs.lemmas.Bool.{and_parts, cond_both}
+use Rattle.std.proofs.lemmas.Bool.{cond_both}
 use Rattle.std.proofs.lemmas.List.{length-map, get_or-map, nil_from_length}
 use Rattle.std.proofs.lemmas.List.Elements.{All-append, All-contains, All-contains_itself, All-filter, All-map, All-pop, All-push}
 use Rattle.std.proofs.lemmas.List.Elements.{All-weaker, Contains-append_cases, Contains-append_left, Contains-append_right, filter_passes}
 use Rattle.std.proofs.lemmas.List.Kept.{AllPairs-cons, AllPairs-filter}
-use Rattle.niss_moves.proofs.Finite.{every_face, at_face, implies, by_implies, not_true, and_both, and_left, and_right}
+use Rattle.niss_moves.proofs.Finite.{every_face, Faces, When, Both, Yes, Same, holds, and_both, and_left, and_right}
 
 pub canonical_pair : (a : List Turn) (x y : Turn) (b : List Turn) → IsCanonical (a ++ x ∷ y ∷ b) → face_may_follow x.face y.face ≡ true
 canonical_pair [] x y b h = and_left _ _ h
@@ -57,32 +57,20 @@ exchanged f g a b = and_both _ _ (ap not a) (ap not b)
 abbrev pub goes_late : Face → Face → Bool
 goes_late f g = same_face (opposite f) g && goes_first g
 
-exchange_test : every_face (λ f. every_face (λ g. implies (are_exchanged f g) (face_may_follow g f && (goes_late f g && not (goes_late g f))))) ≡ true
-unfolding every_face
-exchange_test = refl
-
 -- exchanged, they are in order
-pub exchange : (f g : Face) → are_exchanged f g ≡ true → (face_may_follow g f ≡ true) × (goes_late f g ≡ true) × (goes_late g f ≡ false)
-exchange f g h =
-    let both = and_parts (face_may_follow g f) (goes_late f g && not (goes_late g f)) (by_implies _ _ (at_face _ (at_face _ exchange_test f) g) h) in
-    let late = and_parts (goes_late f g) (not (goes_late g f)) both.1 in
-    (both.0, late.0, not_true _ late.1)
-
-skip_test : every_face (λ z. every_face (λ y. every_face (λ x. implies (face_may_follow z y && are_exchanged x y) (face_may_follow z x)))) ≡ true
+pub exchange : (f g : Face) → are_exchanged f g ≡ true → (face_may_follow g f ≡ true) × ((goes_late f g ≡ true) × (goes_late g f ≡ false))
 unfolding every_face
-skip_test = refl
+exchange = holds (Faces (λ f. Faces (λ g. When (are_exchanged f g) (Both (Yes (face_may_follow g f)) (Both (Yes (goes_late f g)) (Same (goes_late g f) false)))))) refl
 
 -- what may stand before the first of two opposite faces may stand before the second
 skip_follows : (z y x : Face) → face_may_follow z y ≡ true → are_exchanged x y ≡ true → face_may_follow z x ≡ true
-skip_follows z y x h a = by_implies _ _ (at_face _ (at_face _ (at_face _ skip_test z) y) x) (and_both _ _ h a)
-
-pass_test : every_face (λ y. every_face (λ x. every_face (λ t. implies (face_may_follow y x && (not (same_face y t) && are_exchanged x t)) (face_may_follow y t)))) ≡ true
 unfolding every_face
-pass_test = refl
+skip_follows = holds (Faces (λ z. Faces (λ y. Faces (λ x. When (face_may_follow z y) (When (are_exchanged x y) (Yes (face_may_follow z x))))))) refl
 
 -- and the other way round, unless it is of the first one's face itself
 pub pass_follows : (y x t : Face) → face_may_follow y x ≡ true → same_face y t ≡ false → are_exchanged x t ≡ true → face_may_follow y t ≡ true
-pass_follows y x t h a b = by_implies _ _ (at_face _ (at_face _ (at_face _ pass_test y) x) t) (and_both _ _ h (and_both _ _ (ap not a) b))
+unfolding every_face
+pass_follows y x t h a = holds (Faces (λ y. Faces (λ x. Faces (λ t. When (face_may_follow y x) (When (not (same_face y t)) (When (are_exchanged x t) (Yes (face_may_follow y t)))))))) refl y x t h (ap not a)
 
 -- a list whose last turn but one is left out
 pub skip_middle : (b : List Turn) (y x : Turn) → IsCanonical (b ++ y ∷ x ∷ []) → are_exchanged x.face y.face ≡ true → IsCanonical (b ++ x ∷ [])

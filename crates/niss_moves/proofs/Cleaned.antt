@@ -5,9 +5,8 @@ use Rattle.niss_moves.proofs.Names.{append-nil, IfSome, IsCanonical, last_turn, 
 use Rattle.niss_moves.proofs.Names.{rewritten_within, clean_turns, sum_of_turns, rewritten_pair, IsRewriting, Cleans, Clean, Rewrite}
 use Rattle.niss_moves.proofs.Names.{are_disordered, disorder, turn_by, sum_of_powers, CleaningEnds, OneCleanList, CanonicalStays}
 use Rattle.niss_moves.proofs.Names.{CleanTurnsAreClean, RewritingLowers, turned, effect_of_turns, pair_of_turns, list_with_turn, Turn}
-use Rattle.niss_moves.proofs.Names.{Face, Power, U, Place, same_place, opposite, same_face, map, codes, Result, Ok, Err, all_canonical}
-use Rattle.niss_moves.proofs.Names.{turn_order, rotation_left, with_clean_line, Moves, symbol_of, step_within, start, run, ended, D, R, L}
-use Rattle.niss_moves.proofs.Names.{Half, ReadFault}
+use Rattle.niss_moves.proofs.Names.{Face, Power, U, Place, opposite, same_face, map, all_canonical}
+use Rattle.niss_moves.proofs.Names.{turn_order}
 use Rattle.std.specs.Option.{option_map, option_map_or}
 use Rattle.std.specs.List.{count_by}
 use Rattle.std.proofs.Math.Nat.{mul-le-mul_left}
@@ -15,13 +14,11 @@ use Rattle.std.proofs.lemmas.Nat.{mul-le}
 use Rattle.std.proofs.lemmas.List.Sums.{count_by-le-length, sum_by-cons}
 use denote.Enum.Bare.{sameb}
 use Rattle.niss_moves.specs.contracts.turn.Face.{the_type}
-use Rattle.niss_moves.specs.Reading.{read_line}
 use Rattle.niss_moves.proofs.Finite.{and_both, and_left, and_right, every_face, every_power, every_turn, every_coord, every_vector}
-use Rattle.niss_moves.proofs.Finite.{every_place, at_power, at_turn, at_place, turn, same_face_is, same_place_is}
+use Rattle.niss_moves.proofs.Finite.{every_place, Turns, Powers, Anywhere, Alike, holds, turn, same_face_is}
 use Rattle.niss_moves.proofs.Effects.{effect_of_turns-append}
 use Rattle.niss_moves.proofs.CanonicalLists.{canonical_pair, canonical_front, canonical_join, canonical_last, snoc_assoc, last_of}
 use Rattle.niss_moves.proofs.CanonicalLists.{are_exchanged, exchanged, exchange, pass_follows, skip_middle, last_turn-push}
-use Rattle.niss_moves.proofs.Found.{read_by_run}
 
 -- what a turn at the end leaves
 pub list_with_turn-last : (a : List Turn) (x t : Turn) → list_with_turn (a ++ x ∷ []) t ≡ a ++ pair_of_turns x t
@@ -113,23 +110,23 @@ cleaned_passed a old mid new x t h o e b m n =
 -- Cleaning keeps the effect.
 
 -- Two turns of one face have the effect of their sum.
-sums_test : every_turn (λ t. every_power (λ p. every_place (λ q. same_place (effect_of_turns (sum_of_turns t (turn t.face p)) q) (turned (turn t.face p) (turned t q))))) ≡ true
+sums : (t : Turn) (p : Power) (q : Place) → effect_of_turns (sum_of_turns t (turn t.face p)) q ≡ turned (turn t.face p) (turned t q)
 unfolding every_turn every_face every_power every_place every_vector every_coord
-sums_test = refl
+sums = holds (Turns (λ t. Powers (λ p. Anywhere (λ q. Alike (effect_of_turns (sum_of_turns t (turn t.face p)) q) (turned (turn t.face p) (turned t q)))))) refl
 
 -- Turns of opposite faces commute.
-commutes_test : every_turn (λ t. every_power (λ p. every_place (λ q. same_place (turned t (turned (turn (opposite t.face) p) q)) (turned (turn (opposite t.face) p) (turned t q))))) ≡ true
+commute : (t : Turn) (p : Power) (q : Place) → turned t (turned (turn (opposite t.face) p) q) ≡ turned (turn (opposite t.face) p) (turned t q)
 unfolding every_turn every_face every_power every_place every_vector every_coord
-commutes_test = refl
+commute = holds (Turns (λ t. Powers (λ p. Anywhere (λ q. Alike (turned t (turned (turn (opposite t.face) p) q)) (turned (turn (opposite t.face) p) (turned t q)))))) refl
 
 rewritten_effect : (x t : Turn) → face_may_follow x.face t.face ≡ false → (r : Place) → effect_of_turns (rewritten_pair x t) r ≡ effect_of_turns (x ∷ t ∷ []) r
 rewritten_effect x t h r = by_case (same_face x.face t.face) refl
   where
     by_case : (s : Bool) → same_face x.face t.face ≡ s → effect_of_turns (rewritten_pair x t) r ≡ effect_of_turns (x ∷ t ∷ []) r
     by_case true e =
-        rw e (same_place_is _ _ (at_place _ (at_power _ (at_turn _ sums_test x) t.power) r) ∙ ap (λ f. turned (turn f t.power) (turned x r)) (same_face_is _ _ e))
+        rw e (sums x t.power r ∙ ap (λ f. turned (turn f t.power) (turned x r)) (same_face_is _ _ e))
     by_case false e =
-        rw e (subst (λ (f : Face). effect_of_turns (turn f t.power ∷ x ∷ []) r ≡ effect_of_turns (x ∷ turn f t.power ∷ []) r) (same_face_is _ _ (and_left _ _ (exchange x.face t.face (exchanged x.face t.face e h)).1)) (same_place_is _ _ (at_place _ (at_power _ (at_turn _ commutes_test x) t.power) r)))
+        rw e (subst (λ (f : Face). effect_of_turns (turn f t.power ∷ x ∷ []) r ≡ effect_of_turns (x ∷ turn f t.power ∷ []) r) (same_face_is _ _ (and_left _ _ (exchange x.face t.face (exchanged x.face t.face e h)).1.0)) (commute x t.power r))
 
 one_effect : (s t : List Turn) → IsRewriting s t → (r : Place) → effect_of_turns t r ≡ effect_of_turns s r
 one_effect s t w r =
@@ -175,7 +172,7 @@ lowers_here front t u rest m true e = inl (shorter front t u rest e)
 lowers_here front t u rest m false e =
     let d = exchange t.face u.face (exchanged t.face u.face e m) in
     let s : front ++ rewritten_pair t u ++ rest ≡ front ++ u ∷ t ∷ rest = rw (e, append_assoc) refl in
-    inr (ap length s ∙ length-append front (u ∷ t ∷ rest) ∙ sym (length-append front (t ∷ u ∷ rest)), subst (λ (x : List Turn). disorder x < disorder (front ++ t ∷ u ∷ rest)) (sym s) (fewer front t u rest d.1 d.2))
+    inr (ap length s ∙ length-append front (u ∷ t ∷ rest) ∙ sym (length-append front (t ∷ u ∷ rest)), subst (λ (x : List Turn). disorder x < disorder (front ++ t ∷ u ∷ rest)) (sym s) (fewer front t u rest d.1.0 d.1.1))
 
 pub rewriting_lowers : RewritingLowers
 rewriting_lowers s t w =
@@ -307,34 +304,3 @@ canonical_stays s c h d = one_clean_list s c s d (Clean h)
 counts : map (λ k. length (all_canonical turn_order k)) (1 ∷ 2 ∷ 3 ∷ []) ≡ 18 ∷ 243 ∷ 3240 ∷ []
 unfolding all_canonical
 counts = refl
-
--- what cleaning leaves of a line
-cleaned : Result Moves ReadFault → List ℕ
-cleaned (Ok line) = with_clean_line [] line
-cleaned (Err f) = codes "a fault"
-
--- lines and what they are cleaned to
-rows : List (List ℕ × List ℕ)
-rows =
-    (codes "U D", codes "U D") ∷ (codes "D U", codes "U D")
-    -- by `U U' D`, by `U D D'`, and by `R R L`
-    ∷ (codes "U D U'", codes "D") ∷ (codes "D U D'", codes "U") ∷ (codes "R L R", codes "R2 L")
-    -- by `F2 F F` and `F' F`
-    ∷ (codes "F F F F", []) ∷ (codes "R R'", []) ∷ (codes "U U", codes "U2")
-    -- a rotation renames what follows it, and the rest stands at the end by its one spelling
-    ∷ (codes "Rw U", codes "L F x") ∷ (codes "M", codes "R L' x'")
-    ∷ (codes "z z", codes "x2 y2") ∷ (codes "x y x'", codes "z")
-    ∷ (codes "(U2)", codes "(U2)") ∷ (codes "x (y)", codes "x (y)")
-    -- These two have one effect: the clean list is more than that.
-    ∷ (codes "R2 L2 U2 D2", codes "R2 L2 U2 D2") ∷ (codes "U2 D2 R2 L2", codes "U2 D2 R2 L2") ∷ []
-
-run_so : map (λ r. cleaned (ended (run start r.0))) rows ≡ map (λ r. r.1) rows
-unfolding cleaned rows step_within symbol_of rewritten_within rewritten_once clean_turns rotation_left
-run_so = refl
-
-rows_are_so : map (λ r. cleaned (read_line r.0)) rows ≡ map (λ r. r.1) rows
-rows_are_so = (λ i. map (λ r. cleaned (sym (read_by_run r.0) i)) rows) ∙ run_so
-
-same_effect : every_place (λ q. same_place (effect_of_turns (turn R Half ∷ turn L Half ∷ turn U Half ∷ turn D Half ∷ []) q) (effect_of_turns (turn U Half ∷ turn D Half ∷ turn R Half ∷ turn L Half ∷ []) q)) ≡ true
-unfolding every_place every_vector every_coord
-same_effect = refl

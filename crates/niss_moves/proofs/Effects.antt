@@ -12,20 +12,17 @@ use Rattle.std.specs.List.{find, list_all}
 use mathlib.Core.Bool.{beq}
 use Rattle.niss_moves.specs.declared.token.Token.TheVariants as token
 use Rattle.niss_moves.specs.Helpers.{IsNext}
-use Rattle.niss_moves.proofs.Finite.{every_place, at_place, every_token, at_token, every_vector, every_coord, every_power, every_face}
-use Rattle.niss_moves.proofs.Finite.{every_slice, every_axis, implies, by_implies, same_place_is, at_vector, same_vector_is, same_face_is}
+use Rattle.niss_moves.proofs.Finite.{every_place, every_token, every_vector, every_coord, every_power, every_face}
+use Rattle.niss_moves.proofs.Finite.{every_slice, every_axis, Tokens, Anywhere, Places, Alike, Yes, holds, at_vector, same_vector_is, same_face_is}
 use Rattle.niss_moves.proofs.Finite.{turn, rotation, every_turn, at_turn, at_face, at_power, at_axis, every_rotation, at_rotation}
 
 pub effect-append : (s t : List Token) (q : Place) → effect (s ++ t) q ≡ effect t (effect s q)
 effect-append [] t q = refl
 effect-append (x ∷ s) t q = effect-append s t (moved_by x q)
 
-undoes_test : every_token (λ t. every_place (λ q. same_place (moved_by (inverse_token t) (moved_by t q)) q)) ≡ true
-unfolding every_place every_vector every_coord every_power every_face every_axis every_slice every_token
-undoes_test = refl
-
 undoes : (t : Token) (q : Place) → moved_by (inverse_token t) (moved_by t q) ≡ q
-undoes t q = same_place_is _ _ (at_place _ (at_token _ undoes_test t) q)
+unfolding every_place every_vector every_coord every_power every_face every_axis every_slice every_token
+undoes = holds (Tokens (λ t. Anywhere (λ q. Alike (moved_by (inverse_token t) (moved_by t q)) q))) refl
 
 twice_power : (p : Power) → inverse_power (inverse_power p) ≡ p
 twice_power Quarter = refl
@@ -84,20 +81,14 @@ inverse_undoes_line m n b s q h e =
     rw e (ap (effect (inverse (n ++ inverse b))) (one_meaning s (n ++ inverse b) n b h (meaning n b) q) ∙ inverse_after (n ++ inverse b) q)
 
 -- Each move has the effect of the basic moves that it is expanded to.
-expansions_test : every_token (λ t. every_place (λ q. same_place (effect (map token_of_basic (expanded t)) q) (moved_by t q))) ≡ true
-unfolding every_place every_vector every_coord every_power every_face every_axis every_slice every_token
-expansions_test = refl
-
 pub effect_of_expanded : (t : Token) (q : Place) → effect (map token_of_basic (expanded t)) q ≡ moved_by t q
-effect_of_expanded t q = same_place_is _ _ (at_place _ (at_token _ expansions_test t) q)
+unfolding every_place every_vector every_coord every_power every_face every_axis every_slice every_token
+effect_of_expanded = holds (Tokens (λ t. Anywhere (λ q. Alike (effect (map token_of_basic (expanded t)) q) (moved_by t q)))) refl
 
 -- A move brings places to places.
-stays_test : every_token (λ t. every_place (λ q. implies (is_place q) (is_place (moved_by t q)))) ≡ true
-unfolding every_place every_vector every_coord every_power every_face every_axis every_slice every_token
-stays_test = refl
-
 pub places_stay : PlacesStay
-places_stay t q h = by_implies _ _ (at_place _ (at_token _ stays_test t) q) h
+unfolding every_power every_face every_axis every_slice every_token
+places_stay = holds (Tokens (λ t. Places (λ q. Yes (is_place (moved_by t q))))) refl
 
 -- A rotation brings the cell and the direction of a place where it brings any vector.
 abbrev vector_if : Option (Axis × Power) → Vector → Vector

@@ -16,7 +16,8 @@ use Rattle.std.proofs.lemmas.Map.Made.{IsDistinct-from_count, AllPairs-from_IsDi
 use Rattle.std.proofs.lemmas.Map.Views.{Contains-from_any}
 use Rattle.std.specs.Cmp.{IsEquivalence}
 use Rattle.std.specs.List.{list_any, list_all}
-use Rattle.std.specs.Prelude.{Contains, ◌||◌}
+use Rattle.std.specs.Prelude.{Contains}
+use Rattle.std.specs.Cmp.Lexicographic.{pointwise, bytes_decides}
 pub use Rattle.std.proofs.lemmas.Bool.{not-true as not_true, and_from as and_both}
 
 pub and_left : (a b : Bool) → (a && b) ≡ true → a ≡ true
@@ -216,7 +217,11 @@ pub data Fact : Type 0 where
   When : Bool → Fact → Fact
   Numbers : ℕ → (ℕ → Fact) → Fact
   Places : (Place → Fact) → Fact
+  Text : List ℕ → List ℕ → Fact
+  Anywhere : (Place → Fact) → Fact
   Faces : (Face → Fact) → Fact
+  Powers : (Power → Fact) → Fact
+  Rotations : (Rotation → Fact) → Fact
   Turns : (Turn → Fact) → Fact
   Among : List Turn → (Turn → Fact) → Fact
   Tokens : (Token → Fact) → Fact
@@ -233,7 +238,11 @@ Holds (Both f g) = Holds f × Holds g
 Holds (When b f) = b ≡ true → Holds f
 Holds (Numbers n f) = (k : ℕ) → k < n → Holds (f k)
 Holds (Places f) = (q : Place) → is_place q ≡ true → Holds (f q)
+Holds (Text xs ys) = xs ≡ ys
+Holds (Anywhere f) = (q : Place) → Holds (f q)
 Holds (Faces f) = (face : Face) → Holds (f face)
+Holds (Powers f) = (p : Power) → Holds (f p)
+Holds (Rotations f) = (r : Rotation) → Holds (f r)
 Holds (Turns f) = (t : Turn) → Holds (f t)
 Holds (Among ts f) = (t : Turn) → Contains ts t → Holds (f t)
 Holds (Tokens f) = (m : Token) → Holds (f m)
@@ -264,10 +273,14 @@ tested (Equal m n) = m == n
 tested (Below m n) = nat_lt m n
 tested (Alike p q) = same_place p q
 tested (Both f g) = tested f && tested g
-tested (When b f) = not b || tested f
+tested (When b f) = implies b (tested f)
 tested (Numbers n f) = every_below n (λ k. tested (f k))
 tested (Places f) = list_all (λ q. tested (f q)) places
+tested (Text xs ys) = pointwise eqb xs ys
+tested (Anywhere f) = every_place (λ q. tested (f q))
 tested (Faces f) = every_face (λ face. tested (f face))
+tested (Powers f) = every_power (λ p. tested (f p))
+tested (Rotations f) = every_rotation (λ r. tested (f r))
 tested (Turns f) = every_turn (λ t. tested (f t))
 tested (Among ts f) = list_all (λ t. tested (f t)) ts
 tested (Tokens f) = every_token (λ m. tested (f m))
@@ -298,10 +311,6 @@ same_bool_is true b e = sym e
 same_bool_is false true e = e
 same_bool_is false false e = refl
 
-or_then : (a b : Bool) → (not a || b) ≡ true → a ≡ true → b ≡ true
-or_then true b e h = e
-or_then false b e h = cc
-
 pub holds : (f : Fact) → tested f ≡ true → Holds f
 holds (Yes b) e = e
 holds (Same a b) e = same_bool_is a b e
@@ -309,10 +318,14 @@ holds (Equal m n) e = eqb-true m n e
 holds (Below m n) e = ltb-true m n e
 holds (Alike p q) e = same_place_is p q e
 holds (Both f g) e = (holds f (and_left _ _ e), holds g (and_right (tested f) _ e))
-holds (When b f) e = λ h. holds f (or_then b _ e h)
+holds (When b f) e = λ h. holds f (by_implies b _ e h)
 holds (Numbers n f) e = λ k l. holds (f k) (at_below n (λ k. tested (f k)) e k l)
 holds (Places f) e = λ q h. holds (f q) (at_member (λ q. tested (f q)) places q e ((places_are_listed q).0 h))
+holds (Text xs ys) e = (bytes_decides xs ys).0 e
+holds (Anywhere f) e = λ q. holds (f q) (at_place (λ q. tested (f q)) e q)
 holds (Faces f) e = λ face. holds (f face) (at_face (λ face. tested (f face)) e face)
+holds (Powers f) e = λ p. holds (f p) (at_power (λ p. tested (f p)) e p)
+holds (Rotations f) e = λ r. holds (f r) (at_rotation (λ r. tested (f r)) e r)
 holds (Turns f) e = λ t. holds (f t) (at_turn (λ t. tested (f t)) e t)
 holds (Among ts f) e = λ t m. holds (f t) (at_member (λ t. tested (f t)) ts t e m)
 holds (Tokens f) e = λ m. holds (f m) (at_token (λ m. tested (f m)) e m)

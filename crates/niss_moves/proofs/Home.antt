@@ -1,10 +1,10 @@
 -- Face turns taken from a sequence behind a rotation; sequences whose centres are brought home, and what is left of them.
-use Rattle.niss_moves.proofs.Names.{refl, ap, sym, ◌∙◌, subst, arith, append_assoc, ◌≡◌, ℕ, zero, suc, true, List, [], ◌∷◌, ◌++◌, length}
+use Rattle.niss_moves.proofs.Names.{refl, ap, sym, ◌∙◌, subst, arith, append_assoc, ◌≡◌, ℕ, zero, suc, List, [], ◌∷◌, ◌++◌, length}
 use Rattle.niss_moves.proofs.Names.{Some, map, ◌+◌, ◌<◌, ◌≤◌, Option, None, append-nil, take, drop, get_or, rotation_left}
 use Rattle.niss_moves.proofs.Names.{CentresComeHome, FacesAreHome, LineIsHome, FacesAndRotation, CleanedEffect, RotationIsLeft, turned}
 use Rattle.niss_moves.proofs.Names.{effect_of_turns, inverse, effect, moved_by, inverse_power, centre, faces, BasicMove, FaceTurn}
 use Rattle.niss_moves.proofs.Names.{WholeRotation, expanded, token_of_basic, faces_with, joined_moves, Turn, Face, Power, Token, Rotation}
-use Rattle.niss_moves.proofs.Names.{U, Half, Axis, Slice, Place, same_place, face_before, face_before_power, spelling, IsRotationOf}
+use Rattle.niss_moves.proofs.Names.{U, Half, Axis, Slice, Place, face_before, face_before_power, spelling, IsRotationOf}
 use Rattle.niss_moves.proofs.Names.{renamed_turn, opposite}
 use Rattle.std.proofs.Common.{add-one}
 use Rattle.std.proofs.lemmas.List.{take_more, take_all, drop_all, at_drop_more}
@@ -14,8 +14,8 @@ use Rattle.niss_moves.proofs.Effects.{effect-append, effect_of_expanded, meaning
 use Rattle.niss_moves.proofs.Effects.{effect_of_turns-append, turn_after, rotation_left_is, one_spelling, inverse_after, inverse_before}
 use Rattle.niss_moves.proofs.Effects.{places_stay, renames_power}
 use Rattle.niss_moves.proofs.Cleaned.{cleans_effect, clean_turns_are_clean, cleaning_ends, one_clean_list, canonical_stays}
-use Rattle.niss_moves.proofs.Finite.{turn, rotation, every_face, every_power, every_turn, every_rotation, at_face, at_turn, at_rotation}
-use Rattle.niss_moves.proofs.Finite.{same_place_is, places_are_listed, places_differ, same_letters}
+use Rattle.niss_moves.proofs.Finite.{turn, rotation, every_face, every_power, every_turn, every_rotation, Rotations, Faces, Turns, Alike}
+use Rattle.niss_moves.proofs.Finite.{holds, places_are_listed, places_differ, same_letters}
 use Rattle.niss_moves.proofs.CanonicalLists.{canonical_in_order, canonical_grows}
 
 abbrev pub before : Rotation → Turn → Turn
@@ -101,13 +101,13 @@ left_more ts k d turns more r n lt l h =
     }
 
 -- Face turns keep the centres.
-keeps_test : every_turn (λ t. every_face (λ g. same_place (turned t (centre g)) (centre g))) ≡ true
+keeps_centre : (t : Turn) (g : Face) → turned t (centre g) ≡ centre g
 unfolding every_turn every_face every_power
-keeps_test = refl
+keeps_centre = holds (Turns (λ t. Faces (λ g. Alike (turned t (centre g)) (centre g)))) refl
 
 keep_centre : (s : List Turn) (g : Face) → effect_of_turns s (centre g) ≡ centre g
 keep_centre [] g = refl
-keep_centre (t ∷ s) g = ap (effect_of_turns s) (same_place_is _ _ (at_face _ (at_turn _ keeps_test t) g)) ∙ keep_centre s g
+keep_centre (t ∷ s) g = ap (effect_of_turns s) (keeps_centre t g) ∙ keep_centre s g
 
 -- the same at the end of the sequence
 pub left_faces : (ts : List Token) (k : ℕ) (turns : List Turn) (r : Rotation) → length ts ≤ k → Left ts k turns r → turns ≡ faces ts
@@ -149,15 +149,15 @@ left_by s =
       left_rotation s (length s) w.0 w.1 (omega arith) w.2,
     )
 
-undone_test : every_rotation (λ r. every_face (λ f. same_place (effect (spelling (rotation_left (inverse (spelling r)))) (effect (spelling r) (centre f))) (centre f))) ≡ true
+undone : (r : Rotation) (f : Face) → effect (spelling (rotation_left (inverse (spelling r)))) (effect (spelling r) (centre f)) ≡ centre f
 unfolding every_rotation every_power every_face rotation_left
-undone_test = refl
+undone = holds (Rotations (λ r. Faces (λ f. Alike (effect (spelling (rotation_left (inverse (spelling r)))) (effect (spelling r) (centre f))) (centre f)))) refl
 
 pub centres_come_home : CentresComeHome
 centres_come_home s =
     let w = left_by s in
     let home = rotation_left (inverse (spelling w.0)) in
-    (home, λ f. ap (effect (spelling home)) (sym (w.2 f)) ∙ same_place_is _ _ (at_face _ (at_rotation _ undone_test w.0) f))
+    (home, λ f. ap (effect (spelling home)) (sym (w.2 f)) ∙ undone w.0 f)
 
 -- A rotation at the end adds no face turn.
 no_faces : (f : Face) (o : Option Power) → faces (spelling (rotation f o)) ≡ []

@@ -1,14 +1,11 @@
 -- Words as they are written: what is written is spelled, and words that wait in a buffer.
-use Rattle.niss_moves.proofs.Names.{◌≤◌, Bool, ◌&&◌, nat_le, take, get_or, token_index, refl, ap, sym, ◌∙◌, eqb, zero, suc, ◌+◌, ◌<◌}
+use Rattle.niss_moves.proofs.Names.{◌≤◌, Bool, take, get_or, token_index, refl, ap, sym, ◌∙◌, zero, suc, ◌+◌, ◌<◌}
 use Rattle.niss_moves.proofs.Names.{true, append_assoc, append-nil, arith, length-append, ◌≡◌, ℕ, ◌-◌, List, [], ◌∷◌, ◌++◌, length, map}
 use Rattle.niss_moves.proofs.Names.{flat_map, slice_get, face_letter, base_bytes, Suffix, Nothing, Two, Prime, Plain, suffix_bytes}
 use Rattle.niss_moves.proofs.Names.{suffix_power, Space, Gap, Spelled, Item, Outside, item_bytes, item_normal, item_bracketed, Spells}
 use Rattle.niss_moves.proofs.Names.{word, power_bytes, gap, gap_after, with_word, with_words, Power, Quarter, Half, Counter, Token, Base}
 use Rattle.niss_moves.proofs.Names.{token_of, if◌then◌else◌, false, cond, drop, with_buffered, turn_words, Turn, ◌==◌, cleaned_words}
 use Rattle.niss_moves.proofs.Names.{with_bracket, is_empty, Rotation}
-use lib.Pointwise.{pointwise}
-use Rattle.std.proofs.lemmas.Bool.{and_parts, leb-true}
-use Rattle.std.specs.Cmp.Lexicographic.{bytes_decides}
 use Rattle.std.specs.List.{join_with_byte, between}
 use Rattle.std.proofs.Math.Seq.{take-append-add}
 use Rattle.std.proofs.lemmas.List.{take-append-le, length-take-le, drop-append-le}
@@ -19,7 +16,7 @@ use Rattle.niss_moves.specs.declared.text.TheConstants.{WORDS}
 use Rattle.niss_moves.specs.declared.token.Token.TheVariants as token
 use Rattle.niss_moves.specs.declared.token.Base.TheVariants as base
 use Rattle.niss_moves.specs.declared.text.WordBuffer.{WordBuffer}
-use Rattle.niss_moves.proofs.Finite.{every_face, every_power, every_axis, every_slice, every_token, at_token}
+use Rattle.niss_moves.proofs.Finite.{every_face, every_power, every_axis, every_slice, every_token, Tokens, Text, holds}
 
 abbrev base_of : Token → Base
 base_of (token.Face t) = base.Face t.face
@@ -67,33 +64,21 @@ long_word : (t : Token) → 0 < length (word t)
 long_word (token.Face t) = omega arith
 long_word _ = omega arith
 
-words_gap : every_token (λ t. pointwise eqb (gap (word t)) (32 ∷ [])) ≡ true
+words_gap : (t : Token) → gap (word t) ≡ 32 ∷ []
 unfolding every_token every_power every_face every_slice every_axis
-words_gap = refl
+words_gap = holds (Tokens (λ t. Text (gap (word t)) (32 ∷ []))) refl
 
 -- after a word stands a space
 pub gap_word : (a : List ℕ) (t : Token) → gap (a ++ word t) ≡ 32 ∷ []
 gap_word a t =
     ap gap_after (past a (word t) (length (word t) - 1) (length (a ++ word t) - 1) (omega (arith, length-append a (word t), long_word t)))
-    ∙ (bytes_decides _ _).0 (at_token (λ t. pointwise eqb (gap (word t)) (32 ∷ [])) words_gap t)
+    ∙ words_gap t
 
--- a space and a word, in at most four bytes
-pub record IsWord (w : List ℕ) (entry : Word) : Type 0 where
-  pub bytes : take entry.len entry.bytes ≡ 32 ∷ w
-  pub len : entry.len ≤ 4
-
-abbrev is_word : List ℕ → Word → Bool
-is_word w entry = pointwise eqb (take entry.len entry.bytes) (32 ∷ w) && nat_le entry.len 4
-
-words_test : (d : Word) → every_token (λ t. is_word (word t) (get_or WORDS (token_index t) d)) ≡ true
+-- by its number the bytes of a move's word, after a space
+pub word_at : (t : Token) (i : ℕ) (d : Word) → i ≡ token_index t → take (get_or WORDS i d).len (get_or WORDS i d).bytes ≡ 32 ∷ word t
 unfolding every_token every_power every_face every_slice every_axis
-words_test d = refl
-
-pub word_at : (t : Token) (i : ℕ) (d : Word) → i ≡ token_index t → IsWord (word t) (get_or WORDS i d)
 word_at t i d e =
-    let entry = get_or WORDS (token_index t) d in
-    let both = and_parts (pointwise eqb (take entry.len entry.bytes) (32 ∷ word t)) (nat_le entry.len 4) (at_token _ (words_test d) t) in
-    rw e (record { bytes = (bytes_decides _ _).0 both.0; len = leb-true _ _ both.1 })
+    rw e (holds (Tokens (λ t. let entry = get_or WORDS (token_index t) d in Text (take entry.len entry.bytes) (32 ∷ word t))) refl t)
 
 abbrev spaced_items : List Token → List Item
 spaced_items [] = []
