@@ -1,8 +1,9 @@
 -- Canonical lists and their parts; the list of all of one length: its members, and its order.
+use Rattle.niss_moves.proofs.Names.{◌↔◌}
 use Rattle.niss_moves.proofs.Names.{inl, inr, refl, ap, sym, ◌∙◌, subst, length-append, arith, append_assoc, ◌≡◌, ℕ, zero, suc, ◌-◌, true}
 use Rattle.niss_moves.proofs.Names.{List, [], ◌∷◌, ◌++◌, length, Some, Bool, map, false, not, ◌&&◌, ◌⊎◌, IsTrue, flat_map, slice_get}
 use Rattle.niss_moves.proofs.Names.{may_follow, IsCanonical, last_turn, canonical_extensions, DiffersFirst, face_may_follow}
-use Rattle.niss_moves.proofs.Names.{all_canonical, CanonicalMembers, CanonicalGrows, CanonicalInOrder, Turn, Face, opposite, same_face}
+use Rattle.niss_moves.proofs.Names.{all_canonical, CanonicalMembers, Turn, Face, opposite, same_face}
 use Rattle.niss_moves.proofs.Names.{goes_first}
 use Rattle.std.specs.List.{All, AllPairs, Contains, filter}
 use Rattle.std.proofs.lemmas.Bool.{cond_both}
@@ -153,7 +154,7 @@ may_follow-last s t h =
       | inr w ↦ ap (λ l. may_follow l t) (ap last_turn w.2 ∙ last_turn-push w.0 w.1) ∙ canonical_pair w.0 w.1 t [] (rw snoc_assoc at (subst (λ (s : List Turn). IsCanonical (s ++ t ∷ [])) w.2 h))
     ]
 
-pub canonical_grows : CanonicalGrows
+pub canonical_grows : (s : List Turn) (t : Turn) → IsCanonical (s ++ t ∷ []) ↔ (IsCanonical s × IsTrue (may_follow (last_turn s) t))
 canonical_grows s t = ((λ h. (canonical_front s (t ∷ []) h, may_follow-last s t h)), (λ p. canonical_more s t p.0 p.1))
 
 record IsMember (turns : List Turn) (k : ℕ) (s : List Turn) : Type 0 where
@@ -247,7 +248,8 @@ inside : (o : Turn → Turn → Bool) (turns s : List Turn) → AllPairs (λ t u
 inside o turns s h =
     pairs_map (λ t u. IsTrue (o t u)) (DiffersFirst o) (λ t. s ++ t ∷ []) (λ t u k. record { front = s; left = t; right = u; after_left = []; after_right = []; first_is = refl; second_is = refl; order = k }) (filter (may_follow (last_turn s)) turns) (AllPairs-filter (λ t u. IsTrue (o t u)) (may_follow (last_turn s)) turns h)
 
-pub canonical_in_order : CanonicalInOrder
+pub canonical_in_order : (comes_before : Turn → Turn → Bool) (turns : List Turn) (k : ℕ) → AllPairs (λ t u. IsTrue (comes_before t u)) turns
+    → AllPairs (DiffersFirst comes_before) (all_canonical turns k)
 unfolding all_canonical
 canonical_in_order o turns zero h =
     AllPairs-cons (DiffersFirst o) [] [] (λ k d lt. absurd (omega (arith, lt))) (no_pairs (DiffersFirst o))

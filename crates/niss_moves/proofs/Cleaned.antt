@@ -3,8 +3,8 @@ use Rattle.niss_moves.proofs.Names.{inl, inr, refl, ap, sym, ◌∙◌, subst, l
 use Rattle.niss_moves.proofs.Names.{List, [], ◌∷◌, ◌++◌, length, Some, Bool, false, ◌⊎◌, ◌+◌, ◌*◌, ◌<◌, ◌≤◌, cond, Option, None, subst₂}
 use Rattle.niss_moves.proofs.Names.{append-nil, IfSome, IsCanonical, last_turn, face_may_follow, most_rewritings, rewritten_once}
 use Rattle.niss_moves.proofs.Names.{rewritten_within, clean_turns, sum_of_turns, rewritten_pair, IsRewriting, Cleans, Clean, Rewrite}
-use Rattle.niss_moves.proofs.Names.{are_disordered, disorder, turn_by, sum_of_powers, CleaningEnds, OneCleanList, CanonicalStays}
-use Rattle.niss_moves.proofs.Names.{CleanTurnsAreClean, RewritingLowers, turned, effect_of_turns, pair_of_turns, list_with_turn, Turn}
+use Rattle.niss_moves.proofs.Names.{are_disordered, disorder, turn_by, sum_of_powers}
+use Rattle.niss_moves.proofs.Names.{turned, effect_of_turns, pair_of_turns, list_with_turn, Turn}
 use Rattle.niss_moves.proofs.Names.{Face, Power, U, Place, opposite, same_face, map, all_canonical}
 use Rattle.niss_moves.proofs.Names.{turn_order}
 use Rattle.std.specs.Option.{option_map, option_map_or}
@@ -174,7 +174,7 @@ lowers_here front t u rest m false e =
     let s : front ++ rewritten_pair t u ++ rest ≡ front ++ u ∷ t ∷ rest = rw (e, append_assoc) refl in
     inr (ap length s ∙ length-append front (u ∷ t ∷ rest) ∙ sym (length-append front (t ∷ u ∷ rest)), subst (λ (x : List Turn). disorder x < disorder (front ++ t ∷ u ∷ rest)) (sym s) (fewer front t u rest d.1.0 d.1.1))
 
-pub rewriting_lowers : RewritingLowers
+pub rewriting_lowers : (s t : List Turn) → IsRewriting s t → (length t < length s) ⊎ ((length t ≡ length s) × (disorder t < disorder s))
 rewriting_lowers s t w =
     rw (w.at, w.result) (lowers_here w.front w.left w.right w.rest w.breaks (same_face w.left.face w.right.face) refl)
 
@@ -261,12 +261,12 @@ unfolding rewritten_within
 within_cleans m zero s cap fuel = end_step m s (rewritten_once s) (once_tells s) cap fuel
 within_cleans m (suc n) s cap fuel = within_step m n s (rewritten_once s) (once_tells s) cap fuel (within_cleans m n)
 
-pub clean_turns_are_clean : CleanTurnsAreClean
+pub clean_turns_are_clean : (s : List Turn) → Cleans s (clean_turns s)
 unfolding clean_turns left_over
 clean_turns_are_clean s = within_cleans (length s * length s) (most_rewritings s) s (omega arith) (omega arith)
 
 -- Cleaning ends, for each list.
-pub cleaning_ends : CleaningEnds
+pub cleaning_ends : (s : List Turn) → (c : List Turn) × Cleans s c
 cleaning_ends s = (clean_turns s, clean_turns_are_clean s)
 
 -- Cleaning has one result, since the leftmost rewriting is a function.
@@ -289,7 +289,7 @@ not_both s t h w =
     let q : true ≡ false = sym k ∙ w.breaks in
     cc
 
-pub one_clean_list : OneCleanList
+pub one_clean_list : (s c d : List Turn) → Cleans s c → Cleans s d → c ≡ d
 one_clean_list s c d (Clean h) (Clean k) = refl
 one_clean_list s c d (Clean h) (Rewrite w k) = absurd (not_both s _ h w)
 one_clean_list s c d (Rewrite w h) (Clean k) = absurd (not_both s _ k w)
@@ -297,7 +297,7 @@ one_clean_list s c d (Rewrite {t = t} w h) (Rewrite {t = u} v k) =
     let e : t ≡ u = (let q : Some t ≡ Some u = sym (once_rewriting s t w) ∙ once_rewriting s u v in cc) in
     one_clean_list t c d h (subst (λ (x : List Turn). Cleans x d) (sym e) k)
 
-pub canonical_stays : CanonicalStays
+pub canonical_stays : (s c : List Turn) → IsCanonical s → Cleans s c → c ≡ s
 canonical_stays s c h d = one_clean_list s c s d (Clean h)
 
 -- counts of canonical sequences over the 18 turns

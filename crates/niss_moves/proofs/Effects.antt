@@ -1,8 +1,9 @@
 -- Effects of single moves, over all places; of a sequence and its inverse; of rotations, and how they rename the turns after them.
-use Rattle.niss_moves.proofs.Names.{refl, ap, sym, ◌∙◌, ◌≡◌, true, List, [], ◌∷◌, ◌++◌, map, reverse, OneMeaning, PlacesStay, inverse}
+use Rattle.niss_moves.proofs.Names.{IsPlace}
+use Rattle.niss_moves.proofs.Names.{refl, ap, sym, ◌∙◌, ◌≡◌, true, List, [], ◌∷◌, ◌++◌, map, reverse, inverse}
 use Rattle.niss_moves.proofs.Names.{effect, HasMeaning, moved_by, inverse_token, inverse_power, expanded, token_of_basic, Power, Token}
 use Rattle.niss_moves.proofs.Names.{Quarter, Place, same_place, is_place, Some, Bool, false, ◌&&◌, Option, None, if◌then◌else◌, unwrap_or}
-use Rattle.niss_moves.proofs.Names.{face_order, rotations, rotation_left, OneSpelling, turned, effect_of_turns, quarters, Move, moved}
+use Rattle.niss_moves.proofs.Names.{face_order, rotations, rotation_left, turned, effect_of_turns, quarters, Move, moved}
 use Rattle.niss_moves.proofs.Names.{face_move, times, centre, rotation_by, Turn, Face, Rotation, U, D, R, L, F, B, Axis, Vector}
 use Rattle.niss_moves.proofs.Names.{same_vector, along, face_before, face_before_power, spelling, IsRotationOf, renamed_turn, to_top}
 use Rattle.niss_moves.proofs.Names.{about_vertical, same_face}
@@ -72,7 +73,7 @@ inverse_of m n b e = e ∙ inverse_whole n b
 meaning_undone : (s n b : List Token) → HasMeaning s n b → (q : Place) → effect s q ≡ effect (inverse b) (effect n q)
 meaning_undone s n b h q = sym (inverse_after b (effect s q)) ∙ ap (effect (inverse b)) (h q)
 
-pub one_meaning : OneMeaning
+pub one_meaning : (s t normal bracketed : List Token) → HasMeaning s normal bracketed → HasMeaning t normal bracketed → (q : Place) → effect s q ≡ effect t q
 one_meaning s t n b h k q = meaning_undone s n b h q ∙ sym (meaning_undone t n b k q)
 
 -- the inverse of a line, after any sequence of its meaning
@@ -86,7 +87,7 @@ unfolding every_place every_vector every_coord every_power every_face every_axis
 effect_of_expanded = holds (Tokens (λ t. Anywhere (λ q. Alike (effect (map token_of_basic (expanded t)) q) (moved_by t q)))) refl
 
 -- A move brings places to places.
-pub places_stay : PlacesStay
+pub places_stay : (t : Token) (q : Place) → IsPlace q → IsPlace (moved_by t q)
 unfolding every_power every_face every_axis every_slice every_token
 places_stay = holds (Tokens (λ t. Places (λ q. Yes (is_place (moved_by t q))))) refl
 
@@ -201,5 +202,5 @@ unfolding rotation_left
 rotation_left_is s r h =
     (λ i. unwrap_or (find (λ n. list_all (λ f. same_place (effect (spelling n) (centre f)) (sym (h f) i)) face_order) rotations) (rotation U None)) ∙ left_by_spelling r.top r.vertical
 
-pub one_spelling : OneSpelling
+pub one_spelling : (r s : Rotation) → ((f : Face) → effect (spelling r) (centre f) ≡ effect (spelling s) (centre f)) → r ≡ s
 one_spelling r s h = sym (rotation_left_is (spelling s) r h) ∙ rotation_left_is (spelling s) s (λ f. refl)

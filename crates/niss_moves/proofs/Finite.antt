@@ -1,7 +1,8 @@
 -- Truth values, and facts over finite types by a test that is computed over all values.
+use Rattle.niss_moves.proofs.Names.{IsPlace, AllPairs, ◌≢◌, ◌↔◌}
 use Rattle.niss_moves.proofs.Names.{refl, ap, sym, subst, arith, inl, inr, ◌≡◌, ◌∙◌, ◌<◌, ◌==◌, ℕ, zero, suc, nat_lt, length}
 use Rattle.niss_moves.proofs.Names.{get_or, not, true, List, [], ◌∷◌, Some, Bool, map, false, ◌&&◌, Option, None}
-use Rattle.niss_moves.proofs.Names.{if◌then◌else◌, eqb, face_order, PlacesAreListed, PlacesDiffer, SameLetters, places}
+use Rattle.niss_moves.proofs.Names.{if◌then◌else◌, eqb, face_order, places}
 use Rattle.niss_moves.proofs.Names.{letter_at, letter_of, letters, Turn, Face, Power, Token, Rotation, U, Quarter, Axis, Ud}
 use Rattle.niss_moves.proofs.Names.{Rl, Fb, Slice, M, E, S, Place, Coord, Neg, Zero, Pos, Vector, vector, same_coord}
 use Rattle.niss_moves.proofs.Names.{same_vector, same_place, is_place, SameMap, same_face}
@@ -172,7 +173,7 @@ all_places = refl
 pub at_member : {A : Type 0} (p : A → Bool) (xs : List A) (x : A) → list_all p xs ≡ true → Contains xs x → p x ≡ true
 at_member p xs x e m = All-contains (λ x. p x ≡ true) xs x (AllPass-from_list_all p xs e) m
 
-pub places_are_listed : PlacesAreListed
+pub places_are_listed : (q : Place) → IsPlace q ↔ Contains places q
 places_are_listed q = (
   (λ h. Contains-from_any same_place_is q places (by_implies _ _ (at_place _ listed_test q) h)),
   (λ h. at_member is_place places q all_places h),
@@ -188,7 +189,7 @@ same_place_laws =
       congr = λ x y z e. ap (λ w. same_place w z) (same_place_is x y e);
     }
 
-pub places_differ : PlacesDiffer
+pub places_differ : AllPairs (λ p q. p ≢ q) places
 places_differ =
     AllPairs-from_IsDistinct (λ x y. (same_place_is x y, same_place_of x y)) places (IsDistinct-from_count same_place_laws places refl)
 
@@ -201,7 +202,7 @@ letter_of-same d e s q (p ∷ ps) all =
     let rest : letter_of d ps q ≡ letter_of e ps q = letter_of-same d e s q ps (and_right (is_place p) _ all) in
     λ i. if same_place (at i) q then letter_at p else rest i
 
-pub same_letters : SameLetters
+pub same_letters : (d e : Place → Place) → SameMap d e → letters d ≡ letters e
 unfolding letters
 same_letters d e s = λ i. map (λ q. letter_of-same d e s q places all_places i) places
 

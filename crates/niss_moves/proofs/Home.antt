@@ -1,7 +1,8 @@
 -- Face turns taken from a sequence behind a rotation; sequences whose centres are brought home, and what is left of them.
+use Rattle.niss_moves.proofs.Names.{Moves, Cleans, HasMeaning}
 use Rattle.niss_moves.proofs.Names.{refl, ap, sym, ◌∙◌, subst, arith, append_assoc, ◌≡◌, ℕ, zero, suc, List, [], ◌∷◌, ◌++◌, length}
 use Rattle.niss_moves.proofs.Names.{Some, map, ◌+◌, ◌<◌, ◌≤◌, Option, None, append-nil, take, drop, get_or, rotation_left}
-use Rattle.niss_moves.proofs.Names.{CentresComeHome, FacesAreHome, LineIsHome, FacesAndRotation, CleanedEffect, RotationIsLeft, turned}
+use Rattle.niss_moves.proofs.Names.{turned}
 use Rattle.niss_moves.proofs.Names.{effect_of_turns, inverse, effect, moved_by, inverse_power, centre, faces, BasicMove, FaceTurn}
 use Rattle.niss_moves.proofs.Names.{WholeRotation, expanded, token_of_basic, faces_with, joined_moves, Turn, Face, Power, Token, Rotation}
 use Rattle.niss_moves.proofs.Names.{U, Half, Axis, Slice, Place, face_before, face_before_power, spelling, IsRotationOf}
@@ -153,7 +154,7 @@ undone : (r : Rotation) (f : Face) → effect (spelling (rotation_left (inverse 
 unfolding every_rotation every_power every_face rotation_left
 undone = holds (Rotations (λ r. Faces (λ f. Alike (effect (spelling (rotation_left (inverse (spelling r)))) (effect (spelling r) (centre f))) (centre f)))) refl
 
-pub centres_come_home : CentresComeHome
+pub centres_come_home : (s : List Token) → (home : Rotation) × ((f : Face) → effect (spelling home) (effect s (centre f)) ≡ centre f)
 centres_come_home s =
     let w = left_by s in
     let home = rotation_left (inverse (spelling w.0)) in
@@ -170,7 +171,8 @@ faces-append : (s t : List Token) → faces t ≡ [] → faces (s ++ t) ≡ face
 faces-append [] t e = e
 faces-append (k ∷ s) t e = ap (faces_with (expanded k)) (faces-append s t e)
 
-pub faces_are_home : FacesAreHome
+pub faces_are_home : (s : List Token) (home : Rotation) → ((f : Face) → effect (spelling home) (effect s (centre f)) ≡ centre f) → (q : Place)
+    → effect (spelling home) (effect s q) ≡ effect_of_turns (faces s) q
 faces_are_home s home h q =
     let z = s ++ spelling home in
     let w = left_by z in
@@ -178,22 +180,25 @@ faces_are_home s home h q =
     sym (effect-append s (spelling home) q) ∙ sym (w.1 q) ∙ ap (λ n. effect (spelling n) (effect_of_turns (faces z) q)) none
     ∙ ap (λ ts. effect_of_turns ts q) (faces-append s (spelling home) (no_faces home.top home.vertical))
 
-pub line_is_home : LineIsHome
+pub line_is_home : (line : Moves) (s : List Token) (home : Rotation) → HasMeaning s line.normal line.bracketed
+    → ((f : Face) → effect (spelling home) (effect s (centre f)) ≡ centre f)
+    → (q : Place) → effect (spelling home) (effect s q) ≡ effect_of_turns (faces (joined_moves line)) q
 line_is_home line s home h centres q =
     let same = one_meaning s (joined_moves line) line.normal line.bracketed h (meaning line.normal line.bracketed) in
     ap (effect (spelling home)) (same q)
     ∙ faces_are_home (joined_moves line) home (λ f. ap (effect (spelling home)) (sym (same (centre f))) ∙ centres f) q
 
-pub faces_and_rotation : FacesAndRotation
+pub faces_and_rotation : (s : List Token) (r : Rotation) → IsRotationOf s r → (q : Place) → effect s q ≡ effect (spelling r) (effect_of_turns (faces s) q)
 faces_and_rotation s r h q =
     let w = left_by s in
     let one : w.0 ≡ r = one_spelling w.0 r (λ f. w.2 f ∙ sym (h f)) in
     sym (w.1 q) ∙ ap (λ n. effect (spelling n) (effect_of_turns (faces s) q)) one
 
-pub cleaned_effect : CleanedEffect
+pub cleaned_effect : (s : List Token) (c : List Turn) (r : Rotation) → Cleans (faces s) c → IsRotationOf s r → (q : Place)
+    → effect s q ≡ effect (spelling r) (effect_of_turns c q)
 cleaned_effect s c r d h q = faces_and_rotation s r h q ∙ ap (effect (spelling r)) (sym (cleans_effect (faces s) c d q))
 
-pub rotation_is_left : RotationIsLeft
+pub rotation_is_left : (s : List Token) → IsRotationOf s (rotation_left s)
 rotation_is_left s = let w = left_by s in subst (λ (r : Rotation). IsRotationOf s r) (sym (rotation_left_is s w.0 w.2)) w.2
 
 -- the laws of the crate, for the functions that state them, and for `cleanup`, which ensures some

@@ -2,19 +2,15 @@
 pub use Rattle.std.proofs.Common.{inl, inr, refl, ap, sym, ◌∙◌, subst, length-append, arith, append_assoc, ◌≡◌, ℕ, zero, suc, ◌-◌, true}
 pub use Rattle.std.proofs.Common.{List, [], ◌∷◌, ◌++◌, length, Some, is_some, Bool, map, false, not, ◌&&◌, ◌⊎◌, ◌+◌, ◌*◌, ◌<◌, ◌≤◌, cond}
 pub use Rattle.std.proofs.Common.{Option, None, ap₂, ◌==◌, subst₂, append-nil, Result, Ok, Err, if◌then◌else◌, take, drop, reverse, eqb}
-pub use Rattle.std.proofs.Common.{get_or, codes, take-add, nat_le}
-pub use Rattle.std.specs.Prelude.{IsTrue, IfSome, flat_map, unwrap_or, ◌||◌, slice_get, ◌≢◌, nat_lt}
+pub use Rattle.std.proofs.Common.{get_or, codes, take-add, nat_le, ◌↔◌}
+pub use Rattle.std.specs.Prelude.{AllPairs, IsTrue, IfSome, flat_map, unwrap_or, ◌||◌, slice_get, ◌≢◌, nat_lt}
 pub use Rattle.niss_moves.specs.Canonical.{may_follow, IsCanonical, last_turn, canonical_extensions, DiffersFirst, face_may_follow}
-pub use Rattle.niss_moves.specs.Canonical.{face_order, turn_order, opposite, same_face, goes_first}
+pub use Rattle.niss_moves.specs.Canonical.{CanonicalMembers, face_order, turn_order, opposite, same_face, goes_first}
 unfoldable pub use Rattle.niss_moves.specs.Canonical.{all_canonical}
 pub use Rattle.niss_moves.specs.Text.{turn_words, cleaned_words, with_bracket, gap, word, with_word, with_words, power_bytes, gap_after}
 pub use Rattle.niss_moves.specs.Cleaning.{most_rewritings, with_clean_line, rotations, sum_of_turns, rewritten_pair, IsRewriting, Cleans}
 pub use Rattle.niss_moves.specs.Cleaning.{Clean, Rewrite, are_disordered, disorder, turn_by, sum_of_powers}
 unfoldable pub use Rattle.niss_moves.specs.Cleaning.{rewritten_once, rewritten_within, clean_turns, rotation_left}
-pub use Rattle.niss_moves.specs.Laws.{OneMeaning, PlacesStay, PlacesAreListed, PlacesDiffer, SameLetters, CanonicalMembers}
-pub use Rattle.niss_moves.specs.Laws.{CanonicalGrows, CanonicalInOrder, CleaningEnds, OneCleanList, CanonicalStays, CleanTurnsAreClean}
-pub use Rattle.niss_moves.specs.Laws.{RewritingLowers, CentresComeHome, FacesAreHome, LineIsHome, FacesAndRotation, CleanedEffect}
-pub use Rattle.niss_moves.specs.Laws.{RotationIsLeft, OneSpelling}
 pub use Rattle.niss_moves.specs.Effects.{turned, effect_of_turns, inverse, effect, HasMeaning, moved_by, move_of, inverse_token}
 pub use Rattle.niss_moves.specs.Effects.{inverse_power, quarters, Move, moved, face_move, times}
 pub use Rattle.niss_moves.specs.Facelets.{centre, places, face_letter, letter_at}
@@ -38,4 +34,4 @@ unfoldable pub use Rattle.niss_moves.specs.Reading.{symbol_of}
 pub use Rattle.niss_moves.specs.Names.{Turn, Face, Power, Token, Rotation, U, D, R, L, F, B, Half, Counter, Base, LastMove, ReadFault}
 pub use Rattle.niss_moves.specs.Names.{TooLong, Quarter, Axis, Ud, Rl, Fb, Slice, M, E, S, Symbol, NotAMove, Nested, Unopened, Unclosed}
 pub use Rattle.niss_moves.specs.Places.{Place, Coord, Neg, Zero, Pos, Vector, vector, same_coord, same_vector, same_place, is_place}
-pub use Rattle.niss_moves.specs.Places.{SameMap, along}
+pub use Rattle.niss_moves.specs.Places.{SameMap, along, IsPlace}

@@ -164,6 +164,14 @@ written text new bytes rest n true some fits e =
 written text new bytes rest n false some fits e =
     ap (λ x. x ++ rest) (e ∙ ap (λ x. text ++ x) (between_from_start bytes n)) ∙ append_assoc text (take n bytes) rest
 
+-- one word is written
+pub word_written : (text new bytes : List ℕ) (n : ℕ) (no_gap : Bool) (t : Token) → gap text ≡ (if no_gap then [] else 32 ∷ []) → take n bytes ≡ 32 ∷ word t → n ≤ length bytes
+    → new ≡ text ++ between (cond no_gap 1 0) n bytes → new ≡ with_words text (word t ∷ [])
+word_written text new bytes zero no_gap t g is fits e = absurd (cc)
+word_written text new bytes (suc n) no_gap t g is fits e =
+    sym (append-nil new) ∙ written text new bytes [] (suc n) no_gap (omega arith) fits e ∙ ap (λ b. with_buffered text no_gap (b ++ [])) is
+    ∙ all_buffered text no_gap (t ∷ []) g
+
 -- A text and what waits after it, with the words of these moves after that, is the first text with the words of all.
 pub record Writes (text : List ℕ) (words : WordBuffer) (rest : List Token) (first : List ℕ) (all : List Token) : Type 0 where
   pub items : with_buffered text words.no_gap (take words.len words.bytes ++ spaced rest) ≡ with_words first (map word all)

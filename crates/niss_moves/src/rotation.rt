@@ -4,7 +4,7 @@ ghost use Rattle.niss_moves.specs.Places.{Place};
 ghost use Rattle.niss_moves.specs.Facelets.{centre};
 ghost use Rattle.niss_moves.specs.Effects.{effect, effect_of_turns, moved_by, inverse_power};
 ghost use Rattle.niss_moves.specs.Canonical.{opposite};
-ghost use Rattle.niss_moves.specs.Rotations.{spelling, face_before, face_before_power, renamed_turn};
+ghost use Rattle.niss_moves.specs.Rotations.{spelling, face_before, face_before_power, renamed_turn, about_vertical};
 ghost use Rattle.niss_moves.specs.Rotations.{faces, expanded, FaceTurn, WholeRotation, IsRotationOf};
 ghost use Rattle.niss_moves.specs.Helpers.{rotation_by, turns_in, IsNext, Takes};
 ghost use Rattle.niss_moves.specs.declared.token.Token.TheVariants as token;
@@ -54,6 +54,16 @@ impl Rotation {
         top: Face::U,
         vertical: None,
     };
+
+    /// The rotation about the vertical axis that follows, if there is one.
+    pub(crate) fn about_vertical(self) -> Option<(Axis, Power)>
+        ensures { result ≡ about_vertical self.vertical }
+    {
+        match self.vertical {
+            None => None,
+            Some(power) => Some((Axis::Ud, power)),
+        }
+    }
 
     /// The face that this rotation brings to the place of `face`: `x` brings F to the place of U.
     pub fn face_before(self, face: Face) -> Face
