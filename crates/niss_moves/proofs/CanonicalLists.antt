@@ -1,10 +1,8 @@
 -- Canonical lists and their parts; the list of all of one length: its members, and its order.
-use Rattle.niss_moves.proofs.Names.{◌↔◌}
-use Rattle.niss_moves.proofs.Names.{inl, inr, refl, ap, sym, ◌∙◌, subst, length-append, arith, append_assoc, ◌≡◌, ℕ, zero, suc, ◌-◌, true}
-use Rattle.niss_moves.proofs.Names.{List, [], ◌∷◌, ◌++◌, length, Some, Bool, map, false, not, ◌&&◌, ◌⊎◌, IsTrue, flat_map, slice_get}
-use Rattle.niss_moves.proofs.Names.{may_follow, IsCanonical, last_turn, canonical_extensions, DiffersFirst, face_may_follow}
-use Rattle.niss_moves.proofs.Names.{all_canonical, CanonicalMembers, Turn, Face, opposite, same_face}
-use Rattle.niss_moves.proofs.Names.{goes_first}
+use Rattle.niss_moves.proofs.Names.{◌↔◌, inl, inr, refl, ap, sym, ◌∙◌, subst, length-append, arith, append_assoc, ◌≡◌, ℕ, zero, suc, ◌-◌}
+use Rattle.niss_moves.proofs.Names.{true, List, [], ◌∷◌, ◌++◌, length, Some, Bool, map, false, not, ◌&&◌, ◌⊎◌, IsTrue, flat_map, slice_get}
+use Rattle.niss_moves.proofs.Names.{IsCanonical, last_turn, face_may_follow, all_canonical, Turn, Face, opposite, same_face}
+use Rattle.niss_moves.specs.Canonical.{may_follow, canonical_extensions, DiffersFirst, CanonicalMembers, goes_first}
 use Rattle.std.specs.List.{All, AllPairs, Contains, filter}
 use Rattle.std.proofs.lemmas.Bool.{cond_both}
 use Rattle.std.proofs.lemmas.List.{length-map, get_or-map, nil_from_length}
@@ -157,16 +155,14 @@ may_follow-last s t h =
 pub canonical_grows : (s : List Turn) (t : Turn) → IsCanonical (s ++ t ∷ []) ↔ (IsCanonical s × IsTrue (may_follow (last_turn s) t))
 canonical_grows s t = ((λ h. (canonical_front s (t ∷ []) h, may_follow-last s t h)), (λ p. canonical_more s t p.0 p.1))
 
-record IsMember (turns : List Turn) (k : ℕ) (s : List Turn) : Type 0 where
-  long : length s ≡ k
-  canonical : IsCanonical s
-  among : All (Contains turns) s
+abbrev IsMember : List Turn → ℕ → List Turn → Type 0
+IsMember turns k s = (length s ≡ k) × IsCanonical s × All (Contains turns) s
 
 members_from : (turns : List Turn) (k : ℕ) (s : List Turn) → Contains (all_canonical turns k) s → IsMember turns k s
 unfolding all_canonical
 members_from turns zero s h =
     elim (first_or_later [] [] s h) [
-      | inl e ↦ subst (λ (s : List Turn). IsMember turns zero s) e (record { long = refl; canonical = refl; among = λ i d lt. absurd (omega (arith, lt)) })
+      | inl e ↦ subst (λ (s : List Turn). IsMember turns zero s) e (refl, refl, λ i d lt. absurd (omega (arith, lt)))
       | inr n ↦ absurd (none s n)
     ]
 members_from turns (suc k) s h =
@@ -174,28 +170,27 @@ members_from turns (suc k) s h =
     let v = from_map (λ t. w.0 ++ t ∷ []) (filter (may_follow (last_turn w.0)) turns) s w.2 in
     let t = from_filter (may_follow (last_turn w.0)) turns v.0 v.1 in
     let m = members_from turns k w.0 w.1 in
-    subst (λ (s : List Turn). IsMember turns (suc k) s) v.2 (record { long = omega (arith, length-append w.0 (v.0 ∷ []), m.long); canonical = canonical_more w.0 v.0 m.canonical t.1; among = All-push (Contains turns) w.0 v.0 m.among t.0 })
+    subst (λ (s : List Turn). IsMember turns (suc k) s) v.2 (omega (arith, length-append w.0 (v.0 ∷ []), m.0), canonical_more w.0 v.0 m.1 t.1, All-push (Contains turns) w.0 v.0 m.2 t.0)
 
 extended : (turns : List Turn) (k : ℕ) (b : List Turn) (t : Turn) → IsMember turns (suc k) (b ++ t ∷ []) → (IsMember turns k b → Contains (all_canonical turns k) b) → Contains (all_canonical turns (suc k)) (b ++ t ∷ [])
 unfolding all_canonical
 extended turns k b t m more =
-    let among = All-pop (Contains turns) (b ++ t ∷ []) b (Some t) refl m.among in
-    let front : IsMember turns k b = record { long = omega (arith, length-append b (t ∷ []), m.long); canonical = canonical_front b (t ∷ []) m.canonical; among = among.0 } in
-    in_flat_map (canonical_extensions turns) (all_canonical turns k) b (b ++ t ∷ []) (more front) (in_map (λ t. b ++ t ∷ []) (filter (may_follow (last_turn b)) turns) t (in_filter (may_follow (last_turn b)) turns t among.1 (may_follow-last b t m.canonical)))
+    let among = All-pop (Contains turns) (b ++ t ∷ []) b (Some t) refl m.2 in
+    let front : IsMember turns k b = (omega (arith, length-append b (t ∷ []), m.0), canonical_front b (t ∷ []) m.1, among.0) in
+    in_flat_map (canonical_extensions turns) (all_canonical turns k) b (b ++ t ∷ []) (more front) (in_map (λ t. b ++ t ∷ []) (filter (may_follow (last_turn b)) turns) t (in_filter (may_follow (last_turn b)) turns t among.1 (may_follow-last b t m.1)))
 
 members_to : (turns : List Turn) (k : ℕ) (s : List Turn) → IsMember turns k s → Contains (all_canonical turns k) s
 unfolding all_canonical
 members_to turns zero s m =
-    subst (λ (s : List Turn). Contains {X = List Turn} ([] ∷ []) s) (sym (nil_from_length s m.long)) (here {X = List Turn} [] [])
+    subst (λ (s : List Turn). Contains {X = List Turn} ([] ∷ []) s) (sym (nil_from_length s m.0)) (here {X = List Turn} [] [])
 members_to turns (suc k) s m =
     elim (last_of s) [
-      | inl n ↦ absurd (omega (arith, m.long, ap length n))
+      | inl n ↦ absurd (omega (arith, m.0, ap length n))
       | inr w ↦ subst (λ (s : List Turn). Contains (all_canonical turns (suc k)) s) (sym w.2) (extended turns k w.0 w.1 (subst (λ (s : List Turn). IsMember turns (suc k) s) w.2 m) (λ h. members_to turns k w.0 h))
     ]
 
 pub canonical_members : CanonicalMembers
-canonical_members turns k s =
-    (λ h. (let m = members_from turns k s h in (m.long, m.canonical, m.among)), λ h. members_to turns k s (record { long = h.0; canonical = h.1; among = h.2 }))
+canonical_members turns k s = (members_from turns k s, members_to turns k s)
 
 -- It is in the order of the turns.
 

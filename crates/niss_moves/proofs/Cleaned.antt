@@ -1,19 +1,16 @@
 -- Cleaning: in one pass, as a relation and as a function, and what it keeps.
-use Rattle.niss_moves.proofs.Names.{inl, inr, refl, ap, sym, ◌∙◌, subst, length-append, arith, append_assoc, ◌≡◌, ℕ, zero, suc, true}
-use Rattle.niss_moves.proofs.Names.{List, [], ◌∷◌, ◌++◌, length, Some, Bool, false, ◌⊎◌, ◌+◌, ◌*◌, ◌<◌, ◌≤◌, cond, Option, None, subst₂}
-use Rattle.niss_moves.proofs.Names.{append-nil, IfSome, IsCanonical, last_turn, face_may_follow, most_rewritings, rewritten_once}
-use Rattle.niss_moves.proofs.Names.{rewritten_within, clean_turns, sum_of_turns, rewritten_pair, IsRewriting, Cleans, Clean, Rewrite}
-use Rattle.niss_moves.proofs.Names.{are_disordered, disorder, turn_by, sum_of_powers}
-use Rattle.niss_moves.proofs.Names.{turned, effect_of_turns, pair_of_turns, list_with_turn, Turn}
-use Rattle.niss_moves.proofs.Names.{Face, Power, U, Place, opposite, same_face, map, all_canonical}
-use Rattle.niss_moves.proofs.Names.{turn_order}
+use Rattle.niss_moves.proofs.Names.{inl, inr, refl, ap, sym, ◌∙◌, subst, length-append, arith, append_assoc, ◌≡◌, ℕ, zero, suc, true, List}
+use Rattle.niss_moves.proofs.Names.{[], ◌∷◌, ◌++◌, length, Some, Bool, false, ◌⊎◌, ◌+◌, ◌*◌, ◌<◌, ◌≤◌, cond, Option, None, subst₂}
+use Rattle.niss_moves.proofs.Names.{append-nil, IfSome, IsCanonical, last_turn, face_may_follow, rewritten_pair, Cleans, Clean, turned}
+use Rattle.niss_moves.proofs.Names.{effect_of_turns, Turn, Face, Power, Place, opposite, same_face, map, all_canonical, turn_order}
+use Rattle.niss_moves.specs.Cleaning.{more_rewritings, sum_of_turns, IsRewriting, Rewrite, are_disordered, disorder, turn_by, sum_of_powers}
+unfoldable use Rattle.niss_moves.specs.Cleaning.{rewritten_once, rewritten_within, clean_turns}
 use Rattle.std.specs.Option.{option_map, option_map_or}
+use Rattle.niss_moves.specs.Helpers.{Cleaned, pair_of_turns, list_with_turn}
 use Rattle.std.specs.List.{count_by}
 use Rattle.std.proofs.Math.Nat.{mul-le-mul_left}
 use Rattle.std.proofs.lemmas.Nat.{mul-le}
 use Rattle.std.proofs.lemmas.List.Sums.{count_by-le-length, sum_by-cons}
-use denote.Enum.Bare.{sameb}
-use Rattle.niss_moves.specs.contracts.turn.Face.{the_type}
 use Rattle.niss_moves.proofs.Finite.{and_both, and_left, and_right, every_face, every_power, every_turn, every_coord, every_vector}
 use Rattle.niss_moves.proofs.Finite.{every_place, Turns, Powers, Anywhere, Alike, holds, turn, same_face_is}
 use Rattle.niss_moves.proofs.Effects.{effect_of_turns-append}
@@ -21,15 +18,10 @@ use Rattle.niss_moves.proofs.CanonicalLists.{canonical_pair, canonical_front, ca
 use Rattle.niss_moves.proofs.CanonicalLists.{are_exchanged, exchanged, exchange, pass_follows, skip_middle, last_turn-push}
 
 -- what a turn at the end leaves
-pub list_with_turn-last : (a : List Turn) (x t : Turn) → list_with_turn (a ++ x ∷ []) t ≡ a ++ pair_of_turns x t
-list_with_turn-last [] x t = refl
-list_with_turn-last (y ∷ []) x t = refl
-list_with_turn-last (y ∷ z ∷ a) x t = ap (λ s. y ∷ s) (list_with_turn-last (z ∷ a) x t)
-
--- The list and a turn become the new list, whatever follows.
-pub record Cleaned (old : List Turn) (t : Turn) (new : List Turn) : Type 0 where
-  pub canonical : IsCanonical new
-  pub cleans : (rest c : List Turn) → Cleans (new ++ rest) c → Cleans (old ++ t ∷ rest) c
+pub turn_at_end : (a : List Turn) (x t : Turn) → list_with_turn (a ++ x ∷ []) t ≡ a ++ pair_of_turns x t
+turn_at_end [] x t = refl
+turn_at_end (y ∷ []) x t = refl
+turn_at_end (y ∷ z ∷ a) x t = ap (λ s. y ∷ s) (turn_at_end (z ∷ a) x t)
 
 one_rewriting : (front : List Turn) (x y : Turn) (rest c : List Turn) → IsCanonical (front ++ x ∷ []) → face_may_follow x.face y.face ≡ false → Cleans (front ++ rewritten_pair x y ++ rest) c → Cleans (front ++ x ∷ y ∷ rest) c
 one_rewriting front x y rest c h k d =
@@ -77,28 +69,19 @@ cleaned_swap a x t h n m =
   where
     swap_after : (b : List Turn) (y : Turn) → IsCanonical ((b ++ y ∷ []) ++ x ∷ []) → Cleaned ((b ++ y ∷ []) ++ x ∷ []) t (list_with_turn (b ++ y ∷ []) t ++ x ∷ [])
     swap_after b y h =
-        rw (list_with_turn-last b y t) (record {
+        rw (turn_at_end b y t) (record {
           canonical = summed_canonical b y x t (rw snoc_assoc at h) (exchanged x.face t.face n m) (same_face y.face t.face) refl;
           cleans = λ rest c d.
               rw (snoc_assoc (b ++ y ∷ []) x (t ∷ rest)) (one_rewriting (b ++ y ∷ []) x t rest c h m (rw (n, append_assoc, append_assoc) (summed_cleans b y t (x ∷ rest) c (canonical_front (b ++ y ∷ []) (x ∷ []) h) (same_face y.face t.face) refl (rw (snoc_assoc (b ++ pair_of_turns y t) x rest) at d))));
         })
 
 -- what the code knows
-pub same_faces : (f g : Face) → sameb the_type f g ≡ same_face f g
-same_faces U U = refl
-same_faces _ U = refl
-same_faces _ _ = refl
-
-pub summed_same : (a old new : List Turn) (x t : Turn) → old ≡ a ++ x ∷ [] → same_face x.face t.face ≡ true → new ≡ a ++ sum_of_turns x t → new ≡ list_with_turn old t
-summed_same a old new x t is e n = rw (is, list_with_turn-last, e) n
-
-pub summed_other : (a old mid new : List Turn) (x t : Turn) → old ≡ a ++ x ∷ [] → same_face x.face t.face ≡ false → mid ≡ a ++ x ∷ [] → new ≡ mid ++ t ∷ [] → new ≡ list_with_turn old t
-summed_other a old mid new x t o e m n =
-    rw (o, list_with_turn-last, e) (n ∙ ap (λ s. s ++ t ∷ []) m ∙ snoc_assoc a x (t ∷ []))
-
 pub cleaned_sum : (a old new : List Turn) (x t : Turn) → IsCanonical old → old ≡ a ++ x ∷ [] → same_face x.face t.face ≡ true → new ≡ a ++ sum_of_turns x t → Cleaned old t new
 cleaned_sum a old new x t h o e n =
     subst₂ (λ (o n : List Turn). Cleaned o t n) (sym o) (sym n) (cleaned_same a x t (subst (λ (s : List Turn). IsCanonical s) o h) e)
+
+pub cleaned_first : (old new : List Turn) (t : Turn) → old ≡ [] → new ≡ t ∷ [] → Cleaned old t new
+cleaned_first old new t o n = rw (o, n) (record { canonical = refl; cleans = λ rest c d. d })
 
 pub cleaned_passed : (a old mid new : List Turn) (x t : Turn) → IsCanonical old → old ≡ a ++ x ∷ [] → same_face x.face t.face ≡ false
     → IfSome (last_turn old) (λ u. face_may_follow u.face t.face ≡ false) → mid ≡ list_with_turn a t → new ≡ mid ++ x ∷ [] → Cleaned old t new
@@ -244,26 +227,22 @@ lowers m s t cap w = elim (rewriting_lowers s t w) [
 
 -- the rewritings to the end
 
-within_step : (m n : ℕ) (s : List Turn) (o : Option (List Turn)) → Tells s o → length s * length s ≤ m → left_over m s ≤ suc n
-    → ((t : List Turn) → length t * length t ≤ m → left_over m t ≤ n → Cleans t (rewritten_within n t))
+within_step : (m n : ℕ) (s : List Turn) (o : Option (List Turn)) → Tells s o → length s * length s ≤ m → left_over m s < suc n
+    → ((t : List Turn) → length t * length t ≤ m → left_over m t < n → Cleans t (rewritten_within n t))
     → Cleans s (option_map_or (rewritten_within n) o s)
 within_step m n s None h cap fuel more = Clean h
 within_step m n s (Some t) w cap fuel more =
     let l = lowers m s t cap w in
     Rewrite w (more t l.1 (omega (arith, l.0, fuel)))
 
-end_step : (m : ℕ) (s : List Turn) (o : Option (List Turn)) → Tells s o → length s * length s ≤ m → left_over m s ≤ 0 → Cleans s s
-end_step m s None h cap fuel = Clean h
-end_step m s (Some t) w cap fuel = absurd (let l = lowers m s t cap w in omega (arith, l.0, fuel))
-
-within_cleans : (m n : ℕ) (s : List Turn) → length s * length s ≤ m → left_over m s ≤ n → Cleans s (rewritten_within n s)
+within_cleans : (m n : ℕ) (s : List Turn) → length s * length s ≤ m → left_over m s < n → Cleans s (rewritten_within n s)
 unfolding rewritten_within
-within_cleans m zero s cap fuel = end_step m s (rewritten_once s) (once_tells s) cap fuel
+within_cleans m zero s cap fuel = absurd (omega (arith, fuel))
 within_cleans m (suc n) s cap fuel = within_step m n s (rewritten_once s) (once_tells s) cap fuel (within_cleans m n)
 
 pub clean_turns_are_clean : (s : List Turn) → Cleans s (clean_turns s)
 unfolding clean_turns left_over
-clean_turns_are_clean s = within_cleans (length s * length s) (most_rewritings s) s (omega arith) (omega arith)
+clean_turns_are_clean s = within_cleans (length s * length s) (more_rewritings s) s (omega arith) (omega arith)
 
 -- Cleaning ends, for each list.
 pub cleaning_ends : (s : List Turn) → (c : List Turn) × Cleans s c

@@ -1,18 +1,19 @@
 -- What each byte may be, by the letters of the grammar and in the table of the code; what is spelled is read.
-use Rattle.niss_moves.proofs.Names.{◌≡◌, ℕ, ◌<◌, Bool, true, false, cond, eqb, refl, ap, sym, ◌∙◌, subst, List, [], ◌∷◌, get_or, map}
-use Rattle.niss_moves.proofs.Names.{arith, base_bytes, Blank, Space, Tab, Return, blank_byte, bytes_of_a_line, look_up, symbol_of, U, Rl}
-use Rattle.niss_moves.proofs.Names.{M, Base, Symbol, append_assoc, append-nil, length-append, ◌+◌, ◌≤◌, ◌++◌, length, flat_map, Option}
-use Rattle.niss_moves.proofs.Names.{None, Some, Result, Ok, Err, face_letter, token_of, cut_of, Whole, Plain, Typographic, Suffix}
-use Rattle.niss_moves.proofs.Names.{Nothing, Two, Prime, TwoPrime, suffix_bytes, suffix_power, Piece, Gap, Spelled, piece_bytes}
-use Rattle.niss_moves.proofs.Names.{piece_moves, Item, Outside, Bracket, item_bytes, item_normal, item_bracketed, Spells, IsLine, Moves}
-use Rattle.niss_moves.proofs.Names.{State, start, with_more, added, settled, opened, closed, count, with_last, fed_to, step_by, step_at}
-use Rattle.niss_moves.proofs.Names.{moves_in, step_within, and_then, run_within, Face, Half, Counter, Token, LastMove, ReadFault, TooLong}
+use Rattle.niss_moves.proofs.Names.{◌≡◌, ℕ, ◌<◌, Bool, true, false, cond, eqb, refl, ap, sym, ◌∙◌, subst, List, [], ◌∷◌, get_or, map, arith}
+use Rattle.niss_moves.proofs.Names.{symbol_of, U, Rl, M, Base, Symbol, append_assoc, append-nil, length-append, ◌+◌, ◌≤◌, ◌++◌, length}
+use Rattle.niss_moves.proofs.Names.{flat_map, Option, None, Some, Result, Ok, Err, face_letter, Whole, piece_bytes, piece_moves, State}
+use Rattle.niss_moves.proofs.Names.{start, opened, count, step_within, Face, Half, Counter, Token, LastMove, ReadFault, TooLong}
+use Rattle.niss_moves.specs.Line.{base_bytes, Blank, Space, Tab, Return, blank_byte, token_of, Plain, Typographic, Suffix, Nothing, Two}
+use Rattle.niss_moves.specs.Line.{Prime, TwoPrime, suffix_bytes, suffix_power, Piece, Gap, Spelled, Item, Outside, Bracket, item_bytes}
+use Rattle.niss_moves.specs.Line.{item_normal, item_bracketed, Spells, IsLine, Moves}
+use Rattle.niss_moves.specs.Reading.{bytes_of_a_line, look_up, moves_in}
+use Rattle.niss_moves.specs.Machine.{cut_of, with_more, added, settled, closed, with_last, fed_to, step_by, step_at, and_then, run_within}
 use Rattle.std.specs.List.{range_with_len}
 use Rattle.std.proofs.lemmas.Bool.{eqb-true, lt-ltb}
 use Rattle.std.proofs.lemmas.List.FromFn.{get_or-map-range_with_len}
+use Rattle.niss_moves.specs.declared.symbol.TheConstants.{SYMBOLS}
 use Rattle.niss_moves.specs.declared.token.Base.TheVariants as base
 use Rattle.niss_moves.specs.declared.symbol.Symbol.TheVariants as symbol
-use Rattle.niss_moves.specs.declared.symbol.TheConstants.{SYMBOLS}
 use Rattle.niss_moves.specs.declared.partial_line.LastMove.TheVariants as last
 
 -- the base that the first byte of a base is by itself

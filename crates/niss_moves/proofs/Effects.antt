@@ -1,21 +1,22 @@
 -- Effects of single moves, over all places; of a sequence and its inverse; of rotations, and how they rename the turns after them.
-use Rattle.niss_moves.proofs.Names.{IsPlace}
-use Rattle.niss_moves.proofs.Names.{refl, ap, sym, ◌∙◌, ◌≡◌, true, List, [], ◌∷◌, ◌++◌, map, reverse, inverse}
-use Rattle.niss_moves.proofs.Names.{effect, HasMeaning, moved_by, inverse_token, inverse_power, expanded, token_of_basic, Power, Token}
-use Rattle.niss_moves.proofs.Names.{Quarter, Place, same_place, is_place, Some, Bool, false, ◌&&◌, Option, None, if◌then◌else◌, unwrap_or}
-use Rattle.niss_moves.proofs.Names.{face_order, rotations, rotation_left, turned, effect_of_turns, quarters, Move, moved}
-use Rattle.niss_moves.proofs.Names.{face_move, times, centre, rotation_by, Turn, Face, Rotation, U, D, R, L, F, B, Axis, Vector}
-use Rattle.niss_moves.proofs.Names.{same_vector, along, face_before, face_before_power, spelling, IsRotationOf, renamed_turn, to_top}
-use Rattle.niss_moves.proofs.Names.{about_vertical, same_face}
+use Rattle.niss_moves.proofs.Names.{refl, ap, sym, ◌∙◌, ◌≡◌, true, List, [], ◌∷◌, ◌++◌, map, inverse, Power, Token, Quarter, Place, Some}
+use Rattle.niss_moves.proofs.Names.{Bool, false, ◌&&◌, Option, None, if◌then◌else◌, unwrap_or, face_order, rotations, turned}
+use Rattle.niss_moves.proofs.Names.{effect_of_turns, centre, Turn, Face, Rotation, U, D, R, L, F, B, Axis, same_face}
+use Rattle.niss_moves.specs.Places.{IsPlace, same_place, is_place, Vector, same_vector, along}
+use Rattle.std.proofs.Common.{reverse}
+use Rattle.niss_moves.specs.Effects.{effect, HasMeaning, moved_by, inverse_token, inverse_power, quarters, Move, moved, face_move, times}
+use Rattle.niss_moves.specs.Rotations.{expanded, token_of_basic, face_before, face_before_power, spelling, IsRotationOf, renamed_turn}
+use Rattle.niss_moves.specs.Rotations.{to_top, about_vertical}
+unfoldable use Rattle.niss_moves.specs.Cleaning.{rotation_left}
 use Rattle.std.proofs.lemmas.List.{reverse-append, map-append}
 use Rattle.std.proofs.lemmas.Bool.{and_parts}
 use Rattle.std.specs.List.{find, list_all}
 use mathlib.Core.Bool.{beq}
+use Rattle.niss_moves.specs.Helpers.{IsNext, rotation_by}
+use Rattle.niss_moves.proofs.Finite.{every_place, every_token, every_vector, every_coord, every_power, every_face, every_slice, every_axis}
+use Rattle.niss_moves.proofs.Finite.{Tokens, Anywhere, Places, Alike, Yes, holds, at_vector, same_vector_is, same_face_is, turn, rotation}
+use Rattle.niss_moves.proofs.Finite.{every_turn, at_turn, at_face, at_power, at_axis, every_rotation, at_rotation}
 use Rattle.niss_moves.specs.declared.token.Token.TheVariants as token
-use Rattle.niss_moves.specs.Helpers.{IsNext}
-use Rattle.niss_moves.proofs.Finite.{every_place, every_token, every_vector, every_coord, every_power, every_face}
-use Rattle.niss_moves.proofs.Finite.{every_slice, every_axis, Tokens, Anywhere, Places, Alike, Yes, holds, at_vector, same_vector_is, same_face_is}
-use Rattle.niss_moves.proofs.Finite.{turn, rotation, every_turn, at_turn, at_face, at_power, at_axis, every_rotation, at_rotation}
 
 pub effect-append : (s t : List Token) (q : Place) → effect (s ++ t) q ≡ effect t (effect s q)
 effect-append [] t q = refl

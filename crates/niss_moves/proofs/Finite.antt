@@ -1,14 +1,14 @@
 -- Truth values, and facts over finite types by a test that is computed over all values.
-use Rattle.niss_moves.proofs.Names.{IsPlace, AllPairs, ◌≢◌, ◌↔◌}
-use Rattle.niss_moves.proofs.Names.{refl, ap, sym, subst, arith, inl, inr, ◌≡◌, ◌∙◌, ◌<◌, ◌==◌, ℕ, zero, suc, nat_lt, length}
-use Rattle.niss_moves.proofs.Names.{get_or, not, true, List, [], ◌∷◌, Some, Bool, map, false, ◌&&◌, Option, None}
-use Rattle.niss_moves.proofs.Names.{if◌then◌else◌, eqb, face_order, places}
-use Rattle.niss_moves.proofs.Names.{letter_at, letter_of, letters, Turn, Face, Power, Token, Rotation, U, Quarter, Axis, Ud}
-use Rattle.niss_moves.proofs.Names.{Rl, Fb, Slice, M, E, S, Place, Coord, Neg, Zero, Pos, Vector, vector, same_coord}
-use Rattle.niss_moves.proofs.Names.{same_vector, same_place, is_place, SameMap, same_face}
+use Rattle.niss_moves.proofs.Names.{◌≢◌, ◌↔◌, refl, ap, sym, subst, arith, inl, inr, ◌≡◌, ◌∙◌, ◌<◌, ◌==◌, ℕ, zero, suc, nat_lt, length}
+use Rattle.niss_moves.proofs.Names.{get_or, not, true, List, [], ◌∷◌, Some, Bool, map, false, ◌&&◌, Option, None, if◌then◌else◌, eqb}
+use Rattle.niss_moves.proofs.Names.{face_order, places, letter_at, Turn, Face, Power, Token, Rotation, U, Quarter, Axis, Ud, Rl, Fb, Slice}
+use Rattle.niss_moves.proofs.Names.{M, E, S, Place, same_face}
+use Rattle.niss_moves.specs.Places.{IsPlace, Coord, Neg, Zero, Pos, Vector, vector, same_coord, same_vector, same_place, is_place, SameMap}
+unfoldable use Rattle.niss_moves.specs.Facelets.{letter_of, letters}
 use Rattle.niss_moves.specs.Canonical.{powers}
+use denote.Enum.Bare.{sameb}
+use Rattle.niss_moves.specs.contracts.turn.Face.{the_type}
 use Rattle.niss_moves.specs.Indices.{face_index, power_index, axis_index, layer_index}
-use Rattle.niss_moves.specs.declared.token.Token.TheVariants as token
 use Rattle.std.proofs.lemmas.Bool.{and_parts, eqb-true, ltb-true}
 use Rattle.std.proofs.lemmas.Bool.Decides.{eqb_tells, same_from_decides}
 use Rattle.std.proofs.lemmas.List.Elements.{All-contains}
@@ -17,9 +17,10 @@ use Rattle.std.proofs.lemmas.Map.Made.{IsDistinct-from_count, AllPairs-from_IsDi
 use Rattle.std.proofs.lemmas.Map.Views.{Contains-from_any}
 use Rattle.std.specs.Cmp.{IsEquivalence}
 use Rattle.std.specs.List.{list_any, list_all}
-use Rattle.std.specs.Prelude.{Contains}
+use Rattle.std.specs.Prelude.{Contains, AllPairs}
 use Rattle.std.specs.Cmp.Lexicographic.{pointwise, bytes_decides}
 pub use Rattle.std.proofs.lemmas.Bool.{not-true as not_true, and_from as and_both}
+use Rattle.niss_moves.specs.declared.token.Token.TheVariants as token
 
 pub and_left : (a b : Bool) → (a && b) ≡ true → a ≡ true
 and_left a b e = (and_parts a b e).0
@@ -120,6 +121,12 @@ pub same_face_is : (a b : Face) → same_face a b ≡ true → a ≡ b
 same_face_is U U e = refl
 same_face_is _ U e = cc
 same_face_is _ _ e = cc
+
+-- by the test of the code
+pub same_faces : (f g : Face) → sameb the_type f g ≡ same_face f g
+same_faces U U = refl
+same_faces _ U = refl
+same_faces _ _ = refl
 
 abbrev pub same_power : Power → Power → Bool
 same_power p q = eqb (power_index p) (power_index q)

@@ -1,11 +1,8 @@
 -- The reading of a line as a function is its reading.
 use Rattle.niss_moves.proofs.Names.{◌≡◌, ℕ, zero, suc, ◌+◌, ◌-◌, ◌<◌, ◌≤◌, refl, ap, sym, ◌∙◌, subst, inl, inr, arith, Bool, true, false}
-use Rattle.niss_moves.proofs.Names.{cond, List, [], ◌∷◌, ◌++◌, length, map, get_or, take, flat_map, Option, None, Some, is_some, Result}
-use Rattle.niss_moves.proofs.Names.{Ok, Err, length-append, U, M, Ud, Base, Plain, Typographic, Suffix, Nothing, Two, Prime}
-use Rattle.niss_moves.proofs.Names.{TwoPrime, Space, Tab, Return, Piece, Gap, Spelled, piece_bytes, Item, Outside, Bracket, item_bytes}
-use Rattle.niss_moves.proofs.Names.{item_normal, item_bracketed, Moves, Spells, IsLine, Cut, Whole, LacksOne, LacksTwo, cut_ending}
-use Rattle.niss_moves.proofs.Names.{cut_length, bracket_ending, has_no_bracket, Continues, CanContinue, StopsAt, Stops, Lacks, IsReading}
-use Rattle.niss_moves.proofs.Names.{ReadFault, NotAMove, Nested, Unopened, Unclosed, TooLong, start, run, ended, fault_at, moves_in}
+use Rattle.niss_moves.proofs.Names.{cond, List, [], ◌∷◌, ◌++◌, length, map, get_or, take, flat_map, Option, None, Some, is_some, Result, Ok}
+use Rattle.niss_moves.proofs.Names.{Err, length-append, U, M, Ud, Base, piece_bytes, Whole, has_no_bracket, CanContinue, Stops, Lacks}
+use Rattle.niss_moves.proofs.Names.{IsReading, ReadFault, NotAMove, Nested, Unopened, Unclosed, TooLong, start, run, ended}
 use Rattle.std.specs.Prelude.{All, Contains, find, is_none, slice_index, unwrap_or}
 use Rattle.std.specs.List.{range_with_len}
 use Rattle.std.specs.Option.{option_map, option_map_or}
@@ -13,15 +10,16 @@ use Rattle.std.specs.Cmp.Lexicographic.{bytes_decides}
 use Rattle.std.proofs.lemmas.Bool.{le-leb, leb-true, cases_lt}
 use Rattle.std.proofs.lemmas.List.{take_all}
 use Rattle.std.proofs.lemmas.List.Elements.{All-cons, Contains-append_left, Contains-append_right}
-use Rattle.niss_moves.specs.Faults.{EndsEarly}
-use Rattle.niss_moves.specs.Line.{opening, closing}
+use Rattle.niss_moves.specs.Faults.{EndsEarly, Cut, LacksOne, LacksTwo, cut_ending, cut_length, bracket_ending, Continues, StopsAt}
+use Rattle.niss_moves.specs.Line.{opening, closing, Plain, Typographic, Suffix, Nothing, Two, Prime, TwoPrime, Space, Tab, Return, Piece}
+use Rattle.niss_moves.specs.Line.{Gap, Spelled, Item, Outside, Bracket, item_bytes, item_normal, item_bracketed, Moves, Spells, IsLine}
 use Rattle.niss_moves.specs.Indices.{face_index, layer_index, axis_index}
-use Rattle.niss_moves.specs.Reading.{bases, suffixes, pieces, lists_within, lines_within, is_spelling, line_in, endings, ending_in}
-use Rattle.niss_moves.specs.Reading.{stop_in, last_bracket, fault_of_end, fault_by_stop, read_line}
-use Rattle.niss_moves.specs.declared.token.Base.TheVariants as base
+use Rattle.niss_moves.specs.Reading.{bases, suffixes, pieces, lists_within, lines_within, is_spelling, line_in, endings, ending_in, stop_in}
+use Rattle.niss_moves.specs.Reading.{last_bracket, fault_of_end, fault_by_stop, read_line, fault_at, moves_in}
 use Rattle.niss_moves.proofs.Finite.{and_both, and_left, and_right}
 use Rattle.niss_moves.proofs.CanonicalLists.{none, here, later, first_or_later, in_map, in_flat_map}
 use Rattle.niss_moves.proofs.Reading.{run_reads, no_line, one_reading, one_ending_of_two, stopped, stops_run, has_opening}
+use Rattle.niss_moves.specs.declared.token.Base.TheVariants as base
 
 -- What is found passes the test, and where something passes it, something is found.
 find_passes : {X : Type 0} (p : X → Bool) (xs : List X) (x : X) → find p xs ≡ Some x → p x ≡ true

@@ -1,16 +1,15 @@
 -- Face turns taken from a sequence behind a rotation; sequences whose centres are brought home, and what is left of them.
-use Rattle.niss_moves.proofs.Names.{Moves, Cleans, HasMeaning}
-use Rattle.niss_moves.proofs.Names.{refl, ap, sym, ◌∙◌, subst, arith, append_assoc, ◌≡◌, ℕ, zero, suc, List, [], ◌∷◌, ◌++◌, length}
-use Rattle.niss_moves.proofs.Names.{Some, map, ◌+◌, ◌<◌, ◌≤◌, Option, None, append-nil, take, drop, get_or, rotation_left}
-use Rattle.niss_moves.proofs.Names.{turned}
-use Rattle.niss_moves.proofs.Names.{effect_of_turns, inverse, effect, moved_by, inverse_power, centre, faces, BasicMove, FaceTurn}
-use Rattle.niss_moves.proofs.Names.{WholeRotation, expanded, token_of_basic, faces_with, joined_moves, Turn, Face, Power, Token, Rotation}
-use Rattle.niss_moves.proofs.Names.{U, Half, Axis, Slice, Place, face_before, face_before_power, spelling, IsRotationOf}
-use Rattle.niss_moves.proofs.Names.{renamed_turn, opposite}
+use Rattle.niss_moves.proofs.Names.{Cleans, refl, ap, sym, ◌∙◌, subst, arith, append_assoc, ◌≡◌, ℕ, zero, suc, List, [], ◌∷◌, ◌++◌, length}
+use Rattle.niss_moves.proofs.Names.{Some, map, ◌+◌, ◌<◌, ◌≤◌, Option, None, append-nil, take, drop, get_or, turned, effect_of_turns}
+use Rattle.niss_moves.proofs.Names.{inverse, centre, Turn, Face, Power, Token, Rotation, U, Half, Axis, Slice, Place, opposite}
+use Rattle.niss_moves.specs.Line.{Moves, joined_moves}
+use Rattle.niss_moves.specs.Effects.{HasMeaning, effect, moved_by, inverse_power}
+unfoldable use Rattle.niss_moves.specs.Cleaning.{rotation_left}
+use Rattle.niss_moves.specs.Rotations.{faces, BasicMove, FaceTurn, WholeRotation, expanded, token_of_basic, faces_with, face_before}
+use Rattle.niss_moves.specs.Rotations.{face_before_power, spelling, IsRotationOf, renamed_turn}
 use Rattle.std.proofs.Common.{add-one}
 use Rattle.std.proofs.lemmas.List.{take_more, take_all, drop_all, at_drop_more}
 use Rattle.niss_moves.specs.Helpers.{IsNext, Takes}
-use Rattle.niss_moves.specs.declared.token.Token.TheVariants as token
 use Rattle.niss_moves.proofs.Effects.{effect-append, effect_of_expanded, meaning, one_meaning, next_rotation, is_next}
 use Rattle.niss_moves.proofs.Effects.{effect_of_turns-append, turn_after, rotation_left_is, one_spelling, inverse_after, inverse_before}
 use Rattle.niss_moves.proofs.Effects.{places_stay, renames_power}
@@ -18,6 +17,7 @@ use Rattle.niss_moves.proofs.Cleaned.{cleans_effect, clean_turns_are_clean, clea
 use Rattle.niss_moves.proofs.Finite.{turn, rotation, every_face, every_power, every_turn, every_rotation, Rotations, Faces, Turns, Alike}
 use Rattle.niss_moves.proofs.Finite.{holds, places_are_listed, places_differ, same_letters}
 use Rattle.niss_moves.proofs.CanonicalLists.{canonical_in_order, canonical_grows}
+use Rattle.niss_moves.specs.declared.token.Token.TheVariants as token
 
 abbrev pub before : Rotation → Turn → Turn
 before r = renamed_turn (face_before r)

@@ -1,11 +1,10 @@
 -- What the reader's answers mean, and what a move that is read at once does.
 use Rattle.niss_moves.proofs.Names.{◌≡◌, ℕ, ◌+◌, refl, ap, sym, ◌∙◌, subst, List, [], ◌∷◌, ◌++◌, length, Option, None, Some, Result, Ok}
-use Rattle.niss_moves.proofs.Names.{Err, arith, length-append, CanContinue, Stops, ReadFault, State, start, step, and_then, run, ended}
-use Rattle.niss_moves.proofs.Names.{◌<◌, take, take-add, drop, get_or, inl, inr, ap₂, ◌≢◌, ◌==◌, ◌||◌, ◌*◌, nat_lt, not, Bool, true}
-use Rattle.niss_moves.proofs.Names.{false, Gap, Spelled, token_of, base_bytes, Nothing, Two, Prime, TwoPrime, Blank, blank_byte, added}
-use Rattle.niss_moves.proofs.Names.{settled, with_last, count, IsSuffix, IsMove, BeginsApostrophe, cut_of, Power, Quarter, Half, Counter}
-use Rattle.niss_moves.proofs.Names.{Token, Base}
-use Rattle.std.proofs.Common.{◌↔◌, IsOk, IfErr}
+use Rattle.niss_moves.proofs.Names.{Err, arith, length-append, CanContinue, Stops, ReadFault, State, start, run, ended, ◌<◌, take, drop}
+use Rattle.niss_moves.proofs.Names.{get_or, inl, inr, ◌≢◌, ◌==◌, ◌||◌, ◌*◌, nat_lt, not, Bool, true, false, count, IsSuffix, IsMove}
+use Rattle.niss_moves.proofs.Names.{BeginsApostrophe, Power, Quarter, Half, Counter, Token, Base}
+use Rattle.niss_moves.specs.Line.{Gap, Spelled, token_of, base_bytes, Nothing, Two, Prime, TwoPrime, Blank, blank_byte}
+use Rattle.std.proofs.Common.{◌↔◌, IsOk, IfErr, take-add, ap₂}
 use Rattle.std.specs.Result.{result_err}
 use mir.Val.{bool_byte}
 use Rattle.std.proofs.lemmas.List.{take_more}
@@ -15,12 +14,12 @@ use Rattle.std.specs.List.{list_all}
 use Rattle.std.proofs.lemmas.Bool.{lt-ltb, eqb-true}
 use Rattle.niss_moves.specs.Reader.{Reader, IsFed, HasNoLineFeed, line_of}
 use Rattle.niss_moves.specs.Reading.{read_line}
-use Rattle.niss_moves.specs.declared.partial_line.LastMove.TheVariants as last
-use Rattle.niss_moves.specs.Machine.{state_or, IsStep}
+use Rattle.niss_moves.specs.Machine.{state_or, IsStep, step, and_then, added, settled, with_last, cut_of}
 use Rattle.niss_moves.proofs.Completes.{run-append, run_after, at_fed, run_move}
 use Rattle.niss_moves.proofs.Sound.{can_continue, continued_ok, run_stops, is_plain, plain_pieces}
 use Rattle.niss_moves.proofs.Found.{read_by_run}
 use Rattle.niss_moves.proofs.Finite.{and_right}
+use Rattle.niss_moves.specs.declared.partial_line.LastMove.TheVariants as last
 
 -- what a caller gets of an outcome
 abbrev pub answer : Result State ReadFault → Result (Unit {0}) ReadFault

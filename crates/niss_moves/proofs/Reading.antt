@@ -1,17 +1,19 @@
 -- Each line has one reading: its moves, or its one fault.
 use Rattle.niss_moves.proofs.Names.{refl, ap, sym, ◌∙◌, arith, inl, inr, ◌≡◌, ℕ, ◌+◌, ◌-◌, ◌<◌, Bool, true, false, List, [], ◌∷◌, ◌++◌}
-use Rattle.niss_moves.proofs.Names.{length, take, drop, Option, None, Some, Result, Ok, Err, suc, ◌==◌, ◌||◌, not, has_no_bracket, Cut}
-use Rattle.niss_moves.proofs.Names.{Whole, LacksOne, LacksTwo, cut_length, cut_ending, bracket_ending, Continues, CanContinue, BeginsBase}
-use Rattle.niss_moves.proofs.Names.{StopsAt, Stops, Lacks, Faults, symbol_of, State, start, step, step_within, and_then, run, ended}
-use Rattle.niss_moves.proofs.Names.{ended_by, cut_of, is_some, ended_in, Moves, Symbol, LastMove, ReadFault, NotAMove, Nested, Unopened}
-use Rattle.niss_moves.proofs.Names.{fault_by, fault_at, Unclosed, TooLong, Spells, IsLine, IsReading, Token, settled}
+use Rattle.niss_moves.proofs.Names.{length, take, drop, Option, None, Some, Result, Ok, Err, suc, ◌==◌, ◌||◌, not, has_no_bracket, Whole}
+use Rattle.niss_moves.proofs.Names.{CanContinue, Stops, Lacks, symbol_of, State, start, step_within, run, ended, is_some, Symbol, LastMove}
+use Rattle.niss_moves.proofs.Names.{ReadFault, NotAMove, Nested, Unopened, Unclosed, TooLong, IsReading, Token}
+use Rattle.niss_moves.specs.Faults.{Cut, LacksOne, LacksTwo, cut_length, cut_ending, bracket_ending, Continues, BeginsBase, StopsAt, Faults}
+use Rattle.niss_moves.specs.Machine.{step, and_then, ended_by, cut_of, ended_in, settled}
+use Rattle.niss_moves.specs.Line.{Moves, Spells, IsLine}
+use Rattle.niss_moves.specs.Reading.{fault_by, fault_at}
 use Rattle.std.proofs.lemmas.List.{take-append-drop, take_more, length-take-le}
-use Rattle.niss_moves.specs.declared.partial_line.LastMove.TheVariants as last
-use Rattle.niss_moves.specs.declared.symbol.Symbol.TheVariants as symbol
 use Rattle.niss_moves.proofs.Finite.{and_right}
 use Rattle.niss_moves.proofs.Completes.{state, run-append, run_after, read_line_of, IsSymbol, symbol_is, first_symbol, completes}
 use Rattle.niss_moves.proofs.Sound.{Reads, Outcome, step_means, reads_all, can_continue, continued_ok, opens_at, cut_fits, run_stops}
 use Rattle.niss_moves.proofs.Sound.{ends_whole, lacks_bracket, lacks_apostrophe}
+use Rattle.niss_moves.specs.declared.partial_line.LastMove.TheVariants as last
+use Rattle.niss_moves.specs.declared.symbol.Symbol.TheVariants as symbol
 
 -- A beginning of a line ends in one cut, and a bracket is open or none is.
 no_fault : {f : ReadFault} {end : State} → ◌≡◌ {A = Result State ReadFault} (Err f) (Ok end) → ⊥

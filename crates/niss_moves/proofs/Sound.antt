@@ -1,14 +1,13 @@
 -- What is read is spelled; whole lines, and which fault they have.
 use Rattle.niss_moves.proofs.Names.{◌≡◌, ℕ, ◌+◌, ◌-◌, ◌≤◌, Bool, true, false, cond, nat_lt, eqb, refl, ap, sym, ◌∙◌, subst, subst₂, List}
-use Rattle.niss_moves.proofs.Names.{[], ◌∷◌, ◌++◌, length, flat_map, append_assoc, append-nil, Option, None, Some, is_some, Result, Ok}
-use Rattle.niss_moves.proofs.Names.{Err, arith, length-append, token_of, base_bytes, Typographic, Plain, Nothing, Two, Prime, TwoPrime}
-use Rattle.niss_moves.proofs.Names.{Moves, Piece, Gap, Spelled, piece_bytes, piece_moves, Item, Outside, Bracket, item_bytes, item_normal}
-use Rattle.niss_moves.proofs.Names.{item_bracketed, Cut, Whole, LacksOne, LacksTwo, cut_ending, cut_length, cut_of, symbol_of, State}
-use Rattle.niss_moves.proofs.Names.{fault_by, fault_at, moves_in, start, with_more, settled, count, with_last, fed_to, step_by, step_at}
-use Rattle.niss_moves.proofs.Names.{step, step_within, Quarter, Half, Counter, Token, Base, Symbol, LastMove, ReadFault, NotAMove}
-use Rattle.niss_moves.proofs.Names.{TooLong, ◌<◌, ◌&&◌, take, drop, get_or, inl, inr, ◌==◌, ◌||◌, not, Spells, IsLine, Suffix}
-use Rattle.niss_moves.proofs.Names.{suffix_bytes, Space, bracket_ending, Continues, CanContinue, StopsAt, Stops, Lacks, and_then, run, U}
-use Rattle.niss_moves.proofs.Names.{Rl, M, Unclosed}
+use Rattle.niss_moves.proofs.Names.{[], ◌∷◌, ◌++◌, length, flat_map, append_assoc, append-nil, Option, None, Some, is_some, Result, Ok, Err}
+use Rattle.niss_moves.proofs.Names.{arith, length-append, piece_bytes, piece_moves, Whole, symbol_of, State, start, count, step_within}
+use Rattle.niss_moves.proofs.Names.{Quarter, Half, Counter, Token, Base, Symbol, LastMove, ReadFault, NotAMove, TooLong, ◌<◌, ◌&&◌, take}
+use Rattle.niss_moves.proofs.Names.{drop, get_or, inl, inr, ◌==◌, ◌||◌, not, CanContinue, Stops, Lacks, run, U, Rl, M, Unclosed}
+use Rattle.niss_moves.specs.Line.{token_of, base_bytes, Typographic, Plain, Nothing, Two, Prime, TwoPrime, Moves, Piece, Gap, Spelled, Item}
+use Rattle.niss_moves.specs.Line.{Outside, Bracket, item_bytes, item_normal, item_bracketed, Spells, IsLine, Suffix, suffix_bytes, Space}
+use Rattle.niss_moves.specs.Machine.{cut_of, with_more, settled, with_last, fed_to, step_by, step_at, step, and_then}
+use Rattle.niss_moves.specs.Reading.{fault_by, fault_at, moves_in}
 use Rattle.std.proofs.lemmas.Bool.{ltb-true, eqb-true}
 use Rattle.std.proofs.Math.Path.{subst₃}
 use Rattle.std.proofs.lemmas.List.Concat.{flat_map-append}
@@ -17,13 +16,13 @@ use Rattle.std.specs.List.{list_all}
 use Rattle.std.proofs.lemmas.List.Folds.{list_all-append}
 use Rattle.std.proofs.lemmas.List.Sums.{AllPass-from_list_all, list_all-from_AllPass}
 use Rattle.std.proofs.Math.Seq.{take-append_seam, take-append-add, get_or-append_seam}
-use Rattle.niss_moves.specs.declared.token.Base.TheVariants as base
-use Rattle.niss_moves.specs.declared.partial_line.LastMove.TheVariants as last
-use Rattle.niss_moves.specs.declared.symbol.Symbol.TheVariants as symbol
-use Rattle.niss_moves.specs.Faults.{EndsEarly, OpensAt}
+use Rattle.niss_moves.specs.Faults.{EndsEarly, OpensAt, Cut, LacksOne, LacksTwo, cut_ending, cut_length, bracket_ending, Continues, StopsAt}
 use Rattle.niss_moves.proofs.Completes.{state, counted, count_more, more_none, IsSymbol, symbol_is, symbol_of_brackets, first_symbol}
 use Rattle.niss_moves.proofs.Completes.{run-append, run_after, read_line_of}
 use Rattle.niss_moves.proofs.Finite.{and_both, and_left}
+use Rattle.niss_moves.specs.declared.token.Base.TheVariants as base
+use Rattle.niss_moves.specs.declared.partial_line.LastMove.TheVariants as last
+use Rattle.niss_moves.specs.declared.symbol.Symbol.TheVariants as symbol
 
 -- the bytes so far as whole items, with these moves, and an open bracket with its pieces if there is one
 pub data WholeItems : Option ℕ → List ℕ → Moves → Type 0 where

@@ -1,11 +1,12 @@
 -- Words as they are written: what is written is spelled, and words that wait in a buffer.
-use Rattle.niss_moves.proofs.Names.{◌≤◌, Bool, take, get_or, token_index, refl, ap, sym, ◌∙◌, zero, suc, ◌+◌, ◌<◌}
-use Rattle.niss_moves.proofs.Names.{true, append_assoc, append-nil, arith, length-append, ◌≡◌, ℕ, ◌-◌, List, [], ◌∷◌, ◌++◌, length, map}
-use Rattle.niss_moves.proofs.Names.{flat_map, slice_get, face_letter, base_bytes, Suffix, Nothing, Two, Prime, Plain, suffix_bytes}
-use Rattle.niss_moves.proofs.Names.{suffix_power, Space, Gap, Spelled, Item, Outside, item_bytes, item_normal, item_bracketed, Spells}
-use Rattle.niss_moves.proofs.Names.{word, power_bytes, gap, gap_after, with_word, with_words, Power, Quarter, Half, Counter, Token, Base}
-use Rattle.niss_moves.proofs.Names.{token_of, if◌then◌else◌, false, cond, drop, with_buffered, turn_words, Turn, ◌==◌, cleaned_words}
-use Rattle.niss_moves.proofs.Names.{with_bracket, is_empty, Rotation}
+use Rattle.niss_moves.proofs.Names.{◌≤◌, Bool, take, get_or, refl, ap, sym, ◌∙◌, zero, suc, ◌+◌, ◌<◌, true, append_assoc, append-nil, arith}
+use Rattle.niss_moves.proofs.Names.{length-append, ◌≡◌, ℕ, ◌-◌, List, [], ◌∷◌, ◌++◌, length, map, flat_map, slice_get, word, with_words}
+use Rattle.niss_moves.proofs.Names.{Power, Quarter, Half, Counter, Token, Base, if◌then◌else◌, false, cond, drop, Turn, ◌==◌, Rotation}
+use Rattle.niss_moves.specs.Indices.{token_index}
+use Rattle.niss_moves.specs.Line.{Suffix, Nothing, Two, Prime, Plain, suffix_power, Space, Gap, Spelled, Item, Outside, item_bytes}
+use Rattle.niss_moves.specs.Line.{item_normal, item_bracketed, Spells, token_of}
+use Rattle.niss_moves.specs.Text.{gap, gap_after, with_word, turn_words, cleaned_words, with_bracket}
+use Rattle.niss_moves.specs.Helpers.{with_buffered, is_empty}
 use Rattle.std.specs.List.{join_with_byte, between}
 use Rattle.std.proofs.Math.Seq.{take-append-add}
 use Rattle.std.proofs.lemmas.List.{take-append-le, length-take-le, drop-append-le}
@@ -13,10 +14,10 @@ use Rattle.std.proofs.lemmas.Slice.{between_is, between_from_start, drop-put_mid
 use borrow.Rule.Slice.PartMut.{put_mid, post_of}
 use Rattle.niss_moves.specs.declared.text.Word.{Word}
 use Rattle.niss_moves.specs.declared.text.TheConstants.{WORDS}
-use Rattle.niss_moves.specs.declared.token.Token.TheVariants as token
-use Rattle.niss_moves.specs.declared.token.Base.TheVariants as base
 use Rattle.niss_moves.specs.declared.text.WordBuffer.{WordBuffer}
 use Rattle.niss_moves.proofs.Finite.{every_face, every_power, every_axis, every_slice, every_token, Tokens, Text, holds}
+use Rattle.niss_moves.specs.declared.token.Token.TheVariants as token
+use Rattle.niss_moves.specs.declared.token.Base.TheVariants as base
 
 abbrev base_of : Token → Base
 base_of (token.Face t) = base.Face t.face
@@ -38,17 +39,13 @@ power_of (token.Rotation a p) = p
 abbrev move_item : Token → Item
 move_item t = Outside (Spelled (base_of t) (suffix_of (power_of t)))
 
-suffix_is : (p : Power) → suffix_bytes (suffix_of p) ≡ power_bytes p
-suffix_is Quarter = refl
-suffix_is _ = refl
-
 power_is : (p : Power) → suffix_power (suffix_of p) ≡ p
 power_is Quarter = refl
 power_is _ = refl
 
 item_word : (t : Token) → item_bytes (move_item t) ≡ word t
-item_word (token.Face t) = ap (λ x. face_letter t.face ∷ x) (suffix_is t.power)
-item_word t = ap (λ x. base_bytes (base_of t) ++ x) (suffix_is (power_of t))
+unfolding every_token every_power every_face every_slice every_axis
+item_word = holds (Tokens (λ t. Text (item_bytes (move_item t)) (word t))) refl
 
 item_move : (t : Token) → item_normal (move_item t) ≡ t ∷ []
 item_move (token.Face t) = ap (λ p. token.Face (record t { power = p }) ∷ []) (power_is t.power)
@@ -84,10 +81,21 @@ abbrev spaced_items : List Token → List Item
 spaced_items [] = []
 spaced_items (t ∷ ts) = Outside (Gap Space) ∷ move_item t ∷ spaced_items ts
 
-spaced_bytes : (text : List ℕ) (ts : List Token) → gap text ≡ 32 ∷ [] → with_words text (map word ts) ≡ text ++ flat_map item_bytes (spaced_items ts)
-spaced_bytes text [] e = sym (append-nil text)
-spaced_bytes text (t ∷ ts) e =
-    spaced_bytes (with_word text (word t)) ts (gap_word (text ++ gap text) t) ∙ ap (λ g. ((text ++ g) ++ word t) ++ flat_map item_bytes (spaced_items ts)) e ∙ ap (λ w. ((text ++ 32 ∷ []) ++ w) ++ flat_map item_bytes (spaced_items ts)) (sym (item_word t)) ∙ simp append_assoc
+-- the words of moves side by side, each after a space
+abbrev pub spaced : List Token → List ℕ
+spaced [] = []
+spaced (t ∷ ts) = (32 ∷ word t) ++ spaced ts
+
+after_word : (text : List ℕ) (ts : List Token) → gap text ≡ 32 ∷ [] → text ++ spaced ts ≡ with_words text (map word ts)
+after_word text [] g = append-nil text
+after_word text (t ∷ ts) g =
+    let at = text ++ 32 ∷ [] in
+    sym (append_assoc text (32 ∷ []) (word t ++ spaced ts)) ∙ sym (append_assoc at (word t) (spaced ts))
+    ∙ after_word (at ++ word t) ts (gap_word at t) ∙ ap (λ x. with_words ((text ++ x) ++ word t) (map word ts)) (sym g)
+
+spaced_bytes : (ts : List Token) → spaced ts ≡ flat_map item_bytes (spaced_items ts)
+spaced_bytes [] = refl
+spaced_bytes (t ∷ ts) = λ i. 32 ∷ sym (item_word t) i ++ spaced_bytes ts i
 
 spaced_moves : (ts : List Token) → ts ≡ flat_map item_normal (spaced_items ts)
 spaced_moves [] = refl
@@ -103,21 +111,19 @@ words_are_read [] = record { items = []; bytes_are = refl; normal_are = refl; br
 words_are_read (t ∷ ts) =
     record {
       items = move_item t ∷ spaced_items ts;
-      bytes_are = spaced_bytes (word t) ts (gap_word [] t) ∙ ap (λ w. w ++ flat_map item_bytes (spaced_items ts)) (sym (item_word t));
+      bytes_are = sym (after_word (word t) ts (gap_word [] t)) ∙ (λ i. sym (item_word t) i ++ spaced_bytes ts i);
       normal_are = ap (λ s. t ∷ s) (spaced_moves ts) ∙ ap (λ s. s ++ flat_map item_normal (spaced_items ts)) (sym (item_move t));
       bracketed_are = spaced_inside ts;
     }
 
 -- One space stands between each two words.
-joined_after : (t : Token) (ts : List Token) (text : List ℕ) → with_words (text ++ word t) (map word ts) ≡ text ++ join_with_byte 32 (map word (t ∷ ts))
-joined_after t [] text = refl
-joined_after t (u ∷ us) text =
-    joined_after u us ((text ++ word t) ++ gap (text ++ word t))
-    ∙ ap (λ g. ((text ++ word t) ++ g) ++ join_with_byte 32 (map word (u ∷ us))) (gap_word text t) ∙ simp append_assoc
+spaced_joined : (t : Token) (ts : List Token) → word t ++ spaced ts ≡ join_with_byte 32 (map word (t ∷ ts))
+spaced_joined t [] = append-nil (word t)
+spaced_joined t (u ∷ us) = ap (λ x. word t ++ 32 ∷ x) (spaced_joined u us)
 
 pub words_are_joined : (s : List Token) → with_words [] (map word s) ≡ join_with_byte 32 (map word s)
 words_are_joined [] = refl
-words_are_joined (t ∷ ts) = joined_after t ts []
+words_are_joined (t ∷ ts) = sym (after_word (word t) ts (gap_word [] t)) ∙ spaced_joined t ts
 
 -- the first bytes of a list into which a piece was copied
 pub copied : {X : Type 0} (a k n : ℕ) (xs ys : List X) → a ≤ length xs → n ≤ length ys → take (a + n) (put_mid a k xs ys) ≡ take a xs ++ take n ys
@@ -125,21 +131,7 @@ copied a k n xs ys h l =
     ap (λ m. take (m + n) (put_mid a k xs ys)) (sym (length-take-le a xs h)) ∙ take-append-add (take a xs) (ys ++ post_of a k xs) n ∙ ap (λ t. take a xs ++ t) (take-append-le n ys (post_of a k xs) l)
 
 -- what stands behind it stays
-pub kept_behind : {X : Type 0} (a k n : ℕ) (xs ys : List X) → a + k ≤ n → a ≤ length xs → length ys ≡ k
-    → drop n (put_mid a k xs ys) ≡ drop n xs
-kept_behind a k n xs ys p q r = drop-put_mid a k xs ys n p q r
-
--- the words of moves side by side, each after a space
-abbrev pub spaced : List Token → List ℕ
-spaced [] = []
-spaced (t ∷ ts) = (32 ∷ word t) ++ spaced ts
-
-after_word : (text : List ℕ) (ts : List Token) → gap text ≡ 32 ∷ [] → text ++ spaced ts ≡ with_words text (map word ts)
-after_word text [] g = append-nil text
-after_word text (t ∷ ts) g =
-    let at = text ++ 32 ∷ [] in
-    sym (append_assoc text (32 ∷ []) (word t ++ spaced ts)) ∙ sym (append_assoc at (word t) (spaced ts))
-    ∙ after_word (at ++ word t) ts (gap_word at t) ∙ ap (λ x. with_words ((text ++ x) ++ word t) (map word ts)) (sym g)
+pub ruleset kept_behind = (drop-put_mid)
 
 -- all words after a text, none of them written
 all_buffered : (text : List ℕ) (no_gap : Bool) (ts : List Token) → gap text ≡ (if no_gap then [] else 32 ∷ []) → with_buffered text no_gap (spaced ts) ≡ with_words text (map word ts)

@@ -43,11 +43,8 @@ is_canonical_after last [] = true
 is_canonical_after last (t ∷ ts) = may_follow last t && is_canonical_after (Some t) ts
 
 -- No two neighbours break the rule.
-abbrev pub is_canonical : List Turn → Bool
-is_canonical s = is_canonical_after None s
-
 abbrev pub IsCanonical : List Turn → Type 0
-IsCanonical s = IsTrue (is_canonical s)
+IsCanonical s = IsTrue (is_canonical_after None s)
 
 -- the 18 turns in turn order: the faces U D R L F B, each by a quarter, a half and counterclockwise
 abbrev pub powers : List Power

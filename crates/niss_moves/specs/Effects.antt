@@ -58,14 +58,11 @@ slice_move M n = record { axis = Rl; turns = is_zero; quarters = against n }
 slice_move E n = record { axis = Ud; turns = is_zero; quarters = against n }
 slice_move S n = record { axis = Fb; turns = is_zero; quarters = n }
 
-abbrev pub rotation_move : Axis → ℕ → Move
-rotation_move axis n = record { axis = axis; turns = λ c. true; quarters = n }
-
 abbrev pub move_of : Token → Move
 move_of (token.Face t) = face_move t.face (times t.power)
 move_of (token.Wide face power) = wide_move face (times power)
 move_of (token.Slice slice power) = slice_move slice (times power)
-move_of (token.Rotation axis power) = rotation_move axis (times power)
+move_of (token.Rotation axis power) = record { axis = axis; turns = λ c. true; quarters = times power }
 
 -- where one move of a line brings the sticker at a place
 abbrev pub moved_by : Token → Place → Place

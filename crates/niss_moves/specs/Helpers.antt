@@ -1,8 +1,8 @@
 -- What private functions of the code work out. No public contract names these.
 use Rattle.std.specs.Prelude.{◌≡◌, ℕ, Bool, true, false, List, [], ◌∷◌, ◌++◌, map, drop, slice_index_or}
 use Rattle.std.specs.Prelude.{if◌then◌else◌, Option, None, Some, ◌<◌, ◌⊎◌, take}
-use Rattle.niss_moves.specs.Canonical.{same_face}
-use Rattle.niss_moves.specs.Cleaning.{sum_of_turns}
+use Rattle.niss_moves.specs.Canonical.{same_face, IsCanonical}
+use Rattle.niss_moves.specs.Cleaning.{sum_of_turns, Cleans}
 use Rattle.niss_moves.specs.Effects.{effect, effect_of_turns, moved_by}
 use Rattle.niss_moves.specs.Rotations.{expanded, faces_with, to_top, face_before, face_before_if, face_before_power}
 use Rattle.niss_moves.specs.Rotations.{renamed_turn, spelling}
@@ -24,6 +24,11 @@ abbrev pub list_with_turn : List Turn → Turn → List Turn
 list_with_turn [] t = t ∷ []
 list_with_turn (x ∷ []) t = pair_of_turns x t
 list_with_turn (x ∷ y ∷ s) t = x ∷ list_with_turn (y ∷ s) t
+
+-- The list and a turn become the new list, whatever follows.
+pub record Cleaned (old : List Turn) (t : Turn) (new : List Turn) : Type 0 where
+  pub canonical : IsCanonical new
+  pub cleans : (rest c : List Turn) → Cleans (new ++ rest) c → Cleans (old ++ t ∷ rest) c
 
 -- no words
 abbrev pub is_empty : List (List ℕ) → Bool

@@ -44,6 +44,7 @@ impl Word {
     }
 
     /// The word of a move.
+    #[tactic(auto, using(crate::proofs::Words::word_at))]
     pub fn of_token(token: Token) -> Word
         ensures bytes { take result.len result.bytes ≡ 32 ∷ word token }
         ensures len { result.len ≤ 4 }

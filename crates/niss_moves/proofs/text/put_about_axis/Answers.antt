@@ -1,8 +1,8 @@
 use Rattle.niss_moves.proofs.Names.{◌≡◌, ◌++◌, ap, sym, ◌∙◌, arith, cond, map, word, with_words}
 use Rattle.niss_moves.specs.Rotations.{rotation_if}
 use Rattle.std.specs.List.{between}
-use Rattle.niss_moves.specs.declared.token.Token.TheVariants as token
 use Rattle.niss_moves.proofs.Words.{word_written}
+use Rattle.niss_moves.specs.declared.token.Token.TheVariants as token
 use Rattle.niss_moves.proofs.text.put_about_axis.Goals as goal
 
 pub returns-clause-items : goal.returns-clause-items

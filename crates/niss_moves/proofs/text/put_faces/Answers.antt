@@ -1,7 +1,7 @@
 use Rattle.niss_moves.proofs.Names.{ap, map, ◌∙◌, with_words}
 use Rattle.std.proofs.lemmas.List.{drop_all}
-use Rattle.niss_moves.specs.declared.token.Token.TheVariants as token
 use Rattle.niss_moves.proofs.Words.{words_of_turns, writes_all}
+use Rattle.niss_moves.specs.declared.token.Token.TheVariants as token
 use Rattle.niss_moves.proofs.text.put_faces.Goals as goal
 
 pub returns-clause-items : goal.returns-clause-items

@@ -1,6 +1,6 @@
 use Rattle.std.proofs.Common.{◌+◌, ◌*◌, ◌≤◌, map, drop, length}
-use Rattle.niss_moves.specs.declared.token.Token.TheVariants as token
 use Rattle.niss_moves.proofs.Words.{Writes}
+use Rattle.niss_moves.specs.declared.token.Token.TheVariants as token
 use Rattle.niss_moves.proofs.text.put_faces.Given as goal
 
 abbrev pub invariant-loop-turn : goal.invariant-loop-turn
