@@ -1,14 +1,13 @@
 -- Canonical lists and their parts; the list of all of one length: its members, and its order.
 use Rattle.niss_moves.proofs.Names.{◌↔◌, inl, inr, refl, ap, sym, ◌∙◌, subst, length-append, arith, append_assoc, ◌≡◌, ℕ, zero, suc, ◌-◌}
 use Rattle.niss_moves.proofs.Names.{true, List, [], ◌∷◌, ◌++◌, length, Some, Bool, map, false, not, ◌&&◌, ◌⊎◌, IsTrue, flat_map, slice_get}
-use Rattle.niss_moves.proofs.Names.{IsCanonical, last_turn, face_may_follow, all_canonical, Turn, Face, opposite, same_face}
-use Rattle.niss_moves.specs.Canonical.{may_follow, canonical_extensions, DiffersFirst, CanonicalMembers, goes_first}
-use Rattle.std.specs.List.{All, AllPairs, Contains, filter}
-use Rattle.std.proofs.lemmas.Bool.{cond_both}
+use Rattle.niss_moves.proofs.Names.{IsCanonical, last_turn, Turn, Face, opposite, same_face, may_follow, cond_both}
+use Rattle.niss_moves.specs.Canonical.{face_may_follow, all_canonical, canonical_extensions, DiffersFirst, CanonicalMembers, goes_first}
 use Rattle.std.proofs.lemmas.List.{length-map, get_or-map, nil_from_length}
 use Rattle.std.proofs.lemmas.List.Elements.{All-append, All-contains, All-contains_itself, All-filter, All-map, All-pop, All-push}
 use Rattle.std.proofs.lemmas.List.Elements.{All-weaker, Contains-append_cases, Contains-append_left, Contains-append_right, filter_passes}
 use Rattle.std.proofs.lemmas.List.Kept.{AllPairs-cons, AllPairs-filter}
+use Rattle.std.specs.List.{All, AllPairs, Contains, filter}
 use Rattle.niss_moves.proofs.Finite.{every_face, Faces, When, Both, Yes, Same, holds, and_both, and_left, and_right}
 
 pub canonical_pair : (a : List Turn) (x y : Turn) (b : List Turn) → IsCanonical (a ++ x ∷ y ∷ b) → face_may_follow x.face y.face ≡ true

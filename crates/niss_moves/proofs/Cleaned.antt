@@ -1,16 +1,15 @@
 -- Cleaning: in one pass, as a relation and as a function, and what it keeps.
 use Rattle.niss_moves.proofs.Names.{inl, inr, refl, ap, sym, ◌∙◌, subst, length-append, arith, append_assoc, ◌≡◌, ℕ, zero, suc, true, List}
 use Rattle.niss_moves.proofs.Names.{[], ◌∷◌, ◌++◌, length, Some, Bool, false, ◌⊎◌, ◌+◌, ◌*◌, ◌<◌, ◌≤◌, cond, Option, None, subst₂}
-use Rattle.niss_moves.proofs.Names.{append-nil, IfSome, IsCanonical, last_turn, face_may_follow, rewritten_pair, Cleans, Clean, turned}
-use Rattle.niss_moves.proofs.Names.{effect_of_turns, Turn, Face, Power, Place, opposite, same_face, map, all_canonical, turn_order}
+use Rattle.niss_moves.proofs.Names.{append-nil, IfSome, IsCanonical, last_turn, rewritten_pair, Cleans, Clean, turned, effect_of_turns}
+use Rattle.niss_moves.proofs.Names.{Turn, Face, Power, Place, opposite, same_face, map, count_by, count_by-le-length, sum_by-cons}
+use Rattle.niss_moves.specs.Canonical.{face_may_follow, all_canonical, turn_order}
 use Rattle.niss_moves.specs.Cleaning.{more_rewritings, sum_of_turns, IsRewriting, Rewrite, are_disordered, disorder, turn_by, sum_of_powers}
-unfoldable use Rattle.niss_moves.specs.Cleaning.{rewritten_once, rewritten_within, clean_turns}
 use Rattle.std.specs.Option.{option_map, option_map_or}
 use Rattle.niss_moves.specs.Helpers.{Cleaned, pair_of_turns, list_with_turn}
-use Rattle.std.specs.List.{count_by}
 use Rattle.std.proofs.Math.Nat.{mul-le-mul_left}
 use Rattle.std.proofs.lemmas.Nat.{mul-le}
-use Rattle.std.proofs.lemmas.List.Sums.{count_by-le-length, sum_by-cons}
+unfoldable use Rattle.niss_moves.specs.Cleaning.{rewritten_once, rewritten_within, clean_turns}
 use Rattle.niss_moves.proofs.Finite.{and_both, and_left, and_right, every_face, every_power, every_turn, every_coord, every_vector}
 use Rattle.niss_moves.proofs.Finite.{every_place, Turns, Powers, Anywhere, Alike, holds, turn, same_face_is}
 use Rattle.niss_moves.proofs.Effects.{effect_of_turns-append}

@@ -1,22 +1,17 @@
 -- Effects of single moves, over all places; of a sequence and its inverse; of rotations, and how they rename the turns after them.
 use Rattle.niss_moves.proofs.Names.{refl, ap, sym, ◌∙◌, ◌≡◌, true, List, [], ◌∷◌, ◌++◌, map, inverse, Power, Token, Quarter, Place, Some}
 use Rattle.niss_moves.proofs.Names.{Bool, false, ◌&&◌, Option, None, if◌then◌else◌, unwrap_or, face_order, rotations, turned}
-use Rattle.niss_moves.proofs.Names.{effect_of_turns, centre, Turn, Face, Rotation, U, D, R, L, F, B, Axis, same_face}
+use Rattle.niss_moves.proofs.Names.{effect_of_turns, centre, Turn, Face, Rotation, U, D, R, L, F, B, Axis, same_face, reverse, expanded}
+use Rattle.niss_moves.proofs.Names.{to_top, reverse-append, map-append, and_parts, list_all, IsNext, rotation_by}
 use Rattle.niss_moves.specs.Places.{IsPlace, same_place, is_place, Vector, same_vector, along}
-use Rattle.std.proofs.Common.{reverse}
 use Rattle.niss_moves.specs.Effects.{effect, HasMeaning, moved_by, inverse_token, inverse_power, quarters, Move, moved, face_move, times}
-use Rattle.niss_moves.specs.Rotations.{expanded, token_of_basic, face_before, face_before_power, spelling, IsRotationOf, renamed_turn}
-use Rattle.niss_moves.specs.Rotations.{to_top, about_vertical}
-unfoldable use Rattle.niss_moves.specs.Cleaning.{rotation_left}
-use Rattle.std.proofs.lemmas.List.{reverse-append, map-append}
-use Rattle.std.proofs.lemmas.Bool.{and_parts}
-use Rattle.std.specs.List.{find, list_all}
+use Rattle.niss_moves.specs.Rotations.{token_of_basic, face_before, face_before_power, spelling, IsRotationOf, renamed_turn, about_vertical}
 use mathlib.Core.Bool.{beq}
-use Rattle.niss_moves.specs.Helpers.{IsNext, rotation_by}
+unfoldable use Rattle.niss_moves.specs.Cleaning.{rotation_left}
+use Rattle.std.specs.List.{find}
 use Rattle.niss_moves.proofs.Finite.{every_place, every_token, every_vector, every_coord, every_power, every_face, every_slice, every_axis}
 use Rattle.niss_moves.proofs.Finite.{Tokens, Anywhere, Places, Alike, Yes, holds, at_vector, same_vector_is, same_face_is, turn, rotation}
 use Rattle.niss_moves.proofs.Finite.{every_turn, at_turn, at_face, at_power, at_axis, every_rotation, at_rotation}
-use Rattle.niss_moves.specs.declared.token.Token.TheVariants as token
 
 pub effect-append : (s t : List Token) (q : Place) → effect (s ++ t) q ≡ effect t (effect s q)
 effect-append [] t q = refl
@@ -31,10 +26,10 @@ twice_power Quarter = refl
 twice_power _ = refl
 
 twice_token : (t : Token) → inverse_token (inverse_token t) ≡ t
-twice_token (token.Face t) = ap (λ p. token.Face (record t { power = p })) (twice_power t.power)
-twice_token (token.Wide f p) = ap (token.Wide f) (twice_power p)
-twice_token (token.Slice f p) = ap (token.Slice f) (twice_power p)
-twice_token (token.Rotation f p) = ap (token.Rotation f) (twice_power p)
+twice_token (Token.Face t) = ap (λ p. Token.Face (record t { power = p })) (twice_power t.power)
+twice_token (Token.Wide f p) = ap (Token.Wide f) (twice_power p)
+twice_token (Token.Slice f p) = ap (Token.Slice f) (twice_power p)
+twice_token (Token.Rotation f p) = ap (Token.Rotation f) (twice_power p)
 
 inverse-append : (s t : List Token) → inverse (s ++ t) ≡ inverse t ++ inverse s
 inverse-append s t = ap reverse (map-append inverse_token s t) ∙ reverse-append (map inverse_token s) (map inverse_token t)
@@ -180,11 +175,11 @@ pub turn_after : (r : Rotation) (t : Turn) (q : Place) → turned t (effect (spe
 turn_after r t q =
     rw (effect_of_rotation r.top r.vertical q, effect_of_rotation r.top r.vertical (turned (renamed_turn (face_before r) t) q)) (conjugated (rotated_vector r) (move_of_turn t) (move_of_turn (renamed_turn (face_before r) t)) (at_turn _ (at_rotation _ renames_test r) t) q)
 
-pub renames_power : (a : Axis) (p : Power) (t : Turn) (q : Place) → turned t (moved_by (token.Rotation a p) q) ≡ moved_by (token.Rotation a p) (turned (renamed_turn (face_before_power a p) t) q)
+pub renames_power : (a : Axis) (p : Power) (t : Turn) (q : Place) → turned t (moved_by (Token.Rotation a p) q) ≡ moved_by (Token.Rotation a p) (turned (renamed_turn (face_before_power a p) t) q)
 renames_power a p t q =
     let n = is_next (rotation U None) a p in
     ap (turned t) (sym (n.effect q)) ∙ turn_after (next_rotation (rotation U None) a p) t q ∙ n.effect (turned (renamed_turn (face_before (next_rotation (rotation U None) a p)) t) q)
-    ∙ ap (λ (f : Face). moved_by (token.Rotation a p) (turned (turn f t.power) q)) (n.faces t.face)
+    ∙ ap (λ (f : Face). moved_by (Token.Rotation a p) (turned (turn f t.power) q)) (n.faces t.face)
 
 pub effect_of_turns-append : (s t : List Turn) (q : Place) → effect_of_turns (s ++ t) q ≡ effect_of_turns t (effect_of_turns s q)
 effect_of_turns-append [] t q = refl

@@ -2,25 +2,19 @@
 use Rattle.niss_moves.proofs.Names.{◌≢◌, ◌↔◌, refl, ap, sym, subst, arith, inl, inr, ◌≡◌, ◌∙◌, ◌<◌, ◌==◌, ℕ, zero, suc, nat_lt, length}
 use Rattle.niss_moves.proofs.Names.{get_or, not, true, List, [], ◌∷◌, Some, Bool, map, false, ◌&&◌, Option, None, if◌then◌else◌, eqb}
 use Rattle.niss_moves.proofs.Names.{face_order, places, letter_at, Turn, Face, Power, Token, Rotation, U, Quarter, Axis, Ud, Rl, Fb, Slice}
-use Rattle.niss_moves.proofs.Names.{M, E, S, Place, same_face}
+use Rattle.niss_moves.proofs.Names.{M, E, S, Place, same_face, powers, face_index, power_index, axis_index, layer_index, and_parts}
+use Rattle.niss_moves.proofs.Names.{eqb-true, ltb-true, AllPass-from_list_all, list_any, list_all, pointwise, bytes_decides}
 use Rattle.niss_moves.specs.Places.{IsPlace, Coord, Neg, Zero, Pos, Vector, vector, same_coord, same_vector, same_place, is_place, SameMap}
-unfoldable use Rattle.niss_moves.specs.Facelets.{letter_of, letters}
-use Rattle.niss_moves.specs.Canonical.{powers}
 use denote.Enum.Bare.{sameb}
-use Rattle.niss_moves.specs.contracts.turn.Face.{the_type}
-use Rattle.niss_moves.specs.Indices.{face_index, power_index, axis_index, layer_index}
-use Rattle.std.proofs.lemmas.Bool.{and_parts, eqb-true, ltb-true}
 use Rattle.std.proofs.lemmas.Bool.Decides.{eqb_tells, same_from_decides}
 use Rattle.std.proofs.lemmas.List.Elements.{All-contains}
-use Rattle.std.proofs.lemmas.List.Sums.{AllPass-from_list_all}
 use Rattle.std.proofs.lemmas.Map.Made.{IsDistinct-from_count, AllPairs-from_IsDistinct}
 use Rattle.std.proofs.lemmas.Map.Views.{Contains-from_any}
 use Rattle.std.specs.Cmp.{IsEquivalence}
-use Rattle.std.specs.List.{list_any, list_all}
+unfoldable use Rattle.niss_moves.specs.Facelets.{letter_of, letters}
+use Rattle.niss_moves.specs.contracts.turn.Face.{the_type}
 use Rattle.std.specs.Prelude.{Contains, AllPairs}
-use Rattle.std.specs.Cmp.Lexicographic.{pointwise, bytes_decides}
 pub use Rattle.std.proofs.lemmas.Bool.{not-true as not_true, and_from as and_both}
-use Rattle.niss_moves.specs.declared.token.Token.TheVariants as token
 
 pub and_left : (a b : Bool) → (a && b) ≡ true → a ≡ true
 and_left a b e = (and_parts a b e).0
@@ -85,14 +79,14 @@ at_place p e q = at_vector _ (at_vector _ e q.cell) q.direction
 
 unfoldable pub every_token : (Token → Bool) → Bool
 every_token p =
-    every_power (λ n. every_face (λ f. p (token.Face (record { face = f; power = n })) && p (token.Wide f n)) && (every_slice (λ l. p (token.Slice l n)) && every_axis (λ a. p (token.Rotation a n))))
+    every_power (λ n. every_face (λ f. p (Token.Face (record { face = f; power = n })) && p (Token.Wide f n)) && (every_slice (λ l. p (Token.Slice l n)) && every_axis (λ a. p (Token.Rotation a n))))
 
 pub at_token : (p : Token → Bool) → every_token p ≡ true → (t : Token) → p t ≡ true
 unfolding every_token
-at_token p e (token.Face t) = (and_parts _ _ (at_face _ (and_parts _ _ (at_power _ e t.power)).0 t.face)).0
-at_token p e (token.Wide f n) = (and_parts _ _ (at_face _ (and_parts _ _ (at_power _ e n)).0 f)).1
-at_token p e (token.Slice l n) = at_slice _ (and_parts _ _ (and_parts _ _ (at_power _ e n)).1).0 l
-at_token p e (token.Rotation a n) = at_axis _ (and_parts _ _ (and_parts _ _ (at_power _ e n)).1).1 a
+at_token p e (Token.Face t) = (and_parts _ _ (at_face _ (and_parts _ _ (at_power _ e t.power)).0 t.face)).0
+at_token p e (Token.Wide f n) = (and_parts _ _ (at_face _ (and_parts _ _ (at_power _ e n)).0 f)).1
+at_token p e (Token.Slice l n) = at_slice _ (and_parts _ _ (and_parts _ _ (at_power _ e n)).1).0 l
+at_token p e (Token.Rotation a n) = at_axis _ (and_parts _ _ (and_parts _ _ (at_power _ e n)).1).1 a
 
 abbrev pub turn : Face → Power → Turn
 turn f p = record { face = f; power = p }

@@ -1,15 +1,13 @@
 -- Face turns taken from a sequence behind a rotation; sequences whose centres are brought home, and what is left of them.
 use Rattle.niss_moves.proofs.Names.{Cleans, refl, ap, sym, ◌∙◌, subst, arith, append_assoc, ◌≡◌, ℕ, zero, suc, List, [], ◌∷◌, ◌++◌, length}
 use Rattle.niss_moves.proofs.Names.{Some, map, ◌+◌, ◌<◌, ◌≤◌, Option, None, append-nil, take, drop, get_or, turned, effect_of_turns}
-use Rattle.niss_moves.proofs.Names.{inverse, centre, Turn, Face, Power, Token, Rotation, U, Half, Axis, Slice, Place, opposite}
+use Rattle.niss_moves.proofs.Names.{inverse, centre, Turn, Face, Power, Token, Rotation, U, Half, Axis, Slice, Place, opposite, expanded}
+use Rattle.niss_moves.proofs.Names.{add-one, take_more, take_all, drop_all, at_drop_more, IsNext, Takes}
 use Rattle.niss_moves.specs.Line.{Moves, joined_moves}
 use Rattle.niss_moves.specs.Effects.{HasMeaning, effect, moved_by, inverse_power}
-unfoldable use Rattle.niss_moves.specs.Cleaning.{rotation_left}
-use Rattle.niss_moves.specs.Rotations.{faces, BasicMove, FaceTurn, WholeRotation, expanded, token_of_basic, faces_with, face_before}
+use Rattle.niss_moves.specs.Rotations.{faces, BasicMove, FaceTurn, WholeRotation, token_of_basic, faces_with, face_before}
 use Rattle.niss_moves.specs.Rotations.{face_before_power, spelling, IsRotationOf, renamed_turn}
-use Rattle.std.proofs.Common.{add-one}
-use Rattle.std.proofs.lemmas.List.{take_more, take_all, drop_all, at_drop_more}
-use Rattle.niss_moves.specs.Helpers.{IsNext, Takes}
+unfoldable use Rattle.niss_moves.specs.Cleaning.{rotation_left}
 use Rattle.niss_moves.proofs.Effects.{effect-append, effect_of_expanded, meaning, one_meaning, next_rotation, is_next}
 use Rattle.niss_moves.proofs.Effects.{effect_of_turns-append, turn_after, rotation_left_is, one_spelling, inverse_after, inverse_before}
 use Rattle.niss_moves.proofs.Effects.{places_stay, renames_power}
@@ -17,7 +15,6 @@ use Rattle.niss_moves.proofs.Cleaned.{cleans_effect, clean_turns_are_clean, clea
 use Rattle.niss_moves.proofs.Finite.{turn, rotation, every_face, every_power, every_turn, every_rotation, Rotations, Faces, Turns, Alike}
 use Rattle.niss_moves.proofs.Finite.{holds, places_are_listed, places_differ, same_letters}
 use Rattle.niss_moves.proofs.CanonicalLists.{canonical_in_order, canonical_grows}
-use Rattle.niss_moves.specs.declared.token.Token.TheVariants as token
 
 abbrev pub before : Rotation → Turn → Turn
 before r = renamed_turn (face_before r)
@@ -61,22 +58,22 @@ takes r k turns n moves e h =
     record { faces = w.faces; effect = λ q. w.effect q ∙ effect_of_expanded k (effect (spelling r) q) }
 
 -- the arms of the code
-pub takes_face : (r : Rotation) (k : Token) (t u : Turn) → k ≡ token.Face t → u ≡ before r t → Takes r k (u ∷ []) r
+pub takes_face : (r : Rotation) (k : Token) (t u : Turn) → k ≡ Token.Face t → u ≡ before r t → Takes r k (u ∷ []) r
 takes_face r k t u is e = takes r k (u ∷ []) r _ (ap expanded is) (pushes_turn r t.face t.power u [] [] r e (pushes_none r))
 
-pub takes_wide : (r : Rotation) (k : Token) (f o : Face) (p : Power) (u : Turn) (a : Axis) (b : Power) (n : Rotation) → k ≡ token.Wide f p → o ≡ opposite f
-    → u ≡ before r (turn o p) → expanded (token.Wide f p) ≡ FaceTurn (opposite f) p ∷ WholeRotation a b ∷ [] → IsNext r a b n → Takes r k (u ∷ []) n
+pub takes_wide : (r : Rotation) (k : Token) (f o : Face) (p : Power) (u : Turn) (a : Axis) (b : Power) (n : Rotation) → k ≡ Token.Wide f p → o ≡ opposite f
+    → u ≡ before r (turn o p) → expanded (Token.Wide f p) ≡ FaceTurn (opposite f) p ∷ WholeRotation a b ∷ [] → IsNext r a b n → Takes r k (u ∷ []) n
 takes_wide r k f o p u a b n is eo e x next =
     takes r k (u ∷ []) n _ (ap expanded is ∙ x) (pushes_turn r (opposite f) p u (WholeRotation a b ∷ []) [] n (e ∙ ap (λ (f : Face). before r (turn f p)) eo) (pushes_last r a b n next))
 
-pub takes_slice : (r : Rotation) (k : Token) (l : Slice) (p : Power) (t : Turn) (g : Face) (b : Power) (v w : Turn) (a : Axis) (n : Rotation) → k ≡ token.Slice l p
-    → expanded (token.Slice l p) ≡ FaceTurn t.face t.power ∷ FaceTurn (opposite t.face) (inverse_power t.power) ∷ WholeRotation a (inverse_power t.power) ∷ []
+pub takes_slice : (r : Rotation) (k : Token) (l : Slice) (p : Power) (t : Turn) (g : Face) (b : Power) (v w : Turn) (a : Axis) (n : Rotation) → k ≡ Token.Slice l p
+    → expanded (Token.Slice l p) ≡ FaceTurn t.face t.power ∷ FaceTurn (opposite t.face) (inverse_power t.power) ∷ WholeRotation a (inverse_power t.power) ∷ []
     → g ≡ opposite t.face → b ≡ inverse_power t.power → v ≡ before r t → w ≡ before r (turn g b) → IsNext r a b n → Takes r k (v ∷ w ∷ []) n
 takes_slice r k l p t g b v w a n is x eg eb ev ew next =
-    let moves : expanded (token.Slice l p) ≡ FaceTurn t.face t.power ∷ FaceTurn g b ∷ WholeRotation a b ∷ [] = rw (eg, eb) x in
+    let moves : expanded (Token.Slice l p) ≡ FaceTurn t.face t.power ∷ FaceTurn g b ∷ WholeRotation a b ∷ [] = rw (eg, eb) x in
     takes r k (v ∷ w ∷ []) n _ (ap expanded is ∙ moves) (pushes_turn r t.face t.power v (FaceTurn g b ∷ WholeRotation a b ∷ []) (w ∷ []) n ev (pushes_turn r g b w (WholeRotation a b ∷ []) [] n ew (pushes_last r a b n next)))
 
-pub takes_rotation : (r : Rotation) (k : Token) (a : Axis) (p : Power) (n : Rotation) → k ≡ token.Rotation a p → IsNext r a p n → Takes r k [] n
+pub takes_rotation : (r : Rotation) (k : Token) (a : Axis) (p : Power) (n : Rotation) → k ≡ Token.Rotation a p → IsNext r a p n → Takes r k [] n
 takes_rotation r k a p n is next = takes r k [] n _ (ap expanded is) (pushes_last r a p n next)
 
 map_none : (s : List Turn) → map (before (rotation U None)) s ≡ s
@@ -137,9 +134,9 @@ left_until : (ts : List Token) (k : ℕ) → k ≤ length ts → (turns : List T
 left_until ts zero le = ([], rotation U None, left_none ts)
 left_until ts (suc k) le =
     let w = left_until ts k (omega arith) in
-    let t = get_or ts k (token.Face (turn U Half)) in
+    let t = get_or ts k (Token.Face (turn U Half)) in
     let h = pushes_all (expanded t) w.1 in
-    (w.0 ++ h.0, h.1, rw add-one at (left_more ts k (token.Face (turn U Half)) w.0 h.0 w.1 h.1 (omega arith) w.2 (takes w.1 t h.0 h.1 (expanded t) refl h.2)))
+    (w.0 ++ h.0, h.1, rw add-one at (left_more ts k (Token.Face (turn U Half)) w.0 h.0 w.1 h.1 (omega arith) w.2 (takes w.1 t h.0 h.1 (expanded t) refl h.2)))
 
 left_by : (s : List Token) → (r : Rotation) × ((q : Place) → effect (spelling r) (effect_of_turns (faces s) q) ≡ effect s q) × IsRotationOf s r
 left_by s =

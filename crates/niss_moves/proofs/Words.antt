@@ -2,28 +2,24 @@
 use Rattle.niss_moves.proofs.Names.{◌≤◌, Bool, take, get_or, refl, ap, sym, ◌∙◌, zero, suc, ◌+◌, ◌<◌, true, append_assoc, append-nil, arith}
 use Rattle.niss_moves.proofs.Names.{length-append, ◌≡◌, ℕ, ◌-◌, List, [], ◌∷◌, ◌++◌, length, map, flat_map, slice_get, word, with_words}
 use Rattle.niss_moves.proofs.Names.{Power, Quarter, Half, Counter, Token, Base, if◌then◌else◌, false, cond, drop, Turn, ◌==◌, Rotation}
-use Rattle.niss_moves.specs.Indices.{token_index}
-use Rattle.niss_moves.specs.Line.{Suffix, Nothing, Two, Prime, Plain, suffix_power, Space, Gap, Spelled, Item, Outside, item_bytes}
-use Rattle.niss_moves.specs.Line.{item_normal, item_bracketed, Spells, token_of}
+use Rattle.niss_moves.proofs.Names.{token_index, item_bytes, join_with_byte, between, take-append-le, length-take-le, drop-append-le}
+use Rattle.niss_moves.specs.Line.{Suffix, Nothing, Two, Prime, Plain, suffix_power, Space, Gap, Spelled, Item, Outside, item_normal}
+use Rattle.niss_moves.specs.Line.{item_bracketed, Spells, token_of}
 use Rattle.niss_moves.specs.Text.{gap, gap_after, with_word, turn_words, cleaned_words, with_bracket}
 use Rattle.niss_moves.specs.Helpers.{with_buffered, is_empty}
-use Rattle.std.specs.List.{join_with_byte, between}
 use Rattle.std.proofs.Math.Seq.{take-append-add}
-use Rattle.std.proofs.lemmas.List.{take-append-le, length-take-le, drop-append-le}
 use Rattle.std.proofs.lemmas.Slice.{between_is, between_from_start, drop-put_mid}
 use borrow.Rule.Slice.PartMut.{put_mid, post_of}
 use Rattle.niss_moves.specs.declared.text.Word.{Word}
 use Rattle.niss_moves.specs.declared.text.TheConstants.{WORDS}
 use Rattle.niss_moves.specs.declared.text.WordBuffer.{WordBuffer}
 use Rattle.niss_moves.proofs.Finite.{every_face, every_power, every_axis, every_slice, every_token, Tokens, Text, holds}
-use Rattle.niss_moves.specs.declared.token.Token.TheVariants as token
-use Rattle.niss_moves.specs.declared.token.Base.TheVariants as base
 
 abbrev base_of : Token → Base
-base_of (token.Face t) = base.Face t.face
-base_of (token.Wide f p) = base.Wide f
-base_of (token.Slice l p) = base.Slice l
-base_of (token.Rotation a p) = base.Rotation a
+base_of (Token.Face t) = Base.Face t.face
+base_of (Token.Wide f p) = Base.Wide f
+base_of (Token.Slice l p) = Base.Slice l
+base_of (Token.Rotation a p) = Base.Rotation a
 
 abbrev suffix_of : Power → Suffix
 suffix_of Quarter = Nothing
@@ -31,10 +27,10 @@ suffix_of Half = Two
 suffix_of Counter = Prime Plain
 
 abbrev power_of : Token → Power
-power_of (token.Face t) = t.power
-power_of (token.Wide f p) = p
-power_of (token.Slice l p) = p
-power_of (token.Rotation a p) = p
+power_of (Token.Face t) = t.power
+power_of (Token.Wide f p) = p
+power_of (Token.Slice l p) = p
+power_of (Token.Rotation a p) = p
 
 abbrev move_item : Token → Item
 move_item t = Outside (Spelled (base_of t) (suffix_of (power_of t)))
@@ -48,7 +44,7 @@ unfolding every_token every_power every_face every_slice every_axis
 item_word = holds (Tokens (λ t. Text (item_bytes (move_item t)) (word t))) refl
 
 item_move : (t : Token) → item_normal (move_item t) ≡ t ∷ []
-item_move (token.Face t) = ap (λ p. token.Face (record t { power = p }) ∷ []) (power_is t.power)
+item_move (Token.Face t) = ap (λ p. Token.Face (record t { power = p }) ∷ []) (power_is t.power)
 item_move t = ap (λ p. token_of (base_of t) p ∷ []) (power_is (power_of t))
 
 -- what stands past some bytes
@@ -58,7 +54,7 @@ past (x ∷ a) w k zero e = absurd (omega (arith, e))
 past (x ∷ a) w k (suc n) e = past a w k n (omega (arith, e))
 
 long_word : (t : Token) → 0 < length (word t)
-long_word (token.Face t) = omega arith
+long_word (Token.Face t) = omega arith
 long_word _ = omega arith
 
 words_gap : (t : Token) → gap (word t) ≡ 32 ∷ []
@@ -194,17 +190,17 @@ writes_all {text} {new} {first} {words} no_gap e wrote h =
     sym (nothing_buffered new no_gap) ∙ wrote [] ∙ ap (λ x. with_buffered text words.no_gap (take words.len words.bytes ++ spaced x)) (sym e) ∙ h.items
 
 -- the words of face turns
-pub words_of_turns : (ts : List Turn) → map word (map token.Face ts) ≡ turn_words ts
+pub words_of_turns : (ts : List Turn) → map word (map Token.Face ts) ≡ turn_words ts
 words_of_turns [] = refl
-words_of_turns (t ∷ ts) = ap (λ ws. word (token.Face t) ∷ ws) (words_of_turns ts)
+words_of_turns (t ∷ ts) = ap (λ ws. word (Token.Face t) ∷ ws) (words_of_turns ts)
 
 -- the words of face turns, each after a space
 abbrev pub spaced_turns : List Turn → List ℕ
-spaced_turns ts = spaced (map token.Face ts)
+spaced_turns ts = spaced (map Token.Face ts)
 
 -- without the first space they are a line
 pub spaced_line : (ts : List Turn) → drop 1 (spaced_turns ts) ≡ with_words [] (turn_words ts)
-spaced_line ts = all_buffered [] true (map token.Face ts) refl ∙ ap (with_words []) (words_of_turns ts)
+spaced_line ts = all_buffered [] true (map Token.Face ts) refl ∙ ap (with_words []) (words_of_turns ts)
 
 -- words after words
 pub words_more : (text : List ℕ) (ts us : List Token) → with_words (with_words text (map word ts)) (map word us) ≡ with_words text (map word (ts ++ us))

@@ -9,7 +9,6 @@ use Rattle.niss_moves.specs.Rotations.{renamed_turn, spelling}
 use Rattle.niss_moves.specs.Names.{Face, U, R, L, F, B, Power, Quarter, Half, Counter, Turn, Axis, Token, Rotation}
 use Rattle.niss_moves.specs.Names.{Base}
 use Rattle.niss_moves.specs.Places.{Place}
-use Rattle.niss_moves.specs.declared.token.Token.TheVariants as token
 use Rattle.niss_moves.specs.declared.rotation.MoveTurns.{MoveTurns}
 use Rattle.niss_moves.specs.declared.rotation.MoveTurns.TheVariants.{NoTurn, One, Two}
 use Rattle.niss_moves.specs.Line.{token_of, base_bytes, Apostrophe, apostrophe_bytes, Suffix, suffix_bytes}
@@ -53,7 +52,7 @@ rotation_of_faces fs = rotation_by (slice_index_or fs 0 U) (slice_index_or fs 4 
 
 -- The rotation is another one and then one about an axis.
 pub record IsNext (r : Rotation) (axis : Axis) (p : Power) (next : Rotation) : Type 0 where
-  pub effect : (q : Place) → effect (spelling next) q ≡ moved_by (token.Rotation axis p) (effect (spelling r) q)
+  pub effect : (q : Place) → effect (spelling next) q ≡ moved_by (Token.Rotation axis p) (effect (spelling r) q)
   pub faces : (f : Face) → face_before next f ≡ face_before r (face_before_power axis p f)
 
 -- After a rotation a move is these face turns and then the next rotation.

@@ -1,4 +1,4 @@
-use Rattle.std.proofs.Common.{◌∙◌, sym}
+use Rattle.niss_moves.proofs.Names.{◌∙◌, sym}
 use Rattle.niss_moves.proofs.Cleaned.{cleaned_sum, cleaned_passed}
 use Rattle.niss_moves.proofs.cleaning.sum_or_exchange.Goals as goal
 

@@ -1,5 +1,4 @@
-use Rattle.niss_moves.proofs.Names.{ap, sym, subst}
-use Rattle.niss_moves.specs.Reader.{Reader, IsFed}
+use Rattle.niss_moves.proofs.Names.{ap, sym, subst, Reader, IsFed}
 use Rattle.niss_moves.proofs.ReaderLemmas.{IsAnswered, reader, fed_on, fed_again, is_fed_on, answer_means}
 use Rattle.niss_moves.proofs.reader.LineReader.feed.Goals.{in-Some, in-None}
 use Rattle.niss_moves.proofs.reader.LineReader.feed.Goals as goal
