@@ -9,6 +9,7 @@ unfoldable pub use Rattle.niss_moves.proofs.Finite.{every_face, every_power, eve
 pub use Rattle.niss_moves.proofs.Effects.{effect-append, inverse_after, inverse_before, inverse_whole}
 pub use Rattle.niss_moves.proofs.CanonicalLists.{last_turn-push}
 pub use Rattle.niss_moves.proofs.Words.{spaced_turns, spaced_line}
+
 -- tests over all values of a type
 -- facts that computation decides
 -- sequences one after the other

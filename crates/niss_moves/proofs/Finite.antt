@@ -1,6 +1,6 @@
 -- Truth values, and facts over finite types by a test that is computed over all values.
 use Rattle.niss_moves.proofs.Names.{◌≢◌, ◌↔◌, refl, ap, sym, subst, arith, inl, inr, ◌≡◌, ◌∙◌, ◌<◌, ◌==◌, ℕ, zero, suc, nat_lt, length}
-use Rattle.niss_moves.proofs.Names.{get_or, not, true, List, [], ◌∷◌, Some, Bool, map, false, ◌&&◌, Option, None, if◌then◌else◌, eqb}
+use Rattle.niss_moves.proofs.Names.{get_or, true, List, [], ◌∷◌, Some, Bool, map, false, ◌&&◌, Option, None, if◌then◌else◌, eqb}
 use Rattle.niss_moves.proofs.Names.{face_order, places, letter_at, Turn, Face, Power, Token, Rotation, U, Quarter, Axis, Ud, Rl, Fb, Slice}
 use Rattle.niss_moves.proofs.Names.{M, E, S, Place, same_face, powers, face_index, power_index, axis_index, layer_index, and_parts}
 use Rattle.niss_moves.proofs.Names.{eqb-true, ltb-true, AllPass-from_list_all, list_any, list_all, pointwise, bytes_decides}
@@ -10,7 +10,8 @@ use Rattle.std.proofs.lemmas.Bool.Decides.{eqb_tells, same_from_decides}
 use Rattle.std.proofs.lemmas.List.Elements.{All-contains}
 use Rattle.std.proofs.lemmas.Map.Made.{IsDistinct-from_count, AllPairs-from_IsDistinct}
 use Rattle.std.proofs.lemmas.Map.Views.{Contains-from_any}
-use Rattle.std.specs.Cmp.{IsEquivalence}
+use Rattle.std.specs.Cmp.{IsEquivalence, booleans_Decides}
+use mathlib.Core.Bool.{beq}
 unfoldable use Rattle.niss_moves.specs.Facelets.{letter_of, letters}
 use Rattle.niss_moves.specs.contracts.turn.Face.{the_type}
 use Rattle.std.specs.Prelude.{Contains, AllPairs}
@@ -264,13 +265,9 @@ abbrev every_truths : ℕ → (List Bool → Bool) → Bool
 every_truths zero p = p []
 every_truths (suc n) p = every_truths n (λ bs. p (true ∷ bs)) && every_truths n (λ bs. p (false ∷ bs))
 
-abbrev same_bool : Bool → Bool → Bool
-same_bool true b = b
-same_bool false b = not b
-
 abbrev pub tested : Fact → Bool
 tested (Yes b) = b
-tested (Same a b) = same_bool a b
+tested (Same a b) = beq a b
 tested (Equal m n) = m == n
 tested (Below m n) = nat_lt m n
 tested (Alike p q) = same_place p q
@@ -308,14 +305,9 @@ at_truths [] p e = e
 at_truths (true ∷ bs) p e = at_truths bs (λ bs. p (true ∷ bs)) (and_left _ _ e)
 at_truths (false ∷ bs) p e = at_truths bs (λ bs. p (false ∷ bs)) (and_right (every_truths (length bs) (λ bs. p (true ∷ bs))) _ e)
 
-same_bool_is : (a b : Bool) → same_bool a b ≡ true → a ≡ b
-same_bool_is true b e = sym e
-same_bool_is false true e = e
-same_bool_is false false e = refl
-
 pub holds : (f : Fact) → tested f ≡ true → Holds f
 holds (Yes b) e = e
-holds (Same a b) e = same_bool_is a b e
+holds (Same a b) e = (booleans_Decides a b).0 e
 holds (Equal m n) e = eqb-true m n e
 holds (Below m n) e = ltb-true m n e
 holds (Alike p q) e = same_place_is p q e

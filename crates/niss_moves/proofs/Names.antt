@@ -10,7 +10,7 @@ pub use Rattle.niss_moves.specs.Cleaning.{rotations, rewritten_pair, Cleans, Cle
 pub use Rattle.niss_moves.specs.Effects.{turned, effect_of_turns, inverse}
 pub use Rattle.niss_moves.specs.Facelets.{centre, places, face_letter, letter_at}
 pub use Rattle.niss_moves.specs.Faults.{Whole, has_no_bracket, CanContinue, Stops, Lacks, IsReading}
-pub use Rattle.niss_moves.specs.Helpers.{turns_in, IsSuffix, IsMove, BeginsApostrophe, IsNext, rotation_by, Takes}
+pub use Rattle.niss_moves.specs.Helpers.{turns_in, IsSuffix, IsMove, BeginsApostrophe, rotation_by, Takes}
 pub use Rattle.niss_moves.specs.Line.{piece_moves, item_bytes}
 pub use Rattle.niss_moves.specs.Machine.{start, count, run, ended}
 pub use Rattle.niss_moves.specs.Names.{Turn, Face, Power, Token, Rotation, U, D, R, L, F, B, Half, Counter, Base, LastMove, ReadFault}
@@ -19,7 +19,7 @@ pub use Rattle.niss_moves.specs.Places.{Place}
 pub use Rattle.std.proofs.lemmas.Bool.{cond_both, eqb-true, lt-ltb, and_parts, ltb-true, le-leb, leb-true, cases_lt}
 pub use Rattle.std.specs.List.{count_by, range_with_len, list_all, list_any, join_with_byte, between}
 pub use Rattle.std.proofs.lemmas.List.Sums.{count_by-le-length, sum_by-cons, AllPass-from_list_all, list_all-from_AllPass}
-pub use Rattle.niss_moves.specs.Rotations.{expanded, to_top, rotation_if}
+pub use Rattle.niss_moves.specs.Rotations.{IsNext, expanded, to_top, rotation_if}
 pub use Rattle.std.proofs.lemmas.List.{reverse-append, map-append, take_all, take_more, drop_all, at_drop_more, take-append-drop}
 pub use Rattle.std.proofs.lemmas.List.{length-take-le, take-append-le, drop-append-le, length-drop}
 pub use Rattle.niss_moves.specs.Indices.{face_index, power_index, axis_index, layer_index, token_index}

@@ -4,9 +4,9 @@ use Rattle.std.specs.Prelude.{if◌then◌else◌, Option, None, Some, ◌<◌, 
 use Rattle.niss_moves.specs.Canonical.{same_face, IsCanonical}
 use Rattle.niss_moves.specs.Cleaning.{sum_of_turns, Cleans}
 use Rattle.niss_moves.specs.Effects.{effect, effect_of_turns, moved_by}
-use Rattle.niss_moves.specs.Rotations.{expanded, faces_with, to_top, face_before, face_before_if, face_before_power}
+use Rattle.niss_moves.specs.Rotations.{expanded, faces_with, to_top, face_before, face_before_if}
 use Rattle.niss_moves.specs.Rotations.{renamed_turn, spelling}
-use Rattle.niss_moves.specs.Names.{Face, U, R, L, F, B, Power, Quarter, Half, Counter, Turn, Axis, Token, Rotation}
+use Rattle.niss_moves.specs.Names.{Face, U, R, L, F, B, Power, Quarter, Half, Counter, Turn, Token, Rotation}
 use Rattle.niss_moves.specs.Names.{Base}
 use Rattle.niss_moves.specs.Places.{Place}
 use Rattle.niss_moves.specs.declared.rotation.MoveTurns.{MoveTurns}
@@ -49,11 +49,6 @@ rotation_by top front = record { top = top; vertical = vertical_of top front }
 -- the rotation that brings these six faces to the places of U, D, R, L, F and B
 abbrev pub rotation_of_faces : List Face → Rotation
 rotation_of_faces fs = rotation_by (slice_index_or fs 0 U) (slice_index_or fs 4 U)
-
--- The rotation is another one and then one about an axis.
-pub record IsNext (r : Rotation) (axis : Axis) (p : Power) (next : Rotation) : Type 0 where
-  pub effect : (q : Place) → effect (spelling next) q ≡ moved_by (Token.Rotation axis p) (effect (spelling r) q)
-  pub faces : (f : Face) → face_before next f ≡ face_before r (face_before_power axis p f)
 
 -- After a rotation a move is these face turns and then the next rotation.
 pub record Takes (r : Rotation) (t : Token) (turns : List Turn) (next : Rotation) : Type 0 where

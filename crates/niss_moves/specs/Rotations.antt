@@ -1,6 +1,7 @@
 -- The 24 rotations of the whole cube, and any sequence as face turns and a rotation.
 use Rattle.std.specs.Prelude.{◌≡◌, List, [], ◌∷◌, ◌++◌, Option, None, Some, map}
-use Rattle.niss_moves.specs.Effects.{effect, inverse_power}
+use Rattle.niss_moves.specs.Effects.{effect, inverse_power, moved_by}
+use Rattle.niss_moves.specs.Places.{Place}
 use Rattle.niss_moves.specs.Facelets.{centre}
 use Rattle.niss_moves.specs.Names.{Face, U, D, R, L, F, B, Power, Quarter, Half, Counter, Turn, Axis, Ud, Rl, Fb}
 use Rattle.niss_moves.specs.Names.{Token, Rotation, M, E, S}
@@ -64,6 +65,11 @@ face_before_if (Some r) f = face_before_power r.0 r.1 f
 -- the same for the 24 rotations
 abbrev pub face_before : Rotation → Face → Face
 face_before r f = face_before_if (to_top r.top) (face_before_if (about_vertical r.vertical) f)
+
+-- The rotation is another one and then one about an axis.
+pub record IsNext (r : Rotation) (axis : Axis) (p : Power) (next : Rotation) : Type 0 where
+  pub effect : (q : Place) → effect (spelling next) q ≡ moved_by (Token.Rotation axis p) (effect (spelling r) q)
+  pub faces : (f : Face) → face_before next f ≡ face_before r (face_before_power axis p f)
 
 -- a turn of the same power of a renamed face
 abbrev pub renamed_turn : (Face → Face) → Turn → Turn
