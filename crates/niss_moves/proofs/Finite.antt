@@ -1,4 +1,5 @@
 -- Truth values, and facts over finite types by a test that is computed over all values.
+use Rattle.niss_moves.proofs.Names.{◌||◌, not}
 use Rattle.niss_moves.proofs.Names.{◌≢◌, ◌↔◌, refl, ap, sym, subst, arith, inl, inr, ◌≡◌, ◌∙◌, ◌<◌, ◌==◌, ℕ, zero, suc, nat_lt, length}
 use Rattle.niss_moves.proofs.Names.{get_or, true, List, [], ◌∷◌, Some, Bool, map, false, ◌&&◌, Option, None, if◌then◌else◌, eqb}
 use Rattle.niss_moves.proofs.Names.{face_order, places, letter_at, Turn, Face, Power, Token, Rotation, U, Quarter, Axis, Ud, Rl, Fb, Slice}
@@ -154,17 +155,13 @@ same_place_self q = at_place (λ q. same_place q q) refl q
 pub same_place_of : (q r : Place) → q ≡ r → same_place q r ≡ true
 same_place_of q r e = subst (λ (r : Place). same_place q r ≡ true) e (same_place_self q)
 
-abbrev pub implies : Bool → Bool → Bool
-implies true b = b
-implies false b = true
-
-pub by_implies : (a b : Bool) → implies a b ≡ true → a ≡ true → b ≡ true
-by_implies true b e h = e
-by_implies false b e h = cc
+or_then : (a b : Bool) → (not a || b) ≡ true → a ≡ true → b ≡ true
+or_then true b e h = e
+or_then false b e h = cc
 
 -- The list of the sticker places, computed, and the facelet texts of maps on it.
 
-listed_test : every_place (λ q. implies (is_place q) (list_any (same_place q) places)) ≡ true
+listed_test : every_place (λ q. not (is_place q) || list_any (same_place q) places) ≡ true
 unfolding every_place every_vector every_coord
 listed_test = refl
 
@@ -177,7 +174,7 @@ at_member p xs x e m = All-contains (λ x. p x ≡ true) xs x (AllPass-from_list
 
 pub places_are_listed : (q : Place) → IsPlace q ↔ Contains places q
 places_are_listed q = (
-  (λ h. Contains-from_any same_place_is q places (by_implies _ _ (at_place _ listed_test q) h)),
+  (λ h. Contains-from_any same_place_is q places (or_then _ _ (at_place _ listed_test q) h)),
   (λ h. at_member is_place places q all_places h),
 )
 
@@ -272,7 +269,7 @@ tested (Equal m n) = m == n
 tested (Below m n) = nat_lt m n
 tested (Alike p q) = same_place p q
 tested (Both f g) = tested f && tested g
-tested (When b f) = implies b (tested f)
+tested (When b f) = not b || tested f
 tested (Numbers n f) = every_below n (λ k. tested (f k))
 tested (Places f) = list_all (λ q. tested (f q)) places
 tested (Text xs ys) = pointwise eqb xs ys
@@ -312,7 +309,7 @@ holds (Equal m n) e = eqb-true m n e
 holds (Below m n) e = ltb-true m n e
 holds (Alike p q) e = same_place_is p q e
 holds (Both f g) e = (holds f (and_left _ _ e), holds g (and_right (tested f) _ e))
-holds (When b f) e = λ h. holds f (by_implies b _ e h)
+holds (When b f) e = λ h. holds f (or_then b _ e h)
 holds (Numbers n f) e = λ k l. holds (f k) (at_below n (λ k. tested (f k)) e k l)
 holds (Places f) e = λ q h. holds (f q) (at_member (λ q. tested (f q)) places q e ((places_are_listed q).0 h))
 holds (Text xs ys) e = (bytes_decides xs ys).0 e
