@@ -47,10 +47,15 @@ writes 'L F x\n' cleanup 'r U'
 writes "R L' x'\n" cleanup M
 writes 'x2 y2\n' cleanup 'z z'
 writes 'z\n' cleanup "x y x'"
+writes 'U D\n' cleanup 'D U'
 writes 'D\n' cleanup "U D U'"
 writes 'U\n' cleanup "D U D'"
 writes 'R2 L\n' cleanup 'R L R'
 writes '\n' cleanup 'F F F F'
+writes '\n' cleanup "R R'"
+# These two have one effect: the clean list is more than that.
+writes 'R2 L2 U2 D2\n' cleanup 'R2 L2 U2 D2'
+writes 'U2 D2 R2 L2\n' cleanup 'U2 D2 R2 L2'
 writes '(U2)\n' cleanup "R (U U) R'"
 writes 'R L (U2)\n' cleanup "R L R (U U) R'"
 writes 'x (y)\n' cleanup 'x (y)'

@@ -1,16 +1,14 @@
 -- Canonical lists and their parts; the list of all of one length: its members, and its order.
-use Rattle.niss_moves.proofs.Names.{inl, inr, refl, ap, sym, ◌∙◌, subst, length-append, arith, append_assoc, ◌≡◌, ℕ, zero, suc, ◌-◌, true}
-use Rattle.niss_moves.proofs.Names.{List, [], ◌∷◌, ◌++◌, length, Some, Bool, map, false, not, ◌&&◌, ◌⊎◌, IsTrue, flat_map, slice_get}
-use Rattle.niss_moves.proofs.Names.{may_follow, IsCanonical, last_turn, canonical_extensions, DiffersFirst, face_may_follow}
-use Rattle.niss_moves.proofs.Names.{all_canonical, CanonicalMembers, CanonicalGrows, CanonicalInOrder, Turn, Face, opposite, same_face}
-use Rattle.niss_moves.proofs.Names.{goes_first}
-use Rattle.std.specs.List.{All, AllPairs, Contains, filter}
-use Rattle.std.proofs.lemmas.Bool.{and_parts, cond_both}
+use Rattle.niss_moves.proofs.Names.{◌↔◌, inl, inr, refl, ap, sym, ◌∙◌, subst, length-append, arith, append_assoc, ◌≡◌, ℕ, zero, suc, ◌-◌}
+use Rattle.niss_moves.proofs.Names.{true, List, [], ◌∷◌, ◌++◌, length, Some, Bool, map, false, not, ◌&&◌, ◌⊎◌, IsTrue, flat_map, slice_get}
+use Rattle.niss_moves.proofs.Names.{IsCanonical, last_turn, Turn, Face, opposite, same_face, may_follow, cond_both}
+use Rattle.niss_moves.specs.Canonical.{face_may_follow, all_canonical, canonical_extensions, DiffersFirst, CanonicalMembers, goes_first}
 use Rattle.std.proofs.lemmas.List.{length-map, get_or-map, nil_from_length}
 use Rattle.std.proofs.lemmas.List.Elements.{All-append, All-contains, All-contains_itself, All-filter, All-map, All-pop, All-push}
 use Rattle.std.proofs.lemmas.List.Elements.{All-weaker, Contains-append_cases, Contains-append_left, Contains-append_right, filter_passes}
 use Rattle.std.proofs.lemmas.List.Kept.{AllPairs-cons, AllPairs-filter}
-use Rattle.niss_moves.proofs.Finite.{every_face, at_face, implies, by_implies, not_true, and_both, and_left, and_right}
+use Rattle.std.specs.List.{All, AllPairs, Contains, filter}
+use Rattle.niss_moves.proofs.Finite.{every_face, Faces, When, Both, Yes, Same, holds, and_both, and_left, and_right}
 
 pub canonical_pair : (a : List Turn) (x y : Turn) (b : List Turn) → IsCanonical (a ++ x ∷ y ∷ b) → face_may_follow x.face y.face ≡ true
 canonical_pair [] x y b h = and_left _ _ h
@@ -57,32 +55,20 @@ exchanged f g a b = and_both _ _ (ap not a) (ap not b)
 abbrev pub goes_late : Face → Face → Bool
 goes_late f g = same_face (opposite f) g && goes_first g
 
-exchange_test : every_face (λ f. every_face (λ g. implies (are_exchanged f g) (face_may_follow g f && (goes_late f g && not (goes_late g f))))) ≡ true
-unfolding every_face
-exchange_test = refl
-
 -- exchanged, they are in order
-pub exchange : (f g : Face) → are_exchanged f g ≡ true → (face_may_follow g f ≡ true) × (goes_late f g ≡ true) × (goes_late g f ≡ false)
-exchange f g h =
-    let both = and_parts (face_may_follow g f) (goes_late f g && not (goes_late g f)) (by_implies _ _ (at_face _ (at_face _ exchange_test f) g) h) in
-    let late = and_parts (goes_late f g) (not (goes_late g f)) both.1 in
-    (both.0, late.0, not_true _ late.1)
-
-skip_test : every_face (λ z. every_face (λ y. every_face (λ x. implies (face_may_follow z y && are_exchanged x y) (face_may_follow z x)))) ≡ true
+pub exchange : (f g : Face) → are_exchanged f g ≡ true → (face_may_follow g f ≡ true) × ((goes_late f g ≡ true) × (goes_late g f ≡ false))
 unfolding every_face
-skip_test = refl
+exchange = holds (Faces (λ f. Faces (λ g. When (are_exchanged f g) (Both (Yes (face_may_follow g f)) (Both (Yes (goes_late f g)) (Same (goes_late g f) false)))))) refl
 
 -- what may stand before the first of two opposite faces may stand before the second
 skip_follows : (z y x : Face) → face_may_follow z y ≡ true → are_exchanged x y ≡ true → face_may_follow z x ≡ true
-skip_follows z y x h a = by_implies _ _ (at_face _ (at_face _ (at_face _ skip_test z) y) x) (and_both _ _ h a)
-
-pass_test : every_face (λ y. every_face (λ x. every_face (λ t. implies (face_may_follow y x && (not (same_face y t) && are_exchanged x t)) (face_may_follow y t)))) ≡ true
 unfolding every_face
-pass_test = refl
+skip_follows = holds (Faces (λ z. Faces (λ y. Faces (λ x. When (face_may_follow z y) (When (are_exchanged x y) (Yes (face_may_follow z x))))))) refl
 
 -- and the other way round, unless it is of the first one's face itself
 pub pass_follows : (y x t : Face) → face_may_follow y x ≡ true → same_face y t ≡ false → are_exchanged x t ≡ true → face_may_follow y t ≡ true
-pass_follows y x t h a b = by_implies _ _ (at_face _ (at_face _ (at_face _ pass_test y) x) t) (and_both _ _ h (and_both _ _ (ap not a) b))
+unfolding every_face
+pass_follows y x t h a = holds (Faces (λ y. Faces (λ x. Faces (λ t. When (face_may_follow y x) (When (not (same_face y t)) (When (are_exchanged x t) (Yes (face_may_follow y t)))))))) refl y x t h (ap not a)
 
 -- a list whose last turn but one is left out
 pub skip_middle : (b : List Turn) (y x : Turn) → IsCanonical (b ++ y ∷ x ∷ []) → are_exchanged x.face y.face ≡ true → IsCanonical (b ++ x ∷ [])
@@ -165,19 +151,17 @@ may_follow-last s t h =
       | inr w ↦ ap (λ l. may_follow l t) (ap last_turn w.2 ∙ last_turn-push w.0 w.1) ∙ canonical_pair w.0 w.1 t [] (rw snoc_assoc at (subst (λ (s : List Turn). IsCanonical (s ++ t ∷ [])) w.2 h))
     ]
 
-pub canonical_grows : CanonicalGrows
+pub canonical_grows : (s : List Turn) (t : Turn) → IsCanonical (s ++ t ∷ []) ↔ (IsCanonical s × IsTrue (may_follow (last_turn s) t))
 canonical_grows s t = ((λ h. (canonical_front s (t ∷ []) h, may_follow-last s t h)), (λ p. canonical_more s t p.0 p.1))
 
-record IsMember (turns : List Turn) (k : ℕ) (s : List Turn) : Type 0 where
-  long : length s ≡ k
-  canonical : IsCanonical s
-  among : All (Contains turns) s
+abbrev IsMember : List Turn → ℕ → List Turn → Type 0
+IsMember turns k s = (length s ≡ k) × IsCanonical s × All (Contains turns) s
 
 members_from : (turns : List Turn) (k : ℕ) (s : List Turn) → Contains (all_canonical turns k) s → IsMember turns k s
 unfolding all_canonical
 members_from turns zero s h =
     elim (first_or_later [] [] s h) [
-      | inl e ↦ subst (λ (s : List Turn). IsMember turns zero s) e (record { long = refl; canonical = refl; among = λ i d lt. absurd (omega (arith, lt)) })
+      | inl e ↦ subst (λ (s : List Turn). IsMember turns zero s) e (refl, refl, λ i d lt. absurd (omega (arith, lt)))
       | inr n ↦ absurd (none s n)
     ]
 members_from turns (suc k) s h =
@@ -185,28 +169,27 @@ members_from turns (suc k) s h =
     let v = from_map (λ t. w.0 ++ t ∷ []) (filter (may_follow (last_turn w.0)) turns) s w.2 in
     let t = from_filter (may_follow (last_turn w.0)) turns v.0 v.1 in
     let m = members_from turns k w.0 w.1 in
-    subst (λ (s : List Turn). IsMember turns (suc k) s) v.2 (record { long = omega (arith, length-append w.0 (v.0 ∷ []), m.long); canonical = canonical_more w.0 v.0 m.canonical t.1; among = All-push (Contains turns) w.0 v.0 m.among t.0 })
+    subst (λ (s : List Turn). IsMember turns (suc k) s) v.2 (omega (arith, length-append w.0 (v.0 ∷ []), m.0), canonical_more w.0 v.0 m.1 t.1, All-push (Contains turns) w.0 v.0 m.2 t.0)
 
 extended : (turns : List Turn) (k : ℕ) (b : List Turn) (t : Turn) → IsMember turns (suc k) (b ++ t ∷ []) → (IsMember turns k b → Contains (all_canonical turns k) b) → Contains (all_canonical turns (suc k)) (b ++ t ∷ [])
 unfolding all_canonical
 extended turns k b t m more =
-    let among = All-pop (Contains turns) (b ++ t ∷ []) b (Some t) refl m.among in
-    let front : IsMember turns k b = record { long = omega (arith, length-append b (t ∷ []), m.long); canonical = canonical_front b (t ∷ []) m.canonical; among = among.0 } in
-    in_flat_map (canonical_extensions turns) (all_canonical turns k) b (b ++ t ∷ []) (more front) (in_map (λ t. b ++ t ∷ []) (filter (may_follow (last_turn b)) turns) t (in_filter (may_follow (last_turn b)) turns t among.1 (may_follow-last b t m.canonical)))
+    let among = All-pop (Contains turns) (b ++ t ∷ []) b (Some t) refl m.2 in
+    let front : IsMember turns k b = (omega (arith, length-append b (t ∷ []), m.0), canonical_front b (t ∷ []) m.1, among.0) in
+    in_flat_map (canonical_extensions turns) (all_canonical turns k) b (b ++ t ∷ []) (more front) (in_map (λ t. b ++ t ∷ []) (filter (may_follow (last_turn b)) turns) t (in_filter (may_follow (last_turn b)) turns t among.1 (may_follow-last b t m.1)))
 
 members_to : (turns : List Turn) (k : ℕ) (s : List Turn) → IsMember turns k s → Contains (all_canonical turns k) s
 unfolding all_canonical
 members_to turns zero s m =
-    subst (λ (s : List Turn). Contains {X = List Turn} ([] ∷ []) s) (sym (nil_from_length s m.long)) (here {X = List Turn} [] [])
+    subst (λ (s : List Turn). Contains {X = List Turn} ([] ∷ []) s) (sym (nil_from_length s m.0)) (here {X = List Turn} [] [])
 members_to turns (suc k) s m =
     elim (last_of s) [
-      | inl n ↦ absurd (omega (arith, m.long, ap length n))
+      | inl n ↦ absurd (omega (arith, m.0, ap length n))
       | inr w ↦ subst (λ (s : List Turn). Contains (all_canonical turns (suc k)) s) (sym w.2) (extended turns k w.0 w.1 (subst (λ (s : List Turn). IsMember turns (suc k) s) w.2 m) (λ h. members_to turns k w.0 h))
     ]
 
 pub canonical_members : CanonicalMembers
-canonical_members turns k s =
-    (λ h. (let m = members_from turns k s h in (m.long, m.canonical, m.among)), λ h. members_to turns k s (record { long = h.0; canonical = h.1; among = h.2 }))
+canonical_members turns k s = (members_from turns k s, members_to turns k s)
 
 -- It is in the order of the turns.
 
@@ -259,7 +242,8 @@ inside : (o : Turn → Turn → Bool) (turns s : List Turn) → AllPairs (λ t u
 inside o turns s h =
     pairs_map (λ t u. IsTrue (o t u)) (DiffersFirst o) (λ t. s ++ t ∷ []) (λ t u k. record { front = s; left = t; right = u; after_left = []; after_right = []; first_is = refl; second_is = refl; order = k }) (filter (may_follow (last_turn s)) turns) (AllPairs-filter (λ t u. IsTrue (o t u)) (may_follow (last_turn s)) turns h)
 
-pub canonical_in_order : CanonicalInOrder
+pub canonical_in_order : (comes_before : Turn → Turn → Bool) (turns : List Turn) (k : ℕ) → AllPairs (λ t u. IsTrue (comes_before t u)) turns
+    → AllPairs (DiffersFirst comes_before) (all_canonical turns k)
 unfolding all_canonical
 canonical_in_order o turns zero h =
     AllPairs-cons (DiffersFirst o) [] [] (λ k d lt. absurd (omega (arith, lt))) (no_pairs (DiffersFirst o))

@@ -1,38 +1,26 @@
 -- Cleaning: in one pass, as a relation and as a function, and what it keeps.
-use Rattle.niss_moves.proofs.Names.{inl, inr, refl, ap, sym, ◌∙◌, subst, length-append, arith, append_assoc, ◌≡◌, ℕ, zero, suc, true}
-use Rattle.niss_moves.proofs.Names.{List, [], ◌∷◌, ◌++◌, length, Some, Bool, false, ◌⊎◌, ◌+◌, ◌*◌, ◌<◌, ◌≤◌, cond, Option, None, subst₂}
-use Rattle.niss_moves.proofs.Names.{append-nil, IfSome, IsCanonical, last_turn, face_may_follow, most_rewritings, rewritten_once}
-use Rattle.niss_moves.proofs.Names.{rewritten_within, clean_turns, sum_of_turns, rewritten_pair, IsRewriting, Cleans, Clean, Rewrite}
-use Rattle.niss_moves.proofs.Names.{are_disordered, disorder, turn_by, sum_of_powers, CleaningEnds, OneCleanList, CanonicalStays}
-use Rattle.niss_moves.proofs.Names.{CleanTurnsAreClean, RewritingLowers, turned, effect_of_turns, pair_of_turns, list_with_turn, Turn}
-use Rattle.niss_moves.proofs.Names.{Face, Power, U, Place, same_place, opposite, same_face, map, codes, Result, Ok, Err, all_canonical}
-use Rattle.niss_moves.proofs.Names.{turn_order, rotation_left, with_clean_line, Moves, symbol_of, step_within, start, run, ended, D, R, L}
-use Rattle.niss_moves.proofs.Names.{Half, ReadFault}
+use Rattle.niss_moves.proofs.Names.{inl, inr, refl, ap, sym, ◌∙◌, subst, length-append, arith, append_assoc, ◌≡◌, ℕ, zero, suc, true, List}
+use Rattle.niss_moves.proofs.Names.{[], ◌∷◌, ◌++◌, length, Some, Bool, false, ◌⊎◌, ◌+◌, ◌*◌, ◌<◌, ◌≤◌, cond, Option, None, subst₂}
+use Rattle.niss_moves.proofs.Names.{append-nil, IfSome, IsCanonical, last_turn, rewritten_pair, Cleans, Clean, turned, effect_of_turns}
+use Rattle.niss_moves.proofs.Names.{Turn, Face, Power, Place, opposite, same_face, map, count_by, count_by-le-length, sum_by-cons}
+use Rattle.niss_moves.specs.Canonical.{face_may_follow, all_canonical, turn_order}
+use Rattle.niss_moves.specs.Cleaning.{more_rewritings, sum_of_turns, IsRewriting, Rewrite, are_disordered, disorder, turn_by, sum_of_powers}
 use Rattle.std.specs.Option.{option_map, option_map_or}
-use Rattle.std.specs.List.{count_by}
+use Rattle.niss_moves.specs.Helpers.{Cleaned, pair_of_turns, list_with_turn}
 use Rattle.std.proofs.Math.Nat.{mul-le-mul_left}
 use Rattle.std.proofs.lemmas.Nat.{mul-le}
-use Rattle.std.proofs.lemmas.List.Sums.{count_by-le-length, sum_by-cons}
-use denote.Enum.Bare.{sameb}
-use Rattle.niss_moves.specs.contracts.turn.Face.{the_type}
-use Rattle.niss_moves.specs.Reading.{read_line}
+unfoldable use Rattle.niss_moves.specs.Cleaning.{rewritten_once, rewritten_within, clean_turns}
 use Rattle.niss_moves.proofs.Finite.{and_both, and_left, and_right, every_face, every_power, every_turn, every_coord, every_vector}
-use Rattle.niss_moves.proofs.Finite.{every_place, at_power, at_turn, at_place, turn, same_face_is, same_place_is}
+use Rattle.niss_moves.proofs.Finite.{every_place, Turns, Powers, Anywhere, Alike, holds, turn, same_face_is}
 use Rattle.niss_moves.proofs.Effects.{effect_of_turns-append}
 use Rattle.niss_moves.proofs.CanonicalLists.{canonical_pair, canonical_front, canonical_join, canonical_last, snoc_assoc, last_of}
 use Rattle.niss_moves.proofs.CanonicalLists.{are_exchanged, exchanged, exchange, pass_follows, skip_middle, last_turn-push}
-use Rattle.niss_moves.proofs.Found.{read_by_run}
 
 -- what a turn at the end leaves
-pub list_with_turn-last : (a : List Turn) (x t : Turn) → list_with_turn (a ++ x ∷ []) t ≡ a ++ pair_of_turns x t
-list_with_turn-last [] x t = refl
-list_with_turn-last (y ∷ []) x t = refl
-list_with_turn-last (y ∷ z ∷ a) x t = ap (λ s. y ∷ s) (list_with_turn-last (z ∷ a) x t)
-
--- The list and a turn become the new list, whatever follows.
-pub record Cleaned (old : List Turn) (t : Turn) (new : List Turn) : Type 0 where
-  pub canonical : IsCanonical new
-  pub cleans : (rest c : List Turn) → Cleans (new ++ rest) c → Cleans (old ++ t ∷ rest) c
+pub turn_at_end : (a : List Turn) (x t : Turn) → list_with_turn (a ++ x ∷ []) t ≡ a ++ pair_of_turns x t
+turn_at_end [] x t = refl
+turn_at_end (y ∷ []) x t = refl
+turn_at_end (y ∷ z ∷ a) x t = ap (λ s. y ∷ s) (turn_at_end (z ∷ a) x t)
 
 one_rewriting : (front : List Turn) (x y : Turn) (rest c : List Turn) → IsCanonical (front ++ x ∷ []) → face_may_follow x.face y.face ≡ false → Cleans (front ++ rewritten_pair x y ++ rest) c → Cleans (front ++ x ∷ y ∷ rest) c
 one_rewriting front x y rest c h k d =
@@ -80,28 +68,19 @@ cleaned_swap a x t h n m =
   where
     swap_after : (b : List Turn) (y : Turn) → IsCanonical ((b ++ y ∷ []) ++ x ∷ []) → Cleaned ((b ++ y ∷ []) ++ x ∷ []) t (list_with_turn (b ++ y ∷ []) t ++ x ∷ [])
     swap_after b y h =
-        rw (list_with_turn-last b y t) (record {
+        rw (turn_at_end b y t) (record {
           canonical = summed_canonical b y x t (rw snoc_assoc at h) (exchanged x.face t.face n m) (same_face y.face t.face) refl;
           cleans = λ rest c d.
               rw (snoc_assoc (b ++ y ∷ []) x (t ∷ rest)) (one_rewriting (b ++ y ∷ []) x t rest c h m (rw (n, append_assoc, append_assoc) (summed_cleans b y t (x ∷ rest) c (canonical_front (b ++ y ∷ []) (x ∷ []) h) (same_face y.face t.face) refl (rw (snoc_assoc (b ++ pair_of_turns y t) x rest) at d))));
         })
 
 -- what the code knows
-pub same_faces : (f g : Face) → sameb the_type f g ≡ same_face f g
-same_faces U U = refl
-same_faces _ U = refl
-same_faces _ _ = refl
-
-pub summed_same : (a old new : List Turn) (x t : Turn) → old ≡ a ++ x ∷ [] → same_face x.face t.face ≡ true → new ≡ a ++ sum_of_turns x t → new ≡ list_with_turn old t
-summed_same a old new x t is e n = rw (is, list_with_turn-last, e) n
-
-pub summed_other : (a old mid new : List Turn) (x t : Turn) → old ≡ a ++ x ∷ [] → same_face x.face t.face ≡ false → mid ≡ a ++ x ∷ [] → new ≡ mid ++ t ∷ [] → new ≡ list_with_turn old t
-summed_other a old mid new x t o e m n =
-    rw (o, list_with_turn-last, e) (n ∙ ap (λ s. s ++ t ∷ []) m ∙ snoc_assoc a x (t ∷ []))
-
 pub cleaned_sum : (a old new : List Turn) (x t : Turn) → IsCanonical old → old ≡ a ++ x ∷ [] → same_face x.face t.face ≡ true → new ≡ a ++ sum_of_turns x t → Cleaned old t new
 cleaned_sum a old new x t h o e n =
     subst₂ (λ (o n : List Turn). Cleaned o t n) (sym o) (sym n) (cleaned_same a x t (subst (λ (s : List Turn). IsCanonical s) o h) e)
+
+pub cleaned_first : (old new : List Turn) (t : Turn) → old ≡ [] → new ≡ t ∷ [] → Cleaned old t new
+cleaned_first old new t o n = rw (o, n) (record { canonical = refl; cleans = λ rest c d. d })
 
 pub cleaned_passed : (a old mid new : List Turn) (x t : Turn) → IsCanonical old → old ≡ a ++ x ∷ [] → same_face x.face t.face ≡ false
     → IfSome (last_turn old) (λ u. face_may_follow u.face t.face ≡ false) → mid ≡ list_with_turn a t → new ≡ mid ++ x ∷ [] → Cleaned old t new
@@ -113,23 +92,23 @@ cleaned_passed a old mid new x t h o e b m n =
 -- Cleaning keeps the effect.
 
 -- Two turns of one face have the effect of their sum.
-sums_test : every_turn (λ t. every_power (λ p. every_place (λ q. same_place (effect_of_turns (sum_of_turns t (turn t.face p)) q) (turned (turn t.face p) (turned t q))))) ≡ true
+sums : (t : Turn) (p : Power) (q : Place) → effect_of_turns (sum_of_turns t (turn t.face p)) q ≡ turned (turn t.face p) (turned t q)
 unfolding every_turn every_face every_power every_place every_vector every_coord
-sums_test = refl
+sums = holds (Turns (λ t. Powers (λ p. Anywhere (λ q. Alike (effect_of_turns (sum_of_turns t (turn t.face p)) q) (turned (turn t.face p) (turned t q)))))) refl
 
 -- Turns of opposite faces commute.
-commutes_test : every_turn (λ t. every_power (λ p. every_place (λ q. same_place (turned t (turned (turn (opposite t.face) p) q)) (turned (turn (opposite t.face) p) (turned t q))))) ≡ true
+commute : (t : Turn) (p : Power) (q : Place) → turned t (turned (turn (opposite t.face) p) q) ≡ turned (turn (opposite t.face) p) (turned t q)
 unfolding every_turn every_face every_power every_place every_vector every_coord
-commutes_test = refl
+commute = holds (Turns (λ t. Powers (λ p. Anywhere (λ q. Alike (turned t (turned (turn (opposite t.face) p) q)) (turned (turn (opposite t.face) p) (turned t q)))))) refl
 
 rewritten_effect : (x t : Turn) → face_may_follow x.face t.face ≡ false → (r : Place) → effect_of_turns (rewritten_pair x t) r ≡ effect_of_turns (x ∷ t ∷ []) r
 rewritten_effect x t h r = by_case (same_face x.face t.face) refl
   where
     by_case : (s : Bool) → same_face x.face t.face ≡ s → effect_of_turns (rewritten_pair x t) r ≡ effect_of_turns (x ∷ t ∷ []) r
     by_case true e =
-        rw e (same_place_is _ _ (at_place _ (at_power _ (at_turn _ sums_test x) t.power) r) ∙ ap (λ f. turned (turn f t.power) (turned x r)) (same_face_is _ _ e))
+        rw e (sums x t.power r ∙ ap (λ f. turned (turn f t.power) (turned x r)) (same_face_is _ _ e))
     by_case false e =
-        rw e (subst (λ (f : Face). effect_of_turns (turn f t.power ∷ x ∷ []) r ≡ effect_of_turns (x ∷ turn f t.power ∷ []) r) (same_face_is _ _ (and_left _ _ (exchange x.face t.face (exchanged x.face t.face e h)).1)) (same_place_is _ _ (at_place _ (at_power _ (at_turn _ commutes_test x) t.power) r)))
+        rw e (subst (λ (f : Face). effect_of_turns (turn f t.power ∷ x ∷ []) r ≡ effect_of_turns (x ∷ turn f t.power ∷ []) r) (same_face_is _ _ (and_left _ _ (exchange x.face t.face (exchanged x.face t.face e h)).1.0)) (commute x t.power r))
 
 one_effect : (s t : List Turn) → IsRewriting s t → (r : Place) → effect_of_turns t r ≡ effect_of_turns s r
 one_effect s t w r =
@@ -175,9 +154,9 @@ lowers_here front t u rest m true e = inl (shorter front t u rest e)
 lowers_here front t u rest m false e =
     let d = exchange t.face u.face (exchanged t.face u.face e m) in
     let s : front ++ rewritten_pair t u ++ rest ≡ front ++ u ∷ t ∷ rest = rw (e, append_assoc) refl in
-    inr (ap length s ∙ length-append front (u ∷ t ∷ rest) ∙ sym (length-append front (t ∷ u ∷ rest)), subst (λ (x : List Turn). disorder x < disorder (front ++ t ∷ u ∷ rest)) (sym s) (fewer front t u rest d.1 d.2))
+    inr (ap length s ∙ length-append front (u ∷ t ∷ rest) ∙ sym (length-append front (t ∷ u ∷ rest)), subst (λ (x : List Turn). disorder x < disorder (front ++ t ∷ u ∷ rest)) (sym s) (fewer front t u rest d.1.0 d.1.1))
 
-pub rewriting_lowers : RewritingLowers
+pub rewriting_lowers : (s t : List Turn) → IsRewriting s t → (length t < length s) ⊎ ((length t ≡ length s) × (disorder t < disorder s))
 rewriting_lowers s t w =
     rw (w.at, w.result) (lowers_here w.front w.left w.right w.rest w.breaks (same_face w.left.face w.right.face) refl)
 
@@ -247,29 +226,25 @@ lowers m s t cap w = elim (rewriting_lowers s t w) [
 
 -- the rewritings to the end
 
-within_step : (m n : ℕ) (s : List Turn) (o : Option (List Turn)) → Tells s o → length s * length s ≤ m → left_over m s ≤ suc n
-    → ((t : List Turn) → length t * length t ≤ m → left_over m t ≤ n → Cleans t (rewritten_within n t))
+within_step : (m n : ℕ) (s : List Turn) (o : Option (List Turn)) → Tells s o → length s * length s ≤ m → left_over m s < suc n
+    → ((t : List Turn) → length t * length t ≤ m → left_over m t < n → Cleans t (rewritten_within n t))
     → Cleans s (option_map_or (rewritten_within n) o s)
 within_step m n s None h cap fuel more = Clean h
 within_step m n s (Some t) w cap fuel more =
     let l = lowers m s t cap w in
     Rewrite w (more t l.1 (omega (arith, l.0, fuel)))
 
-end_step : (m : ℕ) (s : List Turn) (o : Option (List Turn)) → Tells s o → length s * length s ≤ m → left_over m s ≤ 0 → Cleans s s
-end_step m s None h cap fuel = Clean h
-end_step m s (Some t) w cap fuel = absurd (let l = lowers m s t cap w in omega (arith, l.0, fuel))
-
-within_cleans : (m n : ℕ) (s : List Turn) → length s * length s ≤ m → left_over m s ≤ n → Cleans s (rewritten_within n s)
+within_cleans : (m n : ℕ) (s : List Turn) → length s * length s ≤ m → left_over m s < n → Cleans s (rewritten_within n s)
 unfolding rewritten_within
-within_cleans m zero s cap fuel = end_step m s (rewritten_once s) (once_tells s) cap fuel
+within_cleans m zero s cap fuel = absurd (omega (arith, fuel))
 within_cleans m (suc n) s cap fuel = within_step m n s (rewritten_once s) (once_tells s) cap fuel (within_cleans m n)
 
-pub clean_turns_are_clean : CleanTurnsAreClean
+pub clean_turns_are_clean : (s : List Turn) → Cleans s (clean_turns s)
 unfolding clean_turns left_over
-clean_turns_are_clean s = within_cleans (length s * length s) (most_rewritings s) s (omega arith) (omega arith)
+clean_turns_are_clean s = within_cleans (length s * length s) (more_rewritings s) s (omega arith) (omega arith)
 
 -- Cleaning ends, for each list.
-pub cleaning_ends : CleaningEnds
+pub cleaning_ends : (s : List Turn) → (c : List Turn) × Cleans s c
 cleaning_ends s = (clean_turns s, clean_turns_are_clean s)
 
 -- Cleaning has one result, since the leftmost rewriting is a function.
@@ -292,7 +267,7 @@ not_both s t h w =
     let q : true ≡ false = sym k ∙ w.breaks in
     cc
 
-pub one_clean_list : OneCleanList
+pub one_clean_list : (s c d : List Turn) → Cleans s c → Cleans s d → c ≡ d
 one_clean_list s c d (Clean h) (Clean k) = refl
 one_clean_list s c d (Clean h) (Rewrite w k) = absurd (not_both s _ h w)
 one_clean_list s c d (Rewrite w h) (Clean k) = absurd (not_both s _ k w)
@@ -300,41 +275,10 @@ one_clean_list s c d (Rewrite {t = t} w h) (Rewrite {t = u} v k) =
     let e : t ≡ u = (let q : Some t ≡ Some u = sym (once_rewriting s t w) ∙ once_rewriting s u v in cc) in
     one_clean_list t c d h (subst (λ (x : List Turn). Cleans x d) (sym e) k)
 
-pub canonical_stays : CanonicalStays
+pub canonical_stays : (s c : List Turn) → IsCanonical s → Cleans s c → c ≡ s
 canonical_stays s c h d = one_clean_list s c s d (Clean h)
 
 -- counts of canonical sequences over the 18 turns
 counts : map (λ k. length (all_canonical turn_order k)) (1 ∷ 2 ∷ 3 ∷ []) ≡ 18 ∷ 243 ∷ 3240 ∷ []
 unfolding all_canonical
 counts = refl
-
--- what cleaning leaves of a line
-cleaned : Result Moves ReadFault → List ℕ
-cleaned (Ok line) = with_clean_line [] line
-cleaned (Err f) = codes "a fault"
-
--- lines and what they are cleaned to
-rows : List (List ℕ × List ℕ)
-rows =
-    (codes "U D", codes "U D") ∷ (codes "D U", codes "U D")
-    -- by `U U' D`, by `U D D'`, and by `R R L`
-    ∷ (codes "U D U'", codes "D") ∷ (codes "D U D'", codes "U") ∷ (codes "R L R", codes "R2 L")
-    -- by `F2 F F` and `F' F`
-    ∷ (codes "F F F F", []) ∷ (codes "R R'", []) ∷ (codes "U U", codes "U2")
-    -- a rotation renames what follows it, and the rest stands at the end by its one spelling
-    ∷ (codes "Rw U", codes "L F x") ∷ (codes "M", codes "R L' x'")
-    ∷ (codes "z z", codes "x2 y2") ∷ (codes "x y x'", codes "z")
-    ∷ (codes "(U2)", codes "(U2)") ∷ (codes "x (y)", codes "x (y)")
-    -- These two have one effect: the clean list is more than that.
-    ∷ (codes "R2 L2 U2 D2", codes "R2 L2 U2 D2") ∷ (codes "U2 D2 R2 L2", codes "U2 D2 R2 L2") ∷ []
-
-run_so : map (λ r. cleaned (ended (run start r.0))) rows ≡ map (λ r. r.1) rows
-unfolding cleaned rows step_within symbol_of rewritten_within rewritten_once clean_turns rotation_left
-run_so = refl
-
-rows_are_so : map (λ r. cleaned (read_line r.0)) rows ≡ map (λ r. r.1) rows
-rows_are_so = (λ i. map (λ r. cleaned (sym (read_by_run r.0) i)) rows) ∙ run_so
-
-same_effect : every_place (λ q. same_place (effect_of_turns (turn R Half ∷ turn L Half ∷ turn U Half ∷ turn D Half ∷ []) q) (effect_of_turns (turn U Half ∷ turn D Half ∷ turn R Half ∷ turn L Half ∷ []) q)) ≡ true
-unfolding every_place every_vector every_coord
-same_effect = refl

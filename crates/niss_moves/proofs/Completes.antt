@@ -1,58 +1,55 @@
 -- What each byte may be, by the letters of the grammar and in the table of the code; what is spelled is read.
-use Rattle.niss_moves.proofs.Names.{◌≡◌, ℕ, ◌<◌, Bool, true, false, cond, eqb, refl, ap, sym, ◌∙◌, subst, List, [], ◌∷◌, get_or, map}
-use Rattle.niss_moves.proofs.Names.{arith, base_bytes, Blank, Space, Tab, Return, blank_byte, bytes_of_a_line, look_up, symbol_of, U, Rl}
-use Rattle.niss_moves.proofs.Names.{M, Base, Symbol, append_assoc, append-nil, length-append, ◌+◌, ◌≤◌, ◌++◌, length, flat_map, Option}
-use Rattle.niss_moves.proofs.Names.{None, Some, Result, Ok, Err, face_letter, token_of, cut_of, Whole, Plain, Typographic, Suffix}
-use Rattle.niss_moves.proofs.Names.{Nothing, Two, Prime, TwoPrime, suffix_bytes, suffix_power, Piece, Gap, Spelled, piece_bytes}
-use Rattle.niss_moves.proofs.Names.{piece_moves, Item, Outside, Bracket, item_bytes, item_normal, item_bracketed, Spells, IsLine, Moves}
-use Rattle.niss_moves.proofs.Names.{State, start, with_more, added, settled, opened, closed, count, with_last, fed_to, step_by, step_at}
-use Rattle.niss_moves.proofs.Names.{moves_in, step_within, and_then, run_within, Face, Half, Counter, Token, LastMove, ReadFault, TooLong}
-use Rattle.std.specs.List.{range_with_len}
-use Rattle.std.proofs.lemmas.Bool.{eqb-true, lt-ltb}
+use Rattle.niss_moves.proofs.Names.{◌≡◌, ℕ, ◌<◌, Bool, true, false, cond, eqb, refl, ap, sym, ◌∙◌, subst, List, [], ◌∷◌, get_or, map, arith}
+use Rattle.niss_moves.proofs.Names.{U, Rl, M, Base, Symbol, append_assoc, append-nil, length-append, ◌+◌, ◌≤◌, ◌++◌, length, flat_map}
+use Rattle.niss_moves.proofs.Names.{Option, None, Some, Result, Ok, Err, face_letter, Whole, piece_moves, start, count, Face, Half, Counter}
+use Rattle.niss_moves.proofs.Names.{Token, LastMove, ReadFault, TooLong, item_bytes, range_with_len, eqb-true, lt-ltb}
+use Rattle.niss_moves.specs.Reading.{symbol_of, bytes_of_a_line, look_up, moves_in}
+use Rattle.niss_moves.specs.Line.{piece_bytes, base_bytes, Blank, Space, Tab, Return, blank_byte, token_of, Plain, Typographic, Suffix}
+use Rattle.niss_moves.specs.Line.{Nothing, Two, Prime, TwoPrime, suffix_bytes, suffix_power, Piece, Gap, Spelled, Item, Outside, Bracket}
+use Rattle.niss_moves.specs.Line.{item_normal, item_bracketed, Spells, IsLine, Moves}
+use Rattle.niss_moves.specs.Machine.{State, opened, step_within, cut_of, with_more, added, settled, closed, with_last, fed_to, step_by}
+use Rattle.niss_moves.specs.Machine.{step_at, and_then, run_within}
 use Rattle.std.proofs.lemmas.List.FromFn.{get_or-map-range_with_len}
-use Rattle.niss_moves.specs.declared.token.Base.TheVariants as base
-use Rattle.niss_moves.specs.declared.symbol.Symbol.TheVariants as symbol
 use Rattle.niss_moves.specs.declared.symbol.TheConstants.{SYMBOLS}
-use Rattle.niss_moves.specs.declared.partial_line.LastMove.TheVariants as last
 
 -- the base that the first byte of a base is by itself
 abbrev pub letter : Base → Base
-letter (base.Wide f) = base.Face f
+letter (Base.Wide f) = Base.Face f
 letter b = b
 
 -- what each byte is
-pub symbol_of_letter : (b : Base) → symbol_of (get_or (base_bytes b) 0 0) ≡ symbol.Base (letter b)
+pub symbol_of_letter : (b : Base) → symbol_of (get_or (base_bytes b) 0 0) ≡ Symbol.Base (letter b)
 unfolding symbol_of
-symbol_of_letter (base.Face U) = refl
-symbol_of_letter (base.Wide U) = refl
-symbol_of_letter (base.LowerCase U) = refl
-symbol_of_letter (base.Slice M) = refl
-symbol_of_letter (base.Rotation Rl) = refl
+symbol_of_letter (Base.Face U) = refl
+symbol_of_letter (Base.Wide U) = refl
+symbol_of_letter (Base.LowerCase U) = refl
+symbol_of_letter (Base.Slice M) = refl
+symbol_of_letter (Base.Rotation Rl) = refl
 symbol_of_letter _ = refl
 
-pub symbol_of_blank : (b : Blank) → symbol_of (blank_byte b) ≡ symbol.Blank
+pub symbol_of_blank : (b : Blank) → symbol_of (blank_byte b) ≡ Symbol.Blank
 unfolding symbol_of
 symbol_of_blank Space = refl
 symbol_of_blank _ = refl
 
-pub symbol_of_brackets : (symbol_of 40 ≡ symbol.Open) × (symbol_of 41 ≡ symbol.Close)
+pub symbol_of_brackets : (symbol_of 40 ≡ Symbol.Open) × (symbol_of 41 ≡ Symbol.Close)
 unfolding symbol_of
 symbol_of_brackets = (refl, refl)
 
-pub first_symbol : (b : Base) (byte : ℕ) (more : List ℕ) → base_bytes b ≡ byte ∷ more → symbol_of byte ≡ symbol.Base (letter b)
+pub first_symbol : (b : Base) (byte : ℕ) (more : List ℕ) → base_bytes b ≡ byte ∷ more → symbol_of byte ≡ Symbol.Base (letter b)
 first_symbol b byte more e = ap (λ xs. symbol_of (get_or xs 0 0)) (sym e) ∙ symbol_of_letter b
 
 -- what a symbol says of its byte
 abbrev pub IsSymbol : Symbol → ℕ → Type 0
-IsSymbol symbol.Blank b = (x : Blank) × (b ≡ blank_byte x)
-IsSymbol symbol.Open b = b ≡ 40
-IsSymbol symbol.Close b = b ≡ 41
-IsSymbol (symbol.Base x) b = (base_bytes x ≡ b ∷ [])
-IsSymbol symbol.Wide b = b ≡ 119
-IsSymbol symbol.Two b = b ≡ 50
-IsSymbol symbol.Apostrophe b = b ≡ 39
-IsSymbol symbol.Cut b = b ≡ 0xE2
-IsSymbol symbol.Other b = Unit {0}
+IsSymbol Symbol.Blank b = (x : Blank) × (b ≡ blank_byte x)
+IsSymbol Symbol.Open b = b ≡ 40
+IsSymbol Symbol.Close b = b ≡ 41
+IsSymbol (Symbol.Base x) b = (base_bytes x ≡ b ∷ [])
+IsSymbol Symbol.Wide b = b ≡ 119
+IsSymbol Symbol.Two b = b ≡ 50
+IsSymbol Symbol.Apostrophe b = b ≡ 39
+IsSymbol Symbol.Cut b = b ≡ 0xE2
+IsSymbol Symbol.Other b = Unit {0}
 
 abbrev IsTable : List (ℕ × Symbol) → Type 0
 IsTable [] = Unit {0}
@@ -73,10 +70,10 @@ pub symbol_is : (b : ℕ) → IsSymbol (symbol_of b) b
 unfolding symbol_of
 symbol_is b = look_up_is bytes_of_a_line table b
 
-pub base_is : (byte : ℕ) (b : Base) → symbol_of byte ≡ symbol.Base b → base_bytes b ≡ byte ∷ []
+pub base_is : (byte : ℕ) (b : Base) → symbol_of byte ≡ Symbol.Base b → base_bytes b ≡ byte ∷ []
 base_is byte b e = subst (λ (x : Symbol). IsSymbol x byte) e (symbol_is byte)
 
-pub blank_is : (byte : ℕ) → symbol_of byte ≡ symbol.Blank → (x : Blank) × (byte ≡ blank_byte x)
+pub blank_is : (byte : ℕ) → symbol_of byte ≡ Symbol.Blank → (x : Blank) × (byte ≡ blank_byte x)
 blank_is byte e = subst (λ (x : Symbol). IsSymbol x byte) e (symbol_is byte)
 
 -- the table of the code, by its 256 values
@@ -113,29 +110,29 @@ unfolding step_within
 step_ready limit s byte h = ap (fed_to (s.fed + 1)) (at s.last h)
   where
     at : (t : LastMove) → cut_of t ≡ Whole → step_at limit t s byte ≡ step_by limit (symbol_of byte) s
-    at (last.FirstByte t) h = absurd (cc)
-    at (last.SecondByte t) h = absurd (cc)
+    at (LastMove.FirstByte t) h = absurd (cc)
+    at (LastMove.SecondByte t) h = absurd (cc)
     at _ h = refl
 
 -- a base is read
-begun_ready : (limit : ℕ) → (s : State) (byte : ℕ) (b : Base) → cut_of s.last ≡ Whole → count (settled s) < limit → symbol_of byte ≡ symbol.Base b → step_within limit s byte ≡ Ok (counted (with_last (last.Bare b) (settled s)))
+begun_ready : (limit : ℕ) → (s : State) (byte : ℕ) (b : Base) → cut_of s.last ≡ Whole → count (settled s) < limit → symbol_of byte ≡ Symbol.Base b → step_within limit s byte ≡ Ok (counted (with_last (LastMove.Bare b) (settled s)))
 begun_ready limit s byte b h room e =
-    step_ready limit s byte h ∙ ap (λ k. fed_to (s.fed + 1) (step_by limit k s)) e ∙ ap (λ c. fed_to (s.fed + 1) (cond c (Ok (with_last (last.Bare b) (settled s))) (Err (TooLong (s.fed + 1))))) (lt-ltb _ _ room)
+    step_ready limit s byte h ∙ ap (λ k. fed_to (s.fed + 1) (step_by limit k s)) e ∙ ap (λ c. fed_to (s.fed + 1) (cond c (Ok (with_last (LastMove.Bare b) (settled s))) (Err (TooLong (s.fed + 1))))) (lt-ltb _ _ room)
 
 run_on : (limit : ℕ) → (s t : State) (x : ℕ) (bs : List ℕ) → step_within limit s x ≡ Ok t → run_within limit s (x ∷ bs) ≡ run_within limit t bs
 run_on limit s t x bs e = ap (λ r. and_then r (λ s. run_within limit s bs)) e
 
 abbrev based : State → Base → ℕ → State
-based s b n = record (settled s) { last = last.Bare b; fed = n }
+based s b n = record (settled s) { last = LastMove.Bare b; fed = n }
 
-step_wide : (limit : ℕ) → (s : State) (f : Face) (n : ℕ) → step_within limit (based s (base.Face f) n) 119 ≡ Ok (based s (base.Wide f) (n + 1))
+step_wide : (limit : ℕ) → (s : State) (f : Face) (n : ℕ) → step_within limit (based s (Base.Face f) n) 119 ≡ Ok (based s (Base.Wide f) (n + 1))
 unfolding step_within symbol_of
 step_wide limit s f n = refl
 
 run_base : (limit : ℕ) → (s : State) (b : Base) → cut_of s.last ≡ Whole → count (settled s) < limit → run_within limit s (base_bytes b) ≡ Ok (based s b (s.fed + length (base_bytes b)))
-run_base limit s (base.Wide f) h room =
-    run_on limit s _ (face_letter f) (119 ∷ []) (begun_ready limit s _ (base.Face f) h room (symbol_of_letter (base.Face f)))
-    ∙ run_on limit _ _ 119 [] (step_wide limit s f (s.fed + 1)) ∙ ap (λ n. Ok (based s (base.Wide f) n)) (omega arith)
+run_base limit s (Base.Wide f) h room =
+    run_on limit s _ (face_letter f) (119 ∷ []) (begun_ready limit s _ (Base.Face f) h room (symbol_of_letter (Base.Face f)))
+    ∙ run_on limit _ _ 119 [] (step_wide limit s f (s.fed + 1)) ∙ ap (λ n. Ok (based s (Base.Wide f) n)) (omega arith)
 run_base limit s b h room = run_on limit s _ _ [] (begun_ready limit s _ b h room (symbol_of_letter b))
 
 -- the state after a move, with so many bytes fed
@@ -153,7 +150,7 @@ pub record RanMove (limit : ℕ) (s : State) (bytes : List ℕ) (t : Token) : Ty
 run_suffix : (limit : ℕ) → (s : State) (b : Base) (n : ℕ) (x : Suffix) → (end : State) × (run_within limit (based s b n) (suffix_bytes x) ≡ Ok end) × cut_of end.last ≡ Whole × (end.fed ≡ n + length (suffix_bytes x)) × (settled end ≡ at_fed (settled s) (token_of b (suffix_power x)) end.fed)
 unfolding step_within symbol_of
 run_suffix limit s b n Nothing = (based s b n, refl, refl, omega arith, refl)
-run_suffix limit s b n Two = (counted (with_last (last.Doubled b) (based s b n)), refl, refl, refl, refl)
+run_suffix limit s b n Two = (counted (with_last (LastMove.Doubled b) (based s b n)), refl, refl, refl, refl)
 run_suffix limit s b n (Prime Plain) = (counted (added (based s b n) (Some (token_of b Counter))), refl, refl, refl, refl)
 run_suffix limit s b n (Prime Typographic) =
     (counted (counted (counted (added (based s b n) (Some (token_of b Counter))))), refl, refl, omega arith, refl)

@@ -1,41 +1,35 @@
 -- Effects of single moves, over all places; of a sequence and its inverse; of rotations, and how they rename the turns after them.
-use Rattle.niss_moves.proofs.Names.{refl, ap, sym, ◌∙◌, ◌≡◌, true, List, [], ◌∷◌, ◌++◌, map, reverse, OneMeaning, PlacesStay, inverse}
-use Rattle.niss_moves.proofs.Names.{effect, HasMeaning, moved_by, inverse_token, inverse_power, expanded, token_of_basic, Power, Token}
-use Rattle.niss_moves.proofs.Names.{Quarter, Place, same_place, is_place, Some, Bool, false, ◌&&◌, Option, None, if◌then◌else◌, unwrap_or}
-use Rattle.niss_moves.proofs.Names.{face_order, rotations, rotation_left, OneSpelling, turned, effect_of_turns, quarters, Move, moved}
-use Rattle.niss_moves.proofs.Names.{face_move, times, centre, rotation_by, Turn, Face, Rotation, U, D, R, L, F, B, Axis, Vector}
-use Rattle.niss_moves.proofs.Names.{same_vector, along, face_before, face_before_power, spelling, IsRotationOf, renamed_turn, to_top}
-use Rattle.niss_moves.proofs.Names.{about_vertical, same_face}
-use Rattle.std.proofs.lemmas.List.{reverse-append, map-append}
-use Rattle.std.proofs.lemmas.Bool.{and_parts}
-use Rattle.std.specs.List.{find, list_all}
+use Rattle.niss_moves.proofs.Names.{refl, ap, sym, ◌∙◌, ◌≡◌, true, List, [], ◌∷◌, ◌++◌, map, inverse, Power, Token, Quarter, Place, Some}
+use Rattle.niss_moves.proofs.Names.{Bool, false, ◌&&◌, Option, None, if◌then◌else◌, unwrap_or, face_order, rotations, turned}
+use Rattle.niss_moves.proofs.Names.{effect_of_turns, centre, Turn, Face, Rotation, U, D, R, L, F, B, Axis, same_face, reverse, expanded}
+use Rattle.niss_moves.proofs.Names.{to_top, reverse-append, map-append, and_parts, list_all, IsNext, rotation_by}
+use Rattle.niss_moves.specs.Places.{IsPlace, same_place, is_place, Vector, same_vector, along}
+use Rattle.niss_moves.specs.Effects.{effect, HasMeaning, moved_by, inverse_token, inverse_power, quarters, Move, moved, face_move, times}
+use Rattle.niss_moves.specs.Rotations.{token_of_basic, face_before, face_before_power, spelling, IsRotationOf, renamed_turn, about_vertical}
 use mathlib.Core.Bool.{beq}
-use Rattle.niss_moves.specs.declared.token.Token.TheVariants as token
-use Rattle.niss_moves.specs.Helpers.{IsNext}
-use Rattle.niss_moves.proofs.Finite.{every_place, at_place, every_token, at_token, every_vector, every_coord, every_power, every_face}
-use Rattle.niss_moves.proofs.Finite.{every_slice, every_axis, implies, by_implies, same_place_is, at_vector, same_vector_is, same_face_is}
-use Rattle.niss_moves.proofs.Finite.{turn, rotation, every_turn, at_turn, at_face, at_power, at_axis, every_rotation, at_rotation}
+unfoldable use Rattle.niss_moves.specs.Cleaning.{rotation_left}
+use Rattle.std.specs.List.{find}
+use Rattle.niss_moves.proofs.Finite.{every_place, every_token, every_vector, every_coord, every_power, every_face, every_slice, every_axis}
+use Rattle.niss_moves.proofs.Finite.{Tokens, Anywhere, Places, Alike, Yes, holds, at_vector, same_vector_is, same_face_is, turn, rotation}
+use Rattle.niss_moves.proofs.Finite.{every_turn, at_turn, at_face, at_power, at_axis, every_rotation, at_rotation}
 
 pub effect-append : (s t : List Token) (q : Place) → effect (s ++ t) q ≡ effect t (effect s q)
 effect-append [] t q = refl
 effect-append (x ∷ s) t q = effect-append s t (moved_by x q)
 
-undoes_test : every_token (λ t. every_place (λ q. same_place (moved_by (inverse_token t) (moved_by t q)) q)) ≡ true
-unfolding every_place every_vector every_coord every_power every_face every_axis every_slice every_token
-undoes_test = refl
-
 undoes : (t : Token) (q : Place) → moved_by (inverse_token t) (moved_by t q) ≡ q
-undoes t q = same_place_is _ _ (at_place _ (at_token _ undoes_test t) q)
+unfolding every_place every_vector every_coord every_power every_face every_axis every_slice every_token
+undoes = holds (Tokens (λ t. Anywhere (λ q. Alike (moved_by (inverse_token t) (moved_by t q)) q))) refl
 
 twice_power : (p : Power) → inverse_power (inverse_power p) ≡ p
 twice_power Quarter = refl
 twice_power _ = refl
 
 twice_token : (t : Token) → inverse_token (inverse_token t) ≡ t
-twice_token (token.Face t) = ap (λ p. token.Face (record t { power = p })) (twice_power t.power)
-twice_token (token.Wide f p) = ap (token.Wide f) (twice_power p)
-twice_token (token.Slice f p) = ap (token.Slice f) (twice_power p)
-twice_token (token.Rotation f p) = ap (token.Rotation f) (twice_power p)
+twice_token (Token.Face t) = ap (λ p. Token.Face (record t { power = p })) (twice_power t.power)
+twice_token (Token.Wide f p) = ap (Token.Wide f) (twice_power p)
+twice_token (Token.Slice f p) = ap (Token.Slice f) (twice_power p)
+twice_token (Token.Rotation f p) = ap (Token.Rotation f) (twice_power p)
 
 inverse-append : (s t : List Token) → inverse (s ++ t) ≡ inverse t ++ inverse s
 inverse-append s t = ap reverse (map-append inverse_token s t) ∙ reverse-append (map inverse_token s) (map inverse_token t)
@@ -75,7 +69,7 @@ inverse_of m n b e = e ∙ inverse_whole n b
 meaning_undone : (s n b : List Token) → HasMeaning s n b → (q : Place) → effect s q ≡ effect (inverse b) (effect n q)
 meaning_undone s n b h q = sym (inverse_after b (effect s q)) ∙ ap (effect (inverse b)) (h q)
 
-pub one_meaning : OneMeaning
+pub one_meaning : (s t normal bracketed : List Token) → HasMeaning s normal bracketed → HasMeaning t normal bracketed → (q : Place) → effect s q ≡ effect t q
 one_meaning s t n b h k q = meaning_undone s n b h q ∙ sym (meaning_undone t n b k q)
 
 -- the inverse of a line, after any sequence of its meaning
@@ -84,20 +78,14 @@ inverse_undoes_line m n b s q h e =
     rw e (ap (effect (inverse (n ++ inverse b))) (one_meaning s (n ++ inverse b) n b h (meaning n b) q) ∙ inverse_after (n ++ inverse b) q)
 
 -- Each move has the effect of the basic moves that it is expanded to.
-expansions_test : every_token (λ t. every_place (λ q. same_place (effect (map token_of_basic (expanded t)) q) (moved_by t q))) ≡ true
-unfolding every_place every_vector every_coord every_power every_face every_axis every_slice every_token
-expansions_test = refl
-
 pub effect_of_expanded : (t : Token) (q : Place) → effect (map token_of_basic (expanded t)) q ≡ moved_by t q
-effect_of_expanded t q = same_place_is _ _ (at_place _ (at_token _ expansions_test t) q)
+unfolding every_place every_vector every_coord every_power every_face every_axis every_slice every_token
+effect_of_expanded = holds (Tokens (λ t. Anywhere (λ q. Alike (effect (map token_of_basic (expanded t)) q) (moved_by t q)))) refl
 
 -- A move brings places to places.
-stays_test : every_token (λ t. every_place (λ q. implies (is_place q) (is_place (moved_by t q)))) ≡ true
-unfolding every_place every_vector every_coord every_power every_face every_axis every_slice every_token
-stays_test = refl
-
-pub places_stay : PlacesStay
-places_stay t q h = by_implies _ _ (at_place _ (at_token _ stays_test t) q) h
+pub places_stay : (t : Token) (q : Place) → IsPlace q → IsPlace (moved_by t q)
+unfolding every_power every_face every_axis every_slice every_token
+places_stay = holds (Tokens (λ t. Places (λ q. Yes (is_place (moved_by t q))))) refl
 
 -- A rotation brings the cell and the direction of a place where it brings any vector.
 abbrev vector_if : Option (Axis × Power) → Vector → Vector
@@ -187,11 +175,11 @@ pub turn_after : (r : Rotation) (t : Turn) (q : Place) → turned t (effect (spe
 turn_after r t q =
     rw (effect_of_rotation r.top r.vertical q, effect_of_rotation r.top r.vertical (turned (renamed_turn (face_before r) t) q)) (conjugated (rotated_vector r) (move_of_turn t) (move_of_turn (renamed_turn (face_before r) t)) (at_turn _ (at_rotation _ renames_test r) t) q)
 
-pub renames_power : (a : Axis) (p : Power) (t : Turn) (q : Place) → turned t (moved_by (token.Rotation a p) q) ≡ moved_by (token.Rotation a p) (turned (renamed_turn (face_before_power a p) t) q)
+pub renames_power : (a : Axis) (p : Power) (t : Turn) (q : Place) → turned t (moved_by (Token.Rotation a p) q) ≡ moved_by (Token.Rotation a p) (turned (renamed_turn (face_before_power a p) t) q)
 renames_power a p t q =
     let n = is_next (rotation U None) a p in
     ap (turned t) (sym (n.effect q)) ∙ turn_after (next_rotation (rotation U None) a p) t q ∙ n.effect (turned (renamed_turn (face_before (next_rotation (rotation U None) a p)) t) q)
-    ∙ ap (λ (f : Face). moved_by (token.Rotation a p) (turned (turn f t.power) q)) (n.faces t.face)
+    ∙ ap (λ (f : Face). moved_by (Token.Rotation a p) (turned (turn f t.power) q)) (n.faces t.face)
 
 pub effect_of_turns-append : (s t : List Turn) (q : Place) → effect_of_turns (s ++ t) q ≡ effect_of_turns t (effect_of_turns s q)
 effect_of_turns-append [] t q = refl
@@ -210,5 +198,5 @@ unfolding rotation_left
 rotation_left_is s r h =
     (λ i. unwrap_or (find (λ n. list_all (λ f. same_place (effect (spelling n) (centre f)) (sym (h f) i)) face_order) rotations) (rotation U None)) ∙ left_by_spelling r.top r.vertical
 
-pub one_spelling : OneSpelling
+pub one_spelling : (r s : Rotation) → ((f : Face) → effect (spelling r) (centre f) ≡ effect (spelling s) (centre f)) → r ≡ s
 one_spelling r s h = sym (rotation_left_is (spelling s) r h) ∙ rotation_left_is (spelling s) s (λ f. refl)

@@ -1,22 +1,21 @@
 -- Truth values, and facts over finite types by a test that is computed over all values.
-use Rattle.niss_moves.proofs.Names.{refl, ap, sym, subst, arith, inl, inr, ◌≡◌, ◌∙◌, ◌<◌, ◌==◌, ℕ, zero, suc, nat_lt, length}
-use Rattle.niss_moves.proofs.Names.{get_or, not, true, List, [], ◌∷◌, Some, Bool, map, false, ◌&&◌, Option, None}
-use Rattle.niss_moves.proofs.Names.{if◌then◌else◌, eqb, face_order, PlacesAreListed, PlacesDiffer, SameLetters, places}
-use Rattle.niss_moves.proofs.Names.{letter_at, letter_of, letters, Turn, Face, Power, Token, Rotation, U, Quarter, Axis, Ud}
-use Rattle.niss_moves.proofs.Names.{Rl, Fb, Slice, M, E, S, Place, Coord, Neg, Zero, Pos, Vector, vector, same_coord}
-use Rattle.niss_moves.proofs.Names.{same_vector, same_place, is_place, SameMap, same_face}
-use Rattle.niss_moves.specs.Canonical.{powers}
-use Rattle.niss_moves.specs.Indices.{face_index, power_index, axis_index, layer_index}
-use Rattle.niss_moves.specs.declared.token.Token.TheVariants as token
-use Rattle.std.proofs.lemmas.Bool.{and_parts, eqb-true, ltb-true}
+use Rattle.niss_moves.proofs.Names.{◌||◌, not}
+use Rattle.niss_moves.proofs.Names.{◌≢◌, ◌↔◌, refl, ap, sym, subst, arith, inl, inr, ◌≡◌, ◌∙◌, ◌<◌, ◌==◌, ℕ, zero, suc, nat_lt, length}
+use Rattle.niss_moves.proofs.Names.{get_or, true, List, [], ◌∷◌, Some, Bool, map, false, ◌&&◌, Option, None, if◌then◌else◌, eqb}
+use Rattle.niss_moves.proofs.Names.{face_order, places, letter_at, Turn, Face, Power, Token, Rotation, U, Quarter, Axis, Ud, Rl, Fb, Slice}
+use Rattle.niss_moves.proofs.Names.{M, E, S, Place, same_face, powers, face_index, power_index, axis_index, layer_index, and_parts}
+use Rattle.niss_moves.proofs.Names.{eqb-true, ltb-true, AllPass-from_list_all, list_any, list_all, pointwise, bytes_decides}
+use Rattle.niss_moves.specs.Places.{IsPlace, Coord, Neg, Zero, Pos, Vector, vector, same_coord, same_vector, same_place, is_place, SameMap}
+use denote.Enum.Bare.{sameb}
 use Rattle.std.proofs.lemmas.Bool.Decides.{eqb_tells, same_from_decides}
 use Rattle.std.proofs.lemmas.List.Elements.{All-contains}
-use Rattle.std.proofs.lemmas.List.Sums.{AllPass-from_list_all}
 use Rattle.std.proofs.lemmas.Map.Made.{IsDistinct-from_count, AllPairs-from_IsDistinct}
 use Rattle.std.proofs.lemmas.Map.Views.{Contains-from_any}
-use Rattle.std.specs.Cmp.{IsEquivalence}
-use Rattle.std.specs.List.{list_any, list_all}
-use Rattle.std.specs.Prelude.{Contains, ◌||◌}
+use Rattle.std.specs.Cmp.{IsEquivalence, booleans_Decides}
+use mathlib.Core.Bool.{beq}
+unfoldable use Rattle.niss_moves.specs.Facelets.{letter_of, letters}
+use Rattle.niss_moves.specs.contracts.turn.Face.{the_type}
+use Rattle.std.specs.Prelude.{Contains, AllPairs}
 pub use Rattle.std.proofs.lemmas.Bool.{not-true as not_true, and_from as and_both}
 
 pub and_left : (a b : Bool) → (a && b) ≡ true → a ≡ true
@@ -82,14 +81,14 @@ at_place p e q = at_vector _ (at_vector _ e q.cell) q.direction
 
 unfoldable pub every_token : (Token → Bool) → Bool
 every_token p =
-    every_power (λ n. every_face (λ f. p (token.Face (record { face = f; power = n })) && p (token.Wide f n)) && (every_slice (λ l. p (token.Slice l n)) && every_axis (λ a. p (token.Rotation a n))))
+    every_power (λ n. every_face (λ f. p (Token.Face (record { face = f; power = n })) && p (Token.Wide f n)) && (every_slice (λ l. p (Token.Slice l n)) && every_axis (λ a. p (Token.Rotation a n))))
 
 pub at_token : (p : Token → Bool) → every_token p ≡ true → (t : Token) → p t ≡ true
 unfolding every_token
-at_token p e (token.Face t) = (and_parts _ _ (at_face _ (and_parts _ _ (at_power _ e t.power)).0 t.face)).0
-at_token p e (token.Wide f n) = (and_parts _ _ (at_face _ (and_parts _ _ (at_power _ e n)).0 f)).1
-at_token p e (token.Slice l n) = at_slice _ (and_parts _ _ (and_parts _ _ (at_power _ e n)).1).0 l
-at_token p e (token.Rotation a n) = at_axis _ (and_parts _ _ (and_parts _ _ (at_power _ e n)).1).1 a
+at_token p e (Token.Face t) = (and_parts _ _ (at_face _ (and_parts _ _ (at_power _ e t.power)).0 t.face)).0
+at_token p e (Token.Wide f n) = (and_parts _ _ (at_face _ (and_parts _ _ (at_power _ e n)).0 f)).1
+at_token p e (Token.Slice l n) = at_slice _ (and_parts _ _ (and_parts _ _ (at_power _ e n)).1).0 l
+at_token p e (Token.Rotation a n) = at_axis _ (and_parts _ _ (and_parts _ _ (at_power _ e n)).1).1 a
 
 abbrev pub turn : Face → Power → Turn
 turn f p = record { face = f; power = p }
@@ -118,6 +117,12 @@ pub same_face_is : (a b : Face) → same_face a b ≡ true → a ≡ b
 same_face_is U U e = refl
 same_face_is _ U e = cc
 same_face_is _ _ e = cc
+
+-- by the test of the code
+pub same_faces : (f g : Face) → sameb the_type f g ≡ same_face f g
+same_faces U U = refl
+same_faces _ U = refl
+same_faces _ _ = refl
 
 abbrev pub same_power : Power → Power → Bool
 same_power p q = eqb (power_index p) (power_index q)
@@ -150,17 +155,13 @@ same_place_self q = at_place (λ q. same_place q q) refl q
 pub same_place_of : (q r : Place) → q ≡ r → same_place q r ≡ true
 same_place_of q r e = subst (λ (r : Place). same_place q r ≡ true) e (same_place_self q)
 
-abbrev pub implies : Bool → Bool → Bool
-implies true b = b
-implies false b = true
-
-pub by_implies : (a b : Bool) → implies a b ≡ true → a ≡ true → b ≡ true
-by_implies true b e h = e
-by_implies false b e h = cc
+or_then : (a b : Bool) → (not a || b) ≡ true → a ≡ true → b ≡ true
+or_then true b e h = e
+or_then false b e h = cc
 
 -- The list of the sticker places, computed, and the facelet texts of maps on it.
 
-listed_test : every_place (λ q. implies (is_place q) (list_any (same_place q) places)) ≡ true
+listed_test : every_place (λ q. not (is_place q) || list_any (same_place q) places) ≡ true
 unfolding every_place every_vector every_coord
 listed_test = refl
 
@@ -171,9 +172,9 @@ all_places = refl
 pub at_member : {A : Type 0} (p : A → Bool) (xs : List A) (x : A) → list_all p xs ≡ true → Contains xs x → p x ≡ true
 at_member p xs x e m = All-contains (λ x. p x ≡ true) xs x (AllPass-from_list_all p xs e) m
 
-pub places_are_listed : PlacesAreListed
+pub places_are_listed : (q : Place) → IsPlace q ↔ Contains places q
 places_are_listed q = (
-  (λ h. Contains-from_any same_place_is q places (by_implies _ _ (at_place _ listed_test q) h)),
+  (λ h. Contains-from_any same_place_is q places (or_then _ _ (at_place _ listed_test q) h)),
   (λ h. at_member is_place places q all_places h),
 )
 
@@ -187,7 +188,7 @@ same_place_laws =
       congr = λ x y z e. ap (λ w. same_place w z) (same_place_is x y e);
     }
 
-pub places_differ : PlacesDiffer
+pub places_differ : AllPairs (λ p q. p ≢ q) places
 places_differ =
     AllPairs-from_IsDistinct (λ x y. (same_place_is x y, same_place_of x y)) places (IsDistinct-from_count same_place_laws places refl)
 
@@ -200,7 +201,7 @@ letter_of-same d e s q (p ∷ ps) all =
     let rest : letter_of d ps q ≡ letter_of e ps q = letter_of-same d e s q ps (and_right (is_place p) _ all) in
     λ i. if same_place (at i) q then letter_at p else rest i
 
-pub same_letters : SameLetters
+pub same_letters : (d e : Place → Place) → SameMap d e → letters d ≡ letters e
 unfolding letters
 same_letters d e s = λ i. map (λ q. letter_of-same d e s q places all_places i) places
 
@@ -216,7 +217,11 @@ pub data Fact : Type 0 where
   When : Bool → Fact → Fact
   Numbers : ℕ → (ℕ → Fact) → Fact
   Places : (Place → Fact) → Fact
+  Text : List ℕ → List ℕ → Fact
+  Anywhere : (Place → Fact) → Fact
   Faces : (Face → Fact) → Fact
+  Powers : (Power → Fact) → Fact
+  Rotations : (Rotation → Fact) → Fact
   Turns : (Turn → Fact) → Fact
   Among : List Turn → (Turn → Fact) → Fact
   Tokens : (Token → Fact) → Fact
@@ -233,7 +238,11 @@ Holds (Both f g) = Holds f × Holds g
 Holds (When b f) = b ≡ true → Holds f
 Holds (Numbers n f) = (k : ℕ) → k < n → Holds (f k)
 Holds (Places f) = (q : Place) → is_place q ≡ true → Holds (f q)
+Holds (Text xs ys) = xs ≡ ys
+Holds (Anywhere f) = (q : Place) → Holds (f q)
 Holds (Faces f) = (face : Face) → Holds (f face)
+Holds (Powers f) = (p : Power) → Holds (f p)
+Holds (Rotations f) = (r : Rotation) → Holds (f r)
 Holds (Turns f) = (t : Turn) → Holds (f t)
 Holds (Among ts f) = (t : Turn) → Contains ts t → Holds (f t)
 Holds (Tokens f) = (m : Token) → Holds (f m)
@@ -253,13 +262,9 @@ abbrev every_truths : ℕ → (List Bool → Bool) → Bool
 every_truths zero p = p []
 every_truths (suc n) p = every_truths n (λ bs. p (true ∷ bs)) && every_truths n (λ bs. p (false ∷ bs))
 
-abbrev same_bool : Bool → Bool → Bool
-same_bool true b = b
-same_bool false b = not b
-
 abbrev pub tested : Fact → Bool
 tested (Yes b) = b
-tested (Same a b) = same_bool a b
+tested (Same a b) = beq a b
 tested (Equal m n) = m == n
 tested (Below m n) = nat_lt m n
 tested (Alike p q) = same_place p q
@@ -267,7 +272,11 @@ tested (Both f g) = tested f && tested g
 tested (When b f) = not b || tested f
 tested (Numbers n f) = every_below n (λ k. tested (f k))
 tested (Places f) = list_all (λ q. tested (f q)) places
+tested (Text xs ys) = pointwise eqb xs ys
+tested (Anywhere f) = every_place (λ q. tested (f q))
 tested (Faces f) = every_face (λ face. tested (f face))
+tested (Powers f) = every_power (λ p. tested (f p))
+tested (Rotations f) = every_rotation (λ r. tested (f r))
 tested (Turns f) = every_turn (λ t. tested (f t))
 tested (Among ts f) = list_all (λ t. tested (f t)) ts
 tested (Tokens f) = every_token (λ m. tested (f m))
@@ -293,18 +302,9 @@ at_truths [] p e = e
 at_truths (true ∷ bs) p e = at_truths bs (λ bs. p (true ∷ bs)) (and_left _ _ e)
 at_truths (false ∷ bs) p e = at_truths bs (λ bs. p (false ∷ bs)) (and_right (every_truths (length bs) (λ bs. p (true ∷ bs))) _ e)
 
-same_bool_is : (a b : Bool) → same_bool a b ≡ true → a ≡ b
-same_bool_is true b e = sym e
-same_bool_is false true e = e
-same_bool_is false false e = refl
-
-or_then : (a b : Bool) → (not a || b) ≡ true → a ≡ true → b ≡ true
-or_then true b e h = e
-or_then false b e h = cc
-
 pub holds : (f : Fact) → tested f ≡ true → Holds f
 holds (Yes b) e = e
-holds (Same a b) e = same_bool_is a b e
+holds (Same a b) e = (booleans_Decides a b).0 e
 holds (Equal m n) e = eqb-true m n e
 holds (Below m n) e = ltb-true m n e
 holds (Alike p q) e = same_place_is p q e
@@ -312,7 +312,11 @@ holds (Both f g) e = (holds f (and_left _ _ e), holds g (and_right (tested f) _ 
 holds (When b f) e = λ h. holds f (or_then b _ e h)
 holds (Numbers n f) e = λ k l. holds (f k) (at_below n (λ k. tested (f k)) e k l)
 holds (Places f) e = λ q h. holds (f q) (at_member (λ q. tested (f q)) places q e ((places_are_listed q).0 h))
+holds (Text xs ys) e = (bytes_decides xs ys).0 e
+holds (Anywhere f) e = λ q. holds (f q) (at_place (λ q. tested (f q)) e q)
 holds (Faces f) e = λ face. holds (f face) (at_face (λ face. tested (f face)) e face)
+holds (Powers f) e = λ p. holds (f p) (at_power (λ p. tested (f p)) e p)
+holds (Rotations f) e = λ r. holds (f r) (at_rotation (λ r. tested (f r)) e r)
 holds (Turns f) e = λ t. holds (f t) (at_turn (λ t. tested (f t)) e t)
 holds (Among ts f) e = λ t m. holds (f t) (at_member (λ t. tested (f t)) ts t e m)
 holds (Tokens f) e = λ m. holds (f m) (at_token (λ m. tested (f m)) e m)

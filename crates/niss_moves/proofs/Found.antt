@@ -1,24 +1,17 @@
 -- The reading of a line as a function is its reading.
 use Rattle.niss_moves.proofs.Names.{◌≡◌, ℕ, zero, suc, ◌+◌, ◌-◌, ◌<◌, ◌≤◌, refl, ap, sym, ◌∙◌, subst, inl, inr, arith, Bool, true, false}
-use Rattle.niss_moves.proofs.Names.{cond, List, [], ◌∷◌, ◌++◌, length, map, get_or, take, flat_map, Option, None, Some, is_some, Result}
-use Rattle.niss_moves.proofs.Names.{Ok, Err, length-append, Face, U, M, Ud, Base, Plain, Typographic, Suffix, Nothing, Two, Prime}
-use Rattle.niss_moves.proofs.Names.{TwoPrime, Space, Tab, Return, Piece, Gap, Spelled, piece_bytes, Item, Outside, Bracket, item_bytes}
-use Rattle.niss_moves.proofs.Names.{item_normal, item_bracketed, Moves, Spells, IsLine, Cut, Whole, LacksOne, LacksTwo, cut_ending}
-use Rattle.niss_moves.proofs.Names.{cut_length, bracket_ending, has_no_bracket, Continues, CanContinue, StopsAt, Stops, Lacks, IsReading}
-use Rattle.niss_moves.proofs.Names.{ReadFault, NotAMove, Nested, Unopened, Unclosed, TooLong, start, run, ended, fault_at, moves_in}
-use Rattle.std.specs.Prelude.{All, Contains, find, is_none, slice_index, unwrap_or}
-use Rattle.std.specs.List.{range_with_len}
+use Rattle.niss_moves.proofs.Names.{cond, List, [], ◌∷◌, ◌++◌, length, map, get_or, take, flat_map, Option, None, Some, is_some, Result, Ok}
+use Rattle.niss_moves.proofs.Names.{Err, length-append, U, M, Ud, Base, Whole, has_no_bracket, CanContinue, Stops, Lacks, IsReading}
+use Rattle.niss_moves.proofs.Names.{ReadFault, NotAMove, Nested, Unopened, Unclosed, TooLong, start, run, ended, unwrap_or, range_with_len}
+use Rattle.niss_moves.proofs.Names.{bytes_decides, le-leb, leb-true, cases_lt, take_all, item_bytes, face_index, layer_index, axis_index}
+use Rattle.niss_moves.specs.Line.{piece_bytes, opening, closing, Plain, Typographic, Suffix, Nothing, Two, Prime, TwoPrime, Space, Tab}
+use Rattle.niss_moves.specs.Line.{Return, Piece, Gap, Spelled, Item, Outside, Bracket, item_normal, item_bracketed, Moves, Spells, IsLine}
 use Rattle.std.specs.Option.{option_map, option_map_or}
-use Rattle.std.specs.Cmp.Lexicographic.{bytes_decides}
-use Rattle.std.proofs.lemmas.Bool.{le-leb, leb-true, cases_lt}
-use Rattle.std.proofs.lemmas.List.{take_all}
 use Rattle.std.proofs.lemmas.List.Elements.{All-cons, Contains-append_left, Contains-append_right}
-use Rattle.niss_moves.specs.Faults.{EndsEarly}
-use Rattle.niss_moves.specs.Line.{opening, closing}
-use Rattle.niss_moves.specs.Indices.{face_index, layer_index, axis_index}
-use Rattle.niss_moves.specs.Reading.{bases, suffixes, pieces, lists_within, lines_within, is_spelling, line_in, endings, ending_in}
-use Rattle.niss_moves.specs.Reading.{stop_in, last_bracket, fault_of_end, fault_by_stop, read_line}
-use Rattle.niss_moves.specs.declared.token.Base.TheVariants as base
+use Rattle.niss_moves.specs.Faults.{EndsEarly, Cut, LacksOne, LacksTwo, cut_ending, cut_length, bracket_ending, Continues, StopsAt}
+use Rattle.std.specs.Prelude.{All, Contains, find, is_none, slice_index}
+use Rattle.niss_moves.specs.Reading.{pieces, lists_within, lines_within, line_in, ending_in, stop_in, last_bracket, read_line, bases}
+use Rattle.niss_moves.specs.Reading.{suffixes, is_spelling, endings, fault_of_end, fault_by_stop, fault_at, moves_in}
 use Rattle.niss_moves.proofs.Finite.{and_both, and_left, and_right}
 use Rattle.niss_moves.proofs.CanonicalLists.{none, here, later, first_or_later, in_map, in_flat_map}
 use Rattle.niss_moves.proofs.Reading.{run_reads, no_line, one_reading, one_ending_of_two, stopped, stops_run, has_opening}
@@ -64,16 +57,16 @@ find_first p a (suc k) (suc n) m e lt t f =
 
 -- Each spelling of the bytes is among the lists.
 in_bases : (b : Base) → Contains bases b
-in_bases (base.Face U) = (0, omega arith, refl)
-in_bases (base.Face f) = (face_index f, omega arith, refl)
-in_bases (base.Wide U) = (6, omega arith, refl)
-in_bases (base.Wide f) = (6 + face_index f, omega arith, refl)
-in_bases (base.LowerCase U) = (12, omega arith, refl)
-in_bases (base.LowerCase f) = (12 + face_index f, omega arith, refl)
-in_bases (base.Slice M) = (18, omega arith, refl)
-in_bases (base.Slice l) = (18 + layer_index l, omega arith, refl)
-in_bases (base.Rotation Ud) = (21, omega arith, refl)
-in_bases (base.Rotation a) = (21 + axis_index a, omega arith, refl)
+in_bases (Base.Face U) = (0, omega arith, refl)
+in_bases (Base.Face f) = (face_index f, omega arith, refl)
+in_bases (Base.Wide U) = (6, omega arith, refl)
+in_bases (Base.Wide f) = (6 + face_index f, omega arith, refl)
+in_bases (Base.LowerCase U) = (12, omega arith, refl)
+in_bases (Base.LowerCase f) = (12 + face_index f, omega arith, refl)
+in_bases (Base.Slice M) = (18, omega arith, refl)
+in_bases (Base.Slice l) = (18 + layer_index l, omega arith, refl)
+in_bases (Base.Rotation Ud) = (21, omega arith, refl)
+in_bases (Base.Rotation a) = (21 + axis_index a, omega arith, refl)
 
 in_suffixes : (s : Suffix) → Contains suffixes s
 in_suffixes Nothing = (0, omega arith, refl)
@@ -101,7 +94,7 @@ in_lists {X = X} xs (suc n) (x ∷ l) le all =
 
 some_byte : (p : Piece) → 1 ≤ length (piece_bytes p)
 some_byte (Gap b) = omega arith
-some_byte (Spelled (base.Wide f) s) = omega arith
+some_byte (Spelled (Base.Wide f) s) = omega arith
 some_byte (Spelled b s) = omega arith
 
 some_bytes : (x : Item) → 1 ≤ length (item_bytes x)

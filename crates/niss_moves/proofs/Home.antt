@@ -1,21 +1,19 @@
 -- Face turns taken from a sequence behind a rotation; sequences whose centres are brought home, and what is left of them.
-use Rattle.niss_moves.proofs.Names.{refl, ap, sym, ◌∙◌, subst, arith, append_assoc, ◌≡◌, ℕ, zero, suc, true, List, [], ◌∷◌, ◌++◌, length}
-use Rattle.niss_moves.proofs.Names.{Some, map, ◌+◌, ◌<◌, ◌≤◌, Option, None, append-nil, take, drop, get_or, rotation_left}
-use Rattle.niss_moves.proofs.Names.{CentresComeHome, FacesAreHome, LineIsHome, FacesAndRotation, CleanedEffect, RotationIsLeft, turned}
-use Rattle.niss_moves.proofs.Names.{effect_of_turns, inverse, effect, moved_by, inverse_power, centre, faces, BasicMove, FaceTurn}
-use Rattle.niss_moves.proofs.Names.{WholeRotation, expanded, token_of_basic, faces_with, joined_moves, Turn, Face, Power, Token, Rotation}
-use Rattle.niss_moves.proofs.Names.{U, Half, Axis, Slice, Place, same_place, face_before, face_before_power, spelling, IsRotationOf}
-use Rattle.niss_moves.proofs.Names.{renamed_turn, opposite}
-use Rattle.std.proofs.Common.{add-one}
-use Rattle.std.proofs.lemmas.List.{take_more, take_all, drop_all, at_drop_more}
-use Rattle.niss_moves.specs.Helpers.{IsNext, Takes}
-use Rattle.niss_moves.specs.declared.token.Token.TheVariants as token
+use Rattle.niss_moves.proofs.Names.{Cleans, refl, ap, sym, ◌∙◌, subst, arith, append_assoc, ◌≡◌, ℕ, zero, suc, List, [], ◌∷◌, ◌++◌, length}
+use Rattle.niss_moves.proofs.Names.{Some, map, ◌+◌, ◌<◌, ◌≤◌, Option, None, append-nil, take, drop, get_or, turned, effect_of_turns}
+use Rattle.niss_moves.proofs.Names.{inverse, centre, Turn, Face, Power, Token, Rotation, U, Half, Axis, Slice, Place, opposite, expanded}
+use Rattle.niss_moves.proofs.Names.{add-one, take_more, take_all, drop_all, at_drop_more, IsNext, Takes}
+use Rattle.niss_moves.specs.Line.{Moves, joined_moves}
+use Rattle.niss_moves.specs.Effects.{HasMeaning, effect, moved_by, inverse_power}
+use Rattle.niss_moves.specs.Rotations.{faces, BasicMove, FaceTurn, WholeRotation, token_of_basic, faces_with, face_before}
+use Rattle.niss_moves.specs.Rotations.{face_before_power, spelling, IsRotationOf, renamed_turn}
+unfoldable use Rattle.niss_moves.specs.Cleaning.{rotation_left}
 use Rattle.niss_moves.proofs.Effects.{effect-append, effect_of_expanded, meaning, one_meaning, next_rotation, is_next}
 use Rattle.niss_moves.proofs.Effects.{effect_of_turns-append, turn_after, rotation_left_is, one_spelling, inverse_after, inverse_before}
 use Rattle.niss_moves.proofs.Effects.{places_stay, renames_power}
 use Rattle.niss_moves.proofs.Cleaned.{cleans_effect, clean_turns_are_clean, cleaning_ends, one_clean_list, canonical_stays}
-use Rattle.niss_moves.proofs.Finite.{turn, rotation, every_face, every_power, every_turn, every_rotation, at_face, at_turn, at_rotation}
-use Rattle.niss_moves.proofs.Finite.{same_place_is, places_are_listed, places_differ, same_letters}
+use Rattle.niss_moves.proofs.Finite.{turn, rotation, every_face, every_power, every_turn, every_rotation, Rotations, Faces, Turns, Alike}
+use Rattle.niss_moves.proofs.Finite.{holds, places_are_listed, places_differ, same_letters}
 use Rattle.niss_moves.proofs.CanonicalLists.{canonical_in_order, canonical_grows}
 
 abbrev pub before : Rotation → Turn → Turn
@@ -60,22 +58,22 @@ takes r k turns n moves e h =
     record { faces = w.faces; effect = λ q. w.effect q ∙ effect_of_expanded k (effect (spelling r) q) }
 
 -- the arms of the code
-pub takes_face : (r : Rotation) (k : Token) (t u : Turn) → k ≡ token.Face t → u ≡ before r t → Takes r k (u ∷ []) r
+pub takes_face : (r : Rotation) (k : Token) (t u : Turn) → k ≡ Token.Face t → u ≡ before r t → Takes r k (u ∷ []) r
 takes_face r k t u is e = takes r k (u ∷ []) r _ (ap expanded is) (pushes_turn r t.face t.power u [] [] r e (pushes_none r))
 
-pub takes_wide : (r : Rotation) (k : Token) (f o : Face) (p : Power) (u : Turn) (a : Axis) (b : Power) (n : Rotation) → k ≡ token.Wide f p → o ≡ opposite f
-    → u ≡ before r (turn o p) → expanded (token.Wide f p) ≡ FaceTurn (opposite f) p ∷ WholeRotation a b ∷ [] → IsNext r a b n → Takes r k (u ∷ []) n
+pub takes_wide : (r : Rotation) (k : Token) (f o : Face) (p : Power) (u : Turn) (a : Axis) (b : Power) (n : Rotation) → k ≡ Token.Wide f p → o ≡ opposite f
+    → u ≡ before r (turn o p) → expanded (Token.Wide f p) ≡ FaceTurn (opposite f) p ∷ WholeRotation a b ∷ [] → IsNext r a b n → Takes r k (u ∷ []) n
 takes_wide r k f o p u a b n is eo e x next =
     takes r k (u ∷ []) n _ (ap expanded is ∙ x) (pushes_turn r (opposite f) p u (WholeRotation a b ∷ []) [] n (e ∙ ap (λ (f : Face). before r (turn f p)) eo) (pushes_last r a b n next))
 
-pub takes_slice : (r : Rotation) (k : Token) (l : Slice) (p : Power) (t : Turn) (g : Face) (b : Power) (v w : Turn) (a : Axis) (n : Rotation) → k ≡ token.Slice l p
-    → expanded (token.Slice l p) ≡ FaceTurn t.face t.power ∷ FaceTurn (opposite t.face) (inverse_power t.power) ∷ WholeRotation a (inverse_power t.power) ∷ []
+pub takes_slice : (r : Rotation) (k : Token) (l : Slice) (p : Power) (t : Turn) (g : Face) (b : Power) (v w : Turn) (a : Axis) (n : Rotation) → k ≡ Token.Slice l p
+    → expanded (Token.Slice l p) ≡ FaceTurn t.face t.power ∷ FaceTurn (opposite t.face) (inverse_power t.power) ∷ WholeRotation a (inverse_power t.power) ∷ []
     → g ≡ opposite t.face → b ≡ inverse_power t.power → v ≡ before r t → w ≡ before r (turn g b) → IsNext r a b n → Takes r k (v ∷ w ∷ []) n
 takes_slice r k l p t g b v w a n is x eg eb ev ew next =
-    let moves : expanded (token.Slice l p) ≡ FaceTurn t.face t.power ∷ FaceTurn g b ∷ WholeRotation a b ∷ [] = rw (eg, eb) x in
+    let moves : expanded (Token.Slice l p) ≡ FaceTurn t.face t.power ∷ FaceTurn g b ∷ WholeRotation a b ∷ [] = rw (eg, eb) x in
     takes r k (v ∷ w ∷ []) n _ (ap expanded is ∙ moves) (pushes_turn r t.face t.power v (FaceTurn g b ∷ WholeRotation a b ∷ []) (w ∷ []) n ev (pushes_turn r g b w (WholeRotation a b ∷ []) [] n ew (pushes_last r a b n next)))
 
-pub takes_rotation : (r : Rotation) (k : Token) (a : Axis) (p : Power) (n : Rotation) → k ≡ token.Rotation a p → IsNext r a p n → Takes r k [] n
+pub takes_rotation : (r : Rotation) (k : Token) (a : Axis) (p : Power) (n : Rotation) → k ≡ Token.Rotation a p → IsNext r a p n → Takes r k [] n
 takes_rotation r k a p n is next = takes r k [] n _ (ap expanded is) (pushes_last r a p n next)
 
 map_none : (s : List Turn) → map (before (rotation U None)) s ≡ s
@@ -101,13 +99,13 @@ left_more ts k d turns more r n lt l h =
     }
 
 -- Face turns keep the centres.
-keeps_test : every_turn (λ t. every_face (λ g. same_place (turned t (centre g)) (centre g))) ≡ true
+keeps_centre : (t : Turn) (g : Face) → turned t (centre g) ≡ centre g
 unfolding every_turn every_face every_power
-keeps_test = refl
+keeps_centre = holds (Turns (λ t. Faces (λ g. Alike (turned t (centre g)) (centre g)))) refl
 
 keep_centre : (s : List Turn) (g : Face) → effect_of_turns s (centre g) ≡ centre g
 keep_centre [] g = refl
-keep_centre (t ∷ s) g = ap (effect_of_turns s) (same_place_is _ _ (at_face _ (at_turn _ keeps_test t) g)) ∙ keep_centre s g
+keep_centre (t ∷ s) g = ap (effect_of_turns s) (keeps_centre t g) ∙ keep_centre s g
 
 -- the same at the end of the sequence
 pub left_faces : (ts : List Token) (k : ℕ) (turns : List Turn) (r : Rotation) → length ts ≤ k → Left ts k turns r → turns ≡ faces ts
@@ -136,9 +134,9 @@ left_until : (ts : List Token) (k : ℕ) → k ≤ length ts → (turns : List T
 left_until ts zero le = ([], rotation U None, left_none ts)
 left_until ts (suc k) le =
     let w = left_until ts k (omega arith) in
-    let t = get_or ts k (token.Face (turn U Half)) in
+    let t = get_or ts k (Token.Face (turn U Half)) in
     let h = pushes_all (expanded t) w.1 in
-    (w.0 ++ h.0, h.1, rw add-one at (left_more ts k (token.Face (turn U Half)) w.0 h.0 w.1 h.1 (omega arith) w.2 (takes w.1 t h.0 h.1 (expanded t) refl h.2)))
+    (w.0 ++ h.0, h.1, rw add-one at (left_more ts k (Token.Face (turn U Half)) w.0 h.0 w.1 h.1 (omega arith) w.2 (takes w.1 t h.0 h.1 (expanded t) refl h.2)))
 
 left_by : (s : List Token) → (r : Rotation) × ((q : Place) → effect (spelling r) (effect_of_turns (faces s) q) ≡ effect s q) × IsRotationOf s r
 left_by s =
@@ -149,15 +147,15 @@ left_by s =
       left_rotation s (length s) w.0 w.1 (omega arith) w.2,
     )
 
-undone_test : every_rotation (λ r. every_face (λ f. same_place (effect (spelling (rotation_left (inverse (spelling r)))) (effect (spelling r) (centre f))) (centre f))) ≡ true
+undone : (r : Rotation) (f : Face) → effect (spelling (rotation_left (inverse (spelling r)))) (effect (spelling r) (centre f)) ≡ centre f
 unfolding every_rotation every_power every_face rotation_left
-undone_test = refl
+undone = holds (Rotations (λ r. Faces (λ f. Alike (effect (spelling (rotation_left (inverse (spelling r)))) (effect (spelling r) (centre f))) (centre f)))) refl
 
-pub centres_come_home : CentresComeHome
+pub centres_come_home : (s : List Token) → (home : Rotation) × ((f : Face) → effect (spelling home) (effect s (centre f)) ≡ centre f)
 centres_come_home s =
     let w = left_by s in
     let home = rotation_left (inverse (spelling w.0)) in
-    (home, λ f. ap (effect (spelling home)) (sym (w.2 f)) ∙ same_place_is _ _ (at_face _ (at_rotation _ undone_test w.0) f))
+    (home, λ f. ap (effect (spelling home)) (sym (w.2 f)) ∙ undone w.0 f)
 
 -- A rotation at the end adds no face turn.
 no_faces : (f : Face) (o : Option Power) → faces (spelling (rotation f o)) ≡ []
@@ -170,7 +168,8 @@ faces-append : (s t : List Token) → faces t ≡ [] → faces (s ++ t) ≡ face
 faces-append [] t e = e
 faces-append (k ∷ s) t e = ap (faces_with (expanded k)) (faces-append s t e)
 
-pub faces_are_home : FacesAreHome
+pub faces_are_home : (s : List Token) (home : Rotation) → ((f : Face) → effect (spelling home) (effect s (centre f)) ≡ centre f) → (q : Place)
+    → effect (spelling home) (effect s q) ≡ effect_of_turns (faces s) q
 faces_are_home s home h q =
     let z = s ++ spelling home in
     let w = left_by z in
@@ -178,22 +177,25 @@ faces_are_home s home h q =
     sym (effect-append s (spelling home) q) ∙ sym (w.1 q) ∙ ap (λ n. effect (spelling n) (effect_of_turns (faces z) q)) none
     ∙ ap (λ ts. effect_of_turns ts q) (faces-append s (spelling home) (no_faces home.top home.vertical))
 
-pub line_is_home : LineIsHome
+pub line_is_home : (line : Moves) (s : List Token) (home : Rotation) → HasMeaning s line.normal line.bracketed
+    → ((f : Face) → effect (spelling home) (effect s (centre f)) ≡ centre f)
+    → (q : Place) → effect (spelling home) (effect s q) ≡ effect_of_turns (faces (joined_moves line)) q
 line_is_home line s home h centres q =
     let same = one_meaning s (joined_moves line) line.normal line.bracketed h (meaning line.normal line.bracketed) in
     ap (effect (spelling home)) (same q)
     ∙ faces_are_home (joined_moves line) home (λ f. ap (effect (spelling home)) (sym (same (centre f))) ∙ centres f) q
 
-pub faces_and_rotation : FacesAndRotation
+pub faces_and_rotation : (s : List Token) (r : Rotation) → IsRotationOf s r → (q : Place) → effect s q ≡ effect (spelling r) (effect_of_turns (faces s) q)
 faces_and_rotation s r h q =
     let w = left_by s in
     let one : w.0 ≡ r = one_spelling w.0 r (λ f. w.2 f ∙ sym (h f)) in
     sym (w.1 q) ∙ ap (λ n. effect (spelling n) (effect_of_turns (faces s) q)) one
 
-pub cleaned_effect : CleanedEffect
+pub cleaned_effect : (s : List Token) (c : List Turn) (r : Rotation) → Cleans (faces s) c → IsRotationOf s r → (q : Place)
+    → effect s q ≡ effect (spelling r) (effect_of_turns c q)
 cleaned_effect s c r d h q = faces_and_rotation s r h q ∙ ap (effect (spelling r)) (sym (cleans_effect (faces s) c d q))
 
-pub rotation_is_left : RotationIsLeft
+pub rotation_is_left : (s : List Token) → IsRotationOf s (rotation_left s)
 rotation_is_left s = let w = left_by s in subst (λ (r : Rotation). IsRotationOf s r) (sym (rotation_left_is s w.0 w.2)) w.2
 
 -- the laws of the crate, for the functions that state them, and for `cleanup`, which ensures some

@@ -1,22 +1,15 @@
 -- What the reader's answers mean, and what a move that is read at once does.
-use Rattle.niss_moves.proofs.Names.{◌≡◌, ℕ, ◌+◌, refl, ap, sym, ◌∙◌, subst, List, [], ◌∷◌, ◌++◌, length, Option, None, Some, Result, Ok}
-use Rattle.niss_moves.proofs.Names.{Err, arith, length-append, CanContinue, Stops, ReadFault, State, start, step, and_then, run, ended}
-use Rattle.niss_moves.proofs.Names.{◌<◌, take, take-add, drop, get_or, inl, inr, ap₂, ◌≢◌, ◌==◌, ◌||◌, ◌*◌, nat_lt, not, Bool, true}
-use Rattle.niss_moves.proofs.Names.{false, Gap, Spelled, token_of, base_bytes, Nothing, Two, Prime, TwoPrime, Blank, blank_byte, added}
-use Rattle.niss_moves.proofs.Names.{settled, with_last, count, IsSuffix, IsMove, BeginsApostrophe, cut_of, Power, Quarter, Half, Counter}
-use Rattle.niss_moves.proofs.Names.{Token, Base}
-use Rattle.std.proofs.Common.{◌↔◌, IsOk, IfErr}
+use Rattle.niss_moves.proofs.Names.{LastMove, ◌≡◌, ℕ, ◌+◌, refl, ap, sym, ◌∙◌, subst, List, [], ◌∷◌, ◌++◌, length, Option, None, Some}
+use Rattle.niss_moves.proofs.Names.{Result, Ok, Err, arith, length-append, CanContinue, Stops, ReadFault, start, run, ended, ◌<◌, take}
+use Rattle.niss_moves.proofs.Names.{drop, get_or, inl, inr, ◌≢◌, ◌==◌, ◌||◌, ◌*◌, nat_lt, not, Bool, true, false, count, IsSuffix, IsMove}
+use Rattle.niss_moves.proofs.Names.{BeginsApostrophe, Power, Quarter, Half, Counter, Token, Base, ◌↔◌, IsOk, IfErr, take-add, ap₂}
+use Rattle.niss_moves.proofs.Names.{bool_byte, take_more, AllPass-from_list_all, list_all, lt-ltb, eqb-true, Reader, IsFed}
+use Rattle.niss_moves.specs.Machine.{State, state_or, IsStep, step, and_then, added, settled, with_last, cut_of}
+use Rattle.niss_moves.specs.Line.{Gap, Spelled, token_of, base_bytes, Nothing, Two, Prime, TwoPrime, Blank, blank_byte}
 use Rattle.std.specs.Result.{result_err}
-use mir.Val.{bool_byte}
-use Rattle.std.proofs.lemmas.List.{take_more}
 use Rattle.std.proofs.lemmas.List.Elements.{All-append}
-use Rattle.std.proofs.lemmas.List.Sums.{AllPass-from_list_all}
-use Rattle.std.specs.List.{list_all}
-use Rattle.std.proofs.lemmas.Bool.{lt-ltb, eqb-true}
-use Rattle.niss_moves.specs.Reader.{Reader, IsFed, HasNoLineFeed, line_of}
+use Rattle.niss_moves.specs.Reader.{line_of, HasNoLineFeed}
 use Rattle.niss_moves.specs.Reading.{read_line}
-use Rattle.niss_moves.specs.declared.partial_line.LastMove.TheVariants as last
-use Rattle.niss_moves.specs.Machine.{state_or, IsStep}
 use Rattle.niss_moves.proofs.Completes.{run-append, run_after, at_fed, run_move}
 use Rattle.niss_moves.proofs.Sound.{can_continue, continued_ok, run_stops, is_plain, plain_pieces}
 use Rattle.niss_moves.proofs.Found.{read_by_run}
@@ -118,10 +111,10 @@ move_at bytes b power i k blank t base suffix lt is token =
       token_is = token ∙ ap (token_of b) suffix.power_is;
     }
 
-settled_finished : (s : State) → s.last ≡ last.Finished → settled s ≡ s
+settled_finished : (s : State) → s.last ≡ LastMove.Finished → settled s ≡ s
 settled_finished s e = ap (λ t. settled (with_last t s)) e ∙ ap (λ t. with_last t s) (sym e)
 
-move_run : (s : State) (bytes : List ℕ) (t : Token) → s.last ≡ last.Finished → count s < 256 → IsMove bytes t → run s bytes ≡ Ok (at_fed s t (s.fed + length bytes))
+move_run : (s : State) (bytes : List ℕ) (t : Token) → s.last ≡ LastMove.Finished → count s < 256 → IsMove bytes t → run s bytes ≡ Ok (at_fed s t (s.fed + length bytes))
 move_run s bytes t e room h =
     let here = settled_finished s e in
     ap (run s) h.bytes_are ∙ run_move 256 s h.base h.suffix h.blank (ap cut_of e) (subst (λ (x : State). count x < 256) (sym here) room)
@@ -138,7 +131,7 @@ no_line_feed bytes t h k d lt e =
 pub record HasTaken (old new : State) (bytes : List ℕ) : Type 0 where
   pub runs : run old bytes ≡ Ok (record new { fed = old.fed + length bytes })
   pub uncounted : new.fed ≡ old.fed
-  pub finished : new.last ≡ last.Finished
+  pub finished : new.last ≡ LastMove.Finished
   pub inside : HasNoLineFeed bytes
 
 -- a move of a piece of the bytes

@@ -1,13 +1,12 @@
 -- Each line has one reading: its moves, or its one fault.
 use Rattle.niss_moves.proofs.Names.{refl, ap, sym, ◌∙◌, arith, inl, inr, ◌≡◌, ℕ, ◌+◌, ◌-◌, ◌<◌, Bool, true, false, List, [], ◌∷◌, ◌++◌}
-use Rattle.niss_moves.proofs.Names.{length, take, drop, Option, None, Some, Result, Ok, Err, suc, ◌==◌, ◌||◌, not, has_no_bracket, Cut}
-use Rattle.niss_moves.proofs.Names.{Whole, LacksOne, LacksTwo, cut_length, cut_ending, bracket_ending, Continues, CanContinue, BeginsBase}
-use Rattle.niss_moves.proofs.Names.{StopsAt, Stops, Lacks, Faults, symbol_of, State, start, step, step_within, and_then, run, ended}
-use Rattle.niss_moves.proofs.Names.{ended_by, cut_of, is_some, ended_in, Moves, Symbol, LastMove, ReadFault, NotAMove, Nested, Unopened}
-use Rattle.niss_moves.proofs.Names.{fault_by, fault_at, Unclosed, TooLong, Spells, IsLine, IsReading, Token, settled}
-use Rattle.std.proofs.lemmas.List.{take-append-drop, take_more, length-take-le}
-use Rattle.niss_moves.specs.declared.partial_line.LastMove.TheVariants as last
-use Rattle.niss_moves.specs.declared.symbol.Symbol.TheVariants as symbol
+use Rattle.niss_moves.proofs.Names.{length, take, drop, Option, None, Some, Result, Ok, Err, suc, ◌==◌, ◌||◌, not, has_no_bracket, Whole}
+use Rattle.niss_moves.proofs.Names.{CanContinue, Stops, Lacks, start, run, ended, is_some, Symbol, LastMove, ReadFault, NotAMove, Nested}
+use Rattle.niss_moves.proofs.Names.{Unopened, Unclosed, TooLong, IsReading, Token, take-append-drop, take_more, length-take-le}
+use Rattle.niss_moves.specs.Reading.{symbol_of, fault_by, fault_at}
+use Rattle.niss_moves.specs.Machine.{State, step_within, step, and_then, ended_by, cut_of, ended_in, settled}
+use Rattle.niss_moves.specs.Faults.{Cut, LacksOne, LacksTwo, cut_length, cut_ending, bracket_ending, Continues, BeginsBase, StopsAt, Faults}
+use Rattle.niss_moves.specs.Line.{Moves, Spells, IsLine}
 use Rattle.niss_moves.proofs.Finite.{and_right}
 use Rattle.niss_moves.proofs.Completes.{state, run-append, run_after, read_line_of, IsSymbol, symbol_is, first_symbol, completes}
 use Rattle.niss_moves.proofs.Sound.{Reads, Outcome, step_means, reads_all, can_continue, continued_ok, opens_at, cut_fits, run_stops}
@@ -26,17 +25,17 @@ unfolding step_within symbol_of state
 ready_ending m o t k false end e r h =
     let x : state m o t k ≡ end = state_is e in
     (ap (λ (s : State). cut_of s.last) x ∙ r, ap (λ (s : State). is_some s.bracket) x ∙ ap is_some h)
-ready_ending m (Some c) last.Finished k true end e r h = (refl, refl)
-ready_ending m (Some c) (last.Bare x) k true end e r h = (refl, refl)
-ready_ending m (Some c) (last.Doubled x) k true end e r h = (refl, refl)
-ready_ending m None last.Finished k true end e r h = absurd (no_fault e)
+ready_ending m (Some c) LastMove.Finished k true end e r h = (refl, refl)
+ready_ending m (Some c) (LastMove.Bare x) k true end e r h = (refl, refl)
+ready_ending m (Some c) (LastMove.Doubled x) k true end e r h = (refl, refl)
+ready_ending m None LastMove.Finished k true end e r h = absurd (no_fault e)
 ready_ending m _ _ k true end e r h = absurd (no_fault e)
 
 cut_ending_is : (m : Moves) (o : Option ℕ) (t : LastMove) (k : ℕ) (c : Cut) (q : Bool) (end : State) → and_then (run (state m o t k) (cut_ending c)) (λ u. run u (bracket_ending q)) ≡ Ok end → cut_of end.last ≡ Whole → end.bracket ≡ None → (cut_of t ≡ c) × (is_some o ≡ q)
 unfolding step_within symbol_of state
 cut_ending_is m o t k Whole q end e r h = ready_ending m o t k q end e r h
-cut_ending_is m o (last.SecondByte t) k LacksOne q end e r h = (refl, (ready_ending _ o last.Finished _ q end e r h).1)
-cut_ending_is m o (last.FirstByte t) k LacksTwo q end e r h = (refl, (ready_ending _ o last.Finished _ q end e r h).1)
+cut_ending_is m o (LastMove.SecondByte t) k LacksOne q end e r h = (refl, (ready_ending _ o LastMove.Finished _ q end e r h).1)
+cut_ending_is m o (LastMove.FirstByte t) k LacksTwo q end e r h = (refl, (ready_ending _ o LastMove.Finished _ q end e r h).1)
 cut_ending_is m o _ k _ q end e r h = absurd (no_fault e)
 
 one_ending : (bytes : List ℕ) (s : State) (c : Cut) (q : Bool) → run start bytes ≡ Ok s → Continues bytes c q → (cut_of s.last ≡ c) × (is_some s.bracket ≡ q)
@@ -65,9 +64,9 @@ stopped bytes column c q byte h =
         ap (run start) (sym (take-append-drop column bytes)) ∙ run-append 256 start (take column bytes) (drop column bytes) ∙ ap (λ r. and_then r (λ t. run t (drop column bytes))) f ∙ ap Err k
 
 other_fault : (x : Symbol) (o : Bool) (byte column : ℕ) → IsSymbol x byte → ((byte ≡ 40) × (o ≡ true) → ⊥) → ((byte ≡ 41) × (o ≡ false) → ⊥) → (BeginsBase byte → ⊥) → fault_by x o column ≡ NotAMove column
-other_fault symbol.Open true byte column i nested unopened long = absurd (nested (i, refl))
-other_fault symbol.Close false byte column i nested unopened long = absurd (unopened (i, refl))
-other_fault (symbol.Base b) o byte column i nested unopened long = absurd (long (b, [], i))
+other_fault Symbol.Open true byte column i nested unopened long = absurd (nested (i, refl))
+other_fault Symbol.Close false byte column i nested unopened long = absurd (unopened (i, refl))
+other_fault (Symbol.Base b) o byte column i nested unopened long = absurd (long (b, [], i))
 other_fault _ _ byte column i nested unopened long = refl
 
 cut_fault : (c : Cut) (o : Bool) (byte column : ℕ) → 0 < cut_length c → fault_at c o byte (column + cut_length c) ≡ NotAMove column

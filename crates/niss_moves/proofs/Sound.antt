@@ -1,26 +1,19 @@
 -- What is read is spelled; whole lines, and which fault they have.
 use Rattle.niss_moves.proofs.Names.{◌≡◌, ℕ, ◌+◌, ◌-◌, ◌≤◌, Bool, true, false, cond, nat_lt, eqb, refl, ap, sym, ◌∙◌, subst, subst₂, List}
-use Rattle.niss_moves.proofs.Names.{[], ◌∷◌, ◌++◌, length, flat_map, append_assoc, append-nil, Option, None, Some, is_some, Result, Ok}
-use Rattle.niss_moves.proofs.Names.{Err, arith, length-append, token_of, base_bytes, Typographic, Plain, Nothing, Two, Prime, TwoPrime}
-use Rattle.niss_moves.proofs.Names.{Moves, Piece, Gap, Spelled, piece_bytes, piece_moves, Item, Outside, Bracket, item_bytes, item_normal}
-use Rattle.niss_moves.proofs.Names.{item_bracketed, Cut, Whole, LacksOne, LacksTwo, cut_ending, cut_length, cut_of, symbol_of, State}
-use Rattle.niss_moves.proofs.Names.{fault_by, fault_at, moves_in, start, with_more, settled, count, with_last, fed_to, step_by, step_at}
-use Rattle.niss_moves.proofs.Names.{step, step_within, Quarter, Half, Counter, Token, Base, Symbol, LastMove, ReadFault, NotAMove}
-use Rattle.niss_moves.proofs.Names.{TooLong, ◌<◌, ◌&&◌, take, drop, get_or, inl, inr, ◌==◌, ◌||◌, not, Spells, IsLine, Suffix}
-use Rattle.niss_moves.proofs.Names.{suffix_bytes, Space, bracket_ending, Continues, CanContinue, StopsAt, Stops, Lacks, and_then, run, U}
-use Rattle.niss_moves.proofs.Names.{Rl, M, Unclosed}
-use Rattle.std.proofs.lemmas.Bool.{ltb-true, eqb-true}
+use Rattle.niss_moves.proofs.Names.{[], ◌∷◌, ◌++◌, length, flat_map, append_assoc, append-nil, Option, None, Some, is_some, Result, Ok, Err}
+use Rattle.niss_moves.proofs.Names.{arith, length-append, piece_moves, Whole, start, count, Quarter, Half, Counter, Token, Base, Symbol}
+use Rattle.niss_moves.proofs.Names.{LastMove, ReadFault, NotAMove, TooLong, ◌<◌, ◌&&◌, take, drop, get_or, inl, inr, ◌==◌, ◌||◌, not}
+use Rattle.niss_moves.proofs.Names.{CanContinue, Stops, Lacks, run, U, Rl, M, Unclosed, item_bytes, ltb-true, eqb-true, take-append-le}
+use Rattle.niss_moves.proofs.Names.{take-append-drop, list_all, AllPass-from_list_all, list_all-from_AllPass}
+use Rattle.niss_moves.specs.Line.{piece_bytes, token_of, base_bytes, Typographic, Plain, Nothing, Two, Prime, TwoPrime, Moves, Piece, Gap}
+use Rattle.niss_moves.specs.Line.{Spelled, Item, Outside, Bracket, item_normal, item_bracketed, Spells, IsLine, Suffix, suffix_bytes, Space}
+use Rattle.niss_moves.specs.Reading.{symbol_of, fault_by, fault_at, moves_in}
+use Rattle.niss_moves.specs.Machine.{State, step_within, cut_of, with_more, settled, with_last, fed_to, step_by, step_at, step, and_then}
 use Rattle.std.proofs.Math.Path.{subst₃}
 use Rattle.std.proofs.lemmas.List.Concat.{flat_map-append}
-use Rattle.std.proofs.lemmas.List.{take-append-le, take-append-drop}
-use Rattle.std.specs.List.{list_all}
 use Rattle.std.proofs.lemmas.List.Folds.{list_all-append}
-use Rattle.std.proofs.lemmas.List.Sums.{AllPass-from_list_all, list_all-from_AllPass}
 use Rattle.std.proofs.Math.Seq.{take-append_seam, take-append-add, get_or-append_seam}
-use Rattle.niss_moves.specs.declared.token.Base.TheVariants as base
-use Rattle.niss_moves.specs.declared.partial_line.LastMove.TheVariants as last
-use Rattle.niss_moves.specs.declared.symbol.Symbol.TheVariants as symbol
-use Rattle.niss_moves.specs.Faults.{EndsEarly, OpensAt}
+use Rattle.niss_moves.specs.Faults.{EndsEarly, OpensAt, Cut, LacksOne, LacksTwo, cut_ending, cut_length, bracket_ending, Continues, StopsAt}
 use Rattle.niss_moves.proofs.Completes.{state, counted, count_more, more_none, IsSymbol, symbol_is, symbol_of_brackets, first_symbol}
 use Rattle.niss_moves.proofs.Completes.{run-append, run_after, read_line_of}
 use Rattle.niss_moves.proofs.Finite.{and_both, and_left}
@@ -61,11 +54,11 @@ pub record IsCutMove (t : Token) (c : Cut) (bytes : List ℕ) : Type 0 where
 
 -- the bytes of the last move as far as it goes
 abbrev pub IsLast : LastMove → List ℕ → Type 0
-IsLast last.Finished bytes = bytes ≡ []
-IsLast (last.Bare b) bytes = bytes ≡ base_bytes b
-IsLast (last.Doubled b) bytes = bytes ≡ base_bytes b ++ 50 ∷ []
-IsLast (last.FirstByte t) bytes = IsCutMove t LacksTwo bytes
-IsLast (last.SecondByte t) bytes = IsCutMove t LacksOne bytes
+IsLast LastMove.Finished bytes = bytes ≡ []
+IsLast (LastMove.Bare b) bytes = bytes ≡ base_bytes b
+IsLast (LastMove.Doubled b) bytes = bytes ≡ base_bytes b ++ 50 ∷ []
+IsLast (LastMove.FirstByte t) bytes = IsCutMove t LacksTwo bytes
+IsLast (LastMove.SecondByte t) bytes = IsCutMove t LacksOne bytes
 
 -- The state is what is read of the bytes.
 pub record Reads (s : State) (bytes : List ℕ) : Type 0 where
@@ -88,10 +81,10 @@ pub settled_front : (s : State) (bytes : List ℕ) → Reads s bytes → WholeIt
 settled_front s bytes h = by_last s.last h.is_last
   where
     by_last : (t : LastMove) → IsLast t h.rest → WholeItems s.bracket (bytes ++ cut_ending (cut_of t)) (settled (with_last t s)).moves
-    by_last last.Finished e =
+    by_last LastMove.Finished e =
         subst (λ (x : List ℕ). WholeItems s.bracket x s.moves) (sym (append-nil _ ∙ h.bytes_are ∙ ap (λ x. h.front ++ x) e ∙ append-nil _)) h.is_front
-    by_last (last.Bare b) e = piece_ends s bytes (Spelled b Nothing) [] _ h (ap (λ x. x ++ []) e) refl
-    by_last (last.Doubled b) e = piece_ends s bytes (Spelled b Two) [] _ h (append-nil _ ∙ e) refl
+    by_last (LastMove.Bare b) e = piece_ends s bytes (Spelled b Nothing) [] _ h (ap (λ x. x ++ []) e) refl
+    by_last (LastMove.Doubled b) e = piece_ends s bytes (Spelled b Two) [] _ h (append-nil _ ∙ e) refl
     by_last t k = piece_ends s bytes k.piece (cut_ending (cut_of t)) _ h k.bytes_are k.moves_are
 
 pub whole_front : (s : State) (bytes : List ℕ) → cut_of s.last ≡ Whole → Reads s bytes → WholeItems s.bracket bytes (settled s).moves
@@ -104,8 +97,8 @@ cut_fits s bytes h =
     let here = by_last s.last h.is_last in omega (arith, here, ap length h.bytes_are, length-append h.front h.rest)
   where
     by_last : (t : LastMove) → IsLast t h.rest → cut_length (cut_of t) ≤ length h.rest
-    by_last (last.FirstByte t) k = k.long
-    by_last (last.SecondByte t) k = k.long
+    by_last (LastMove.FirstByte t) k = k.long
+    by_last (LastMove.SecondByte t) k = k.long
     by_last _ k = omega arith
 
 -- what a step comes to: a state of these bytes, or this fault
@@ -113,7 +106,7 @@ abbrev pub Outcome : ReadFault → List ℕ → Result State ReadFault → Type 
 Outcome fault bytes (Ok t) = Reads t bytes
 Outcome fault bytes (Err f) = f ≡ fault
 
-front_reads : (s : State) (bytes : List ℕ) → WholeItems s.bracket bytes s.moves → s.last ≡ last.Finished → s.fed ≡ length bytes → count (settled s) ≤ 256 → Reads s bytes
+front_reads : (s : State) (bytes : List ℕ) → WholeItems s.bracket bytes s.moves → s.last ≡ LastMove.Finished → s.fed ≡ length bytes → count (settled s) ≤ 256 → Reads s bytes
 front_reads s bytes h e k r =
     record { front = bytes; rest = []; bytes_are = sym (append-nil bytes); is_front = h; is_last = subst (λ (t : LastMove). IsLast t []) (sym e) refl; fed = k; room = r }
 
@@ -129,7 +122,7 @@ by_test true fault f bytes k t h e = h refl
 by_test false fault f bytes k t h e = e
 
 -- a move begins
-begins : (s : State) (bytes : List ℕ) (byte : ℕ) (b : Base) → cut_of s.last ≡ Whole → Reads s bytes → base_bytes b ≡ byte ∷ [] → nat_lt (count (settled s)) 256 ≡ true → Reads (counted (with_last (last.Bare b) (settled s))) (bytes ++ byte ∷ [])
+begins : (s : State) (bytes : List ℕ) (byte : ℕ) (b : Base) → cut_of s.last ≡ Whole → Reads s bytes → base_bytes b ≡ byte ∷ [] → nat_lt (count (settled s)) 256 ≡ true → Reads (counted (with_last (LastMove.Bare b) (settled s))) (bytes ++ byte ∷ [])
 begins s bytes byte b r h k e =
     record {
       front = bytes;
@@ -171,26 +164,26 @@ begins_cut xs ys x p t e k same moves =
 
 symbol_means : (x : Symbol) (m : Moves) (o : Option ℕ) (t : LastMove) (k : ℕ) (bytes : List ℕ) (byte : ℕ) → IsSymbol x byte → cut_of t ≡ Whole → Reads (state m o t k) bytes → Outcome (fault_by x (is_some o) (k + 1)) (bytes ++ byte ∷ []) (fed_to (k + 1) (step_by 256 x (state m o t k)))
 unfolding state
-symbol_means symbol.Blank m o t k bytes byte i r h =
+symbol_means Symbol.Blank m o t k bytes byte i r h =
     front_reads _ _ (subst₂ (λ (x : ℕ) (m : Moves). WholeItems o (bytes ++ x ∷ []) m) (sym i.1) (sym (more_none o _)) (front_piece _ _ _ (Gap i.0) (whole_front _ bytes r h))) refl (fed_more _ _ _ h.fed) h.room
-symbol_means symbol.Open m None t k bytes byte i r h =
+symbol_means Symbol.Open m None t k bytes byte i r h =
     front_reads _ _ (subst (λ (x : ℕ). WholeItems (Some (k + 1)) (bytes ++ x ∷ []) (settled (state m None t k)).moves) (sym i) (front_open _ (k + 1) _ _ refl (ap (λ n. n + 1) h.fed) (whole_front _ bytes r h))) refl (fed_more _ _ _ h.fed) h.room
-symbol_means symbol.Close m (Some c) t k bytes byte i r h =
+symbol_means Symbol.Close m (Some c) t k bytes byte i r h =
     front_reads _ _ (subst (λ (x : ℕ). WholeItems None (bytes ++ x ∷ []) (settled (state m (Some c) t k)).moves) (sym i) (front_close _ c _ _ refl (whole_front _ bytes r h))) refl (fed_more _ _ _ h.fed) h.room
-symbol_means (symbol.Base x) m o t k bytes byte i r h =
-    by_test (nat_lt (count (settled (state m o t k))) 256) (TooLong (k + 1)) (TooLong (k + 1)) (bytes ++ byte ∷ []) (k + 1) (with_last (last.Bare x) (settled (state m o t k))) (begins _ bytes byte x r h i) refl
-symbol_means symbol.Wide m o (last.Bare (base.Face f)) k bytes byte i r h =
-    goes_on m o _ (last.Bare (base.Wide f)) k bytes byte h (follows h.is_last i) (omega (arith, h.room, count_more o m (token_of (base.Face f) Quarter ∷ []), count_more o m (token_of (base.Wide f) Quarter ∷ [])))
-symbol_means symbol.Two m o (last.Bare f) k bytes byte i r h =
-    goes_on m o _ (last.Doubled f) k bytes byte h (follows h.is_last i) (omega (arith, h.room, count_more o m (token_of f Quarter ∷ []), count_more o m (token_of f Half ∷ [])))
-symbol_means symbol.Apostrophe m o (last.Bare f) k bytes byte i r h =
+symbol_means (Symbol.Base x) m o t k bytes byte i r h =
+    by_test (nat_lt (count (settled (state m o t k))) 256) (TooLong (k + 1)) (TooLong (k + 1)) (bytes ++ byte ∷ []) (k + 1) (with_last (LastMove.Bare x) (settled (state m o t k))) (begins _ bytes byte x r h i) refl
+symbol_means Symbol.Wide m o (LastMove.Bare (Base.Face f)) k bytes byte i r h =
+    goes_on m o _ (LastMove.Bare (Base.Wide f)) k bytes byte h (follows h.is_last i) (omega (arith, h.room, count_more o m (token_of (Base.Face f) Quarter ∷ []), count_more o m (token_of (Base.Wide f) Quarter ∷ [])))
+symbol_means Symbol.Two m o (LastMove.Bare f) k bytes byte i r h =
+    goes_on m o _ (LastMove.Doubled f) k bytes byte h (follows h.is_last i) (omega (arith, h.room, count_more o m (token_of f Quarter ∷ []), count_more o m (token_of f Half ∷ [])))
+symbol_means Symbol.Apostrophe m o (LastMove.Bare f) k bytes byte i r h =
     front_reads _ _ (piece_ends _ bytes (Spelled f (Prime Plain)) (byte ∷ []) _ h (follows h.is_last i) refl) refl (fed_more _ _ _ h.fed) (omega (arith, h.room, count_more o m (token_of f Quarter ∷ []), count_more o m (token_of f Counter ∷ [])))
-symbol_means symbol.Apostrophe m o (last.Doubled f) k bytes byte i r h =
+symbol_means Symbol.Apostrophe m o (LastMove.Doubled f) k bytes byte i r h =
     front_reads _ _ (piece_ends _ bytes (Spelled f (TwoPrime Plain)) (byte ∷ []) _ h (follows h.is_last i ∙ append_assoc (base_bytes f) (50 ∷ []) (39 ∷ [])) refl) refl (fed_more _ _ _ h.fed) h.room
-symbol_means symbol.Cut m o (last.Bare f) k bytes byte i r h =
-    goes_on m o _ (last.FirstByte (token_of f Counter)) k bytes byte h (begins_cut _ _ _ (Spelled f (Prime Typographic)) _ h.is_last i refl refl) (omega (arith, h.room, count_more o m (token_of f Quarter ∷ []), count_more o m (token_of f Counter ∷ [])))
-symbol_means symbol.Cut m o (last.Doubled f) k bytes byte i r h =
-    goes_on m o _ (last.FirstByte (token_of f Half)) k bytes byte h (begins_cut _ _ _ (Spelled f (TwoPrime Typographic)) _ h.is_last i (append_assoc (base_bytes f) (50 ∷ []) (0xE2 ∷ 0x80 ∷ 0x99 ∷ [])) refl) h.room
+symbol_means Symbol.Cut m o (LastMove.Bare f) k bytes byte i r h =
+    goes_on m o _ (LastMove.FirstByte (token_of f Counter)) k bytes byte h (begins_cut _ _ _ (Spelled f (Prime Typographic)) _ h.is_last i refl refl) (omega (arith, h.room, count_more o m (token_of f Quarter ∷ []), count_more o m (token_of f Counter ∷ [])))
+symbol_means Symbol.Cut m o (LastMove.Doubled f) k bytes byte i r h =
+    goes_on m o _ (LastMove.FirstByte (token_of f Half)) k bytes byte h (begins_cut _ _ _ (Spelled f (TwoPrime Typographic)) _ h.is_last i (append_assoc (base_bytes f) (50 ∷ []) (0xE2 ∷ 0x80 ∷ 0x99 ∷ [])) refl) h.room
 symbol_means x m o t k bytes byte i r h = refl
 
 -- a U+2019 of which two bytes stand there
@@ -209,11 +202,11 @@ unfolding step_within state
 step_means s bytes byte h = by_last s.moves s.bracket s.last s.fed h
   where
     by_last : (m : Moves) (o : Option ℕ) (t : LastMove) (k : ℕ) → Reads (state m o t k) bytes → Outcome (fault_at (cut_of t) (is_some o) byte (k + 1)) (bytes ++ byte ∷ []) (fed_to (k + 1) (step_at 256 t (state m o t k) byte))
-    by_last m o (last.FirstByte t) k h =
-        by_test (eqb byte 0x80) (NotAMove (k + 1 - 1)) (NotAMove k) (bytes ++ byte ∷ []) (k + 1) (with_last (last.SecondByte t) (state m o (last.FirstByte t) k))
-        (λ e. goes_on m o _ (last.SecondByte t) k bytes byte h (goes_cut t h.rest byte h.is_last (eqb-true _ _ e)) h.room) (ap NotAMove (omega arith))
-    by_last m o (last.SecondByte t) k h =
-        by_test (eqb byte 0x99) (NotAMove (k + 1 - 2)) (NotAMove (k - 1)) (bytes ++ byte ∷ []) (k + 1) (settled (state m o (last.SecondByte t) k))
+    by_last m o (LastMove.FirstByte t) k h =
+        by_test (eqb byte 0x80) (NotAMove (k + 1 - 1)) (NotAMove k) (bytes ++ byte ∷ []) (k + 1) (with_last (LastMove.SecondByte t) (state m o (LastMove.FirstByte t) k))
+        (λ e. goes_on m o _ (LastMove.SecondByte t) k bytes byte h (goes_cut t h.rest byte h.is_last (eqb-true _ _ e)) h.room) (ap NotAMove (omega arith))
+    by_last m o (LastMove.SecondByte t) k h =
+        by_test (eqb byte 0x99) (NotAMove (k + 1 - 2)) (NotAMove (k - 1)) (bytes ++ byte ∷ []) (k + 1) (settled (state m o (LastMove.SecondByte t) k))
         (λ e. front_reads _ _ (subst (λ (z : ℕ). WholeItems o (bytes ++ z ∷ []) (with_more o m (t ∷ []))) (sym (eqb-true _ _ e)) (settled_front _ bytes h)) refl (fed_more _ _ _ h.fed) h.room)
         (ap NotAMove (omega arith))
     by_last m o t k h = symbol_means (symbol_of byte) m o t k bytes byte (symbol_is byte) refl h
@@ -288,9 +281,9 @@ stop_at front rest byte s f e g =
 
 -- no bracket that has a fault of its own there, and no base
 abbrev IsOther : Symbol → Bool → Type 0
-IsOther symbol.Open true = ⊥
-IsOther symbol.Close false = ⊥
-IsOther (symbol.Base b) o = ⊥
+IsOther Symbol.Open true = ⊥
+IsOther Symbol.Close false = ⊥
+IsOther (Symbol.Base b) o = ⊥
 IsOther _ o = Unit {0}
 
 -- Where bytes stop, the fault is that of the byte there.
@@ -298,9 +291,9 @@ fault_stops : (c : Cut) (o : Bool) (byte column : ℕ) (bytes : List ℕ) → cu
 fault_stops Whole o byte column bytes lt h = by_symbol (symbol_of byte) o refl (symbol_is byte) h
   where
     by_symbol : (x : Symbol) (o : Bool) → symbol_of byte ≡ x → IsSymbol x byte → StopsAt bytes column Whole o byte → Stops bytes (fault_by x o column)
-    by_symbol symbol.Open true e i h = subst (λ (b : ℕ). StopsAt bytes column Whole true b) i h
-    by_symbol symbol.Close false e i h = subst (λ (b : ℕ). StopsAt bytes column Whole false b) i h
-    by_symbol (symbol.Base b) o e i h = (byte, o, (b, [], i), h)
+    by_symbol Symbol.Open true e i h = subst (λ (b : ℕ). StopsAt bytes column Whole true b) i h
+    by_symbol Symbol.Close false e i h = subst (λ (b : ℕ). StopsAt bytes column Whole false b) i h
+    by_symbol (Symbol.Base b) o e i h = (byte, o, (b, [], i), h)
     by_symbol x o e i h =
         inl (byte, o, h, λ k. subst₂ IsOther (sym e ∙ ap symbol_of k.0 ∙ symbol_of_brackets.0) k.1 tt, λ k. subst₂ IsOther (sym e ∙ ap symbol_of k.0 ∙ symbol_of_brackets.1) k.1 tt, λ k. subst (λ (x : Symbol). IsOther x o) (sym e ∙ first_symbol k.0 byte k.1 k.2) tt)
 fault_stops c o byte column bytes lt h =
@@ -353,11 +346,11 @@ abbrev pub is_plain : ℕ → Bool
 is_plain b = not (b == 40 || b == 41) && not (b == 10)
 
 plain_base : (b : Base) → list_all is_plain (base_bytes b) ≡ true
-plain_base (base.Face U) = refl
-plain_base (base.Wide U) = refl
-plain_base (base.LowerCase U) = refl
-plain_base (base.Slice M) = refl
-plain_base (base.Rotation Rl) = refl
+plain_base (Base.Face U) = refl
+plain_base (Base.Wide U) = refl
+plain_base (Base.LowerCase U) = refl
+plain_base (Base.Slice M) = refl
+plain_base (Base.Rotation Rl) = refl
 plain_base _ = refl
 
 plain_suffix : (s : Suffix) → list_all is_plain (suffix_bytes s) ≡ true

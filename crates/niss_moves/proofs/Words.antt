@@ -1,31 +1,25 @@
 -- Words as they are written: what is written is spelled, and words that wait in a buffer.
-use Rattle.niss_moves.proofs.Names.{◌≤◌, Bool, ◌&&◌, nat_le, take, get_or, token_index, refl, ap, sym, ◌∙◌, eqb, zero, suc, ◌+◌, ◌<◌}
-use Rattle.niss_moves.proofs.Names.{true, append_assoc, append-nil, arith, length-append, ◌≡◌, ℕ, ◌-◌, List, [], ◌∷◌, ◌++◌, length, map}
-use Rattle.niss_moves.proofs.Names.{flat_map, slice_get, face_letter, base_bytes, Suffix, Nothing, Two, Prime, Plain, suffix_bytes}
-use Rattle.niss_moves.proofs.Names.{suffix_power, Space, Gap, Spelled, Item, Outside, item_bytes, item_normal, item_bracketed, Spells}
-use Rattle.niss_moves.proofs.Names.{word, power_bytes, gap, gap_after, with_word, with_words, Power, Quarter, Half, Counter, Token, Base}
-use Rattle.niss_moves.proofs.Names.{token_of, if◌then◌else◌, false, cond, drop, with_buffered, turn_words, Turn, ◌==◌, cleaned_words}
-use Rattle.niss_moves.proofs.Names.{with_bracket, is_empty, Rotation}
-use lib.Pointwise.{pointwise}
-use Rattle.std.proofs.lemmas.Bool.{and_parts, leb-true}
-use Rattle.std.specs.Cmp.Lexicographic.{bytes_decides}
-use Rattle.std.specs.List.{join_with_byte, between}
+use Rattle.niss_moves.proofs.Names.{◌≤◌, Bool, take, get_or, refl, ap, sym, ◌∙◌, zero, suc, ◌+◌, ◌<◌, true, append_assoc, append-nil, arith}
+use Rattle.niss_moves.proofs.Names.{length-append, ◌≡◌, ℕ, ◌-◌, List, [], ◌∷◌, ◌++◌, length, map, flat_map, slice_get, word, with_words}
+use Rattle.niss_moves.proofs.Names.{Power, Quarter, Half, Counter, Token, Base, if◌then◌else◌, false, cond, drop, Turn, ◌==◌, Rotation}
+use Rattle.niss_moves.proofs.Names.{token_index, item_bytes, join_with_byte, between, take-append-le, length-take-le, drop-append-le}
+use Rattle.niss_moves.specs.Line.{Suffix, Nothing, Two, Prime, Plain, suffix_power, Space, Gap, Spelled, Item, Outside, item_normal}
+use Rattle.niss_moves.specs.Line.{item_bracketed, Spells, token_of}
+use Rattle.niss_moves.specs.Text.{gap, gap_after, with_word, turn_words, cleaned_words, with_bracket}
+use Rattle.niss_moves.specs.Helpers.{with_buffered, is_empty}
 use Rattle.std.proofs.Math.Seq.{take-append-add}
-use Rattle.std.proofs.lemmas.List.{take-append-le, length-take-le, drop-append-le}
 use Rattle.std.proofs.lemmas.Slice.{between_is, between_from_start, drop-put_mid}
 use borrow.Rule.Slice.PartMut.{put_mid, post_of}
 use Rattle.niss_moves.specs.declared.text.Word.{Word}
 use Rattle.niss_moves.specs.declared.text.TheConstants.{WORDS}
-use Rattle.niss_moves.specs.declared.token.Token.TheVariants as token
-use Rattle.niss_moves.specs.declared.token.Base.TheVariants as base
 use Rattle.niss_moves.specs.declared.text.WordBuffer.{WordBuffer}
-use Rattle.niss_moves.proofs.Finite.{every_face, every_power, every_axis, every_slice, every_token, at_token}
+use Rattle.niss_moves.proofs.Finite.{every_face, every_power, every_axis, every_slice, every_token, Tokens, Text, holds}
 
 abbrev base_of : Token → Base
-base_of (token.Face t) = base.Face t.face
-base_of (token.Wide f p) = base.Wide f
-base_of (token.Slice l p) = base.Slice l
-base_of (token.Rotation a p) = base.Rotation a
+base_of (Token.Face t) = Base.Face t.face
+base_of (Token.Wide f p) = Base.Wide f
+base_of (Token.Slice l p) = Base.Slice l
+base_of (Token.Rotation a p) = Base.Rotation a
 
 abbrev suffix_of : Power → Suffix
 suffix_of Quarter = Nothing
@@ -33,28 +27,24 @@ suffix_of Half = Two
 suffix_of Counter = Prime Plain
 
 abbrev power_of : Token → Power
-power_of (token.Face t) = t.power
-power_of (token.Wide f p) = p
-power_of (token.Slice l p) = p
-power_of (token.Rotation a p) = p
+power_of (Token.Face t) = t.power
+power_of (Token.Wide f p) = p
+power_of (Token.Slice l p) = p
+power_of (Token.Rotation a p) = p
 
 abbrev move_item : Token → Item
 move_item t = Outside (Spelled (base_of t) (suffix_of (power_of t)))
-
-suffix_is : (p : Power) → suffix_bytes (suffix_of p) ≡ power_bytes p
-suffix_is Quarter = refl
-suffix_is _ = refl
 
 power_is : (p : Power) → suffix_power (suffix_of p) ≡ p
 power_is Quarter = refl
 power_is _ = refl
 
 item_word : (t : Token) → item_bytes (move_item t) ≡ word t
-item_word (token.Face t) = ap (λ x. face_letter t.face ∷ x) (suffix_is t.power)
-item_word t = ap (λ x. base_bytes (base_of t) ++ x) (suffix_is (power_of t))
+unfolding every_token every_power every_face every_slice every_axis
+item_word = holds (Tokens (λ t. Text (item_bytes (move_item t)) (word t))) refl
 
 item_move : (t : Token) → item_normal (move_item t) ≡ t ∷ []
-item_move (token.Face t) = ap (λ p. token.Face (record t { power = p }) ∷ []) (power_is t.power)
+item_move (Token.Face t) = ap (λ p. Token.Face (record t { power = p }) ∷ []) (power_is t.power)
 item_move t = ap (λ p. token_of (base_of t) p ∷ []) (power_is (power_of t))
 
 -- what stands past some bytes
@@ -64,45 +54,44 @@ past (x ∷ a) w k zero e = absurd (omega (arith, e))
 past (x ∷ a) w k (suc n) e = past a w k n (omega (arith, e))
 
 long_word : (t : Token) → 0 < length (word t)
-long_word (token.Face t) = omega arith
+long_word (Token.Face t) = omega arith
 long_word _ = omega arith
 
-words_gap : every_token (λ t. pointwise eqb (gap (word t)) (32 ∷ [])) ≡ true
+words_gap : (t : Token) → gap (word t) ≡ 32 ∷ []
 unfolding every_token every_power every_face every_slice every_axis
-words_gap = refl
+words_gap = holds (Tokens (λ t. Text (gap (word t)) (32 ∷ []))) refl
 
 -- after a word stands a space
 pub gap_word : (a : List ℕ) (t : Token) → gap (a ++ word t) ≡ 32 ∷ []
 gap_word a t =
     ap gap_after (past a (word t) (length (word t) - 1) (length (a ++ word t) - 1) (omega (arith, length-append a (word t), long_word t)))
-    ∙ (bytes_decides _ _).0 (at_token (λ t. pointwise eqb (gap (word t)) (32 ∷ [])) words_gap t)
+    ∙ words_gap t
 
--- a space and a word, in at most four bytes
-pub record IsWord (w : List ℕ) (entry : Word) : Type 0 where
-  pub bytes : take entry.len entry.bytes ≡ 32 ∷ w
-  pub len : entry.len ≤ 4
-
-abbrev is_word : List ℕ → Word → Bool
-is_word w entry = pointwise eqb (take entry.len entry.bytes) (32 ∷ w) && nat_le entry.len 4
-
-words_test : (d : Word) → every_token (λ t. is_word (word t) (get_or WORDS (token_index t) d)) ≡ true
+-- by its number the bytes of a move's word, after a space
+pub word_at : (t : Token) (i : ℕ) (d : Word) → i ≡ token_index t → take (get_or WORDS i d).len (get_or WORDS i d).bytes ≡ 32 ∷ word t
 unfolding every_token every_power every_face every_slice every_axis
-words_test d = refl
-
-pub word_at : (t : Token) (i : ℕ) (d : Word) → i ≡ token_index t → IsWord (word t) (get_or WORDS i d)
 word_at t i d e =
-    let entry = get_or WORDS (token_index t) d in
-    let both = and_parts (pointwise eqb (take entry.len entry.bytes) (32 ∷ word t)) (nat_le entry.len 4) (at_token _ (words_test d) t) in
-    rw e (record { bytes = (bytes_decides _ _).0 both.0; len = leb-true _ _ both.1 })
+    rw e (holds (Tokens (λ t. let entry = get_or WORDS (token_index t) d in Text (take entry.len entry.bytes) (32 ∷ word t))) refl t)
 
 abbrev spaced_items : List Token → List Item
 spaced_items [] = []
 spaced_items (t ∷ ts) = Outside (Gap Space) ∷ move_item t ∷ spaced_items ts
 
-spaced_bytes : (text : List ℕ) (ts : List Token) → gap text ≡ 32 ∷ [] → with_words text (map word ts) ≡ text ++ flat_map item_bytes (spaced_items ts)
-spaced_bytes text [] e = sym (append-nil text)
-spaced_bytes text (t ∷ ts) e =
-    spaced_bytes (with_word text (word t)) ts (gap_word (text ++ gap text) t) ∙ ap (λ g. ((text ++ g) ++ word t) ++ flat_map item_bytes (spaced_items ts)) e ∙ ap (λ w. ((text ++ 32 ∷ []) ++ w) ++ flat_map item_bytes (spaced_items ts)) (sym (item_word t)) ∙ simp append_assoc
+-- the words of moves side by side, each after a space
+abbrev pub spaced : List Token → List ℕ
+spaced [] = []
+spaced (t ∷ ts) = (32 ∷ word t) ++ spaced ts
+
+after_word : (text : List ℕ) (ts : List Token) → gap text ≡ 32 ∷ [] → text ++ spaced ts ≡ with_words text (map word ts)
+after_word text [] g = append-nil text
+after_word text (t ∷ ts) g =
+    let at = text ++ 32 ∷ [] in
+    sym (append_assoc text (32 ∷ []) (word t ++ spaced ts)) ∙ sym (append_assoc at (word t) (spaced ts))
+    ∙ after_word (at ++ word t) ts (gap_word at t) ∙ ap (λ x. with_words ((text ++ x) ++ word t) (map word ts)) (sym g)
+
+spaced_bytes : (ts : List Token) → spaced ts ≡ flat_map item_bytes (spaced_items ts)
+spaced_bytes [] = refl
+spaced_bytes (t ∷ ts) = λ i. 32 ∷ sym (item_word t) i ++ spaced_bytes ts i
 
 spaced_moves : (ts : List Token) → ts ≡ flat_map item_normal (spaced_items ts)
 spaced_moves [] = refl
@@ -118,21 +107,19 @@ words_are_read [] = record { items = []; bytes_are = refl; normal_are = refl; br
 words_are_read (t ∷ ts) =
     record {
       items = move_item t ∷ spaced_items ts;
-      bytes_are = spaced_bytes (word t) ts (gap_word [] t) ∙ ap (λ w. w ++ flat_map item_bytes (spaced_items ts)) (sym (item_word t));
+      bytes_are = sym (after_word (word t) ts (gap_word [] t)) ∙ (λ i. sym (item_word t) i ++ spaced_bytes ts i);
       normal_are = ap (λ s. t ∷ s) (spaced_moves ts) ∙ ap (λ s. s ++ flat_map item_normal (spaced_items ts)) (sym (item_move t));
       bracketed_are = spaced_inside ts;
     }
 
 -- One space stands between each two words.
-joined_after : (t : Token) (ts : List Token) (text : List ℕ) → with_words (text ++ word t) (map word ts) ≡ text ++ join_with_byte 32 (map word (t ∷ ts))
-joined_after t [] text = refl
-joined_after t (u ∷ us) text =
-    joined_after u us ((text ++ word t) ++ gap (text ++ word t))
-    ∙ ap (λ g. ((text ++ word t) ++ g) ++ join_with_byte 32 (map word (u ∷ us))) (gap_word text t) ∙ simp append_assoc
+spaced_joined : (t : Token) (ts : List Token) → word t ++ spaced ts ≡ join_with_byte 32 (map word (t ∷ ts))
+spaced_joined t [] = append-nil (word t)
+spaced_joined t (u ∷ us) = ap (λ x. word t ++ 32 ∷ x) (spaced_joined u us)
 
 pub words_are_joined : (s : List Token) → with_words [] (map word s) ≡ join_with_byte 32 (map word s)
 words_are_joined [] = refl
-words_are_joined (t ∷ ts) = joined_after t ts []
+words_are_joined (t ∷ ts) = sym (after_word (word t) ts (gap_word [] t)) ∙ spaced_joined t ts
 
 -- the first bytes of a list into which a piece was copied
 pub copied : {X : Type 0} (a k n : ℕ) (xs ys : List X) → a ≤ length xs → n ≤ length ys → take (a + n) (put_mid a k xs ys) ≡ take a xs ++ take n ys
@@ -140,21 +127,7 @@ copied a k n xs ys h l =
     ap (λ m. take (m + n) (put_mid a k xs ys)) (sym (length-take-le a xs h)) ∙ take-append-add (take a xs) (ys ++ post_of a k xs) n ∙ ap (λ t. take a xs ++ t) (take-append-le n ys (post_of a k xs) l)
 
 -- what stands behind it stays
-pub kept_behind : {X : Type 0} (a k n : ℕ) (xs ys : List X) → a + k ≤ n → a ≤ length xs → length ys ≡ k
-    → drop n (put_mid a k xs ys) ≡ drop n xs
-kept_behind a k n xs ys p q r = drop-put_mid a k xs ys n p q r
-
--- the words of moves side by side, each after a space
-abbrev pub spaced : List Token → List ℕ
-spaced [] = []
-spaced (t ∷ ts) = (32 ∷ word t) ++ spaced ts
-
-after_word : (text : List ℕ) (ts : List Token) → gap text ≡ 32 ∷ [] → text ++ spaced ts ≡ with_words text (map word ts)
-after_word text [] g = append-nil text
-after_word text (t ∷ ts) g =
-    let at = text ++ 32 ∷ [] in
-    sym (append_assoc text (32 ∷ []) (word t ++ spaced ts)) ∙ sym (append_assoc at (word t) (spaced ts))
-    ∙ after_word (at ++ word t) ts (gap_word at t) ∙ ap (λ x. with_words ((text ++ x) ++ word t) (map word ts)) (sym g)
+pub ruleset kept_behind = (drop-put_mid)
 
 -- all words after a text, none of them written
 all_buffered : (text : List ℕ) (no_gap : Bool) (ts : List Token) → gap text ≡ (if no_gap then [] else 32 ∷ []) → with_buffered text no_gap (spaced ts) ≡ with_words text (map word ts)
@@ -178,6 +151,14 @@ written text new bytes rest n true some fits e =
     ∙ ap (λ x. text ++ x) (sym (drop-append-le 1 (take n bytes) rest long))
 written text new bytes rest n false some fits e =
     ap (λ x. x ++ rest) (e ∙ ap (λ x. text ++ x) (between_from_start bytes n)) ∙ append_assoc text (take n bytes) rest
+
+-- one word is written
+pub word_written : (text new bytes : List ℕ) (n : ℕ) (no_gap : Bool) (t : Token) → gap text ≡ (if no_gap then [] else 32 ∷ []) → take n bytes ≡ 32 ∷ word t → n ≤ length bytes
+    → new ≡ text ++ between (cond no_gap 1 0) n bytes → new ≡ with_words text (word t ∷ [])
+word_written text new bytes zero no_gap t g is fits e = absurd (cc)
+word_written text new bytes (suc n) no_gap t g is fits e =
+    sym (append-nil new) ∙ written text new bytes [] (suc n) no_gap (omega arith) fits e ∙ ap (λ b. with_buffered text no_gap (b ++ [])) is
+    ∙ all_buffered text no_gap (t ∷ []) g
 
 -- A text and what waits after it, with the words of these moves after that, is the first text with the words of all.
 pub record Writes (text : List ℕ) (words : WordBuffer) (rest : List Token) (first : List ℕ) (all : List Token) : Type 0 where
@@ -209,17 +190,17 @@ writes_all {text} {new} {first} {words} no_gap e wrote h =
     sym (nothing_buffered new no_gap) ∙ wrote [] ∙ ap (λ x. with_buffered text words.no_gap (take words.len words.bytes ++ spaced x)) (sym e) ∙ h.items
 
 -- the words of face turns
-pub words_of_turns : (ts : List Turn) → map word (map token.Face ts) ≡ turn_words ts
+pub words_of_turns : (ts : List Turn) → map word (map Token.Face ts) ≡ turn_words ts
 words_of_turns [] = refl
-words_of_turns (t ∷ ts) = ap (λ ws. word (token.Face t) ∷ ws) (words_of_turns ts)
+words_of_turns (t ∷ ts) = ap (λ ws. word (Token.Face t) ∷ ws) (words_of_turns ts)
 
 -- the words of face turns, each after a space
 abbrev pub spaced_turns : List Turn → List ℕ
-spaced_turns ts = spaced (map token.Face ts)
+spaced_turns ts = spaced (map Token.Face ts)
 
 -- without the first space they are a line
 pub spaced_line : (ts : List Turn) → drop 1 (spaced_turns ts) ≡ with_words [] (turn_words ts)
-spaced_line ts = all_buffered [] true (map token.Face ts) refl ∙ ap (with_words []) (words_of_turns ts)
+spaced_line ts = all_buffered [] true (map Token.Face ts) refl ∙ ap (with_words []) (words_of_turns ts)
 
 -- words after words
 pub words_more : (text : List ℕ) (ts us : List Token) → with_words (with_words text (map word ts)) (map word us) ≡ with_words text (map word (ts ++ us))

@@ -1,6 +1,6 @@
 -- Canonical sequences of face turns, and all of them of one length.
 use Rattle.std.specs.Prelude.{Bool, true, false, ◌≡◌, ℕ, zero, suc, not, ◌&&◌, ◌||◌, ◌-◌, List, [], ◌∷◌, ◌++◌, map}
-use Rattle.std.specs.Prelude.{filter, flat_map, length, slice_get, Option, None, Some, IsTrue}
+use Rattle.std.specs.Prelude.{filter, flat_map, length, slice_get, Option, None, Some, IsTrue, ◌↔◌, All, Contains}
 use Rattle.niss_moves.specs.Names.{Face, U, D, R, L, F, B, Turn, Power, Quarter, Half, Counter}
 
 abbrev pub opposite : Face → Face
@@ -43,11 +43,8 @@ is_canonical_after last [] = true
 is_canonical_after last (t ∷ ts) = may_follow last t && is_canonical_after (Some t) ts
 
 -- No two neighbours break the rule.
-abbrev pub is_canonical : List Turn → Bool
-is_canonical s = is_canonical_after None s
-
 abbrev pub IsCanonical : List Turn → Type 0
-IsCanonical s = IsTrue (is_canonical s)
+IsCanonical s = IsTrue (is_canonical_after None s)
 
 -- the 18 turns in turn order: the faces U D R L F B, each by a quarter, a half and counterclockwise
 abbrev pub powers : List Power
@@ -82,3 +79,9 @@ pub record DiffersFirst (comes_before : Turn → Turn → Bool) (first second : 
   pub first_is : first ≡ front ++ left ∷ after_left
   pub second_is : second ≡ front ++ right ∷ after_right
   pub order : IsTrue (comes_before left right)
+
+-- The members of `all_canonical turns k` are the canonical sequences of length k of these turns.
+abbrev pub CanonicalMembers : Type 0
+CanonicalMembers =
+    (turns : List Turn) (k : ℕ) (s : List Turn) →
+    Contains (all_canonical turns k) s ↔ ((length s ≡ k) × IsCanonical s × All (Contains turns) s)

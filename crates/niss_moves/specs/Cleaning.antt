@@ -75,13 +75,13 @@ unfoldable pub rewritten_within : ℕ → List Turn → List Turn
 rewritten_within zero s = s
 rewritten_within (suc n) s = option_map_or (rewritten_within n) (rewritten_once s) s
 
--- More rewritings than these no list takes: each one shortens it, or leaves fewer pairs in the wrong order.
-abbrev pub most_rewritings : List Turn → ℕ
-most_rewritings s = length s * suc (length s * length s) + disorder s
+-- So many rewritings no list takes: each one shortens it, or leaves fewer pairs in the wrong order.
+abbrev pub more_rewritings : List Turn → ℕ
+more_rewritings s = suc (length s * suc (length s * length s) + disorder s)
 
 -- the list rewritten as long as two neighbours break the order
 unfoldable pub clean_turns : List Turn → List Turn
-clean_turns s = rewritten_within (most_rewritings s) s
+clean_turns s = rewritten_within (more_rewritings s) s
 
 -- the 24 rotations
 abbrev pub rotations : List Rotation

@@ -4,7 +4,6 @@ use Rattle.std.specs.Prelude.{reverse}
 use Rattle.niss_moves.specs.Places.{Coord, negated, is_negative, is_zero, is_positive, Vector, Place, along}
 use Rattle.niss_moves.specs.Names.{Face, U, D, R, L, F, B, Power, Quarter, Half, Counter, Turn, Axis, Ud, Rl, Fb}
 use Rattle.niss_moves.specs.Names.{Slice, M, E, S, Token}
-use Rattle.niss_moves.specs.declared.token.Token.TheVariants as token
 
 -- one quarter about an axis, clockwise as seen from its positive end
 abbrev pub quarter : Axis → Vector → Vector
@@ -58,14 +57,11 @@ slice_move M n = record { axis = Rl; turns = is_zero; quarters = against n }
 slice_move E n = record { axis = Ud; turns = is_zero; quarters = against n }
 slice_move S n = record { axis = Fb; turns = is_zero; quarters = n }
 
-abbrev pub rotation_move : Axis → ℕ → Move
-rotation_move axis n = record { axis = axis; turns = λ c. true; quarters = n }
-
 abbrev pub move_of : Token → Move
-move_of (token.Face t) = face_move t.face (times t.power)
-move_of (token.Wide face power) = wide_move face (times power)
-move_of (token.Slice slice power) = slice_move slice (times power)
-move_of (token.Rotation axis power) = rotation_move axis (times power)
+move_of (Token.Face t) = face_move t.face (times t.power)
+move_of (Token.Wide face power) = wide_move face (times power)
+move_of (Token.Slice slice power) = slice_move slice (times power)
+move_of (Token.Rotation axis power) = record { axis = axis; turns = λ c. true; quarters = times power }
 
 -- where one move of a line brings the sticker at a place
 abbrev pub moved_by : Token → Place → Place
@@ -78,10 +74,10 @@ effect (t ∷ ts) q = effect ts (moved_by t q)
 
 -- the same for one face turn, and for a sequence of face turns
 abbrev pub turned : Turn → Place → Place
-turned t = moved_by (token.Face t)
+turned t = moved_by (Token.Face t)
 
 abbrev pub effect_of_turns : List Turn → Place → Place
-effect_of_turns ts = effect (map token.Face ts)
+effect_of_turns ts = effect (map Token.Face ts)
 
 -- the inverse of a power, of a move, of a sequence
 abbrev pub inverse_power : Power → Power
@@ -93,10 +89,10 @@ abbrev pub inverse_turn : Turn → Turn
 inverse_turn t = record t { power = inverse_power t.power }
 
 abbrev pub inverse_token : Token → Token
-inverse_token (token.Face t) = token.Face (inverse_turn t)
-inverse_token (token.Wide face power) = token.Wide face (inverse_power power)
-inverse_token (token.Slice slice power) = token.Slice slice (inverse_power power)
-inverse_token (token.Rotation axis power) = token.Rotation axis (inverse_power power)
+inverse_token (Token.Face t) = Token.Face (inverse_turn t)
+inverse_token (Token.Wide face power) = Token.Wide face (inverse_power power)
+inverse_token (Token.Slice slice power) = Token.Slice slice (inverse_power power)
+inverse_token (Token.Rotation axis power) = Token.Rotation axis (inverse_power power)
 
 abbrev pub inverse : List Token → List Token
 inverse ts = reverse (map inverse_token ts)

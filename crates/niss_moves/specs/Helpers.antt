@@ -1,15 +1,14 @@
 -- What private functions of the code work out. No public contract names these.
 use Rattle.std.specs.Prelude.{◌≡◌, ℕ, Bool, true, false, List, [], ◌∷◌, ◌++◌, map, drop, slice_index_or}
 use Rattle.std.specs.Prelude.{if◌then◌else◌, Option, None, Some, ◌<◌, ◌⊎◌, take}
-use Rattle.niss_moves.specs.Canonical.{same_face}
-use Rattle.niss_moves.specs.Cleaning.{sum_of_turns}
+use Rattle.niss_moves.specs.Canonical.{same_face, IsCanonical}
+use Rattle.niss_moves.specs.Cleaning.{sum_of_turns, Cleans}
 use Rattle.niss_moves.specs.Effects.{effect, effect_of_turns, moved_by}
-use Rattle.niss_moves.specs.Rotations.{expanded, faces_with, to_top, face_before, face_before_if, face_before_power}
+use Rattle.niss_moves.specs.Rotations.{expanded, faces_with, to_top, face_before, face_before_if}
 use Rattle.niss_moves.specs.Rotations.{renamed_turn, spelling}
-use Rattle.niss_moves.specs.Names.{Face, U, R, L, F, B, Power, Quarter, Half, Counter, Turn, Axis, Token, Rotation}
+use Rattle.niss_moves.specs.Names.{Face, U, R, L, F, B, Power, Quarter, Half, Counter, Turn, Token, Rotation}
 use Rattle.niss_moves.specs.Names.{Base}
 use Rattle.niss_moves.specs.Places.{Place}
-use Rattle.niss_moves.specs.declared.token.Token.TheVariants as token
 use Rattle.niss_moves.specs.declared.rotation.MoveTurns.{MoveTurns}
 use Rattle.niss_moves.specs.declared.rotation.MoveTurns.TheVariants.{NoTurn, One, Two}
 use Rattle.niss_moves.specs.Line.{token_of, base_bytes, Apostrophe, apostrophe_bytes, Suffix, suffix_bytes}
@@ -24,6 +23,11 @@ abbrev pub list_with_turn : List Turn → Turn → List Turn
 list_with_turn [] t = t ∷ []
 list_with_turn (x ∷ []) t = pair_of_turns x t
 list_with_turn (x ∷ y ∷ s) t = x ∷ list_with_turn (y ∷ s) t
+
+-- The list and a turn become the new list, whatever follows.
+pub record Cleaned (old : List Turn) (t : Turn) (new : List Turn) : Type 0 where
+  pub canonical : IsCanonical new
+  pub cleans : (rest c : List Turn) → Cleans (new ++ rest) c → Cleans (old ++ t ∷ rest) c
 
 -- no words
 abbrev pub is_empty : List (List ℕ) → Bool
@@ -45,11 +49,6 @@ rotation_by top front = record { top = top; vertical = vertical_of top front }
 -- the rotation that brings these six faces to the places of U, D, R, L, F and B
 abbrev pub rotation_of_faces : List Face → Rotation
 rotation_of_faces fs = rotation_by (slice_index_or fs 0 U) (slice_index_or fs 4 U)
-
--- The rotation is another one and then one about an axis.
-pub record IsNext (r : Rotation) (axis : Axis) (p : Power) (next : Rotation) : Type 0 where
-  pub effect : (q : Place) → effect (spelling next) q ≡ moved_by (token.Rotation axis p) (effect (spelling r) q)
-  pub faces : (f : Face) → face_before next f ≡ face_before r (face_before_power axis p f)
 
 -- After a rotation a move is these face turns and then the next rotation.
 pub record Takes (r : Rotation) (t : Token) (turns : List Turn) (next : Rotation) : Type 0 where

@@ -2,7 +2,6 @@
 use Rattle.std.specs.Prelude.{ℕ, ◌+◌, ◌*◌}
 use Rattle.niss_moves.specs.Names.{Face, U, D, R, L, F, B, Power, Quarter, Half, Counter, Slice, M, E, S, Axis, Ud}
 use Rattle.niss_moves.specs.Names.{Rl, Fb, Token}
-use Rattle.niss_moves.specs.declared.token.Token.TheVariants as token
 
 abbrev pub face_index : Face → ℕ
 face_index U = 0
@@ -29,7 +28,7 @@ axis_index Fb = 2
 
 -- The 54 moves are numbered by their kinds, those of one kind by what they turn, and then by their powers.
 abbrev pub token_index : Token → ℕ
-token_index (token.Face t) = 3 * face_index t.face + power_index t.power
-token_index (token.Wide face power) = 3 * (6 + face_index face) + power_index power
-token_index (token.Slice slice power) = 3 * (12 + layer_index slice) + power_index power
-token_index (token.Rotation axis power) = 3 * (15 + axis_index axis) + power_index power
+token_index (Token.Face t) = 3 * face_index t.face + power_index t.power
+token_index (Token.Wide face power) = 3 * (6 + face_index face) + power_index power
+token_index (Token.Slice slice power) = 3 * (12 + layer_index slice) + power_index power
+token_index (Token.Rotation axis power) = 3 * (15 + axis_index axis) + power_index power

@@ -12,5 +12,4 @@ pub mod Reading
 pub mod Machine
 pub mod Reader
 pub mod Text
-pub mod Laws
 pub mod Helpers

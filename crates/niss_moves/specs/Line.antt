@@ -3,8 +3,6 @@ use Rattle.std.specs.Prelude.{ℕ, List, [], ◌∷◌, ◌++◌, slice_index, c
 use Rattle.niss_moves.specs.Facelets.{face_letter}
 use Rattle.niss_moves.specs.Indices.{face_index, layer_index, axis_index}
 use Rattle.niss_moves.specs.Names.{Face, Power, Quarter, Half, Counter, Axis, Slice, Token, Base}
-use Rattle.niss_moves.specs.declared.token.Token.TheVariants as token
-use Rattle.niss_moves.specs.declared.token.Base.TheVariants as base
 use Rattle.niss_moves.specs.Effects.{inverse}
 
 -- the letters of wide turns, of slices and of rotations
@@ -19,19 +17,19 @@ rotation_letter a = slice_index (codes "yxz") (axis_index a)
 
 -- a move without its suffix
 abbrev pub base_bytes : Base → List ℕ
-base_bytes (base.Face f) = face_letter f ∷ []
-base_bytes (base.Wide f) = face_letter f ∷ codes "w"
-base_bytes (base.LowerCase f) = lower_letter f ∷ []
-base_bytes (base.Slice l) = slice_letter l ∷ []
-base_bytes (base.Rotation a) = rotation_letter a ∷ []
+base_bytes (Base.Face f) = face_letter f ∷ []
+base_bytes (Base.Wide f) = face_letter f ∷ codes "w"
+base_bytes (Base.LowerCase f) = lower_letter f ∷ []
+base_bytes (Base.Slice l) = slice_letter l ∷ []
+base_bytes (Base.Rotation a) = rotation_letter a ∷ []
 
 -- the move of a base with a power
 abbrev pub token_of : Base → Power → Token
-token_of (base.Face f) p = token.Face (record { face = f; power = p })
-token_of (base.Wide f) p = token.Wide f p
-token_of (base.LowerCase f) p = token.Wide f p
-token_of (base.Slice l) p = token.Slice l p
-token_of (base.Rotation a) p = token.Rotation a p
+token_of (Base.Face f) p = Token.Face (record { face = f; power = p })
+token_of (Base.Wide f) p = Token.Wide f p
+token_of (Base.LowerCase f) p = Token.Wide f p
+token_of (Base.Slice l) p = Token.Slice l p
+token_of (Base.Rotation a) p = Token.Rotation a p
 
 -- `'`, or U+2019
 pub data Apostrophe : Type 0 where

@@ -8,9 +8,6 @@ use Rattle.niss_moves.specs.Faults.{Cut, Whole, LacksOne, LacksTwo, cut_length}
 use Rattle.niss_moves.specs.Names.{Quarter, Half, Counter, Token, Base, Symbol, LastMove, ReadFault, NotAMove, Nested}
 use Rattle.niss_moves.specs.Names.{Unopened, Unclosed, TooLong}
 use Rattle.niss_moves.specs.Reading.{symbol_of}
-use Rattle.niss_moves.specs.declared.token.Base.TheVariants as base
-use Rattle.niss_moves.specs.declared.symbol.Symbol.TheVariants as symbol
-use Rattle.niss_moves.specs.declared.partial_line.LastMove.TheVariants as last
 
 -- what is read so far: the whole moves, the column of the open bracket, the last move as far as it goes
 pub record State : Type 0 where
@@ -20,7 +17,7 @@ pub record State : Type 0 where
   pub fed : ℕ
 
 abbrev pub start : State
-start = record { moves = record { normal = []; bracketed = [] }; bracket = None; last = last.Finished; fed = 0 }
+start = record { moves = record { normal = []; bracketed = [] }; bracket = None; last = LastMove.Finished; fed = 0 }
 
 -- the moves with more of them, in the bracket where one is open
 abbrev pub with_more : Option ℕ → Moves → List Token → Moves
@@ -30,15 +27,15 @@ with_more (Some c) m more = record m { bracketed = m.bracketed ++ more }
 -- the state with one more whole move, if there is one
 abbrev pub added : State → Option Token → State
 added s more =
-    record s { moves = option_map_or (λ t. with_more s.bracket s.moves (t ∷ [])) more s.moves; last = last.Finished }
+    record s { moves = option_map_or (λ t. with_more s.bracket s.moves (t ∷ [])) more s.moves; last = LastMove.Finished }
 
 -- the last move, if no more of it follows; no line asks for it after the first byte of U+2019 alone
 abbrev pub last_token : LastMove → Option Token
-last_token last.Finished = None
-last_token (last.Bare b) = Some (token_of b Quarter)
-last_token (last.Doubled b) = Some (token_of b Half)
-last_token (last.FirstByte t) = Some t
-last_token (last.SecondByte t) = Some t
+last_token LastMove.Finished = None
+last_token (LastMove.Bare b) = Some (token_of b Quarter)
+last_token (LastMove.Doubled b) = Some (token_of b Half)
+last_token (LastMove.FirstByte t) = Some t
+last_token (LastMove.SecondByte t) = Some t
 
 -- the state with its last move made whole
 abbrev pub settled : State → State
@@ -62,47 +59,47 @@ closed None s = Err (Unopened (s.fed + 1))
 closed (Some c) s = Ok (record (settled s) { bracket = None })
 
 abbrev pub widened : LastMove → State → Result State ReadFault
-widened (last.Bare (base.Face f)) s = Ok (with_last (last.Bare (base.Wide f)) s)
+widened (LastMove.Bare (Base.Face f)) s = Ok (with_last (LastMove.Bare (Base.Wide f)) s)
 widened _ s = refused s
 
 abbrev pub doubled : LastMove → State → Result State ReadFault
-doubled (last.Bare b) s = Ok (with_last (last.Doubled b) s)
+doubled (LastMove.Bare b) s = Ok (with_last (LastMove.Doubled b) s)
 doubled _ s = refused s
 
 abbrev pub primed : LastMove → State → Result State ReadFault
-primed (last.Bare b) s = Ok (added s (Some (token_of b Counter)))
-primed (last.Doubled b) s = Ok (added s (Some (token_of b Half)))
+primed (LastMove.Bare b) s = Ok (added s (Some (token_of b Counter)))
+primed (LastMove.Doubled b) s = Ok (added s (Some (token_of b Half)))
 primed _ s = refused s
 
 abbrev pub cut : LastMove → State → Result State ReadFault
-cut (last.Bare b) s = Ok (with_last (last.FirstByte (token_of b Counter)) s)
-cut (last.Doubled b) s = Ok (with_last (last.FirstByte (token_of b Half)) s)
+cut (LastMove.Bare b) s = Ok (with_last (LastMove.FirstByte (token_of b Counter)) s)
+cut (LastMove.Doubled b) s = Ok (with_last (LastMove.FirstByte (token_of b Half)) s)
 cut _ s = refused s
 
 -- a move begins, where fewer than so many stand before it
 abbrev pub begun : ℕ → Base → State → Result State ReadFault
 begun limit b s =
     if nat_lt (count (settled s)) limit
-    then Ok (with_last (last.Bare b) (settled s))
+    then Ok (with_last (LastMove.Bare b) (settled s))
     else Err (TooLong (s.fed + 1))
 
 -- the next byte where no U+2019 is cut
 abbrev pub step_by : ℕ → Symbol → State → Result State ReadFault
-step_by limit symbol.Blank s = Ok (settled s)
-step_by limit symbol.Open s = opened s.bracket s
-step_by limit symbol.Close s = closed s.bracket s
-step_by limit (symbol.Base b) s = begun limit b s
-step_by limit symbol.Wide s = widened s.last s
-step_by limit symbol.Two s = doubled s.last s
-step_by limit symbol.Apostrophe s = primed s.last s
-step_by limit symbol.Cut s = cut s.last s
-step_by limit symbol.Other s = refused s
+step_by limit Symbol.Blank s = Ok (settled s)
+step_by limit Symbol.Open s = opened s.bracket s
+step_by limit Symbol.Close s = closed s.bracket s
+step_by limit (Symbol.Base b) s = begun limit b s
+step_by limit Symbol.Wide s = widened s.last s
+step_by limit Symbol.Two s = doubled s.last s
+step_by limit Symbol.Apostrophe s = primed s.last s
+step_by limit Symbol.Cut s = cut s.last s
+step_by limit Symbol.Other s = refused s
 
 -- the next byte
 abbrev pub step_at : ℕ → LastMove → State → ℕ → Result State ReadFault
-step_at limit (last.FirstByte t) s byte =
-    if byte == 0x80 then Ok (with_last (last.SecondByte t) s) else Err (NotAMove s.fed)
-step_at limit (last.SecondByte t) s byte =
+step_at limit (LastMove.FirstByte t) s byte =
+    if byte == 0x80 then Ok (with_last (LastMove.SecondByte t) s) else Err (NotAMove s.fed)
+step_at limit (LastMove.SecondByte t) s byte =
     if byte == 0x99 then Ok (settled s) else Err (NotAMove (s.fed - 1))
 step_at limit _ s byte = step_by limit (symbol_of byte) s
 
@@ -147,8 +144,8 @@ ended_in (Some c) s = Err (Unclosed c)
 
 -- the cut of U+2019 in which what is read ends
 abbrev pub cut_of : LastMove → Cut
-cut_of (last.FirstByte t) = LacksTwo
-cut_of (last.SecondByte t) = LacksOne
+cut_of (LastMove.FirstByte t) = LacksTwo
+cut_of (LastMove.SecondByte t) = LacksOne
 cut_of _ = Whole
 
 -- a cut U+2019 is a fault where its first byte stands

@@ -14,14 +14,12 @@ use Rattle.niss_moves.specs.Faults.{Cut, Whole, LacksOne, LacksTwo, cut_ending, 
 use Rattle.niss_moves.specs.Faults.{has_no_bracket}
 use Rattle.niss_moves.specs.Names.{M, E, S, Ud, Rl, Fb, Base, Symbol, ReadFault, NotAMove, Nested, Unopened, Unclosed}
 use Rattle.niss_moves.specs.Names.{TooLong}
-use Rattle.niss_moves.specs.declared.token.Base.TheVariants as base
-use Rattle.niss_moves.specs.declared.symbol.Symbol.TheVariants as symbol
 
 -- all bases, suffixes and pieces
 abbrev pub bases : List Base
 bases =
-    map base.Face face_order ++ map base.Wide face_order ++ map base.LowerCase face_order
-    ++ map base.Slice (M ∷ E ∷ S ∷ []) ++ map base.Rotation (Ud ∷ Rl ∷ Fb ∷ [])
+    map Base.Face face_order ++ map Base.Wide face_order ++ map Base.LowerCase face_order
+    ++ map Base.Slice (M ∷ E ∷ S ∷ []) ++ map Base.Rotation (Ud ∷ Rl ∷ Fb ∷ [])
 
 abbrev pub suffixes : List Suffix
 suffixes = Nothing ∷ Two ∷ Prime Plain ∷ Prime Typographic ∷ TwoPrime Plain ∷ TwoPrime Typographic ∷ []
@@ -67,16 +65,16 @@ stop_in bytes = find (λ n. is_none (ending_in (take n bytes))) (range_with_len 
 -- each byte that may stand in a line, but for the second and third of U+2019
 abbrev pub bytes_of_a_line : List (ℕ × Symbol)
 bytes_of_a_line =
-    map (λ b. (blank_byte b, symbol.Blank)) (Space ∷ Tab ∷ Return ∷ [])
-    ++ map (λ f. (face_letter f, symbol.Base (base.Face f))) face_order
-    ++ map (λ f. (lower_letter f, symbol.Base (base.LowerCase f))) face_order
-    ++ map (λ l. (slice_letter l, symbol.Base (base.Slice l))) (M ∷ E ∷ S ∷ [])
-    ++ map (λ a. (rotation_letter a, symbol.Base (base.Rotation a))) (Rl ∷ Ud ∷ Fb ∷ [])
-    ++ (opening, symbol.Open) ∷ (closing, symbol.Close) ∷ (slice_index (codes "w") 0, symbol.Wide)
-    ∷ (slice_index (codes "2") 0, symbol.Two) ∷ (slice_index (codes "'") 0, symbol.Apostrophe) ∷ (0xE2, symbol.Cut) ∷ []
+    map (λ b. (blank_byte b, Symbol.Blank)) (Space ∷ Tab ∷ Return ∷ [])
+    ++ map (λ f. (face_letter f, Symbol.Base (Base.Face f))) face_order
+    ++ map (λ f. (lower_letter f, Symbol.Base (Base.LowerCase f))) face_order
+    ++ map (λ l. (slice_letter l, Symbol.Base (Base.Slice l))) (M ∷ E ∷ S ∷ [])
+    ++ map (λ a. (rotation_letter a, Symbol.Base (Base.Rotation a))) (Rl ∷ Ud ∷ Fb ∷ [])
+    ++ (opening, Symbol.Open) ∷ (closing, Symbol.Close) ∷ (slice_index (codes "w") 0, Symbol.Wide)
+    ∷ (slice_index (codes "2") 0, Symbol.Two) ∷ (slice_index (codes "'") 0, Symbol.Apostrophe) ∷ (0xE2, Symbol.Cut) ∷ []
 
 abbrev pub look_up : List (ℕ × Symbol) → ℕ → Symbol
-look_up [] b = symbol.Other
+look_up [] b = Symbol.Other
 look_up (e ∷ es) b = if b == e.0 then e.1 else look_up es b
 
 unfoldable pub symbol_of : ℕ → Symbol
@@ -84,9 +82,9 @@ symbol_of b = look_up bytes_of_a_line b
 
 -- the fault of a symbol that can't stand at a column
 abbrev pub fault_by : Symbol → Bool → ℕ → ReadFault
-fault_by symbol.Open true column = Nested column
-fault_by symbol.Close false column = Unopened column
-fault_by (symbol.Base b) o column = TooLong column
+fault_by Symbol.Open true column = Nested column
+fault_by Symbol.Close false column = Unopened column
+fault_by (Symbol.Base b) o column = TooLong column
 fault_by _ o column = NotAMove column
 
 -- the fault of a byte that can't: of a U+2019 that it cuts, the first byte

@@ -1,10 +1,10 @@
 -- The 24 rotations of the whole cube, and any sequence as face turns and a rotation.
 use Rattle.std.specs.Prelude.{◌≡◌, List, [], ◌∷◌, ◌++◌, Option, None, Some, map}
-use Rattle.niss_moves.specs.Effects.{effect, inverse_power}
+use Rattle.niss_moves.specs.Effects.{effect, inverse_power, moved_by}
+use Rattle.niss_moves.specs.Places.{Place}
 use Rattle.niss_moves.specs.Facelets.{centre}
 use Rattle.niss_moves.specs.Names.{Face, U, D, R, L, F, B, Power, Quarter, Half, Counter, Turn, Axis, Ud, Rl, Fb}
 use Rattle.niss_moves.specs.Names.{Token, Rotation, M, E, S}
-use Rattle.niss_moves.specs.declared.token.Token.TheVariants as token
 
 -- the rotation about an axis that brings a face to the top, where it isn't there
 abbrev pub to_top : Face → Option (Axis × Power)
@@ -23,7 +23,7 @@ about_vertical (Some p) = Some (Ud, p)
 -- the move of a rotation about an axis, if there is one
 abbrev pub rotation_if : Option (Axis × Power) → List Token
 rotation_if None = []
-rotation_if (Some r) = token.Rotation r.0 r.1 ∷ []
+rotation_if (Some r) = Token.Rotation r.0 r.1 ∷ []
 
 -- The one spelling of each of the 24 rotations: what brings a face to the top, then a turn about the vertical axis.
 abbrev pub spelling : Rotation → List Token
@@ -66,6 +66,11 @@ face_before_if (Some r) f = face_before_power r.0 r.1 f
 abbrev pub face_before : Rotation → Face → Face
 face_before r f = face_before_if (to_top r.top) (face_before_if (about_vertical r.vertical) f)
 
+-- The rotation is another one and then one about an axis.
+pub record IsNext (r : Rotation) (axis : Axis) (p : Power) (next : Rotation) : Type 0 where
+  pub effect : (q : Place) → effect (spelling next) q ≡ moved_by (Token.Rotation axis p) (effect (spelling r) q)
+  pub faces : (f : Face) → face_before next f ≡ face_before r (face_before_power axis p f)
+
 -- a turn of the same power of a renamed face
 abbrev pub renamed_turn : (Face → Face) → Turn → Turn
 renamed_turn name t = record { face = name t.face; power = t.power }
@@ -76,24 +81,24 @@ pub data BasicMove : Type 0 where
   WholeRotation : Axis → Power → BasicMove
 
 abbrev pub token_of_basic : BasicMove → Token
-token_of_basic (FaceTurn f p) = token.Face (record { face = f; power = p })
-token_of_basic (WholeRotation axis p) = token.Rotation axis p
+token_of_basic (FaceTurn f p) = Token.Face (record { face = f; power = p })
+token_of_basic (WholeRotation axis p) = Token.Rotation axis p
 
 -- each move as basic moves
 abbrev pub expanded : Token → List BasicMove
-expanded (token.Face t) = FaceTurn t.face t.power ∷ []
-expanded (token.Wide R p) = FaceTurn L p ∷ WholeRotation Rl p ∷ []
-expanded (token.Wide L p) = FaceTurn R p ∷ WholeRotation Rl (inverse_power p) ∷ []
-expanded (token.Wide U p) = FaceTurn D p ∷ WholeRotation Ud p ∷ []
-expanded (token.Wide D p) = FaceTurn U p ∷ WholeRotation Ud (inverse_power p) ∷ []
-expanded (token.Wide F p) = FaceTurn B p ∷ WholeRotation Fb p ∷ []
-expanded (token.Wide B p) = FaceTurn F p ∷ WholeRotation Fb (inverse_power p) ∷ []
-expanded (token.Slice M p) =
+expanded (Token.Face t) = FaceTurn t.face t.power ∷ []
+expanded (Token.Wide R p) = FaceTurn L p ∷ WholeRotation Rl p ∷ []
+expanded (Token.Wide L p) = FaceTurn R p ∷ WholeRotation Rl (inverse_power p) ∷ []
+expanded (Token.Wide U p) = FaceTurn D p ∷ WholeRotation Ud p ∷ []
+expanded (Token.Wide D p) = FaceTurn U p ∷ WholeRotation Ud (inverse_power p) ∷ []
+expanded (Token.Wide F p) = FaceTurn B p ∷ WholeRotation Fb p ∷ []
+expanded (Token.Wide B p) = FaceTurn F p ∷ WholeRotation Fb (inverse_power p) ∷ []
+expanded (Token.Slice M p) =
     FaceTurn R p ∷ FaceTurn L (inverse_power p) ∷ WholeRotation Rl (inverse_power p) ∷ []
-expanded (token.Slice E p) =
+expanded (Token.Slice E p) =
     FaceTurn U p ∷ FaceTurn D (inverse_power p) ∷ WholeRotation Ud (inverse_power p) ∷ []
-expanded (token.Slice S p) = FaceTurn F (inverse_power p) ∷ FaceTurn B p ∷ WholeRotation Fb p ∷ []
-expanded (token.Rotation axis p) = WholeRotation axis p ∷ []
+expanded (Token.Slice S p) = FaceTurn F (inverse_power p) ∷ FaceTurn B p ∷ WholeRotation Fb p ∷ []
+expanded (Token.Rotation axis p) = WholeRotation axis p ∷ []
 
 -- The face turns of basic moves and of what follows them: a face turn stands before the face turns that follow, and a
 -- rotation renames them.

@@ -4,7 +4,6 @@ use Rattle.std.specs.Prelude.{codes, map}
 use Rattle.niss_moves.specs.Facelets.{face_letter}
 use Rattle.niss_moves.specs.Line.{slice_letter, rotation_letter, opening}
 use Rattle.niss_moves.specs.Names.{Power, Quarter, Half, Counter, Token, Turn, Rotation}
-use Rattle.niss_moves.specs.declared.token.Token.TheVariants as token
 use Rattle.niss_moves.specs.Rotations.{spelling}
 
 -- nothing, `2` or `'`
@@ -15,10 +14,10 @@ power_bytes Counter = codes "'"
 
 -- a wide turn is written with `w`
 abbrev pub word : Token → List ℕ
-word (token.Face t) = face_letter t.face ∷ power_bytes t.power
-word (token.Wide f p) = face_letter f ∷ codes "w" ++ power_bytes p
-word (token.Slice l p) = slice_letter l ∷ power_bytes p
-word (token.Rotation a p) = rotation_letter a ∷ power_bytes p
+word (Token.Face t) = face_letter t.face ∷ power_bytes t.power
+word (Token.Wide f p) = face_letter f ∷ codes "w" ++ power_bytes p
+word (Token.Slice l p) = slice_letter l ∷ power_bytes p
+word (Token.Rotation a p) = rotation_letter a ∷ power_bytes p
 
 -- One space stands before a word and before `(`, but not at the beginning of the text or after `(`.
 abbrev pub gap_after : Option ℕ → List ℕ
@@ -38,7 +37,7 @@ with_words text [] = text
 with_words text (w ∷ ws) = with_words (with_word text w) ws
 
 abbrev pub turn_words : List Turn → List (List ℕ)
-turn_words ts = map (λ t. word (token.Face t)) ts
+turn_words ts = map (λ t. word (Token.Face t)) ts
 
 -- the spelling of a rotation; the identity has no word
 abbrev pub rotation_words : Rotation → List (List ℕ)

@@ -5,7 +5,7 @@ ghost use Rattle.niss_moves.specs.Effects.{effect, effect_of_turns};
 ghost use Rattle.niss_moves.specs.Rotations.{spelling, IsRotationOf, faces};
 ghost use Rattle.niss_moves.specs.Canonical.{face_may_follow, last_turn, IsCanonical};
 ghost use Rattle.niss_moves.specs.Cleaning.{sum_of_powers, sum_of_turns, Cleans, clean_turns, rotation_left};
-ghost use Rattle.niss_moves.specs.Helpers.{list_with_turn, turns_in};
+ghost use Rattle.niss_moves.specs.Helpers.{pair_of_turns, list_with_turn, turns_in, Cleaned};
 
 use crate::rotation::{Faces, MoveTurns, Rotation, RotationSoFar};
 use crate::token::Token;
@@ -25,40 +25,47 @@ fn push_sum(turns: &mut Faces, first: Turn, second: Turn)
     }
 }
 
+/// Appends two turns, or their sum where they are of one face.
+fn push_pair(turns: &mut Faces, first: Turn, second: Turn)
+    requires { length turns.old.items + 1 < 512 }
+    ensures len { length turns.new.items ≤ length turns.old.items + 2 }
+    ensures items { turns.new.items ≡ turns.old.items ++ pair_of_turns first second }
+{
+    if first.face.is(second.face) {
+        push_sum(turns, first, second);
+    } else {
+        turns.push(first);
+        turns.push(second);
+    }
+}
+
 /// Appends a turn, or sums it with the last one where that is of its face.
+#[tactic(auto, using(crate::proofs::Cleaned::turn_at_end))]
 fn push_or_sum(turns: &mut Faces, turn: Turn)
     requires { length turns.old.items < 512 }
     ensures len { length turns.new.items ≤ length turns.old.items + 1 }
     ensures items { turns.new.items ≡ list_with_turn turns.old.items turn }
 {
-    let Some(last) = turns.pop() else {
-        turns.push(turn);
-        return;
-    };
-    if last.face == turn.face {
-        push_sum(turns, last, turn);
-    } else {
-        turns.push(last);
-        turns.push(turn);
+    match turns.pop() {
+        Some(last) => push_pair(turns, last, turn),
+        None => turns.push(turn),
     }
 }
 
 /// Sums a turn that may not follow the last one with it, or lets it pass.
-#[tactic(auto, using(crate::proofs::Cleaned::cleaned_sum, crate::proofs::Cleaned::cleaned_passed, crate::proofs::Cleaned::same_faces))]
+#[tactic(auto, using(crate::proofs::Cleaned::cleaned_first))]
 fn sum_or_exchange(turns: &mut Faces, turn: Turn)
     requires breaks { IfSome (last_turn turns.old.items) (λ t. face_may_follow t.face turn.face ≡ false) }
     requires canonical { IsCanonical turns.old.items }
     requires room { length turns.old.items < 512 }
     ensures len { length turns.new.items ≤ length turns.old.items + 1 }
-    ensures canonical { IsCanonical turns.new.items }
-    ensures cleans { (rest c : List Turn) →
-        Cleans (turns.new.items ++ rest) c → Cleans (turns.old.items ++ turn ∷ rest) c }
+    ensures cleaned { Cleaned turns.old.items turn turns.new.items }
 {
     let Some(last) = turns.pop() else {
         turns.push(turn);
         return;
     };
-    if last.face == turn.face {
+    if last.face.is(turn.face) {
         push_sum(turns, last, turn);
     } else {
         push_or_sum(turns, turn);

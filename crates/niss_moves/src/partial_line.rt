@@ -196,12 +196,11 @@ impl PartialLine {
         Ok(())
     }
 
-    /// The line that ends here.
-    pub fn finish(mut self) -> Result<Niss, ReadFault>
-        ensures { result ≡ ended (Ok self) }
+    /// The moves of the line, once it is ended, for keeps.
+    pub fn into_moves(self) -> Niss
+        ensures { result ≡ self.moves }
     {
-        self.end()?;
-        Ok(self.niss)
+        self.niss
     }
 
     /// The moves of the line, once it is ended.

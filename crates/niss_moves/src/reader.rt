@@ -143,17 +143,14 @@ impl LineReader {
 
     /// The line that the bytes spell, or its fault: the one reading that the grammar has of them. By the name `read_line`
     /// callers go on.
-    #[tactic(auto, using(crate::proofs::ReaderLemmas::at_the_end))]
-    pub fn finish(self) -> Result<Niss, ReadFault>
+    pub fn finish(mut self) -> Result<Niss, ReadFault>
         ensures reading { (bytes : List ℕ) → IsFed self bytes → IsReading bytes result }
         ensures value { (bytes : List ℕ) → IsFed self bytes → result ≡ read_line bytes }
         ensures ends { result ≡ line_of self }
         ensures again { (f : ReadFault) → self.fault ≡ Some f → result ≡ Err f }
     {
-        match self.fault {
-            Some(fault) => Err(fault),
-            None => self.line.finish(),
-        }
+        self.end()?;
+        Ok(self.line.into_moves())
     }
 }
 

@@ -4,9 +4,9 @@ ghost use Rattle.niss_moves.specs.Places.{Place};
 ghost use Rattle.niss_moves.specs.Facelets.{centre};
 ghost use Rattle.niss_moves.specs.Effects.{effect, effect_of_turns, moved_by, inverse_power};
 ghost use Rattle.niss_moves.specs.Canonical.{opposite};
-ghost use Rattle.niss_moves.specs.Rotations.{spelling, face_before, face_before_power, renamed_turn};
-ghost use Rattle.niss_moves.specs.Rotations.{faces, expanded, FaceTurn, WholeRotation, IsRotationOf};
-ghost use Rattle.niss_moves.specs.Helpers.{rotation_by, turns_in, IsNext, Takes};
+ghost use Rattle.niss_moves.specs.Rotations.{spelling, face_before, face_before_power, renamed_turn, about_vertical};
+ghost use Rattle.niss_moves.specs.Rotations.{faces, expanded, FaceTurn, WholeRotation, IsRotationOf, IsNext};
+ghost use Rattle.niss_moves.specs.Helpers.{rotation_by, turns_in, Takes};
 ghost use Rattle.niss_moves.specs.declared.token.Token.TheVariants as token;
 ghost use Rattle.niss_moves.specs.declared.turn.Face.TheVariants.{U};
 
@@ -55,6 +55,16 @@ impl Rotation {
         vertical: None,
     };
 
+    /// The rotation about the vertical axis that follows, if there is one.
+    pub(crate) fn about_vertical(self) -> Option<(Axis, Power)>
+        ensures { result ≡ about_vertical self.vertical }
+    {
+        match self.vertical {
+            None => None,
+            Some(power) => Some((Axis::Ud, power)),
+        }
+    }
+
     /// The face that this rotation brings to the place of `face`: `x` brings F to the place of U.
     pub fn face_before(self, face: Face) -> Face
         ensures renames { result ≡ face_before self face }
@@ -78,12 +88,9 @@ impl Rotation {
     }
 
     /// This rotation and then one about an axis, as one rotation: `z` and then `z` is `x2 y2`.
+    #[tactic(auto, using(crate::proofs::Effects::by_next))]
     pub fn then(self, axis: Axis, power: Power) -> Rotation
-        ensures effect { (q : Place) →
-            effect (spelling result) q
-            ≡ moved_by (token.Rotation axis power) (effect (spelling self) q) }
-        ensures faces { (f : Face) →
-            face_before result f ≡ face_before self (face_before_power axis power f) }
+        ensures is_next { IsNext self axis power result }
     {
         let top = self.face_before_both(axis, power, Face::U);
         let front = self.face_before_both(axis, power, Face::F);

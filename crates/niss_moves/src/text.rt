@@ -5,6 +5,7 @@ ghost use Rattle.niss_moves.specs.Effects.{inverse};
 ghost use Rattle.niss_moves.specs.Line.{joined_moves};
 ghost use Rattle.niss_moves.specs.Text.{word, with_words, gap, turn_words, rotation_words, cleaned_words, with_bracket};
 ghost use Rattle.niss_moves.specs.Cleaning.{with_clean_line};
+ghost use Rattle.niss_moves.specs.Rotations.{rotation_if};
 ghost use Rattle.niss_moves.specs.Helpers.{with_buffered, is_empty};
 ghost use Rattle.niss_moves.specs.declared.token.Token.TheVariants as token;
 
@@ -43,6 +44,7 @@ impl Word {
     }
 
     /// The word of a move.
+    #[tactic(auto, using(crate::proofs::Words::word_at))]
     pub fn of_token(token: Token) -> Word
         ensures bytes { take result.len result.bytes ≡ 32 ∷ word token }
         ensures len { result.len ≤ 4 }
@@ -258,21 +260,31 @@ pub fn put_faces(turns: &[Turn], text: &mut LineText)
     words.write(text);
 }
 
+/// Appends the word of a rotation about an axis, if there is one, in the same way.
+fn put_about_axis(rotation: Option<(Axis, Power)>, text: &mut LineText)
+    requires { length text.old.items + 3 ≤ 2048 }
+    ensures items { text.new.items
+        ≡ with_words text.old.items (map word (rotation_if rotation)) }
+    ensures len { length text.new.items ≤ length text.old.items + 3 }
+{
+    let Some((axis, power)) = rotation else {
+        return;
+    };
+    let word = Word::of_rotation(axis, power);
+    let spaced = &word.bytes[has_no_gap(text) as usize..word.len];
+    text.try_extend_from_slice(spaced).unwrap();
+}
+
 /// Appends the one spelling of the rotation, as `x2 y2`, with one space before each word, but not at the beginning of the
 /// text or after `(`. The identity has no word. The text needs six free bytes.
+#[tactic(auto, using(crate::proofs::Words::words_more))]
 pub fn put_rotation(rotation: Rotation, text: &mut LineText)
     requires { length text.old.items + 6 ≤ 2048 }
     ensures items { text.new.items ≡ with_words text.old.items (rotation_words rotation) }
     ensures len { length text.new.items ≤ length text.old.items + 6 }
 {
-    let mut words = WordBuffer::after(text);
-    if let Some((axis, power)) = rotation.top.to_top() {
-        words.push(Word::of_rotation(axis, power), text);
-    }
-    if let Some(power) = rotation.vertical {
-        words.push(Word::of_rotation(Axis::Ud, power), text);
-    }
-    words.write(text);
+    put_about_axis(rotation.top.to_top(), text);
+    put_about_axis(rotation.about_vertical(), text);
 }
 
 /// Whether there is no word to write.

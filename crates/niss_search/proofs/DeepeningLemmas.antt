@@ -12,7 +12,7 @@ use Rattle.niss_search.proofs.Words.{all_deepenings, distance_of}
 use Rattle.std.specs.Prelude.{option_map, slice_get}
 use Rattle.std.proofs.lemmas.List.{nil_from_length}
 use Rattle.niss_search.specs.Laws.{FirstIsLeast, FirstIsLeastIn, NoSlackIsLeastIn}
-use Rattle.niss_moves.specs.Laws.{CanonicalMembers}
+use Rattle.niss_moves.specs.Canonical.{CanonicalMembers}
 use Rattle.niss_search.proofs.Bounds.{last-within, least-within, looks-sum-small}
 use Rattle.niss_search.proofs.ListLemmas.{flat_map-none, in-range, range-push, range-split, sum_by-range_more, flat_map-range_more}
 use Rattle.niss_search.proofs.LookLemmas.{first_or-from, first_or-le, first_or-within, solutions-same, all_looks-same, distance-cube}

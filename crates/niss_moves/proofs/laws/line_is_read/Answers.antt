@@ -1,5 +1,4 @@
-use Rattle.niss_moves.proofs.Names.{subst, Ok, Err}
-use Rattle.niss_moves.specs.Faults.{IsReading}
+use Rattle.niss_moves.proofs.Names.{subst, Ok, Err, IsReading}
 use Rattle.niss_moves.proofs.Reading.{no_line}
 use Rattle.niss_moves.proofs.Found.{line_reads, read_as}
 use Rattle.niss_moves.proofs.laws.line_is_read.Goals as goal

@@ -1,5 +1,4 @@
-use Rattle.niss_moves.proofs.Names.{sym, subst, List, ℕ, ◌∙◌, take, arith, IsSuffix}
-use Rattle.std.proofs.lemmas.Slice.{between_to_end}
+use Rattle.niss_moves.proofs.Names.{sym, subst, List, ℕ, ◌∙◌, take, arith, IsSuffix, between_to_end}
 use Rattle.niss_moves.proofs.Completes.{blank_is}
 use Rattle.niss_moves.proofs.ReaderLemmas.{move_at}
 use Rattle.niss_moves.proofs.symbol.move_of.Goals as goal

@@ -1,6 +1,4 @@
-use Rattle.niss_moves.proofs.Names.{refl, subst, arith, ◌==◌, get_or, length, ℕ, List, BeginsApostrophe}
-use mir.Val.{bool_byte}
-use Rattle.std.proofs.lemmas.Slice.{between_to_end}
+use Rattle.niss_moves.proofs.Names.{refl, subst, arith, ◌==◌, get_or, length, ℕ, List, BeginsApostrophe, bool_byte, between_to_end}
 use Rattle.niss_moves.proofs.ReaderLemmas.{suffix_at}
 use Rattle.niss_moves.proofs.symbol.suffix_of.Goals as goal
 

@@ -1,6 +1,4 @@
-use Rattle.niss_moves.proofs.Names.{ap, length, arith, count}
-use Rattle.std.proofs.lemmas.List.{length-drop}
-use Rattle.std.proofs.lemmas.Slice.{between_to_end}
+use Rattle.niss_moves.proofs.Names.{ap, length, arith, count, length-drop, between_to_end}
 use Rattle.niss_moves.proofs.ReaderLemmas.{taken_next}
 use Rattle.niss_moves.proofs.partial_line.PartialLine.take_moves.Goals as goal
 

@@ -1,8 +1,7 @@
-use Rattle.niss_moves.proofs.Names.{ap, sym, subst}
-use Rattle.niss_moves.specs.Reader.{Reader, IsFed}
+use Rattle.niss_moves.proofs.Names.{ap, sym, subst, Reader, IsFed}
 use Rattle.niss_moves.proofs.ReaderLemmas.{IsAnswered, reader, fed_on, fed_again, is_fed_on, answer_means}
-use Rattle.niss_moves.proofs.reader.LineReader.feed.Goals as goal
 use Rattle.niss_moves.proofs.reader.LineReader.feed.Goals.{in-Some, in-None}
+use Rattle.niss_moves.proofs.reader.LineReader.feed.Goals as goal
 
 -- what the fields are after the byte
 on : (c : goal.After-self-1) → IsAnswered (reader c.self.inside.fault c.self.inside.line) c.args.byte (reader c.err-self-inside.result c.match-self.self-inside.line) c.match-self.taken

@@ -1,6 +1,4 @@
-use Rattle.niss_moves.proofs.Names.{sym, subst, take, ap, ◌+◌, ◌∙◌}
-use Rattle.niss_moves.specs.Reader.{Reader, IsFed}
-use Rattle.std.proofs.lemmas.List.{length-take-le}
+use Rattle.niss_moves.proofs.Names.{sym, subst, take, ap, ◌+◌, ◌∙◌, Reader, IsFed, length-take-le}
 use Rattle.niss_moves.proofs.ReaderLemmas.{fed_moves, is_fed_on}
 use Rattle.niss_moves.proofs.reader.LineReader.feed_moves.Goals as goal
 
