@@ -12,5 +12,7 @@ pub use Rattle.niss_moves.proofs.Finite.{Tokens, Digits, Truths, Holds, tested, 
 -- sequences one after the other
 pub use Rattle.niss_moves.proofs.Effects.{effect-append, inverse_after, inverse_before, inverse_whole}
 pub use Rattle.niss_moves.proofs.CanonicalLists.{last_turn-push}
+-- what is found passes the test
+pub use Rattle.niss_moves.proofs.Found.{find_passes}
 -- the words of face turns, each after a space
 pub use Rattle.niss_moves.proofs.Words.{spaced_turns, spaced_line}

@@ -1,7 +1,7 @@
 -- The reading of a line as a function is its reading.
 use Rattle.niss_moves.proofs.Names.{◌≡◌, ℕ, zero, suc, ◌+◌, ◌-◌, ◌<◌, ◌≤◌, refl, ap, sym, ◌∙◌, subst, inl, inr, arith, Bool, true, false}
 use Rattle.niss_moves.proofs.Names.{cond, List, [], ◌∷◌, ◌++◌, length, map, get_or, take, flat_map, Option, None, Some, is_some, Result}
-use Rattle.niss_moves.proofs.Names.{Ok, Err, length-append, Face, U, M, Ud, Base, Plain, Typographic, Suffix, Nothing, Two, Prime}
+use Rattle.niss_moves.proofs.Names.{Ok, Err, length-append, U, M, Ud, Base, Plain, Typographic, Suffix, Nothing, Two, Prime}
 use Rattle.niss_moves.proofs.Names.{TwoPrime, Space, Tab, Return, Piece, Gap, Spelled, piece_bytes, Item, Outside, Bracket, item_bytes}
 use Rattle.niss_moves.proofs.Names.{item_normal, item_bracketed, Moves, Spells, IsLine, Cut, Whole, LacksOne, LacksTwo, cut_ending}
 use Rattle.niss_moves.proofs.Names.{cut_length, bracket_ending, has_no_bracket, Continues, CanContinue, StopsAt, Stops, Lacks, IsReading}
@@ -24,7 +24,7 @@ use Rattle.niss_moves.proofs.CanonicalLists.{none, here, later, first_or_later, 
 use Rattle.niss_moves.proofs.Reading.{run_reads, no_line, one_reading, one_ending_of_two, stopped, stops_run, has_opening}
 
 -- What is found passes the test, and where something passes it, something is found.
-find_passes : {X : Type 0} (p : X → Bool) (xs : List X) (x : X) → find p xs ≡ Some x → p x ≡ true
+pub find_passes : {X : Type 0} (p : X → Bool) (xs : List X) (x : X) → find p xs ≡ Some x → p x ≡ true
 find_passes p [] x e = cc
 find_passes {X = X} p (y ∷ xs) x e = by_test (p y) refl e (find_passes p xs x)
   where

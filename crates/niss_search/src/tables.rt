@@ -1,4 +1,4 @@
-//! What a search knows of its step: where a turn leads, and what a look at a position answers.
+//! What a search knows of its step: where a turn leads, and what a look at a position returns.
 mod fill;
 mod followers;
 mod goal_moves;
@@ -156,7 +156,7 @@ impl<A: Allocator> Tables<A> {
         self.distance(position, meter)
     }
 
-    /// What a look answers, by the kind of the tables.
+    /// What a look returns, by the kind of the tables.
     fn distance(&self, position: &Position, meter: &mut Meter) -> u8
         requires position { IsPosition self.now position.now }
         requires meter { meter.old + 1 < 2 ^ 128 }
