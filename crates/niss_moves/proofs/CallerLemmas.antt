@@ -8,9 +8,5 @@ pub use Rattle.niss_moves.proofs.Finite.{tested, holds}
 unfoldable pub use Rattle.niss_moves.proofs.Finite.{every_face, every_power, every_axis, every_slice, every_token, every_turn}
 pub use Rattle.niss_moves.proofs.Effects.{effect-append, inverse_after, inverse_before, inverse_whole}
 pub use Rattle.niss_moves.proofs.CanonicalLists.{last_turn-push}
+pub use Rattle.niss_moves.proofs.Found.{find_passes}
 pub use Rattle.niss_moves.proofs.Words.{spaced_turns, spaced_line}
-
--- tests over all values of a type
--- facts that computation decides
--- sequences one after the other
--- the words of face turns, each after a space

@@ -17,7 +17,7 @@ use Rattle.niss_moves.proofs.CanonicalLists.{none, here, later, first_or_later, 
 use Rattle.niss_moves.proofs.Reading.{run_reads, no_line, one_reading, one_ending_of_two, stopped, stops_run, has_opening}
 
 -- What is found passes the test, and where something passes it, something is found.
-find_passes : {X : Type 0} (p : X → Bool) (xs : List X) (x : X) → find p xs ≡ Some x → p x ≡ true
+pub find_passes : {X : Type 0} (p : X → Bool) (xs : List X) (x : X) → find p xs ≡ Some x → p x ≡ true
 find_passes p [] x e = cc
 find_passes {X = X} p (y ∷ xs) x e = by_test (p y) refl e (find_passes p xs x)
   where

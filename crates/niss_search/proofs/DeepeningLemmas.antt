@@ -1,14 +1,14 @@
 -- The search by lengths: deepenings one after another, what those up to one say of the whole, and what they are for a
 -- cube.
 use Rattle.niss_search.proofs.Words.{◌≡◌, arith, length, ◌+◌, ◌<◌, ℕ, ap, ◌∙◌, sym, ◌≤◌, [], List, refl, true, ◌-◌, ◌∷◌, Bool, Turn, false}
-use Rattle.niss_search.proofs.Words.{cond, range_with_len, ◌++◌, flat_map, Coordinates, distance_at, Step, None, positions, Space, Option}
+use Rattle.niss_search.proofs.Words.{cond, range_with_len, ◌++◌, flat_map, GoalCoordinates, distance_at, Step, None, positions, Space, Option}
 use Rattle.niss_search.proofs.Words.{Some, flat_map-append, last_length, looks, reaching, unwrap_or, up_to, all_canonical, find}
 use Rattle.niss_search.proofs.Words.{least_length, solution_lengths, solutions, option_or, then_some, find-append, sum_by, ◌^◌, Place}
 use Rattle.niss_search.proofs.Words.{at_limit, min, HasPosition, append-nil, nat_lt, nat_tests, Err, GoesThrough, Ok, Part, for_each}
 use Rattle.niss_search.proofs.Words.{PositionsFollowCubes, Result, all_looks, progress_at, OnErr, OnOk, Path, StoppedIn, StopsIn}
 use Rattle.niss_search.proofs.Words.{WentThrough, near_looks_of, near_solutions_of, option_map_or, Delivers, IfOk, NoSlackIsLeast, suc}
 use Rattle.niss_search.proofs.Words.{Contains, All, All-head, All-filter, All-contains_itself, subst, after_all, then_part, deepening}
-use Rattle.niss_search.proofs.Words.{all_deepenings, distance_of}
+use Rattle.niss_search.proofs.Words.{all_deepenings, distance_of, find_passes}
 use Rattle.std.specs.Prelude.{option_map, slice_get}
 use Rattle.std.proofs.lemmas.List.{nil_from_length}
 use Rattle.niss_search.specs.Laws.{FirstIsLeast, FirstIsLeastIn, NoSlackIsLeastIn}
@@ -115,14 +115,6 @@ no_slack_in S = record {
 pub no_slack : NoSlackIsLeast
 no_slack = (no_slack_in (Place → Place), no_slack_in (List Turn))
 
--- what is found passes
-find-passes : {X : Type 0} (p : X → Bool) (xs : List X) (x : X) → find p xs ≡ Some x → p x ≡ true
-find-passes p [] x h = absurd (cc h)
-find-passes {X} p (y ∷ ys) x h = by_test (p y) refl h (λ k. find-passes p ys x k) where
-  by_test : (b : Bool) → p y ≡ b → cond b (Some y) (find p ys) ≡ Some x → (find p ys ≡ Some x → p x ≡ true) → p x ≡ true
-  by_test true e k rec = subst (λ (z : X). p z ≡ true) (ap (λ o. unwrap_or o y) k) e
-  by_test false e k rec = rec k
-
 -- the first of the sequences that reach at the least length is the first of them all
 first_least_in : CanonicalMembers → (S : Type 0) → FirstIsLeastIn S
 unfolding solutions least_length
@@ -146,7 +138,7 @@ first_least_in members S turns space start n slack = by_least (least_length spac
   by_least (Some d) same within =
       let count = min n (d + slack) - d in
       let more : min n (d + slack) + 1 - d ≡ suc count = omega (arith, within d refl) in
-      of_length d (each d) (flat_map each (range_with_len (d + 1) count)) refl (find-passes (is_length space start) (up_to n) d same)
+      of_length d (each d) (flat_map each (range_with_len (d + 1) count)) refl (find_passes (is_length space start) (up_to n) d same)
       ∙ ap (λ k. option_map (length {A = Turn}) (slice_get (flat_map each (range_with_len d k)) 0)) (sym more)
 
 pub first_least : CanonicalMembers → FirstIsLeast
@@ -211,7 +203,7 @@ module _
         let last : last_length (least_length space start n) n slack + 1 ≡ d = rw (least_length-is space start n slack d end) (sym end) in
         rw (whole-parts space look start n slack, last) went
 
--- What a search says of a cube, by what it answers.
+-- What a search says of a cube, by what it returns.
 pub record Searched {K F : Type 0} (took refused : K → Path → K → Type 0) (step : Step) (e : Place → Place) (n slack m m1 : ℕ) (s s1 : K) (r : Result Outcome F) : Type 0 where
   pub solutions : IfOk r (λ o. o.solutions ≡ length (near_solutions_of step e n slack))
   pub ok : OnOk r (WentThrough (at_limit took n) s (near_solutions_of step e n slack) s1)
@@ -219,7 +211,7 @@ pub record Searched {K F : Type 0} (took refused : K → Path → K → Type 0) 
   pub looks : OnOk r (m1 ≡ m + near_looks_of step e n slack)
   pub looks_at_most : m1 ≤ m + near_looks_of step e n slack
 
-pub searched : {K F : Type 0} (took refused : K → Path → K → Type 0) (step : Step) (x : List Coordinates) (n slack m m1 : ℕ) (s s1 : K) (r : Result Outcome F)
+pub searched : {K F : Type 0} (took refused : K → Path → K → Type 0) (step : Step) (x : List GoalCoordinates) (n slack m m1 : ℕ) (s s1 : K) (r : Result Outcome F)
     → Delivers took refused n (all_deepenings (positions step) (distance_at step) x n slack) m m1 s s1 (λ o. o.solutions) r
     → PositionsFollowCubes → (e : Place → Place) → HasPosition step e x → Searched took refused step e n slack m m1 s s1 r
 searched {F = F} took refused step x n slack m m1 s s1 r h law e at = by_result r h where

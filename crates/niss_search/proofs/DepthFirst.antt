@@ -6,7 +6,7 @@ use Rattle.niss_search.proofs.Words.{suc, cond, range_with_len, ◌++◌, zero, 
 use Rattle.niss_search.proofs.Words.{leb, sum_by, sum_by-cons, nat_le, looks, all_canonical, canonical_extensions, le-leb, lt-leb, add-one}
 use Rattle.niss_search.proofs.Words.{up_to, is_looked_at, Space, after_all, All-contains, All-contains_itself, All-filter, leb-true, Part}
 use Rattle.niss_search.proofs.Words.{beyond, length-append, only_looks, then_part, for_each, fold-append, leb-false, take_at, append-nil}
-use Rattle.niss_search.proofs.Words.{turns_of, get_or, map, subst, Coordinates, positions, distance_at, Step, inl, inr, All}
+use Rattle.niss_search.proofs.Words.{turns_of, get_or, map, subst, GoalCoordinates, positions, distance_at, Step, inl, inr, All}
 use Rattle.niss_search.proofs.Words.{position_after, take, drop, flat_map-append, Follower, no_turn, sum_by-append, Err, GoesThrough, Ok}
 use Rattle.niss_search.proofs.Words.{Result, progress_at, below_at, beyond_at, deepening, All-head, All-tail, ap₂, Descends, Progress}
 use Rattle.niss_search.proofs.Words.{OnErr, OnOk, StoppedIn, StopsIn, WentThrough, map-append, AreFar, IsNextNear, drop_more}
@@ -170,7 +170,7 @@ module _ {turns : List Turn} {S : Type 0} (space : Space turns S) (look : S → 
           omega (arith, sum_by-one (looked d) [], sum_by-cons V 0 (range_with_len (0 + 1) d), sum_by-shift V 0 d) in
           first ∙ (λ i. sum_by (λ k. sum_by (looked d) (below-all turns k i)) (range_with_len 0 (suc d))) ∙ sym (ap (λ n. sum_by W (range_with_len 0 n)) (add-one d))
 
--- what a list of followers answers past its end
+-- what stands in a list of followers past its end
 abbrev pub no_follower : Follower
 no_follower = record { turn = no_turn; column = 0 }
 
@@ -185,7 +185,7 @@ module _ {X : Type 0} (part : X → Part) where
   for_each-append xs ys =
       λ i. record { paths = flat_map-append (λ y. (part y).paths) xs ys i; looks = sum_by-append (λ y. (part y).looks) xs ys i }
 
-module _ (step : Step) (x : List Coordinates) (p : List Turn) where
+module _ (step : Step) (x : List GoalCoordinates) (p : List Turn) where
   -- what is done below the path and one turn more
   abbrev pub after_at : ℕ → Turn → Part
   after_at left t = below_at step (position_after x t) (p ++ t ∷ []) left
@@ -251,7 +251,7 @@ module _ {K : Type 0} {took refused : K → List Turn → K → Type 0} where
       looked = omega (arith, h.looked);
     }
 
-module _ (step : Step) (x : List Coordinates) (p : List Turn) (left : ℕ) where
+module _ (step : Step) (x : List GoalCoordinates) (p : List Turn) (left : ℕ) where
   abbrev IsFar : Follower → Type 0
   IsFar f = left < distance_at step (position_after x f.turn)
 
@@ -272,13 +272,13 @@ module _ (step : Step) (x : List Coordinates) (p : List Turn) (left : ℕ) where
 
 -- A descent with `left` turns more has come from a state to this one: what the followers `rest` are still to do ends what it does.
 pub record Remains
-    {K : Type 0} (took refused : K → List Turn → K → Type 0) (step : Step) (x : List Coordinates) (p : List Turn) (left : ℕ)
+    {K : Type 0} (took refused : K → List Turn → K → Type 0) (step : Step) (x : List GoalCoordinates) (p : List Turn) (left : ℕ)
     (rest : List Follower) (start now : Progress K) : Type 0 where
   room : now.meter + (for_each (after_at step x p (left - 1)) (turns_in rest)).looks ≤ start.meter + (beyond_at step x p left).looks
   ends : (r : Result (Unit {0}) (Unit {0})) (new : Progress K) → Descends took refused (for_each (after_at step x p (left - 1)) (turns_in rest)) now new r
       → Descends took refused (beyond_at step x p left) start new r
 
-module _ {K : Type 0} {took refused : K → List Turn → K → Type 0} {step : Step} {x : List Coordinates} {p : List Turn} where
+module _ {K : Type 0} {took refused : K → List Turn → K → Type 0} {step : Step} {x : List GoalCoordinates} {p : List Turn} where
   pub Remains-all : (left more : ℕ) (rest : List Follower) (start : Progress K) → left ≡ suc more → distance_at step x ≤ left
       → turns_in rest ≡ filter (may_follow (last_turn p)) (turns_of step) → Remains took refused step x p left rest start start
   unfolding beyond beyond_at
@@ -359,6 +359,6 @@ module _ {K : Type 0} {took refused : K → List Turn → K → Type 0} {step : 
       Remains-stops {new} h = ends_there (Err tt) new (StopsIn-before others h)
 
 -- one deepening from a position
-pub below_at-start : (step : Step) (x : List Coordinates) (d : ℕ) → below_at step x [] d ≡ deepening (positions step) (distance_at step) x d
+pub below_at-start : (step : Step) (x : List GoalCoordinates) (d : ℕ) → below_at step x [] d ≡ deepening (positions step) (distance_at step) x d
 unfolding beyond_at
 below_at-start step x = deepening_is (positions step) (distance_at step) x (distance_at-goal step) (distance_at-turn step)

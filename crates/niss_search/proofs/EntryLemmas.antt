@@ -1,7 +1,7 @@
 -- The entries of a pruning table by number, and how the turns lead from one to another.
 use Rattle.niss_search.proofs.Words.{entry_distance, position_after, coordinates_after, coordinates_of, InversesOfSteps, get_or-replicate}
 use Rattle.niss_search.proofs.Words.{ℕ, slice_index, is_reached_at, AreCoordinates, inverse_turn, rank_after, entry_number, TwistAndSlice}
-use Rattle.niss_search.proofs.Words.{Coordinates, distance_at, Alternative, HasPosition, entry_after, EntriesTurn, div-mul-add, mod-mul-add}
+use Rattle.niss_search.proofs.Words.{GoalCoordinates, distance_at, Alternative, HasPosition, entry_after, EntriesTurn, div-mul-add, mod-mul-add}
 use Rattle.niss_search.proofs.Words.{count_for, replicate, AreEntries, ArePlaces, AreStarts, row_length, nat_tests, position_of, arith}
 use Rattle.niss_search.proofs.Words.{turns_of, Contains, turn_at, IsFilled, are_zero, goals_of, byte_at, entry_at, or-false, IsEntry, ◌≡◌}
 use Rattle.niss_search.proofs.Words.{length, ◌+◌, List, refl, Turn, subst, Step, ◌==◌, Place, Axis, Domino, Edges, Goal, IsCube, lit<, ◌<◌}
@@ -16,13 +16,13 @@ count_for-bound (Edges a) = lit< tt
 count_for-bound (Domino o a) = lit< tt
 
 -- the number of an entry, and the coordinates with that number
-pub entry-below : (g : Goal) (c : Coordinates) → IsEntry g c → entry_number c < count_for g
+pub entry-below : (g : Goal) (c : GoalCoordinates) → IsEntry g c → entry_number c < count_for g
 entry-below (Edges a) (Flip b f) h = h.1
 entry-below (Edges a) (TwistAndSlice b t s) h = absurd h
 entry-below (Domino o a) (Flip b f) h = absurd h
 entry-below (Domino o a) (TwistAndSlice b t s) h = omega (arith, h.1, h.2)
 
-entry-itself : (g : Goal) (c : Coordinates) → IsEntry g c → entry_at g (entry_number c) ≡ c
+entry-itself : (g : Goal) (c : GoalCoordinates) → IsEntry g c → entry_at g (entry_number c) ≡ c
 entry-itself (Edges a) (Flip b f) h = ap (λ x. Flip x f) (sym h.0)
 entry-itself (Edges a) (TwistAndSlice b t s) h = absurd h
 entry-itself (Domino o a) (Flip b f) h = absurd h
@@ -35,7 +35,7 @@ module _ (coordinates : AreCoordinates) where
   cube-is-entry (Domino o a) e h = (refl, (coordinates coordinate.Twist a).below e h, (coordinates coordinate.Slice a).below e h)
 
   -- so the position of a cube is one of entries, one for each goal
-  pub position-is-entries : (s : Step) (x : List Coordinates) (e : Place → Place) → HasPosition s e x → AreEntries (goals_of s) x
+  pub position-is-entries : (s : Step) (x : List GoalCoordinates) (e : Place → Place) → HasPosition s e x → AreEntries (goals_of s) x
   unfolding AreEntries position_of
   position-is-entries s x e h = subst (AreEntries (goals_of s)) h.here (by_goals (goals_of s)) where
     by_goals : (gs : List Goal) → AreEntries gs (map (λ g. coordinates_of g e) gs)
@@ -62,10 +62,10 @@ module _ (coordinates : AreCoordinates) where
     inverses = inverses;
   }
 
--- a table answers the distance of its entries
-pub table-answer : (alt : Alternative) (bytes : List ℕ) → IsFilled alt 20 bytes → (c : Coordinates) → IsEntry alt.goal c → slice_index bytes (entry_number c) ≡ distance_at alt.step (c ∷ [])
+-- a table holds the distance of its entries
+pub table-holds : (alt : Alternative) (bytes : List ℕ) → IsFilled alt 20 bytes → (c : GoalCoordinates) → IsEntry alt.goal c → slice_index bytes (entry_number c) ≡ distance_at alt.step (c ∷ [])
 unfolding entry_distance
-table-answer alt bytes filled c h =
+table-holds alt bytes filled c h =
     filled.bytes (entry_number c) (entry-below alt.goal c h)
     ∙ byte_at-all (distance_at alt.step (entry_at alt.goal (entry_number c) ∷ [])) (distance_at-most alt.step _)
     ∙ ap (λ d. distance_at alt.step (d ∷ [])) (entry-itself alt.goal c h) where
@@ -86,7 +86,7 @@ module _ (law : EntriesTurn) (alt : Alternative) where
   -- the position of an entry after a turn is that of the entry after it
   after-entry : (i : ℕ) (t : Turn) → i < count_for alt.goal → position_after (entry_at alt.goal i ∷ []) t ≡ entry_at alt.goal (entry_after alt.goal i t) ∷ []
   unfolding position_after
-  after-entry i t h = ap (λ (c : Coordinates). c ∷ []) (sym (law.leads alt.goal i t h))
+  after-entry i t h = ap (λ (c : GoalCoordinates). c ∷ []) (sym (law.leads alt.goal i t h))
 
   pub entry_distance-turn : (i : ℕ) (t : Turn) → i < count_for alt.goal → Contains (turns_of alt.step) t → entry_distance alt i ≤ 1 + entry_distance alt (entry_after alt.goal i t)
   unfolding entry_distance

@@ -1,5 +1,5 @@
 -- How a pruning table fills, level by level, and how many turns the fill tries: those of the entries at a distance of at most 19.
-use Rattle.niss_search.proofs.Words.{Coordinates, All-contains_itself, length-map-range_with_len, count_by-le-length, length-range_with_len}
+use Rattle.niss_search.proofs.Words.{GoalCoordinates, All-contains_itself, length-map-range_with_len, count_by-le-length, length-range_with_len}
 use Rattle.niss_search.proofs.Words.{distance_at, DominoKeepsStart, EntriesAreCounted, get_or-replicate, get_or-set_other, length-replicate}
 use Rattle.niss_search.proofs.Words.{ap, range_with_len, entry_distance, length-flat_map, EdgeFillIsSmall, get_or-set_same, mul-le-mul_left}
 use Rattle.niss_search.proofs.Words.{turns_of, sum_by-cons, Alternative, FillIsSmall, TwistAndSlice, div-mul-add, entry_count, inverse_turn}
@@ -142,7 +142,7 @@ filled-start alt n e = record {
 
 module _ (axis : Axis) (n : ℕ) where
   -- a pair by its number
-  abbrev paired : ℕ → Coordinates
+  abbrev paired : ℕ → GoalCoordinates
   paired i = TwistAndSlice axis (i / n) (i % n)
 
   row-numbered : (m a j : ℕ) → a + j ≤ n → map (TwistAndSlice axis m) (range_with_len a j) ≡ map paired (range_with_len (m * n + a) j)
@@ -151,7 +151,7 @@ module _ (axis : Axis) (n : ℕ) where
       let inside : a < n = omega arith in
       let next : m * n + (a + 1) ≡ m * n + a + 1 = omega arith in
       let rest = row-numbered m (a + 1) j (omega arith) ∙ ap (λ k. map paired (range_with_len k j)) next in
-      rw (div-mul-add m n a inside, mod-mul-add m n a inside) (ap (λ (l : List Coordinates). TwistAndSlice axis m a ∷ l) rest)
+      rw (div-mul-add m n a inside, mod-mul-add m n a inside) (ap (λ (l : List GoalCoordinates). TwistAndSlice axis m a ∷ l) rest)
 
   -- the pairs of the twists from `first` on
   rows-numbered : (first m : ℕ) → flat_map (λ twist. map (TwistAndSlice axis twist) (range_with_len 0 n)) (range_with_len first m) ≡ map paired (range_with_len (first * n) (m * n))
@@ -162,7 +162,7 @@ module _ (axis : Axis) (n : ℕ) where
       let start : first * n + 0 ≡ first * n = omega arith in
       let next : (first + 1) * n ≡ first * n + n = omega arith in
       let all : n + m * n ≡ suc m * n = omega arith in
-      ap₂ (λ (l r : List Coordinates). l ++ r) (row-numbered first 0 n (omega arith) ∙ ap (λ i. map paired (range_with_len i n)) start) (rows-numbered (first + 1) m ∙ ap (λ i. map paired (range_with_len i (m * n))) next)
+      ap₂ (λ (l r : List GoalCoordinates). l ++ r) (row-numbered first 0 n (omega arith) ∙ ap (λ i. map paired (range_with_len i n)) start) (rows-numbered (first + 1) m ∙ ap (λ i. map paired (range_with_len i (m * n))) next)
       ∙ sym (map-append paired (range_with_len (first * n) n) (range_with_len (first * n + n) (m * n)))
       ∙ ap (map paired) (sym (range_with_len-append (first * n) n (m * n)) ∙ ap (range_with_len (first * n)) all)
 
@@ -182,7 +182,7 @@ entries-counted s =
     length-flat_map values_for (goals_of s) ∙ sum_by-same (λ g. length (values_for g)) count_for (goals_of s) values-counted
 
 -- Is an entry extended by the fill?
-abbrev near : Step → Coordinates → Bool
+abbrev near : Step → GoalCoordinates → Bool
 near s c = nat_le (distance_at s (c ∷ [])) 19
 
 -- counted by the numbers of the entries
@@ -192,7 +192,7 @@ ticks-numbered alt =
     ap (λ n. length (turns_of alt.step) * n) (ap (count_by (near alt.step)) (values-numbered alt.goal (count_for alt.goal) refl) ∙ sum_by-map (λ c. cond (near alt.step c) 1 0) (entry_at alt.goal) (range_with_len 0 (count_for alt.goal)))
 
 -- never more than entries times turns
-ticks-within : (s : Step) (entries : List Coordinates) (count : ℕ) → length entries ≡ count → length (turns_of s) * count_by (near s) entries ≤ count * length (turns_of s)
+ticks-within : (s : Step) (entries : List GoalCoordinates) (count : ℕ) → length entries ≡ count → length (turns_of s) * count_by (near s) entries ≤ count * length (turns_of s)
 ticks-within s entries count e =
     omega (arith, mul-le-mul_left (length (turns_of s)) (count_by-le-length (near s) entries), ap (λ n. length (turns_of s) * n) e, mul_comm (length (turns_of s)) count)
 

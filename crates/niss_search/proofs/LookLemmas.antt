@@ -3,7 +3,7 @@
 -- has it.
 use Rattle.niss_search.proofs.Words.{◌≡◌, arith, ◌+◌, ◌<◌, ℕ, ap, ◌∙◌, ◌≤◌, [], List, refl, true, ◌∷◌, Bool, Turn, suc, cond, zero}
 use Rattle.niss_search.proofs.Words.{range_with_len, Contains, leb, inl, inr, list_any, ◌⊎◌, min, unwrap_or, find, ◌||◌, list_any_at, sym}
-use Rattle.niss_search.proofs.Words.{turns_of, Coordinates, distance_at, Step, position_after, is_reached_at, coordinates_after, positions}
+use Rattle.niss_search.proofs.Words.{turns_of, GoalCoordinates, distance_at, Step, position_after, is_reached_at, coordinates_after, positions}
 use Rattle.niss_search.proofs.Words.{or-false, DistanceIsLeast, nat_tests, Space, distance, is_reached_in, are_zero, canonical_extensions}
 use Rattle.niss_search.proofs.Words.{PositionsFollowCubes, All-contains_itself, solution_lengths, after_all, DominoKeepsStart, last_turn}
 use Rattle.niss_search.proofs.Words.{all_canonical, coordinates_of, AreCoordinates, StepsSeePlaces, Homomorphism, least_length}
@@ -14,6 +14,8 @@ use Rattle.niss_search.proofs.Words.{All-take, reached, All-cons, All-map, goals
 use Rattle.niss_search.proofs.Words.{All-nil, Option, Domino, IsCube, SameMap, flip_of, sum_by, ◌++◌, take, Place, looks, up_to, subst}
 use Rattle.niss_search.proofs.Words.{Edges, holds, ◌-◌, map, All, ◌↔◌, Flip, Axis, Goal, leb-true}
 use Rattle.std.proofs.lemmas.List.Folds.{Any-from_list_any}
+use Rattle.niss_search.specs.Laws.{DistanceIsShortest, DistanceIsShortestIn}
+use Rattle.std.proofs.lemmas.Bool.{cases_lt}
 use Rattle.niss_search.proofs.ListLemmas.{Contains-first, Contains-later, list_any-filter}
 use Rattle.niss_cube.specs.declared.cube.coordinate.Coordinate.TheVariants as coordinate
 
@@ -92,27 +94,27 @@ module _ {turns : List Turn} {S : Type 0} (space : Space turns S) where
   ]
 
 module _ (step : Step) where
-  pub distance_at-goal : (x : List Coordinates) → leb (distance_at step x) 0 ≡ is_reached_at x
+  pub distance_at-goal : (x : List GoalCoordinates) → leb (distance_at step x) 0 ≡ is_reached_at x
   unfolding distance_at
   distance_at-goal = distance-goal (positions step)
 
-  pub distance_at-turn : (x : List Coordinates) (t : Turn) → Contains (turns_of step) t → distance_at step x ≤ 1 + distance_at step (position_after x t)
+  pub distance_at-turn : (x : List GoalCoordinates) (t : Turn) → Contains (turns_of step) t → distance_at step x ≤ 1 + distance_at step (position_after x t)
   unfolding distance_at
   distance_at-turn = distance-turn (positions step)
 
-  pub distance_at-most : (x : List Coordinates) → distance_at step x ≤ 21
+  pub distance_at-most : (x : List GoalCoordinates) → distance_at step x ≤ 21
   unfolding distance_at
   distance_at-most = distance-most (positions step)
 
-  pub distance_at-nearer : (x : List Coordinates) (k : ℕ) → distance_at step x ≡ suc k → k < 20 → (t : Turn) × (Contains (turns_of step) t × (distance_at step (position_after x t) ≤ k))
+  pub distance_at-nearer : (x : List GoalCoordinates) (k : ℕ) → distance_at step x ≡ suc k → k < 20 → (t : Turn) × (Contains (turns_of step) t × (distance_at step (position_after x t) ≤ k))
   unfolding distance_at
   distance_at-nearer = distance-nearer (positions step)
 
-  either : (k : ℕ) (c : Coordinates) (x : List Coordinates) → is_reached_in (positions step) k (c ∷ x) ≡ (is_reached_in (positions step) k (c ∷ []) || is_reached_in (positions step) k x)
+  either : (k : ℕ) (c : GoalCoordinates) (x : List GoalCoordinates) → is_reached_in (positions step) k (c ∷ x) ≡ (is_reached_in (positions step) k (c ∷ []) || is_reached_in (positions step) k x)
   unfolding is_reached_in position_after is_reached_at
   either zero c x = ap (λ b. b || is_reached_at x) (sym (or-false (are_zero c)))
   either (suc k) c x =
-      let at = λ (y : List Coordinates) (t : Turn). is_reached_in (positions step) k (position_after y t) in
+      let at = λ (y : List GoalCoordinates) (t : Turn). is_reached_in (positions step) k (position_after y t) in
       ap (λ (p : Turn → Bool). list_any p (turns_of step)) (λ i t. either k (coordinates_after c t) (position_after x t) i)
       ∙ list_any-either (at (c ∷ [])) (at x) (turns_of step)
 
@@ -141,7 +143,7 @@ module _ (coordinates : AreCoordinates) where
   position_alike : (s : Step) (d e : Place → Place) → IsCube d → SameMap d e → position_of s d ≡ position_of s e
   unfolding position_of
   position_alike s d e h same =
-      ap (λ (f : Goal → Coordinates). map f (goals_of s)) (λ i g. goal_alike g d e h same i)
+      ap (λ (f : Goal → GoalCoordinates). map f (goals_of s)) (λ i g. goal_alike g d e h same i)
 
   position_follows : (s : Step) (e : Place → Place) (t : Turn) → IsCube e → position_of s (λ q. turned t (e q)) ≡ position_after (position_of s e) t
   unfolding position_of position_after
@@ -210,6 +212,40 @@ canonical-over turns (suc k) =
     All-push (Contains turns) s _ over (All-filter (may_follow (last_turn s)) (Contains turns) turns (All-contains_itself turns) i d l)))
     (canonical-over turns k)
 
+-- The distance is the length of a shortest sequence that leads to the goal.
+module _ {turns : List Turn} {S : Type 0} (space : Space turns S) where
+  reached-by : (e : S) (s : List Turn) → IsOver turns s → space.reached (after_all space e s) ≡ true → is_reached_in space (length s) e ≡ true
+  unfolding is_reached_in
+  reached-by e [] over h = h
+  reached-by e (t ∷ s) over h =
+      let m = All-head (Contains turns) t s over in
+      let reached = λ (u : Turn). is_reached_in space (length s) (space.after e u) in
+      list_any_at reached turns m.0 t m.1 (ap reached m.2 ∙ reached-by (space.after e t) s (All-tail (Contains turns) t s over) h)
+
+  sequence-in : (k : ℕ) (e : S) → is_reached_in space k e ≡ true
+      → (s : List Turn) × IsOver turns s × (length s ≡ k) × (space.reached (after_all space e s) ≡ true)
+  unfolding is_reached_in
+  sequence-in zero e h = ([], All-nil (Contains turns), refl, h)
+  sequence-in (suc k) e h =
+      let some = Any-from_list_any (λ t. is_reached_in space k (space.after e t)) turns h in
+      let rest = sequence-in k (space.after e some.1) some.4 in
+      (some.1 ∷ rest.0, All-cons (Contains turns) some.1 rest.0 (some.0, some.2, some.3) rest.1, ap suc rest.2, rest.3)
+
+distance_shortest-in : (S : Type 0) → DistanceIsShortestIn S
+distance_shortest-in S = record {
+  shortest = λ turns space e s over h. elim (cases_lt (length s) 21) [
+    | inl w ↦ distance-le space e (length s) (omega (arith, w)) (reached-by space e s over h)
+    | inr w ↦ omega (arith, w, distance-most space e)
+  ];
+  is_one = λ turns space e. elim (distance-reached space e) [
+    | inl h ↦ inr (sequence-in space (distance space e) e h)
+    | inr far ↦ inl far
+  ];
+}
+
+pub distance_shortest : DistanceIsShortest
+distance_shortest = (distance_shortest-in (Place → Place), distance_shortest-in (List Turn))
+
 -- Solutions, looks and distance are the same from a state as from one that it is of.
 module _ {turns : List Turn} {S T : Type 0} {IsOf : S → T → Type 0} {from : Space turns S} {to : Space turns T} (alike : Homomorphism IsOf from to) where
   related-after : (s : S) (x : T) (p : List Turn) → IsOver turns p → IsOf s x → IsOf (after_all from s p) (after_all to x p)
@@ -263,12 +299,12 @@ module _ {turns : List Turn} {S T : Type 0} {IsOf : S → T → Type 0} {from : 
 -- a cube and its position
 module _ (law : PositionsFollowCubes) (step : Step) where
   -- the distance of a position is that of every cube that has it
-  pub distance-cube : (e : Place → Place) (x : List Coordinates) → HasPosition step e x → distance_of step e ≡ distance_at step x
+  pub distance-cube : (e : Place → Place) (x : List GoalCoordinates) → HasPosition step e x → distance_of step e ≡ distance_at step x
   unfolding distance_at
   distance-cube = distance-same (law.follow step)
 
   -- the distance is 0 exactly where the step is reached
-  pub distance-reached-cube : (e : Place → Place) (x : List Coordinates) → HasPosition step e x → (distance_at step x ≡ 0) ↔ IsTrue (reached step e)
+  pub distance-reached-cube : (e : Place → Place) (x : List GoalCoordinates) → HasPosition step e x → (distance_at step x ≡ 0) ↔ IsTrue (reached step e)
   distance-reached-cube e x h =
       let same : leb (distance_at step x) 0 ≡ reached step e = distance_at-goal step x ∙ sym ((law.follow step).goal e x h) in
       (λ z. sym same ∙ ap (λ n. leb n 0) z, λ k. omega (arith, leb-true (distance_at step x) 0 (same ∙ k)))

@@ -37,7 +37,7 @@ unfoldable pub use Rattle.niss_cube.specs.AfterTurn.{rank_after}
 pub use Rattle.niss_cube.specs.StepLaws.{DominoKeepsStart, InversesOfSteps, StartIsKept, StepTurnsInOrder, StepsSeePlaces}
 pub use Rattle.niss_cube.specs.Steps.{goals_of, holds, start_of}
 unfoldable pub use Rattle.niss_cube.specs.Steps.{turns_of, reached, may_start}
-pub use Rattle.niss_moves.proofs.CallerLemmas.{last_turn-push}
+pub use Rattle.niss_moves.proofs.CallerLemmas.{last_turn-push, find_passes}
 pub use Rattle.niss_moves.specs.Canonical.{may_follow, last_turn, canonical_extensions, face_may_follow, is_canonical_after, turn_order}
 unfoldable pub use Rattle.niss_moves.specs.Canonical.{all_canonical}
 pub use Rattle.niss_moves.specs.Effects.{turned, inverse_turn}
@@ -59,7 +59,7 @@ pub use Rattle.niss_search.specs.Followers.{IsFollower, distance_after, AreFar, 
 pub use Rattle.niss_search.specs.Laws.{PositionsFollowCubes, BoundIsSmall, CountRecurrence, DistanceIsLeast, EdgeFillIsSmall}
 pub use Rattle.niss_search.specs.Laws.{EntriesAreCounted, FillIsSmall, NoSlackIsLeast, PartHasNoMore, StepBoundIsLess}
 pub use Rattle.niss_search.specs.Moves.{turn_at}
-pub use Rattle.niss_search.specs.Names.{Turn, Coordinates, Step, Flip, Follower, no_turn, Axis, Domino, Edges, Goal, B, D, F, Face, L, R, U}
+pub use Rattle.niss_search.specs.Names.{Turn, GoalCoordinates, Step, Flip, Follower, no_turn, Axis, Domino, Edges, Goal, B, D, F, Face, L, R, U}
 pub use Rattle.niss_search.specs.Names.{TwistAndSlice}
 pub use Rattle.niss_search.specs.Positions.{are_zero, coordinates_after, coordinates_of, positions}
 unfoldable pub use Rattle.niss_search.specs.Positions.{distance_at, position_after, is_reached_at, position_of}

@@ -2,7 +2,7 @@
 use Rattle.std.specs.Prelude.{◌≡◌, ℕ, List, Option, IsTrue}
 use Rattle.niss_moves.specs.Places.{Place}
 use Rattle.niss_moves.specs.Effects.{turned}
-use Rattle.niss_search.specs.Names.{Turn, Step, Coordinates}
+use Rattle.niss_search.specs.Names.{Turn, Step, GoalCoordinates}
 use Rattle.niss_cube.specs.AfterTurn.{IsCube}
 use Rattle.niss_cube.specs.Steps.{turns_of, may_start, reached}
 use Rattle.niss_search.specs.Solutions.{Space, least_length, solutions, distance, all_looks}
@@ -38,11 +38,11 @@ abbrev pub all_looks_of : Step → (Place → Place) → ℕ → ℕ
 all_looks_of step e n = near_looks_of step e n 0
 
 -- A cube on which the step may start has the position.
-pub record HasPosition (step : Step) (e : Place → Place) (x : List Coordinates) : Type 0 where
+pub record HasPosition (step : Step) (e : Place → Place) (x : List GoalCoordinates) : Type 0 where
   pub cube : IsCube e
   pub starts : IsTrue (may_start step e)
   pub here : position_of step e ≡ x
 
 -- Some cube has it.
-abbrev pub IsPosition : Step → List Coordinates → Type 0
+abbrev pub IsPosition : Step → List GoalCoordinates → Type 0
 IsPosition step x = (e : Place → Place) × HasPosition step e x

@@ -2,7 +2,7 @@
 -- functions.)
 use Rattle.std.specs.Prelude.{◌≡◌, ℕ, zero, suc, ◌+◌, ◌≤◌, nat_le, Result, Ok, Err, if◌then◌else◌}
 use Rattle.std.specs.Prelude.{List, [], ◌∷◌, ◌++◌, length, filter, flat_map, sum_by}
-use Rattle.niss_search.specs.Names.{Turn, Step, Coordinates}
+use Rattle.niss_search.specs.Names.{Turn, Step, GoalCoordinates}
 use Rattle.niss_moves.specs.Canonical.{may_follow, last_turn}
 use Rattle.niss_search.specs.Solutions.{Space, reaching, looks, solutions, all_looks}
 use Rattle.niss_search.specs.Delivery.{Path, at_limit, WentThrough, StoppedIn}
@@ -44,10 +44,10 @@ module _ {turns : List Turn} {S : Type 0} (space : Space turns S) (look : S → 
       record { paths = solutions space start n slack; looks = all_looks space look start n slack }
 
 -- the same of a step, once a position was looked at, and with that look
-unfoldable pub beyond_at : Step → List Coordinates → List Turn → ℕ → Part
+unfoldable pub beyond_at : Step → List GoalCoordinates → List Turn → ℕ → Part
 beyond_at step x p left = beyond (positions step) (distance_at step) x p left
 
-abbrev pub below_at : Step → List Coordinates → List Turn → ℕ → Part
+abbrev pub below_at : Step → List GoalCoordinates → List Turn → ℕ → Part
 below_at step x p left = then_part (only_looks 1) (beyond_at step x p left)
 
 -- What a descent changes beside its path: the meter, the count of what was found, and the sink.
@@ -102,7 +102,7 @@ module _ {K : Type 0} where
       let limit = old.path.now.limit in
       Descends (at_limit took limit) (at_limit refused limit) part (progress_of meter old) (progress_of meter_now new)
 
--- What deepenings do that make this part, by what they answer: how many paths, or a fault.
+-- What deepenings do that make this part, by what they return: how many paths, or a fault.
 module _
     {K : Type 0} (took refused : K → Path → K → Type 0) (limit : ℕ) (part : Part) (meter meter_now : ℕ)
     (sink sink_now : K)

@@ -2,7 +2,7 @@
 use Rattle.std.specs.Prelude.{◌≡◌, ◌≢◌, ℕ, ◌+◌, ◌*◌, ◌/◌, ◌%◌, ◌<◌, ◌≤◌, min, nat_le, ⊤, if◌then◌else◌}
 use Rattle.std.specs.Prelude.{List, [], ◌∷◌, length, slice_index, Contains, count_by}
 use Rattle.niss_moves.specs.Effects.{inverse_turn}
-use Rattle.niss_search.specs.Names.{Turn, Goal, Edges, Domino, Step, Coordinates, Flip, TwistAndSlice}
+use Rattle.niss_search.specs.Names.{Turn, Goal, Edges, Domino, Step, GoalCoordinates, Flip, TwistAndSlice}
 use Rattle.niss_cube.specs.AfterTurn.{rank_after}
 use Rattle.niss_cube.specs.declared.cube.coordinate.Coordinate.TheVariants as coordinate
 use Rattle.niss_cube.specs.Steps.{turns_of}
@@ -12,12 +12,12 @@ use Rattle.niss_search.specs.Moves.{turn_at}
 use Rattle.niss_search.specs.Entries.{values_for, count_for}
 
 -- the entry number of coordinates
-abbrev pub entry_number : Coordinates → ℕ
+abbrev pub entry_number : GoalCoordinates → ℕ
 entry_number (Flip axis flip) = flip
 entry_number (TwistAndSlice axis twist slice) = twist * 495 + slice
 
 -- the coordinates of the entry with a number, in the table of a goal
-abbrev pub entry_at : Goal → ℕ → Coordinates
+abbrev pub entry_at : Goal → ℕ → GoalCoordinates
 entry_at (Edges axis) i = Flip axis i
 entry_at (Domino edges axis) i = TwistAndSlice axis (i / 495) (i % 495)
 
@@ -105,13 +105,13 @@ abbrev pub KeepsMet : List ℕ → List ℕ → Type 0
 KeepsMet old new = (i : ℕ) → slice_index old i < 21 → slice_index new i < 21
 
 -- The coordinates are those of an entry of a goal's table: on its axis, and below their counts.
-abbrev pub IsEntry : Goal → Coordinates → Type 0
+abbrev pub IsEntry : Goal → GoalCoordinates → Type 0
 IsEntry (Edges axis) (Flip on flip) = (on ≡ axis) × (flip < 2048)
 IsEntry (Domino edges axis) (TwistAndSlice on twist slice) = (on ≡ axis) × (twist < 2187) × (slice < 495)
 IsEntry _ _ = ⊥
 
 -- The coordinates are entries of the tables of the goals, one for each.
-unfoldable pub AreEntries : List Goal → List Coordinates → Type 0
+unfoldable pub AreEntries : List Goal → List GoalCoordinates → Type 0
 AreEntries [] [] = ⊤
 AreEntries (g ∷ gs) (c ∷ cs) = IsEntry g c × AreEntries gs cs
 AreEntries _ _ = ⊥

@@ -1,7 +1,7 @@
 -- The turns of a step that may stand after a turn, with their columns, and the first of them after which a state is
 -- near. (For the search's own functions.)
 use Rattle.std.specs.Prelude.{◌≡◌, ℕ, ◌+◌, ◌<◌, ◌≤◌, Bool, List, map, filter, take, get_or, length, All}
-use Rattle.niss_search.specs.Names.{Turn, Step, Follower, Coordinates}
+use Rattle.niss_search.specs.Names.{Turn, Step, Follower, GoalCoordinates}
 use Rattle.niss_cube.specs.Steps.{turns_of}
 use Rattle.niss_search.specs.Moves.{turn_at}
 use Rattle.niss_search.specs.Positions.{position_after, distance_at}
@@ -16,18 +16,18 @@ pub record AreFollowers (step : Step) (may : Turn → Bool) (list : List Followe
   pub columns : All (IsFollower step) list
 
 -- how far the step is after a turn
-abbrev pub distance_after : Step → List Coordinates → Follower → ℕ
+abbrev pub distance_after : Step → List GoalCoordinates → Follower → ℕ
 distance_after step x f = distance_at step (position_after x f.turn)
 
 -- A look after each was made, and none allows so many turns more.
 pub record AreFar
-    (step : Step) (x : List Coordinates) (left : ℕ) (list : List Follower) (meter meter_now : ℕ) : Type 0 where
+    (step : Step) (x : List GoalCoordinates) (left : ℕ) (list : List Follower) (meter meter_now : ℕ) : Type 0 where
   pub far : All (λ f. left < distance_after step x f) list
   pub looked : meter_now ≡ meter + length list
 
 -- A look after each up to this one was made, and it is the first that allows so many turns more.
 pub record IsNextNear
-    (step : Step) (x : List Coordinates) (left : ℕ) (list : List Follower) (meter meter_now index : ℕ) : Type 0 where
+    (step : Step) (x : List GoalCoordinates) (left : ℕ) (list : List Follower) (meter meter_now index : ℕ) : Type 0 where
   pub inside : index < length list
   pub far : All (λ f. left < distance_after step x f) (take index list)
   pub near : (d : Follower) → distance_after step x (get_or list index d) ≤ left

@@ -1,14 +1,14 @@
 -- Laws over counts and looks, and over positions.
 use Rattle.std.specs.Prelude.{◌≡◌, ℕ, ◌+◌, ◌*◌, ◌^◌, ◌≤◌, ◌<◌, min, Bool, IsTrue, None, option_map, unwrap_or}
-use Rattle.std.specs.Prelude.{List, [], ◌∷◌, filter, length, slice_get, sum_by}
+use Rattle.std.specs.Prelude.{List, [], ◌∷◌, filter, length, slice_get, sum_by, All, Contains, ◌⊎◌}
 use Rattle.std.specs.Option.{option_map_or}
 use Rattle.niss_moves.specs.Places.{Place, SameMap}
 use Rattle.niss_moves.specs.Canonical.{turn_order}
-use Rattle.niss_search.specs.Names.{Turn, Step, Coordinates}
+use Rattle.niss_search.specs.Names.{Turn, Step, GoalCoordinates}
 use Rattle.niss_cube.specs.AfterTurn.{IsCube}
 use Rattle.niss_cube.specs.Steps.{start_of, goals_of, turns_of, may_start}
 use Rattle.niss_search.specs.Solutions.{Space, Homomorphism, up_to, count_of_length, look_bound, reaching, least_length}
-use Rattle.niss_search.specs.Solutions.{solutions, looks, all_looks}
+use Rattle.niss_search.specs.Solutions.{solutions, looks, all_looks, distance, after_all}
 use Rattle.niss_search.specs.Entries.{entries_of, entry_count, fill_ticks}
 use Rattle.niss_search.specs.Positions.{position_of, positions, distance_at}
 use Rattle.niss_search.specs.Cubes.{cubes, HasPosition}
@@ -26,7 +26,7 @@ PartHasNoMore =
     (part : Turn → Bool) (turns : List Turn) (k : ℕ) →
     count_of_length (filter part turns) k ≤ count_of_length turns k
 
--- In any space, whatever turns it has, what its goal is and what a look at a state answers: no search looks more often
+-- In any space, whatever turns it has, what its goal is and what a look at a state returns: no search looks more often
 -- than the bound says.
 abbrev pub LooksWithinBoundIn : Type 0 → Type 0
 LooksWithinBoundIn S =
@@ -82,10 +82,25 @@ EdgeFillIsSmall = (s : Step) → start_of s ≡ None → fill_ticks s ≤ length
 abbrev pub FillIsSmall : Type 0
 FillIsSmall = (s : Step) → fill_ticks s ≤ length (goals_of s) * 15155910
 
+-- The distance is the length of a shortest sequence of the turns, canonical or not, that leads to the goal; or 21, and then
+-- none has fewer turns.
+pub record DistanceIsShortestIn (S : Type 0) : Type 0 where
+  pub shortest :
+      (turns : List Turn) (space : Space turns S) (e : S) (s : List Turn) →
+      All (Contains turns) s → IsTrue (space.reached (after_all space e s)) → distance space e ≤ length s
+  pub is_one :
+      (turns : List Turn) (space : Space turns S) (e : S) →
+      (distance space e ≡ 21)
+      ⊎ ((s : List Turn) × All (Contains turns) s × (length s ≡ distance space e)
+      × IsTrue (space.reached (after_all space e s)))
+
+abbrev pub DistanceIsShortest : Type 0
+DistanceIsShortest = InSpaces DistanceIsShortestIn
+
 -- The distance of a position is the least of those of its coordinates: a step is as near as the nearest of its goals.
 abbrev pub DistanceIsLeast : Type 0
 DistanceIsLeast =
-    (s : Step) (c : Coordinates) (x : List Coordinates) →
+    (s : Step) (c : GoalCoordinates) (x : List GoalCoordinates) →
     distance_at s (c ∷ x) ≡ min (distance_at s (c ∷ [])) (distance_at s x)
 
 -- What of a cube depends on its position alone.

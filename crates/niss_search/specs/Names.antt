@@ -10,10 +10,10 @@ pub use Rattle.niss_cube.specs.declared.cube.coordinate.Coordinate.{Coordinate}
 pub use Rattle.niss_cube.specs.declared.step.Goal.{Goal}
 pub use Rattle.niss_cube.specs.declared.step.Goal.TheVariants.{Edges, Domino}
 pub use Rattle.niss_cube.specs.declared.step.Step.{Step}
-pub use Rattle.niss_search.specs.declared.tables.position.Coordinates.{Coordinates}
-pub use Rattle.niss_search.specs.declared.tables.position.Coordinates.TheVariants.{Flip, TwistAndSlice}
+pub use Rattle.niss_search.specs.declared.tables.position.GoalCoordinates.{GoalCoordinates}
+pub use Rattle.niss_search.specs.declared.tables.position.GoalCoordinates.TheVariants.{Flip, TwistAndSlice}
 pub use Rattle.niss_search.specs.declared.tables.followers.Follower.{Follower}
 
--- what a list of turns answers past its end
+-- what stands in a list of turns past its end
 abbrev pub no_turn : Turn
 no_turn = record { face = U; power = Quarter }

@@ -60,10 +60,10 @@ module _ {turns : List Turn} {S : Type 0} (space : Space turns S) where
   unfoldable pub distance : S → ℕ
   distance start = unwrap_or (find (λ k. is_reached_in k start) (up_to 20)) 21
 
-  -- How often a search looks, by what a look at a state answers.
+  -- How often a search looks, by what a look at a state returns.
   module _ (look : S → ℕ) where
     -- Is there a look after s in the deepening to length d? s is empty, or the look after its turns but the last
-    -- answers at most what is left of d there.
+    -- returns at most what is left of d there.
     abbrev pub is_looked_at : S → ℕ → List Turn → Bool
     is_looked_at start d [] = true
     is_looked_at start d (t ∷ ts) =

@@ -14,7 +14,7 @@ pub record IsSpaceOf (step of_step : Step) (goals : List Goal) : Type 0 where
   pub same_step : of_step ≡ step
   pub same_goals : goals ≡ goals_of step
 
--- What a build for a step does, by what it answers: it built what it must, and the meter rose by the turns that the fill tries;
+-- What a build for a step does, by what it returns: it built what it must, and the meter rose by the turns that the fill tries;
 -- or the meter stands where it stood.
 abbrev pub IsBuilt : {S E : Type 0} → (S → Type 0) → Step → (meter meter_now : ℕ) → Result S E → Type 0
 IsBuilt must step meter meter_now (Ok built) = must built × (meter_now ≡ meter + fill_ticks step)

@@ -107,7 +107,7 @@ struct Root<'a, A: Allocator> {
 }
 
 impl<A: Allocator> Root<'_, A> {
-    /// Hands out the solutions of exactly so many turns, and answers how many they are.
+    /// Hands out the solutions of exactly so many turns, and returns how many they are.
     fn deepen<K: Sink>(
         &self,
         length: u8,
@@ -282,7 +282,7 @@ impl<K: Sink> Descent<'_, K> {
     }
 }
 
-/// Looks at the state after each turn, up to the first after which the look allows `left` turns more; answers its
+/// Looks at the state after each turn, up to the first after which the look allows `left` turns more; returns its
 /// index. Most looks end here: all that the loop calls is inlined, so that where the tables stand is read once for all
 /// of its looks.
 #[inline(always)]

@@ -1,6 +1,6 @@
 //! Laws over the definitions, each as a contract.
 ghost use Rattle.niss_search.specs.Laws.{CountRecurrence, PartHasNoMore, LooksWithinBound, NoSlackIsLeast};
-ghost use Rattle.niss_search.specs.Laws.{FirstIsLeast, StepBoundIsLess, BoundIsSmall};
+ghost use Rattle.niss_search.specs.Laws.{FirstIsLeast, DistanceIsShortest, StepBoundIsLess, BoundIsSmall};
 ghost use Rattle.niss_search.specs.Laws.{EntriesAreCounted, EdgeFillIsSmall, FillIsSmall, DistanceIsLeast};
 ghost use Rattle.niss_search.specs.Laws.{PositionsFollowCubes};
 ghost use Rattle.niss_search.specs.Filling.{EntriesTurn};
@@ -41,6 +41,12 @@ pub fn first_is_least()
 {
     canonical_members();
 }
+
+/// The distance of a state is the length of a shortest sequence of the turns that leads to the goal, if it is at most 20.
+#[tactic(auto, using(crate::proofs::LookLemmas::distance_shortest))]
+pub fn distance_is_shortest()
+    ensures { DistanceIsShortest }
+{}
 
 /// What of a cube depends on its position alone.
 #[tactic(auto, using(crate::proofs::LookLemmas::positions_follow_cubes))]

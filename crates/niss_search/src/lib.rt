@@ -35,7 +35,7 @@
 //! }
 //! ```
 //!
-//! A meter counts the turns that the fill of the tables tries, or the looks of searches. A look at a position answers
+//! A meter counts the turns that the fill of the tables tries, or the looks of searches. A look at a position returns
 //! its distance, by the pruning table. It is the only way to judge a position: the search sees neither its coordinates
 //! nor the tick of a meter.
 //!

@@ -163,7 +163,7 @@ impl<A: Allocator> Tables<A> {
         self.distance(position, meter)
     }
 
-    /// What a look answers, by the kind of the tables.
+    /// What a look returns, by the kind of the tables.
     fn distance(&self, position: &Position, meter: &mut Meter) -> u8
         requires position { IsPosition self.now position.now }
         requires meter { meter.old + 1 < 2 ^ 128 }

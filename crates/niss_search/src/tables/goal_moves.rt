@@ -1,7 +1,7 @@
 //! How the turns of a step move the coordinates of one of its goals.
 ghost use Rattle.std.specs.Prelude.{◌≡◌, ◌+◌, ◌*◌, ◌<◌, ◌≤◌, length, IfOk};
 ghost use Rattle.niss_cube.specs.Steps.{turns_of};
-ghost use Rattle.niss_search.specs.Names.{Edges, Domino, Coordinates, Flip, TwistAndSlice};
+ghost use Rattle.niss_search.specs.Names.{Edges, Domino, GoalCoordinates, Flip, TwistAndSlice};
 ghost use Rattle.niss_search.specs.Entries.{count_for};
 ghost use Rattle.niss_search.specs.Filling.{Alternative, IsEntry, AreStarts, ArePlaces, row_length, entry_number};
 ghost use Rattle.niss_search.specs.Moves.{turn_at};
@@ -9,7 +9,7 @@ ghost use Rattle.niss_search.specs.Positions.{coordinates_after};
 ghost use Rattle.niss_cube.specs.declared.cube.coordinate.Coordinate.TheVariants as coordinate;
 
 use super::move_table::{MOST_TURNS, MoveTable, Row};
-use super::position::Coordinates;
+use super::position::GoalCoordinates;
 use niss_cube::{Axis, Coordinate, OutOfMemory, Step};
 use std::alloc::Allocator;
 
@@ -34,7 +34,7 @@ pub trait GoalMoves {
     ghost alternative: { Self → Alternative };
 
     /// The coordinates of a state.
-    ghost coordinates: { Self → Self.State → Coordinates };
+    ghost coordinates: { Self → Self.State → GoalCoordinates };
 
     /// How many turns the step has.
     fn turns(&self) -> usize
@@ -60,12 +60,12 @@ pub trait GoalMoves {
         ensures { ArePlaces (alternative self.now) place result.now };
 
     /// The state of coordinates that the goal looks at.
-    fn state(&self, position: Coordinates) -> Self::State
+    fn state(&self, position: GoalCoordinates) -> Self::State
         requires { IsEntry (alternative self.now).goal position }
         ensures { coordinates self.now result ≡ position };
 
     /// The coordinates of a state.
-    fn coordinates_of(&self, state: Self::State) -> Coordinates
+    fn coordinates_of(&self, state: Self::State) -> GoalCoordinates
         ensures { result ≡ coordinates self.now state };
 
     /// The number of its entry in the pruning table.
@@ -133,15 +133,15 @@ impl<A: Allocator> GoalMoves for EdgeMoves<A> {
         self.flips.row(place as u16)
     }
 
-    fn state(&self, position: Coordinates) -> FlipState {
+    fn state(&self, position: GoalCoordinates) -> FlipState {
         match position {
-            Coordinates::Flip { flip, .. } => FlipState { flip },
-            Coordinates::TwistAndSlice { .. } => unreachable!(),
+            GoalCoordinates::Flip { flip, .. } => FlipState { flip },
+            GoalCoordinates::TwistAndSlice { .. } => unreachable!(),
         }
     }
 
-    fn coordinates_of(&self, state: FlipState) -> Coordinates {
-        Coordinates::Flip {
+    fn coordinates_of(&self, state: FlipState) -> GoalCoordinates {
+        GoalCoordinates::Flip {
             axis: self.flips.axis(),
             flip: state.flip,
         }
@@ -234,15 +234,15 @@ impl<A: Allocator> GoalMoves for DominoMoves<A> {
         self.slices.row(place as u16)
     }
 
-    fn state(&self, position: Coordinates) -> PairState {
+    fn state(&self, position: GoalCoordinates) -> PairState {
         match position {
-            Coordinates::TwistAndSlice { twist, slice, .. } => PairState { twist, slice },
-            Coordinates::Flip { .. } => unreachable!(),
+            GoalCoordinates::TwistAndSlice { twist, slice, .. } => PairState { twist, slice },
+            GoalCoordinates::Flip { .. } => unreachable!(),
         }
     }
 
-    fn coordinates_of(&self, state: PairState) -> Coordinates {
-        Coordinates::TwistAndSlice {
+    fn coordinates_of(&self, state: PairState) -> GoalCoordinates {
+        GoalCoordinates::TwistAndSlice {
             axis: self.twists.axis(),
             twist: state.twist,
             slice: state.slice,

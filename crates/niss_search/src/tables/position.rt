@@ -9,24 +9,24 @@ use std::marker::Model;
 
 /// The coordinates that decide whether a goal holds on a cube on which the step may start.
 #[derive(Clone, Copy)]
-pub enum Coordinates {
+pub enum GoalCoordinates {
     /// The flip on an axis.
     Flip { axis: Axis, flip: u16 },
     /// The twist and the slice on an axis.
     TwistAndSlice { axis: Axis, twist: u16, slice: u16 },
 }
 
-impl Coordinates {
+impl GoalCoordinates {
     /// Those of a cube.
-    fn of(goal: Goal, cube: &Cube) -> Coordinates
+    fn of(goal: Goal, cube: &Cube) -> GoalCoordinates
         ensures { result ≡ coordinates_of goal (map_of cube.now) }
     {
         match goal {
-            Goal::Edges(axis) => Coordinates::Flip {
+            Goal::Edges(axis) => GoalCoordinates::Flip {
                 axis,
                 flip: cube.flip(axis),
             },
-            Goal::Domino { axis, .. } => Coordinates::TwistAndSlice {
+            Goal::Domino { axis, .. } => GoalCoordinates::TwistAndSlice {
                 axis,
                 twist: cube.twist(axis),
                 slice: cube.slice(axis),
@@ -35,10 +35,10 @@ impl Coordinates {
     }
 }
 
-impl Default for Coordinates {
+impl Default for GoalCoordinates {
     /// A flip of 0: what a list of coordinates holds where it has none.
-    fn default() -> Coordinates {
-        Coordinates::Flip {
+    fn default() -> GoalCoordinates {
+        GoalCoordinates::Flip {
             axis: Axis::Fb,
             flip: 0,
         }
@@ -49,14 +49,14 @@ impl Default for Coordinates {
 /// domino reduction.
 #[derive(Drop)]
 pub struct Position {
-    coordinates: ArrayVec<Coordinates, 3>,
+    coordinates: ArrayVec<GoalCoordinates, 3>,
 }
 
 impl Model for Position {
     ghost use Rattle.std.specs.Prelude.{List};
-    ghost use Rattle.niss_search.specs.Names.{Coordinates};
+    ghost use Rattle.niss_search.specs.Names.{GoalCoordinates};
 
-    ghost Value = { List Coordinates };
+    ghost Value = { List GoalCoordinates };
 
     ghost view = { λ p. p.coordinates.items };
 }
@@ -71,20 +71,20 @@ impl Position {
     {
         let mut coordinates = ArrayVec::new();
         for goal in goals {
-            coordinates.push(Coordinates::of(*goal, cube));
+            coordinates.push(GoalCoordinates::of(*goal, cube));
         }
         Position { coordinates }
     }
 
     /// The position that has the coordinates, a goal after the other.
-    pub(super) fn from_coordinates(coordinates: ArrayVec<Coordinates, 3>) -> Position
+    pub(super) fn from_coordinates(coordinates: ArrayVec<GoalCoordinates, 3>) -> Position
         ensures { result ≡ coordinates.items }
     {
         Position { coordinates }
     }
 
     /// The coordinates, a goal after the other.
-    pub(super) fn coordinates(&self) -> &[Coordinates]
+    pub(super) fn coordinates(&self) -> &[GoalCoordinates]
         ensures { result.now ≡ self.now }
     {
         self.coordinates.as_slice()

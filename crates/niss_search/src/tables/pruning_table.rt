@@ -5,7 +5,7 @@ ghost use Rattle.niss_search.specs.Filling.{goal_ticks, IsEntry, IsFilled, AreEn
 use super::fill::fill_table;
 use super::goal_moves::GoalMoves;
 use super::meter::Meter;
-use super::position::Coordinates;
+use super::position::GoalCoordinates;
 use super::state_space::StateSpace;
 use crate::path::Limit;
 use arrayvec::ArrayVec;
@@ -77,7 +77,7 @@ impl<M: GoalMoves, A: Allocator> Model for PruningTable<M, A> {
 
 impl<M: GoalMoves, A: Allocator> PruningTable<M, A> {
     /// The state of the coordinates of its goal.
-    pub(super) fn state_of(&self, coordinates: Coordinates) -> M::State
+    pub(super) fn state_of(&self, coordinates: GoalCoordinates) -> M::State
         requires { IsEntry (M.alternative self.now).goal coordinates }
         ensures { M.coordinates self.now result ≡ coordinates }
     {
@@ -95,14 +95,14 @@ impl<M: GoalMoves, A: Allocator> StateSpace for PruningTable<M, A> {
     ghost seen = { λ t x. M.coordinates t x ∷ [] };
 
     #[tactic(auto, unfolding(crate::specs::Filling::AreEntries))]
-    fn state(&self, position: &[Coordinates]) -> M::State {
+    fn state(&self, position: &[GoalCoordinates]) -> M::State {
         let [coordinates] = *position else {
             unreachable!()
         };
         self.state_of(coordinates)
     }
 
-    fn put_coordinates(&self, state: M::State, list: &mut ArrayVec<Coordinates, 3>) {
+    fn put_coordinates(&self, state: M::State, list: &mut ArrayVec<GoalCoordinates, 3>) {
         list.push(self.moves.coordinates_of(state));
     }
 

@@ -1,13 +1,13 @@
 //! What a search goes through: the states of a step, and how far each is from it.
 ghost use Rattle.std.specs.Prelude.{◌≡◌, List, ◌+◌, ◌<◌, ◌≤◌, ◌++◌, ◌∷◌, length};
 ghost use Rattle.niss_cube.specs.Steps.{turns_of};
-ghost use Rattle.niss_search.specs.Names.{Goal, Step as TheStep, Coordinates};
+ghost use Rattle.niss_search.specs.Names.{Goal, Step as TheStep, GoalCoordinates};
 ghost use Rattle.niss_search.specs.Filling.{AreEntries};
 ghost use Rattle.niss_search.specs.Moves.{turn_at};
 ghost use Rattle.niss_search.specs.Positions.{position_after, distance_at};
 
 use super::goal_moves::GoalMoves;
-use super::position::Coordinates;
+use super::position::GoalCoordinates;
 use super::pruning_table::PruningTable;
 use arrayvec::ArrayVec;
 use std::alloc::Allocator;
@@ -26,15 +26,15 @@ pub trait StateSpace {
     ghost goals: { Self → List Goal };
 
     /// What is seen of a cube in a state: the coordinates of each goal.
-    ghost seen: { Self → Self.State → List Coordinates };
+    ghost seen: { Self → Self.State → List GoalCoordinates };
 
     /// The state of a position.
-    fn state(&self, position: &[Coordinates]) -> Self::State
+    fn state(&self, position: &[GoalCoordinates]) -> Self::State
         requires { AreEntries (goals self.now) position.now }
         ensures { seen self.now result ≡ position.now };
 
     /// Appends the coordinates of a state, those of a goal after the other.
-    fn put_coordinates(&self, state: Self::State, list: &mut ArrayVec<Coordinates, 3>)
+    fn put_coordinates(&self, state: Self::State, list: &mut ArrayVec<GoalCoordinates, 3>)
         requires { length list.old.items + length (goals self.now) ≤ 3 }
         ensures { list.new.items ≡ list.old.items ++ seen self.now state };
 
@@ -86,14 +86,18 @@ impl<M: GoalMoves, A: Allocator, S: StateSpace> StateSpace for Either<M, A, S> {
     ghost seen = { λ s x. M.coordinates s.0 x.0 ∷ S.seen s.1 x.1 };
 
     #[tactic(auto, unfolding(crate::specs::Filling::AreEntries))]
-    fn state(&self, position: &[Coordinates]) -> (M::State, S::State) {
+    fn state(&self, position: &[GoalCoordinates]) -> (M::State, S::State) {
         let [first, others @ ..] = position else {
             unreachable!()
         };
         (self.first.state_of(*first), self.others.state(others))
     }
 
-    fn put_coordinates(&self, state: (M::State, S::State), list: &mut ArrayVec<Coordinates, 3>) {
+    fn put_coordinates(
+        &self,
+        state: (M::State, S::State),
+        list: &mut ArrayVec<GoalCoordinates, 3>,
+    ) {
         self.first.put_coordinates(state.0, list);
         self.others.put_coordinates(state.1, list);
     }

@@ -1,5 +1,5 @@
 use Rattle.niss_search.proofs.Words.{arith, ap, ◌∙◌, slice_index, get_or_read}
-use Rattle.niss_search.proofs.EntryLemmas.{entry-below, table-answer}
+use Rattle.niss_search.proofs.EntryLemmas.{entry-below, table-holds}
 use Rattle.niss_search.proofs.tables.pruning_table.PruningTableStateSpace.distance.Goals as goal
 
 pub returns : goal.returns
@@ -10,4 +10,4 @@ returns g c =
     rw (← c.self.view_is)
     (get_or_read xs _ _ (omega (arith, c.entry.ensures.number, below, c.self.invariant.size)) c.index.ensures 0
     ∙ ap (slice_index xs) c.entry.ensures.number
-    ∙ table-answer (g.M.GoalMoves.alternative moves) xs c.self.invariant (g.M.GoalMoves.coordinates moves c.args.state) c.entry.ensures.entry)
+    ∙ table-holds (g.M.GoalMoves.alternative moves) xs c.self.invariant (g.M.GoalMoves.coordinates moves c.args.state) c.entry.ensures.entry)
