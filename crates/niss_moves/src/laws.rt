@@ -24,8 +24,8 @@ ghost use Rattle.niss_moves.specs.declared.token.Token.TheVariants as token;
 pub fn line_is_read()
     ensures spelled { (bytes : List ℕ) (m : Moves) → (read_line bytes ≡ Ok m)
         ↔ (Spells bytes m.normal m.bracketed × (length m.normal + length m.bracketed ≤ 256)) }
-    ensures faulty { (bytes : List ℕ) (f : ReadFault) → (read_line bytes ≡ Err f) ↔ ((IsLine bytes →
-        ⊥) × Faults bytes f) }
+    ensures faulty { (bytes : List ℕ) (f : ReadFault) → (read_line bytes ≡ Err f)
+        ↔ ((IsLine bytes → ⊥) × Faults bytes f) }
 {}
 
 /// A line has one reading.
@@ -97,8 +97,8 @@ pub fn same_letters()
 
 /// Two rotations that move the six centres alike are one. So each of the 24 has one spelling.
 pub fn one_spelling()
-    ensures { (r s : Rotation) → ((f : Face) → effect (spelling r) (centre f)
-        ≡ effect (spelling s) (centre f)) → r ≡ s }
+    ensures { (r s : Rotation) →
+        ((f : Face) → effect (spelling r) (centre f) ≡ effect (spelling s) (centre f)) → r ≡ s }
 {}
 
 /// Wide turns and slices have the effect of the face turns and rotations to which they are expanded.
@@ -109,30 +109,31 @@ pub fn expands_alike()
 /// A rotation renames the face turns after it.
 pub fn rotations_rename()
     ensures about_axis { (axis : Axis) (p : Power) (t : Turn) (q : Place) →
-        turned t (moved_by (token.Rotation axis p) q) ≡ moved_by (token.Rotation axis p) (turned (renamed_turn (face_before_power axis p) t) q) }
-    ensures by_rotation { (r : Rotation) (t : Turn) (q : Place) → turned t (effect (spelling r) q)
-        ≡ effect (spelling r) (turned (renamed_turn (face_before r) t) q) }
+        turned t (moved_by (token.Rotation axis p) q)
+        ≡ moved_by (token.Rotation axis p) (turned (renamed_turn (face_before_power axis p) t) q) }
+    ensures by_rotation { (r : Rotation) (t : Turn) (q : Place) →
+        turned t (effect (spelling r) q) ≡ effect (spelling r) (turned (renamed_turn (face_before r) t) q) }
 {}
 
 /// A sequence and then the rotation that brings the centres home has the effect of its face turns, and there is such a
 /// rotation. So does a line of normal and bracketed moves.
 pub fn faces_are_home()
-    ensures rotation { (s : List Token) → (home : Rotation) × ((f : Face) →
-        effect (spelling home) (effect s (centre f)) ≡ centre f) }
-    ensures effect { (s : List Token) (home : Rotation) → ((f : Face) →
-        effect (spelling home) (effect s (centre f)) ≡ centre f) → (q : Place) →
-        effect (spelling home) (effect s q) ≡ effect_of_turns (faces s) q }
+    ensures rotation { (s : List Token) → (home : Rotation)
+        × ((f : Face) → effect (spelling home) (effect s (centre f)) ≡ centre f) }
+    ensures effect { (s : List Token) (home : Rotation) →
+        ((f : Face) → effect (spelling home) (effect s (centre f)) ≡ centre f) →
+        (q : Place) → effect (spelling home) (effect s q) ≡ effect_of_turns (faces s) q }
     ensures line { (line : Moves) (s : List Token) (home : Rotation) →
-        HasMeaning s line.normal line.bracketed → ((f : Face) →
-        effect (spelling home) (effect s (centre f)) ≡ centre f) → (q : Place) →
-        effect (spelling home) (effect s q) ≡ effect_of_turns (faces (joined_moves line)) q }
+        HasMeaning s line.normal line.bracketed →
+        ((f : Face) → effect (spelling home) (effect s (centre f)) ≡ centre f) →
+        (q : Place) → effect (spelling home) (effect s q) ≡ effect_of_turns (faces (joined_moves line)) q }
 {}
 
 /// A sequence has the effect of its face turns, cleaned or not, and then the rotation that is left at its end.
 #[tactic(auto, using(crate::proofs::Home::faces_and_rotation, crate::proofs::Home::cleaned_effect))]
 pub fn whole_effect()
-    ensures faces { (s : List Token) (r : Rotation) → IsRotationOf s r → (q : Place) → effect s q
-        ≡ effect (spelling r) (effect_of_turns (faces s) q) }
+    ensures faces { (s : List Token) (r : Rotation) → IsRotationOf s r →
+        (q : Place) → effect s q ≡ effect (spelling r) (effect_of_turns (faces s) q) }
     ensures cleaned { (s : List Token) (c : List Turn) (r : Rotation) → Cleans (faces s) c →
         IsRotationOf s r → (q : Place) → effect s q ≡ effect (spelling r) (effect_of_turns c q) }
 {}
