@@ -176,7 +176,13 @@ def leaves_list(tally: Tally, browser: Browser) -> None:
         browser.act(close)
         tally.equal(f"{close} closes it", (browser.text("solutions"), browser.script("return location.hash")), ("", ADDRESS))
         tally.equal(f"{close}: the focus goes to its cell", browser.focused(), "eofb.normal")
+    width = "return document.body.clientWidth"
+    closed = browser.script(width)
     browser.act('[data-cell="eofb.normal"]')
+    browser.choose("slack", "1")
+    browser.wait()
+    tally.holds("a long list makes the page longer", browser.script("return document.documentElement.scrollHeight > 2 * innerHeight"))
+    tally.equal("but no narrower", browser.script(width), closed)
     browser.press(Keys.ESCAPE)
     tally.equal("Escape closes it", browser.text("solutions"), "")
 
