@@ -1,7 +1,10 @@
 """What is done with the line so far: it is kept, copied and read again, edited and played, by keys too, and how it ends."""
+import re
 import time
+from itertools import combinations
 
 from browser import Browser
+from searches import ROWS
 from selenium.webdriver.common.keys import Keys
 from steps import ADDRESS, EXAMPLE, SCRAMBLE
 from tally import Tally
@@ -28,7 +31,8 @@ def keeps(tally: Tally, browser: Browser) -> None:
         .map((each) => [...each.querySelectorAll('.KIND')].map((one) => one.textContent))"""
     chips = browser.script(texts_of.replace("KIND", "chip"))
     tally.equal("each with what it reaches", [any(word.startswith("EO ") for word in words) for words in chips], [True] * 3)
-    tally.holds("and its cases", all(len(cases) == 2 for cases in browser.script(texts_of.replace("KIND", "case"))))
+    cases = [len(each) for each in browser.script(texts_of.replace("KIND", "case"))]
+    tally.equal("and its cases, a row of the best with its own alone", cases, [1, 2, 2])
     browser.script(
         "const note = document.querySelector('#kept-list .note-field'); note.value = 'a \u00e9 ~ , ; note'; note.dispatchEvent(new "
         "Event('change'))",
@@ -42,11 +46,11 @@ def keeps(tally: Tally, browser: Browser) -> None:
         (browser.texts("#kept-list .moves"), browser.script(notes)),
         (before, ["a \u00e9 ~ , ; note", "", ""]),
     )
-    browser.act("#kept-list li:nth-child(1) button")
-    tally.equal("one is gone on with", browser.text("bracketed"), before[0])
+    browser.act("#kept-list li:nth-child(2) button")
+    tally.equal("one is gone on with", browser.text("bracketed"), before[1])
     tally.equal("and the others stay", browser.texts("#kept-list .moves"), before)
-    browser.click("#kept-list li:nth-child(2) button:nth-of-type(2)")
-    tally.equal("one is taken away", browser.texts("#kept-list .moves"), [before[0], before[2]])
+    browser.click("#kept-list li:nth-child(3) button:nth-of-type(2)")
+    tally.equal("one is taken away", browser.texts("#kept-list .moves"), before[:2])
     tally.equal("its stars are the page's", browser.script("return document.getElementById('keep-line').ariaPressed"), "true")
     copied = "Copied: " + "\n\n".join([SCRAMBLE, *browser.script(
         "return [...document.querySelectorAll('#kept-list li')].map((each) => each.querySelector('.moves').textContent)")])
@@ -66,6 +70,50 @@ def keeps(tally: Tally, browser: Browser) -> None:
         "no more than fit",
         browser.text("alert").startswith("No more lines can be kept") and len(browser.texts("#kept-list li")) == 24,
     )
+
+
+def keeps_reductions(tally: Tally, browser: Browser) -> None:
+    """A row of the best is kept with its reduction: the star is that row's, and what is kept says what the row says, and is sorted by it."""
+    browser.open(ADDRESS)
+    browser.wait_best()
+    rows = browser.script(ROWS)
+    one, other = next(pair for pair in combinations(range(len(rows)), 2) if rows[pair[0]][1] == rows[pair[1]][1])
+    stars = "return [...document.querySelectorAll('#best-body .star')].map((each) => each.ariaPressed === 'true')"
+    case = browser.texts(f"#best-body tr:nth-child({one + 1}) .case")[0]
+    total, line, state, reduction, normal, inverse = rows[one]
+    said = f"{reduction} {case}: N {normal} I {inverse}, {total} in all"
+    browser.act('[data-cell="eorl.normal"]')
+    shortest = browser.script("const row = document.querySelector('#solutions-groups li'); row.querySelector('.star').click();"
+        "return row.querySelector('.take').textContent")
+    browser.script("document.querySelectorAll('#best-body .star')[arguments[0]].click()", one)
+    is_said = "return [...document.querySelectorAll('#kept-list .total')].every((each) => each.textContent !== '')"
+    browser.until(is_said)
+    tally.equal("the star is of the row alone", browser.script(stars), [at == one for at in range(len(rows))])
+    named = browser.script("return document.querySelectorAll('#best-body .star')[arguments[0]].ariaLabel", one)
+    tally.holds(f"and says so: {named}", named.endswith(f", {reduction} {case}"))
+    words = "return [...document.querySelectorAll('#kept-list li')].map((each) => [...each.querySelectorAll('.moves, .chip, .case')]"
+    words += ".map((one) => one.textContent))"
+    tally.equal("it says what the row said, and comes before an orientation alone", browser.script(words)[0], [line, state, said])
+    tally.equal("which stays as it was", browser.script(words)[1][:2], [shortest, "EO R/L"])
+    browser.script("document.querySelectorAll('#best-body .star')[arguments[0]].click()", other)
+    browser.until(is_said)
+    tally.equal("the other row of this orientation is kept by itself", browser.script(stars), [at in (one, other) for at in range(len(rows))])
+    totals = [re.search(r"(\d+) in all", each[-1]) for each in browser.script(words)]
+    tally.equal("they are sorted by all moves", [int(each[1]) if each else 0 for each in totals], [int(rows[one][0]), int(rows[other][0]), 0])
+    names = browser.script("return [...document.querySelectorAll('#kept-list button')].map((each) => each.ariaLabel)")
+    tally.equal("no two buttons have one name", len(set(names)), len(names))
+    browser.script("const note = document.querySelector('#kept-list .note-field'); note.value = 'a'; note.dispatchEvent(new Event('change'))")
+    browser.until(is_said)
+    before = browser.script(words)
+    browser.open(browser.script("return location.hash"))
+    browser.until(is_said)
+    tally.equal("they come back from the address", browser.script(words), before)
+    browser.click("#copy-kept")
+    browser.until("return document.getElementById('status').textContent.startsWith('Copied')")
+    tally.holds("the copy says it too", f"\n// {said}\n// a\n" in browser.texts("#status")[0])
+    browser.open(f"{ADDRESS}&kept=normal.R;;drud-eofb,normal.R;a;drud-eofb")
+    browser.until(is_said)
+    tally.equal("a reduction that may not follow is not said", browser.script(words), [["R"], ["R"]])
 
 
 def fmc_text(tally: Tally, browser: Browser) -> None:
@@ -229,5 +277,5 @@ def leads_to_kept(tally: Tally, browser: Browser) -> None:
 
 def try_all(tally: Tally, browser: Browser) -> None:
     """All of them."""
-    for part in (keeps, leads_to_kept, fmc_text, edits, by_keys, plays, solved):
+    for part in (keeps, keeps_reductions, leads_to_kept, fmc_text, edits, by_keys, plays, solved):
         part(tally, browser)

@@ -1,10 +1,10 @@
 // The state of the page in its address, after the #, so that it can be kept and sent. What an address says is checked piece by piece:
 // each piece becomes a part of the state, or is left out and named.
-import { SIDES, stepNamed } from "./steps.js";
+import { REDUCTIONS, SIDES, stepNamed } from "./steps.js";
 
 /** @typedef {import("./steps.js").Part} Part */
 /** @typedef {{step: string, side: import("./steps.js").Side, slack: number, isAll: boolean}} List */
-/** @typedef {{parts: Part[], note: string}} Candidate */
+/** @typedef {{parts: Part[], note: string, next: string}} Candidate `next`: the reduction that it was kept with, or "" */
 /** @typedef {{scramble: string, parts: Part[], side: import("./steps.js").Side, list: List | null, kept: Candidate[]}} State */
 
 export const LONGEST_ADDRESS = 20000;
@@ -40,7 +40,7 @@ const spelled = (text) => decodeURIComponent(text.replace(/_/g, "%20").replace(/
 const writtenParts = (parts) => parts.map(({ side, moves }) => `${side}.${written(moves)}`).join("~");
 
 /** @param {Candidate} candidate */
-const writtenCandidate = ({ parts, note }) => writtenParts(parts) + (note === "" ? "" : `;${written(note)}`);
+const writtenCandidate = ({ parts, note, next }) => [writtenParts(parts), written(note), next].join(";").replace(/;+$/, "");
 
 /** @param {State} state */
 export function addressOf({ scramble, parts, side, list, kept }) {
@@ -81,10 +81,11 @@ function readList(text) {
 
 /** @param {string} text @returns {Candidate} */
 function readCandidate(text) {
-    const [parts, note, ...rest] = text.split(";");
-    const plain = oneLine(spelled(note ?? ""));
-    if (rest.length > 0 || plain.length > LONGEST_NOTE) throw new Error("no candidates");
-    return { parts: readParts(parts), note: plain };
+    const [parts, note = "", next = "", ...rest] = text.split(";");
+    const plain = oneLine(spelled(note));
+    const isKnown = next === "" || REDUCTIONS.some(({ name }) => name === next);
+    if (rest.length > 0 || plain.length > LONGEST_NOTE || !isKnown) throw new Error("no candidates");
+    return { parts: readParts(parts), note: plain, next };
 }
 
 /** What each field of an address puts into the state. @type {Record<string, (state: State, text: string) => void>} */

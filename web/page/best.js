@@ -58,8 +58,8 @@ export class BestContinuations {
 
     /**
      * @param {import("./finder.js").Finder[]} finders of its own, one an axis
-     * @param {{goOn: (row: Row) => void, star: (part: Part) => void, isStarred: (part: Part) => boolean,
-     *     isSeen: (part: Part, next?: string) => boolean, shown: () => void}} acts
+     * @param {{goOn: (row: Row) => void, star: (part: Part, next?: string) => void,
+     *     isStarred: (part: Part, next?: string) => boolean, isSeen: (part: Part, next?: string) => boolean, shown: () => void}} acts
      */
     constructor(finders, acts) {
         this.#finders = finders;
@@ -250,7 +250,9 @@ export class BestContinuations {
         const isSeen = this.#acts.isSeen(added, next?.step);
         const all = Number.isFinite(total) ? String(total) : "–";
         const take = takeButton(line, { key, isSeen }, () => this.#acts.goOn(row));
-        const star = starButton(line, this.#acts.isStarred(added), () => this.#acts.star(added));
+        // one orientation has a row, and a star, for each reduction that may follow
+        const whole = next ? `${line}, ${next.marks} ${next.case}` : line;
+        const star = starButton(whole, this.#acts.isStarred(added, next?.step), () => this.#acts.star(added, next?.step));
         const cells = [cell("th", {}, all), movesCell(take, others, next !== null), cell("td", { class: "axis" }, state)];
         if (next) {
             cells.push(cell("td", { class: "axis" }, next.marks, " ", element("span", { class: "case" }, next.case)));

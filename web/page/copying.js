@@ -22,9 +22,9 @@ const stepLines = (walk) => walk.parts.map((_, index) => stepLine(walk, index));
 /** @param {string} scramble @param {Walk} walk */
 export const fmcOf = (scramble, walk) => [scramble, ...stepLines(walk)].join("\n");
 
-/** Some candidates of a scramble, with their notes. @param {string} scramble @param {{walk: Walk, note: string}[]} candidates */
+/** Some candidates of a scramble, with their notes. @param {string} scramble @param {{walk: Walk, notes: string[]}[]} candidates */
 export function fmcOfAll(scramble, candidates) {
-    const blocks = candidates.map(({ walk, note }) => [...stepLines(walk), ...(note === "" ? [] : [`// ${note}`])].join("\n"));
+    const blocks = candidates.map(({ walk, notes }) => [...stepLines(walk), ...notes.map((note) => `// ${note}`)].join("\n"));
     return [scramble, ...blocks].join("\n\n");
 }
 

@@ -11,7 +11,7 @@ import { LineSoFar } from "./line.js";
 import { readAllByHand, readScramble, readSteps } from "./lines.js";
 import { plainLine } from "./pasted.js";
 import { Seen, dropAddress, goTo, keepPlace, placeIn, writeAddress } from "./places.js";
-import { examine, framesOf, inPortions, offersOf, walkAll } from "./position.js";
+import { examine, framesOf, inPortions, offersOf, walkKept } from "./position.js";
 import { ScrambleField } from "./scramble.js";
 import { OpenList, SolutionList } from "./solutions.js";
 import { ORIENTATIONS, bracketed, isReduced, stateOf, stepNamed } from "./steps.js";
@@ -60,8 +60,8 @@ export class Page {
         this.#line = new LineSoFar(this.#byHand, { change: (change) => this.#change(change), star: () => this.#star(this.#state.parts) });
         this.#table = new StepTable((step, side) => this.#open(step, side));
         const stars = {
-            star: (added) => this.#star([...this.#state.parts, added]),
-            isStarred: (added) => this.#kept.has([...this.#state.parts, added]),
+            star: (added, next) => this.#star([...this.#state.parts, added], next),
+            isStarred: (added, next) => this.#kept.has([...this.#state.parts, added], next),
             isSeen: (added, next) => this.#seen.has(this.#state.scramble, [...this.#state.parts, added], next),
         };
         this.#kept = new KeptCandidates({ goOn: (parts) => this.#change({ parts }, "table"), change: (kept) => this.#change({ kept }) });
@@ -168,7 +168,7 @@ export class Page {
             const parts = await readAllByHand(this.#byHand, fmc.steps);
             const kept = [];
             for (const { steps, note } of fmc.candidates.slice(0, MOST_CANDIDATES)) {
-                kept.push({ parts: await readAllByHand(this.#byHand, steps), note: note.slice(0, LONGEST_NOTE) });
+                kept.push({ parts: await readAllByHand(this.#byHand, steps), note: note.slice(0, LONGEST_NOTE), next: "" });
             }
             if (turn === this.#turn) this.#change({ parts, kept });
         } catch (fault) {
@@ -337,16 +337,16 @@ export class Page {
         if (kept.length === 0 || !this.#cube || this.#kept.isDescribed(this.#cube.written)) return;
         const { scramble, written } = this.#cube;
         try {
-            const walks = await walkAll(this.#keptCalls, scramble, kept.map((each) => each.parts));
+            const walks = await walkKept(this.#keptCalls, scramble, kept);
             if (kept === this.#state.kept) this.#kept.describe(walks, written);
         } catch (fault) {
             if (kept === this.#state.kept) tell(part("alert"), `The lines that are kept can't be read: ${fault.words ?? fault.message}.`);
         }
     }
 
-    /** Keeps a line, or takes it away where it is kept. @param {Part[]} parts */
-    #star(parts) {
-        const { kept, isKept } = withStar(this.#state.kept, parts);
+    /** Keeps a line, or takes it away where it is kept. @param {Part[]} parts @param {string} [next] the reduction that it is kept with */
+    #star(parts, next = "") {
+        const { kept, isKept } = withStar(this.#state.kept, parts, next);
         if (kept.length > MOST_CANDIDATES || !fitsAddress({ ...this.#state, kept })) {
             tell(part("alert"), NO_ROOM);
             return;

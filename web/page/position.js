@@ -2,7 +2,7 @@
 // follow.
 import { badEdges, caseName, reachedBy } from "./cases.js";
 import { countAll, invertAll, joinAll, printAll, turnsOfAll } from "./engine.js";
-import { bracketed, joined, movesOn, openSteps, statesOf } from "./steps.js";
+import { SIDES, bracketed, joined, movesOn, openSteps, stateOf, statesOf } from "./steps.js";
 
 /** @typedef {import("./steps.js").Side} Side */
 /** @typedef {import("./steps.js").Part} Part */
@@ -65,6 +65,30 @@ export async function walkAll(calls, scramble, candidates) {
         part += parts.length;
     }
     return walks;
+}
+
+/** @typedef {{state: string, case: string, lengths: (number | null)[], total: number}} Next `lengths`: on each side; `total`: in all */
+/** @typedef {Walk & {next: Next | null}} KeptWalk */
+
+/** What is said of a reduction that follows a line. @param {Walk} walk @param {Offer} offer @returns {Next} */
+function nextOf({ letters, totals }, offer) {
+    const lengths = SIDES.map((side) => offer[side].length);
+    const least = Math.min(...lengths.map((length) => length ?? Infinity));
+    return { state: stateOf(offer.step), case: caseOfStep(letters.at(-1), offer.step), lengths, total: totals.at(-1) + least };
+}
+
+/**
+ * Walks through the candidates of one scramble, each with the reduction that it was kept with, if that may follow it.
+ * @param {import("./calls.js").Calls} calls @param {string} scramble by its face turns
+ * @param {import("./address.js").Candidate[]} candidates @returns {Promise<KeptWalk[]>}
+ */
+export async function walkKept(calls, scramble, candidates) {
+    const walks = await walkAll(calls, scramble, candidates.map(({ parts }) => parts));
+    const offers = await Promise.all(walks.map(({ reached, lines }, at) => {
+        const step = openSteps(reached.at(-1)).find(({ name }) => name === candidates[at].next);
+        return step ? offerOf(calls, step, lines.at(-1)) : null;
+    }));
+    return walks.map((walk, at) => ({ ...walk, next: offers[at] && nextOf(walk, offers[at]) }));
 }
 
 /**
