@@ -10,6 +10,10 @@ from steps import ADDRESS, EXAMPLE, SCRAMBLE
 from tally import Tally
 from wanted import Position, answer
 
+KEPT_SAID = "return [...document.querySelectorAll('#kept-list .total')].every((each) => each.textContent !== '')"
+KEPT_WORDS = """return [...document.querySelectorAll('#kept-list li')]
+    .map((each) => [...each.querySelectorAll('.moves, .chip, .case')].map((one) => one.textContent))"""
+
 
 def keeps(tally: Tally, browser: Browser) -> None:
     """Candidates are kept by their stars, with notes, in the address; they are gone on with, copied, and taken away."""
@@ -73,7 +77,7 @@ def keeps(tally: Tally, browser: Browser) -> None:
 
 
 def keeps_reductions(tally: Tally, browser: Browser) -> None:
-    """A row of the best is kept with its reduction: the star is that row's, and what is kept says what the row says, and is sorted by it."""
+    """A row of the best is kept with its reduction: the star is of that row, and what is kept says what the row says, sorted by it."""
     browser.open(ADDRESS)
     browser.wait_best()
     rows = browser.script(ROWS)
@@ -86,34 +90,59 @@ def keeps_reductions(tally: Tally, browser: Browser) -> None:
     shortest = browser.script("const row = document.querySelector('#solutions-groups li'); row.querySelector('.star').click();"
         "return row.querySelector('.take').textContent")
     browser.script("document.querySelectorAll('#best-body .star')[arguments[0]].click()", one)
-    is_said = "return [...document.querySelectorAll('#kept-list .total')].every((each) => each.textContent !== '')"
-    browser.until(is_said)
+    browser.until(KEPT_SAID)
     tally.equal("the star is of the row alone", browser.script(stars), [at == one for at in range(len(rows))])
     named = browser.script("return document.querySelectorAll('#best-body .star')[arguments[0]].ariaLabel", one)
     tally.holds(f"and says so: {named}", named.endswith(f", {reduction} {case}"))
-    words = "return [...document.querySelectorAll('#kept-list li')].map((each) => [...each.querySelectorAll('.moves, .chip, .case')]"
-    words += ".map((one) => one.textContent))"
-    tally.equal("it says what the row said, and comes before an orientation alone", browser.script(words)[0], [line, state, said])
-    tally.equal("which stays as it was", browser.script(words)[1][:2], [shortest, "EO R/L"])
+    tally.equal("it says what the row said, and comes before an orientation alone", browser.script(KEPT_WORDS)[0], [line, state, said])
+    tally.equal("which stays as it was", browser.script(KEPT_WORDS)[1][:2], [shortest, "EO R/L"])
     browser.script("document.querySelectorAll('#best-body .star')[arguments[0]].click()", other)
-    browser.until(is_said)
-    tally.equal("the other row of this orientation is kept by itself", browser.script(stars), [at in (one, other) for at in range(len(rows))])
-    totals = [re.search(r"(\d+) in all", each[-1]) for each in browser.script(words)]
-    tally.equal("they are sorted by all moves", [int(each[1]) if each else 0 for each in totals], [int(rows[one][0]), int(rows[other][0]), 0])
+    browser.until(KEPT_SAID)
+    both = [at in (one, other) for at in range(len(rows))]
+    tally.equal("the other row of this orientation is kept by itself", browser.script(stars), both)
+    totals = re.findall(r"(\d+) in all", " ".join(browser.texts("#kept-list .case")))
+    tally.equal("they are sorted by all moves", totals, [rows[one][0], rows[other][0]])
     names = browser.script("return [...document.querySelectorAll('#kept-list button')].map((each) => each.ariaLabel)")
     tally.equal("no two buttons have one name", len(set(names)), len(names))
-    browser.script("const note = document.querySelector('#kept-list .note-field'); note.value = 'a'; note.dispatchEvent(new Event('change'))")
-    browser.until(is_said)
-    before = browser.script(words)
+    note = "const it = document.querySelector('#kept-list .note-field'); it.value = 'a'; it.dispatchEvent(new Event('change'))"
+    browser.script(note)
+    browser.until(KEPT_SAID)
+    before = browser.script(KEPT_WORDS)
     browser.open(browser.script("return location.hash"))
-    browser.until(is_said)
-    tally.equal("they come back from the address", browser.script(words), before)
+    browser.until(KEPT_SAID)
+    tally.equal("they come back from the address", browser.script(KEPT_WORDS), before)
     browser.click("#copy-kept")
     browser.until("return document.getElementById('status').textContent.startsWith('Copied')")
     tally.holds("the copy says it too", f"\n// {said}\n// a\n" in browser.texts("#status")[0])
     browser.open(f"{ADDRESS}&kept=normal.R;;drud-eofb,normal.R;a;drud-eofb")
-    browser.until(is_said)
-    tally.equal("a reduction that may not follow is not said", browser.script(words), [["R"], ["R"]])
+    browser.until(KEPT_SAID)
+    tally.equal("a reduction that may not follow is not said", browser.script(KEPT_WORDS), [["R"], ["R"]])
+
+
+def keeps_stages(tally: Tally, browser: Browser) -> None:
+    """What is kept with a reduction is seen in its stages: an orientation with its side, and then the case that was solved."""
+
+    def shown(scramble: str, *lines: str) -> list[list[str]]:
+        browser.open(f"{scramble}&kept=" + ",".join(lines))
+        browser.choose("kept-sort", "kept")
+        browser.until(KEPT_SAID)
+        return browser.script(KEPT_WORDS.replace(".moves", ".moves, .total"))
+
+    example = "#scramble=" + EXAMPLE.replace(" ", "_").replace("'", "-")
+    steps = "inverse.B_D_R_F2_B_D", "normal.R_B-", "normal.D2_R"
+    browser.open(f"{example}&steps={steps[0]}")
+    [case] = [head.split()[2] for head in browser.texts("#steps-body th") if head.startswith("DR F/B")]
+    whole, further = "~".join(steps), "~".join((*steps, "inverse.F2"))
+    apart = "inverse.B_D_R~normal.R2~inverse.F2_B_D~normal.R2_R_B-_D2_R"
+    oriented, reduced = ["(B D R F2 B D)", "EO U/D, inverse"], ["R B' D2 R", "10 in all", f"DR F/B {case}"]
+    after = [*reduced[::2], "(F2)", "11 in all"]
+    wanted = [[*oriented, *reduced], [*oriented, *after], ["(B D)", "2 moves"]]
+    tally.equal("each stage with what it reaches", shown(example, whole, further, "inverse.B_D"), wanted)
+    tally.equal("an orientation on both sides", shown(example, apart)[0][:2], ["(B D R) R2 (F2 B D)", "EO U/D, both sides"])
+    tally.equal("one that held before", shown("#scramble=U_R", "normal.R-"), [["R'", "1 move", "DR U/D 4c2e"]])
+    every = ["DR U/D", "DR R/L", "DR F/B"]
+    tally.equal("a reduction that held before", shown("#scramble=U2", "normal.U_R2~inverse.U"), [["U R2 (U)", "3 moves", *every]])
+    tally.equal("one that is reached with its orientation", shown("#scramble=F", "normal.F-"), [["F'", "1 move", *every]])
 
 
 def fmc_text(tally: Tally, browser: Browser) -> None:
@@ -277,5 +306,5 @@ def leads_to_kept(tally: Tally, browser: Browser) -> None:
 
 def try_all(tally: Tally, browser: Browser) -> None:
     """All of them."""
-    for part in (keeps, keeps_reductions, leads_to_kept, fmc_text, edits, by_keys, plays, solved):
+    for part in (keeps, keeps_reductions, keeps_stages, leads_to_kept, fmc_text, edits, by_keys, plays, solved):
         part(tally, browser)

@@ -4,7 +4,7 @@ import { caseName } from "./cases.js";
 import { copy, fmcOfAll } from "./copying.js";
 import { counted, element, part, spoken, tell } from "./element.js";
 import { WayTo } from "./places.js";
-import { ORIENTATIONS, bracketed, isReduced, reductionsAfter, stateOf, statesOf, stepNamed } from "./steps.js";
+import { ORIENTATIONS, REDUCTIONS, SIDES, bracketed, isReduced, reductionsAfter, stateOf, statesOf, stepNamed } from "./steps.js";
 
 /** @typedef {import("./address.js").Candidate} Candidate */
 /** @typedef {import("./steps.js").Part} Part */
@@ -46,15 +46,62 @@ function wordsOfNext({ next }) {
     return `${next.state} ${next.case}: N ${normal} I ${inverse}, ${total} in all`;
 }
 
-/** What a candidate reaches, and the cases of the reductions that may follow. @param {KeptWalk} walk */
-function wordsOfWalk(walk) {
+/** @typedef {{parts: Part[], states: string[], cases: string[]}} Stage some steps of a candidate, what they reach, and cases after them */
+
+/** From which beginning on it has held. @param {KeptWalk} walk @param {string} name of a step that is reached in the end */
+const heldFrom = ({ reached }, name) => reached.findLastIndex((each) => !each.includes(name)) + 1;
+
+/** On which sides some steps are. @param {Part[]} parts */
+function sidesOf(parts) {
+    const sides = SIDES.filter((side) => parts.some((each) => each.side === side));
+    return sides.length === 1 ? sides[0] : "both sides";
+}
+
+/**
+ * The stages of a candidate with a reduction: up to the orientation before it, up to itself with the case that was solved, and what came
+ * after it.
+ * @param {KeptWalk} walk @returns {Stage[]}
+ */
+function stagesOfReduced(walk) {
+    const { parts, letters } = walk;
+    const reductions = REDUCTIONS.filter(({ name }) => walk.reached.at(-1).includes(name));
+    const ways = reductions.map((step) => ({ step, from: heldFrom(walk, step.needs), to: heldFrom(walk, step.name) }));
+    const [{ from, to }] = ways.sort((one, other) => one.to - other.to || one.from - other.from);
+    const first = ways.filter((way) => way.from === from && way.to === to).map(({ step }) => step);
+    // one that is reached together with its orientation has no case
+    const begin = from < to ? from : 0;
+    const before = parts.slice(0, begin);
+    const oriented = statesOf(first.map(({ needs }) => needs)).map((state) => `${state}, ${sidesOf(before)}`);
+    const reduced = first.map((step) => (from < to ? `${stateOf(step)} ${caseName(letters[from], step.axis)}` : stateOf(step)));
+    const later = to === 0 ? reductions : reductions.filter((step) => !first.some((other) => stateOf(other) === stateOf(step)));
+    const stages = [
+        { parts: before, states: oriented, cases: [] },
+        { parts: parts.slice(begin, to), states: [...new Set(reduced)], cases: [] },
+        { parts: parts.slice(to), states: statesOf(later.map(({ name }) => name)), cases: [] },
+    ];
+    return parts.length === 0 ? stages.slice(-1) : stages.filter((stage) => stage.parts.length > 0);
+}
+
+/** The stages of a candidate; before a reduction one, with the cases that may follow. @param {KeptWalk} walk @returns {Stage[]} */
+function stagesOf(walk) {
+    const { parts, letters, next } = walk;
     const reached = walk.reached.at(-1);
-    const states = statesOf(reached);
-    if (walk.next !== null) return { states, cases: [wordsOfNext(walk)] };
-    if (isReduced(reached)) return { states: states.filter((state) => state.startsWith("DR")), cases: [] };
+    if (isReduced(reached)) return stagesOfReduced(walk);
     const steps = ORIENTATIONS.filter(({ name }) => reached.includes(name)).flatMap(({ name }) => reductionsAfter(name));
-    const cases = [...new Set(steps.map(({ axis }) => `${axis} ${caseName(walk.letters.at(-1), axis)}`))];
-    return { states, cases };
+    const cases = [...new Set(steps.map(({ axis }) => `${axis} ${caseName(letters.at(-1), axis)}`))];
+    return [{ parts, states: statesOf(reached), cases: next === null ? cases : [wordsOfNext(walk)] }];
+}
+
+/** What is seen of a candidate: its stages, each together, and the moves in all. @param {Part[]} parts @param {KeptWalk | null} walk */
+function stepOf(parts, walk) {
+    const stages = walk === null ? [{ parts, states: [], cases: [] }] : stagesOf(walk);
+    const total = walk?.totals.at(-1);
+    const count = stages.length > 1 ? `${total} in all` : counted(total ?? 0, "move");
+    return element("span", { class: "step" }, ...stages.map((stage, at) => element("span", { class: "step" },
+        element("span", { class: "moves" }, bracketed(stage.parts) || "no moves"),
+        ...(at === stages.length - 1 ? [element("span", { class: "total" }, walk === null ? "" : count)] : []),
+        ...stage.states.map((state) => element("span", { class: "chip" }, state)),
+        ...stage.cases.map((each) => element("span", { class: "case" }, each)))));
 }
 
 export class KeptCandidates {
@@ -123,8 +170,6 @@ export class KeptCandidates {
     #item({ candidate, walk }) {
         const { parts, note } = candidate;
         const [name, said] = [nameOfCandidate(candidate), saidOf(candidate)];
-        const { states, cases } = walk ? wordsOfWalk(walk) : { states: [], cases: [] };
-        const count = walk ? counted(walk.totals.at(-1), "move") : "";
         const without = () => this.#candidates.filter((each) => each !== candidate);
         const field = element("input", {
             class: "note-field", value: note, maxlength: LONGEST_NOTE, placeholder: "Note", autocomplete: "off",
@@ -136,11 +181,7 @@ export class KeptCandidates {
             },
         });
         return element("li", {},
-            element("span", { class: "step" },
-                element("span", { class: "moves" }, bracketed(parts) || "no moves"),
-                element("span", { class: "total" }, count),
-                ...states.map((state) => element("span", { class: "chip" }, state)),
-                ...cases.map((each) => element("span", { class: "case" }, each))),
+            stepOf(parts, walk),
             element("span", { class: "row" },
                 field,
                 element("button", {
