@@ -268,6 +268,18 @@ def solved(tally: Tally, browser: Browser) -> None:
         tally.equal("no cell leads to an empty list", [name for name in browser.cells() if " 0 moves" in name or "reached" in name], [])
 
 
+def premoves(tally: Tally, browser: Browser) -> None:
+    """Without brackets inverse moves are premoves until the cube is solved, and it says so."""
+    note = "Not finished: the inverse moves stand at the end as premoves, and what follows goes before them."
+    for steps, joined, said in (("normal.R-", "R'", ""), ("inverse.F", "F'", note), ("normal.R-~inverse.F", "R' F'", note),
+            ("normal.R-~inverse.F~normal.U-~normal.F", "R' U' F F'", ""), ("normal.R-~inverse.F~normal.U-", "R' U' F'", note)):
+        browser.open(f"#scramble=U_R&steps={steps}")
+        tally.equal(f"{steps} without brackets", (browser.text("joined"), browser.text("joined-note")), (joined, said))
+    browser.act("#undo-step")
+    browser.act("#undo-step")
+    tally.equal("nothing is said of a line on the normal side", browser.text("joined-note"), "")
+
+
 def leads_to_kept(tally: Tally, browser: Browser) -> None:
     """Where the page is narrow a button that stays in view leads to what is kept and back; a star moves nothing under a finger."""
     browser.command("Emulation.setDeviceMetricsOverride", width=360, height=740, deviceScaleFactor=1, mobile=False)
@@ -306,5 +318,5 @@ def leads_to_kept(tally: Tally, browser: Browser) -> None:
 
 def try_all(tally: Tally, browser: Browser) -> None:
     """All of them."""
-    for part in (keeps, keeps_reductions, keeps_stages, leads_to_kept, fmc_text, edits, by_keys, plays, solved):
+    for part in (keeps, keeps_reductions, keeps_stages, premoves, leads_to_kept, fmc_text, edits, by_keys, plays, solved):
         part(tally, browser)

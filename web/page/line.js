@@ -36,6 +36,12 @@ function endOf({ parts, letters, reached, totals }) {
     return `${listed(states)} ${states.length === 1 ? "is" : "are"} reached: ${total}. nissy goes no further.`;
 }
 
+/** What is to be known of a line without brackets before the cube is solved, or "". @param {Walk} walk */
+function noteOfJoined({ parts, letters }) {
+    if (isSolved(letters.at(-1)) || !parts.some(({ side }) => side === "inverse")) return "";
+    return "Not finished: the inverse moves stand at the end as premoves, and what follows goes before them.";
+}
+
 export class LineSoFar {
     #calls;
     #acts;
@@ -102,7 +108,7 @@ export class LineSoFar {
      */
     describe(walk, whole, scramble) {
         this.#fmc = fmcOf(scramble, walk);
-        this.#showWhole(bracketed(walk.parts), whole, counted(walk.totals.at(-1), "move"));
+        this.#showWhole(bracketed(walk.parts), whole, counted(walk.totals.at(-1), "move"), noteOfJoined(walk));
         [...part("line-list").children].forEach((item, index) => {
             const inAll = index === 0 ? "" : `, ${walk.totals[index + 1]} in all`;
             item.querySelector(".count").textContent = `${counted(walk.turns[index], "move")}${inAll}`;
@@ -111,10 +117,11 @@ export class LineSoFar {
         tell(part("finished"), endOf(walk));
     }
 
-    /** @param {string} line @param {string} joined @param {string} total */
-    #showWhole(line, joined, total) {
+    /** @param {string} line @param {string} joined @param {string} total @param {string} [note] on what is joined */
+    #showWhole(line, joined, total, note = "") {
         const texts = { bracketed: line, joined, total, "bar-line": line || NO_MOVES, "bar-total": total };
         for (const [name, text] of Object.entries(texts)) part(name).textContent = text;
+        tell(part("joined-note"), note);
     }
 
     #item(each, index) {
