@@ -114,6 +114,12 @@ def keeps_reductions(tally: Tally, browser: Browser) -> None:
     browser.click("#copy-kept")
     browser.until("return document.getElementById('status').textContent.startsWith('Copied')")
     tally.holds("the copy says it too", f"\n// {said}\n// a\n" in browser.texts("#status")[0])
+    text = browser.texts("#status")[0].removeprefix("Copied: ")
+    browser.open()
+    browser.fill("scramble", text)
+    browser.until("return document.querySelectorAll('#kept-list li').length > 0")
+    notes = browser.script("return [...document.querySelectorAll('#kept-list .note-field')].map((each) => each.value)")
+    tally.holds("and is read again as a note", f"{said} a" in notes)
     browser.open(f"{ADDRESS}&kept=normal.R;;drud-eofb,normal.R;a;drud-eofb")
     browser.until(KEPT_SAID)
     tally.equal("a reduction that may not follow is not said", browser.script(KEPT_WORDS), [["R"], ["R"]])
@@ -136,8 +142,8 @@ def keeps_stages(tally: Tally, browser: Browser) -> None:
     apart = "inverse.B_D_R~normal.R2~inverse.F2_B_D~normal.R2_R_B-_D2_R"
     oriented, reduced = ["(B D R F2 B D)", "EO U/D, inverse"], ["R B' D2 R", "10 in all", f"DR F/B {case}"]
     after = [*reduced[::2], "(F2)", "11 in all"]
-    wanted = [[*oriented, *reduced], [*oriented, *after], ["(B D)", "2 moves"]]
-    tally.equal("each stage with what it reaches", shown(example, whole, further, "inverse.B_D"), wanted)
+    wanted = [[*oriented, *reduced], [*oriented, *after], ["(B D)", "2 moves"], [*oriented, *reduced]]
+    tally.equal("each stage with what it reaches", shown(example, whole, further, "inverse.B_D", f"{whole};;drrl-eoud"), wanted)
     tally.equal("an orientation on both sides", shown(example, apart)[0][:2], ["(B D R) R2 (F2 B D)", "EO U/D, both sides"])
     tally.equal("one that held before", shown("#scramble=U_R", "normal.R-"), [["R'", "1 move", "DR U/D 4c2e"]])
     every = ["DR U/D", "DR R/L", "DR F/B"]

@@ -2,7 +2,7 @@
 // follow.
 import { badEdges, caseName, reachedBy } from "./cases.js";
 import { countAll, invertAll, joinAll, printAll, turnsOfAll } from "./engine.js";
-import { SIDES, bracketed, joined, movesOn, openSteps, stateOf, statesOf } from "./steps.js";
+import { SIDES, bracketed, isReduced, joined, movesOn, openSteps, stateOf, statesOf } from "./steps.js";
 
 /** @typedef {import("./steps.js").Side} Side */
 /** @typedef {import("./steps.js").Part} Part */
@@ -85,7 +85,8 @@ function nextOf({ letters, totals }, offer) {
 export async function walkKept(calls, scramble, candidates) {
     const walks = await walkAll(calls, scramble, candidates.map(({ parts }) => parts));
     const offers = await Promise.all(walks.map(({ reached, lines }, at) => {
-        const step = openSteps(reached.at(-1)).find(({ name }) => name === candidates[at].next);
+        const last = reached.at(-1);
+        const step = isReduced(last) ? null : openSteps(last).find(({ name }) => name === candidates[at].next);
         return step ? offerOf(calls, step, lines.at(-1)) : null;
     }));
     return walks.map((walk, at) => ({ ...walk, next: offers[at] && nextOf(walk, offers[at]) }));
