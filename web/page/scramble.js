@@ -4,6 +4,7 @@ import { LONGEST_SCRAMBLE } from "./address.js";
 import { announce, element, part, tell } from "./element.js";
 import { EngineFault, scrambleOf } from "./engine.js";
 import { plainLine, readFmc } from "./pasted.js";
+import { withoutMoving } from "./view.js";
 import { placeOfFault, showFault } from "./words.js";
 
 /** @typedef {{scramble: string, steps: string[], candidates: {steps: string[], note: string}[]}} Fmc */
@@ -57,9 +58,9 @@ export class ScrambleField {
             this.#fold(false);
             this.#field.focus();
         });
-        part("scramble-card").addEventListener("focusout", ({ relatedTarget }) => {
-            if (!part("scramble-card").contains(relatedTarget) && relatedTarget !== null) this.#fold(this.#isRead);
-        });
+        // not as soon as the focus goes: what is pressed would move away under the finger
+        addEventListener("click", ({ target }) => this.#leave(target));
+        addEventListener("keyup", () => this.#leave(document.activeElement));
     }
 
     /** Shows a scramble that did not come from the field. @param {string} scramble */
@@ -95,6 +96,20 @@ export class ScrambleField {
         if (!this.#isRead || this.#isClosed || part("seeds").contains(document.activeElement)) return;
         this.#isClosed = true;
         part("seeds").open = false;
+    }
+
+    /**
+     * Folds the card once something was done elsewhere, if the page is scrolled far enough for nothing to move by it.
+     * @param {Element} where
+     */
+    #leave(where) {
+        const card = part("scramble-card");
+        if (!this.#isRead || card.contains(where) || card.matches(".folded")) return;
+        const height = card.offsetHeight;
+        withoutMoving(part("results"), () => {
+            this.#fold(true);
+            if (height - card.offsetHeight > scrollY) this.#fold(false);
+        });
     }
 
     /** Folds the card where the page is narrow, or opens it; the focus isn't lost with what is folded. @param {boolean} isFolded */
