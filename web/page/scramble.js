@@ -1,7 +1,7 @@
 // The card of the scramble: its field, with what was left out of a text and what is at fault, examples, random scrambles from a seed, and
 // the fold of it if the page is narrow.
 import { LONGEST_SCRAMBLE } from "./address.js";
-import { announce, element, part, tell } from "./element.js";
+import { announce, counted, element, part, tell } from "./element.js";
 import { EngineFault, scrambleOf } from "./engine.js";
 import { plainLine, readFmc } from "./pasted.js";
 import { withoutMoving } from "./view.js";
@@ -58,6 +58,7 @@ export class ScrambleField {
             this.#fold(false);
             this.#field.focus();
         });
+        part("left-back").addEventListener("click", () => history.back());
         // not as soon as the focus goes: what is pressed would move away under the finger
         addEventListener("click", ({ target }) => this.#leave(target));
         addEventListener("keyup", () => this.#leave(document.activeElement));
@@ -66,6 +67,7 @@ export class ScrambleField {
     /** Shows a scramble that did not come from the field. @param {string} scramble */
     show(scramble) {
         clearTimeout(this.#timer);
+        this.tellLeft(0);
         if (plainLine(this.#field.value).line !== scramble || readFmc(this.#field.value)) {
             this.#field.value = scramble;
             this.#leftOut = [];
@@ -89,6 +91,17 @@ export class ScrambleField {
         this.#closeSeeds();
         const isTyped = document.activeElement === this.#field;
         if (!isTyped || !this.#isRead) this.#fold(this.#isRead);
+    }
+
+    /** Says how many kept lines a new scramble leaves, beside a way back to them; nothing of none. @param {number} count */
+    tellLeft(count) {
+        const button = part("left-back");
+        const isFocused = document.activeElement === button;
+        part("left").hidden = count === 0;
+        const words = `${counted(count, "kept line")} ${count === 1 ? "is" : "are"} left with the scramble before.`;
+        part("left-words").textContent = count === 0 ? "" : words;
+        // what is hidden can't keep the focus
+        if (isFocused && count === 0) [part("random"), part("scramble-edit")].find((each) => each.checkVisibility())?.focus();
     }
 
     /** Closes what begins a page, once there is a scramble; what is opened later stays open. */
