@@ -186,6 +186,11 @@ def words(tally: Tally, browser: Browser) -> None:
         browser.texts("#best-table thead th")[:6],
         ["In all", "Moves", "Reach", "Then DR", "Normal", "Inverse"],
     )
+    sides = "return [...document.querySelectorAll('#best-body tr:first-child .number')].map((each) => [each.title, each.ariaLabel])"
+    browser.wait_best()
+    lengths = browser.texts("#best-body tr:first-child .number")
+    wanted = [[f"{side} side", f"DR in {count} moves on the {side} side"] for side, count in zip(SIDES, lengths)]
+    tally.equal("what the lengths of a row are", browser.script(sides), wanted)
     looks = [f"{Position(SCRAMBLE).count(step, side)[2]:,}" for step in ("eofb", "eorl", "eoud") for side in SIDES]
     tally.equal("the looks have a table of their own", browser.texts("#looks-body td"), looks)
 

@@ -74,7 +74,7 @@ def leads_back(tally: Tally, browser: Browser) -> None:
         browser.script(act, "R U F\nR // EO")
         browser.until("return location.hash !== arguments[0] && !document.getElementById('left').hidden", before)
         browser.wait()
-        tally.equal(f"{way}: what is left", browser.text("left-words"), "2 kept lines are left with the scramble before.")
+        tally.equal(f"{way}: what is left", browser.text("left-words"), "2 kept lines were left.")
         browser.until("return document.querySelectorAll('#line-list li').length === arguments[0]", int("pasted" in way))
         browser.script("document.getElementById('left-back').focus()")
         browser.click("#left-back")

@@ -98,7 +98,7 @@ export class ScrambleField {
         const button = part("left-back");
         const isFocused = document.activeElement === button;
         part("left").hidden = count === 0;
-        const words = `${counted(count, "kept line")} ${count === 1 ? "is" : "are"} left with the scramble before.`;
+        const words = `${counted(count, "kept line")} ${count === 1 ? "was" : "were"} left.`;
         part("left-words").textContent = count === 0 ? "" : words;
         // what is hidden can't keep the focus
         if (isFocused && count === 0) [part("random"), part("scramble-edit")].find((each) => each.checkVisibility())?.focus();
