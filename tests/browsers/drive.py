@@ -4,7 +4,7 @@
     tests/browsers/drive.py PAGE PROGRAM [PART..]
 
 PAGE is the joined file, PROGRAM the built nissy, and a PART one of keyboard, faults, addresses, searches, at_once, turned, steps, line,
-focus and looks; all where none is named. The last line is `N passed, M failed`, and the status is 1 where M isn't 0.
+focus, phone and looks; all where none is named. The last line is `N passed, M failed`, and the status is 1 where M isn't 0.
 """
 import shutil
 import subprocess
@@ -21,6 +21,7 @@ import focus
 import keyboard
 import line
 import looks
+import phone
 import searches
 import steps
 import turned
@@ -28,7 +29,7 @@ from browser import Browser
 from selenium.common.exceptions import WebDriverException
 from tally import Tally
 
-PARTS = (keyboard, faults, addresses, searches, at_once, turned, steps, line, focus, looks)
+PARTS = (keyboard, faults, addresses, searches, at_once, turned, steps, line, focus, phone, looks)
 
 TOP = Path(__file__).resolve().parent.parent.parent
 NO_ENGINE = "globalThis.WebAssembly = undefined;\n"

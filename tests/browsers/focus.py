@@ -186,11 +186,31 @@ def words(tally: Tally, browser: Browser) -> None:
         browser.texts("#best-table thead th")[:6],
         ["In all", "Moves", "Reach", "Then DR", "Normal", "Inverse"],
     )
+    sides = "return [...document.querySelectorAll('#best-body tr:first-child .number')].map((each) => [each.title, each.ariaLabel])"
+    browser.wait_best()
+    lengths = browser.texts("#best-body tr:first-child .number")
+    wanted = [[f"{side} side", f"DR in {count} moves on the {side} side"] for side, count in zip(SIDES, lengths)]
+    tally.equal("what the lengths of a row are", browser.script(sides), wanted)
     looks = [f"{Position(SCRAMBLE).count(step, side)[2]:,}" for step in ("eofb", "eorl", "eoud") for side in SIDES]
     tally.equal("the looks have a table of their own", browser.texts("#looks-body td"), looks)
 
 
+def goes_on(tally: Tally, browser: Browser) -> None:
+    """Shortest is said of steps that keep what is reached alone; the others are said to begin anew."""
+    least = "return [...document.querySelectorAll('#steps-body .least')].map((each) => each.dataset.cell.slice(0, 2))"
+    legend = "return document.querySelector('#steps .head .least').checkVisibility()"
+    ways = (
+        ("", {"eo"}, []),
+        ("&steps=normal.D2_R2_L_U", {"dr"}, ["Another EO, which need not keep this one"]),
+        ("&steps=normal.D2_R2_L_U~normal.B_R_D2_B_R_B_R_B", set(), ["Another EO or DR, which need not keep this DR"]),
+    )
+    for steps, kinds, said in ways:
+        browser.open(ADDRESS + steps)
+        tally.equal(f"{steps}: the shortest", (set(browser.script(least)), browser.script(legend)), (kinds, kinds != set()))
+        tally.equal(f"{steps}: what begins anew", browser.texts("#steps-body .anew"), said)
+
+
 def try_all(tally: Tally, browser: Browser) -> None:
     """All of them."""
-    for part in (dimmed, ends, stays, waits, says_filtered, says_shortest, comes_back, one_stop, across, words):
+    for part in (dimmed, ends, stays, waits, says_filtered, says_shortest, comes_back, one_stop, across, words, goes_on):
         part(tally, browser)

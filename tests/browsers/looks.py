@@ -16,6 +16,7 @@ LEAST_TARGET = 24
 # how high a row of the best may be there, and how small its signs
 MOST_OF_ROW = 56
 LEAST_SIGN = 10
+HEIGHTS = "return [...document.querySelectorAll(arguments[0])].map((each) => each.getBoundingClientRect().height)"
 ROWS_OF_BEST = """
     const areOn = (one, other) => one.left < other.right - 0.5 && other.left < one.right - 0.5
         && one.top < other.bottom - 0.5 && other.top < one.bottom - 0.5;
@@ -121,12 +122,18 @@ def presses(tally: Tally, browser: Browser) -> None:
     browser.open(ADDRESS)
     browser.wait_best()
     small = browser.script("""return [...document.querySelectorAll("button, select, summary, input:not([type=checkbox]), textarea")]
-        .filter((each) => each.checkVisibility() && !each.closest(".skip, #best-body, .popover"))
+        .filter((each) => each.checkVisibility() && !each.closest(".skip, #best-body, .popover, .note-field"))
         .map((each) => [each.id || each.className || each.textContent, each.getBoundingClientRect()])
         .map(([name, { width, height }]) => [name, width, height])
         .filter(([, width, height]) => Math.min(width, height) < arguments[0])""", TARGET)
     tally.equal("what is too small", small, [])
-    rows = browser.script("return [...document.querySelectorAll('#best-body tr')].map((each) => each.getBoundingClientRect().height)")
+    chips = browser.script(HEIGHTS, "#best-body .take")
+    tally.holds(f"the moves of the best: {chips}", chips and min(chips) >= LEAST_TARGET)
+    notes = browser.script(HEIGHTS, ".note-field")
+    tally.holds(f"notes are one line high: {notes}", notes and LEAST_TARGET <= min(notes) and max(notes) < TARGET)
+    browser.script("document.querySelector('.note-field').focus()")
+    tally.equal("until one is typed in", browser.script(HEIGHTS, ".note-field:focus"), [TARGET])
+    rows = browser.script(HEIGHTS, "#best-body tr")
     tally.holds(f"rows of the best: {rows}", rows and min(rows) >= TARGET)
     hit = """const row = document.querySelector('#best-body tr'); row.scrollIntoView({ block: 'center' });
         const { left, right, bottom } = row.getBoundingClientRect();

@@ -203,7 +203,7 @@ def filters(tally: Tally, browser: Browser) -> None:
         tally.holds(f"{typed!r}: {browser.text('solutions-note')}", "not moves" in browser.text("solutions-note"))
         tally.equal(f"{typed!r}: no list", browser.listed(), [])
     browser.open("#scramble=R_U_F&list=eofb.normal.0")
-    tally.equal("what is said of one twin", browser.text("solutions-note"), "2 solutions. 1 twin stands beside its own: 1 row.")
+    tally.equal("what is said of twins", browser.text("solutions-note"), "2 solutions. 1 row: twins share one.")
 
 
 def try_all(tally: Tally, browser: Browser) -> None:

@@ -118,12 +118,18 @@ class Position:
         steps = [step for step in TITLES if self.may_start(step) and self.count(step, "normal")[0] > 0]
         return [[step for step in steps if step.startswith(kind)] for kind in ("dr", "eo")]
 
+    def keeps(self, group: list[str]) -> bool:
+        """Whether steps keep what is reached: reductions keep an orientation, and no step keeps a reduction."""
+        reached = [step for step in TITLES if self.may_start(step) and self.count(step, "normal")[0] == 0]
+        is_reduced = any(step.startswith("dr") for step in reached)
+        return not reached or (not is_reduced and all(step.startswith("dr") for step in group))
+
     def cells(self) -> list[str]:
         """What the cells of the page's table are called."""
         names = []
         for group in self.open_steps():
             counts = {(step, side): self.count(step, side) for step in group for side in SIDES}
-            least = min((length for length, _, _ in counts.values()), default=0)
+            least = min((length for length, _, _ in counts.values()), default=0) if self.keeps(group) else None
             for (step, side), (length, solutions, _) in counts.items():
                 total = f"{self.made + length} in all, " if self.made else ""
                 said = f"{counted(length, 'move')}, {total}{counted(solutions, 'solution')}"

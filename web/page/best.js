@@ -264,7 +264,11 @@ export class BestContinuations {
     /** @param {import("./finder.js").Next} next @param {import("./steps.js").Side} side */
     #length({ lengths, side: best }, side) {
         const isBest = lengths[side] !== null && lengths[side] === lengths[best];
-        const about = { class: isBest ? "best number" : "number", "data-side": side === "normal" ? "N" : "I" };
+        const words = lengths[side] === null ? "no DR" : `DR in ${counted(lengths[side], "move")}`;
+        const about = {
+            class: isBest ? "best number" : "number", "data-side": side === "normal" ? "N" : "I", title: `${side} side`,
+            "aria-label": `${words} on the ${side} side`,
+        };
         return cell("td", about, lengths[side] === null ? "–" : String(lengths[side]));
     }
 }

@@ -33,7 +33,7 @@ function endOf({ parts, letters, reached, totals }) {
     if (isSolved(letters.at(-1))) return `Solved: ${total}.`;
     if (!isReduced(reached.at(-1))) return "";
     const states = statesOf(reached.at(-1)).filter((state) => state.startsWith("DR"));
-    return `${listed(states)} ${states.length === 1 ? "is" : "are"} reached: ${total}. nissy goes no further.`;
+    return `${listed(states)} ${states.length === 1 ? "is" : "are"} reached: ${total}. nissy has no step after a DR.`;
 }
 
 /** What is to be known of a line without brackets before the cube is solved, or "". @param {Walk} walk */
@@ -51,7 +51,8 @@ export class LineSoFar {
 
     /**
      * @param {import("./calls.js").Calls} calls
-     * @param {{change: (change: {parts?: Part[], side?: Side}) => void, star: () => void}} acts
+     * @param {{change: (change: {parts?: Part[], side?: Side}) => boolean, star: () => void}} acts `change` says whether it leads back to
+     * a row
      */
     constructor(calls, acts) {
         this.#calls = calls;
@@ -77,6 +78,12 @@ export class LineSoFar {
         this.#side = side;
         part("side").textContent = `${side} side`;
         part("switch").textContent = `Switch to the ${otherSide(side)} side`;
+    }
+
+    /** Shows whether the line is kept. @param {boolean} isKept */
+    markKept(isKept) {
+        part("keep-line").textContent = isKept ? "★ Kept" : "☆ Keep";
+        part("keep-line").setAttribute("aria-pressed", String(isKept));
     }
 
     /** Has moves by hand go on another side. @param {Side} side */
@@ -180,9 +187,10 @@ export class LineSoFar {
 
     #undo(parts) {
         const isOneLess = parts.length === this.#parts.length - 1;
-        this.#acts.change(isOneLess && this.#parts.length > 0 ? { parts, side: this.#parts.at(-1).side } : { parts });
+        const isBack = this.#acts.change(isOneLess && this.#parts.length > 0 ? { parts, side: this.#parts.at(-1).side } : { parts });
         announce(parts.length === 0 ? "The line is empty." : `The line is ${spoken(bracketed(parts))}.`);
-        if (parts.length === 0) part("own").focus({ preventScroll: true });
+        // a field that is typed in would bring the keyboard of a phone up, beside the row
+        if (parts.length === 0) part(isBack ? "line-heading" : "own").focus({ preventScroll: true });
     }
 
     #add() {

@@ -1,5 +1,6 @@
 // How lines are read: as the engine writes them, and by face turns alone if they turn the whole cube. The engine pushes such turns to
 // the end of a line; there they are left out, so that each letter names the same face in all that follows.
+import { LONGEST_NOTE, MOST_CANDIDATES } from "./address.js";
 import { EngineFault, cleanAll, joinAll } from "./engine.js";
 import { plainLine } from "./pasted.js";
 import { bracketed } from "./steps.js";
@@ -64,10 +65,23 @@ export async function readByHand(calls, text, side) {
  * The steps of some lines of text, as solvers write them.
  * @param {Calls} calls @param {string[]} texts @returns {Promise<Part[]>}
  */
-export async function readAllByHand(calls, texts) {
+async function readAllByHand(calls, texts) {
     const all = [];
     for (const text of texts) all.push(...(await readByHand(calls, plainLine(text).line.trim(), "normal")));
     return all;
+}
+
+/**
+ * The steps and the candidates of a text as solvers write it.
+ * @param {Calls} calls @param {import("./scramble.js").Fmc} fmc @returns {Promise<{parts: Part[], kept: import("./address.js").Candidate[]}>}
+ */
+export async function readWritten(calls, { steps, candidates }) {
+    const parts = await readAllByHand(calls, steps);
+    const kept = [];
+    for (const each of candidates.slice(0, MOST_CANDIDATES)) {
+        kept.push({ parts: await readAllByHand(calls, each.steps), note: each.note.slice(0, LONGEST_NOTE), next: "" });
+    }
+    return { parts, kept };
 }
 
 /** The steps of an address, each read as moves by hand are. @param {Calls} calls @param {Part[]} parts @returns {Promise<Part[]>} */

@@ -1,6 +1,7 @@
 // Starts the page: the worker's script and the engine's module stand in the page itself. The module is compiled once for all workers.
 import { compiled } from "../module/source.js";
 import { Calls, workersOf } from "./calls.js";
+import { copy } from "./copying.js";
 import { part } from "./element.js";
 import { Finder } from "./finder.js";
 import { Page } from "./page.js";
@@ -22,5 +23,6 @@ function start(module) {
 part("unstarted").remove();
 offerThemes();
 placeHelp();
+part("copy-link").addEventListener("click", (event) => copy(location.href, event.currentTarget));
 // if it can't be compiled each worker says why, once it is asked
 compiled(bytes).catch(() => bytes).then(start);

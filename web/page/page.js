@@ -1,5 +1,5 @@
 // The page's state, and what each change of it makes the parts of the page show.
-import { LONGEST_NOTE, MOST_CANDIDATES, addressOf, emptyState, fitsAddress, readAddress } from "./address.js";
+import { MOST_CANDIDATES, addressOf, emptyState, fitsAddress, readAddress } from "./address.js";
 import { BestContinuations } from "./best.js";
 import { EngineMissing, Readiness, Stopped } from "./calls.js";
 import { copy } from "./copying.js";
@@ -8,23 +8,20 @@ import { announce, announceLater, part, setBusy, spoken, tell } from "./element.
 import { EngineFault } from "./engine.js";
 import { KeptCandidates, withStar } from "./kept.js";
 import { LineSoFar } from "./line.js";
-import { readAllByHand, readScramble, readSteps } from "./lines.js";
+import { readScramble, readSteps, readWritten } from "./lines.js";
 import { plainLine } from "./pasted.js";
-import { Seen, dropAddress, goTo, keepPlace, placeIn, writeAddress } from "./places.js";
+import { Seen, WayBack, dropAddress, keepPlace, placeIn, writeAddress } from "./places.js";
 import { examine, framesOf, inPortions, offersOf, walkKept } from "./position.js";
 import { ScrambleField } from "./scramble.js";
 import { OpenList, SolutionList } from "./solutions.js";
 import { ORIENTATIONS, bracketed, isReduced, stateOf, stepNamed } from "./steps.js";
 import { StepTable } from "./table.js";
-import { keepInView, listenToKeys, setUsable, showStart, star, withoutMoving } from "./view.js";
+import { isBare, keepInView, listenToKeys, setUsable, showStart, star, withoutMoving } from "./view.js";
 import { NO_ROOM, titleOfPage, unanswered, whyNotListed } from "./words.js";
 
 /** @typedef {import("./address.js").State} State */
 /** @typedef {import("./steps.js").Part} Part */
 /** @typedef {import("./steps.js").Side} Side */
-
-/** Whether nothing was done yet. @param {State} state */
-const isBare = ({ scramble, parts }) => scramble.trim() === "" && parts.length === 0;
 
 export class Page {
     /** @type {State} */
@@ -35,8 +32,7 @@ export class Page {
     #isReading = false;
     /** @type {{to: "list" | "table", from: Element} | null} where the focus is to go, and from where */
     #focusNext = null;
-    /** @type {import("./places.js").Place | null} where Back leads to */
-    #return = null;
+    #wayBack = new WayBack();
     #calls;
     #keptCalls;
     #byHand;
@@ -57,14 +53,14 @@ export class Page {
         // what is asked for by hand is never given up for another cube
         this.#byHand = newCalls();
         this.#scramble = new ScrambleField(this.#byHand, (scramble, isNew, fmc) => this.#setScramble(scramble, isNew, fmc));
-        this.#line = new LineSoFar(this.#byHand, { change: (change) => this.#change(change), star: () => this.#star(this.#state.parts) });
+        this.#line = new LineSoFar(this.#byHand, { change: (change) => this.#changeLine(change), star: () => this.#star(this.#state.parts) });
         this.#table = new StepTable((step, side) => this.#open(step, side));
         const stars = {
             star: (added, next) => this.#star([...this.#state.parts, added], next),
             isStarred: (added, next) => this.#kept.has([...this.#state.parts, added], next),
             isSeen: (added, next) => this.#seen.has(this.#state.scramble, [...this.#state.parts, added], next),
         };
-        this.#kept = new KeptCandidates({ goOn: (parts) => this.#change({ parts }, "table"), change: (kept) => this.#change({ kept }) });
+        this.#kept = new KeptCandidates({ goOn: (parts) => this.#change({ parts }, { focusNext: "table" }), change: (kept) => this.#change({ kept }) });
         this.#list = new SolutionList({
             ...stars,
             take: (taken) => this.#take(taken),
@@ -76,7 +72,6 @@ export class Page {
         this.#readiness = new Readiness({ calls: this.#calls, byHand: this.#byHand, list, finders });
         this.#best = new BestContinuations(finders, { ...stars, goOn: (row) => this.#goOn(row), shown: () => this.#goBack() });
         keepInView(part("side-column"));
-        part("copy-link").addEventListener("click", (event) => copy(location.href, event.currentTarget));
         part("skip").addEventListener("click", () => this.#table.focus());
         this.#listenToKeys();
     }
@@ -96,7 +91,7 @@ export class Page {
 
     /** Keeps where the browser's Back or Forward leads to. @param {unknown} state of the history */
     returnTo(state) {
-        this.#return = placeIn(state);
+        this.#wayBack.set(placeIn(state));
     }
 
     /** Begins with what an address says. @param {string} hash */
@@ -134,14 +129,16 @@ export class Page {
     /**
      * Takes another state, or parts of it. Where an address is still read, what is done meanwhile on the page that is seen overtakes it.
      * A list doesn't outlast a change of the steps, since it belongs to the cube before it.
-     * @param {Partial<State>} change @param {"list" | "table"} [focusNext] where the focus is to go with the answers
+     * @param {Partial<State>} change @param {{focusNext?: "list" | "table", isStep?: boolean}} [how] where the focus is to go with the
+     * answers, and whether the browser's Back leads to what was before
      */
-    #change(change, focusNext) {
+    #change(change, { focusNext, isStep = "parts" in change } = {}) {
+        this.#scramble.tellLeft(0);
         this.#focusNext = focusNext ? { to: focusNext, from: document.activeElement } : null;
-        this.#return = null;
+        this.#wayBack.set(null);
         if ("parts" in change) keepPlace();
         this.#state = { ...this.#state, ...("parts" in change ? { list: null } : {}), ...change };
-        this.#writeAddress("parts" in change);
+        this.#writeAddress(isStep);
         if ("scramble" in change || "parts" in change || this.#isReading) {
             tell(part("alert"), "");
             this.#refresh();
@@ -161,16 +158,16 @@ export class Page {
 
     /** @param {string} scramble @param {boolean} isNew @param {import("./scramble.js").Fmc | null} fmc */
     async #setScramble(scramble, isNew, fmc) {
+        const left = isNew ? this.#state.kept.length : 0;
         this.#change(isNew ? { ...emptyState(), scramble } : { scramble });
+        this.#scramble.tellLeft(left);
         if (!fmc) return;
         const turn = this.#turn;
         try {
-            const parts = await readAllByHand(this.#byHand, fmc.steps);
-            const kept = [];
-            for (const { steps, note } of fmc.candidates.slice(0, MOST_CANDIDATES)) {
-                kept.push({ parts: await readAllByHand(this.#byHand, steps), note: note.slice(0, LONGEST_NOTE), next: "" });
-            }
-            if (turn === this.#turn) this.#change({ parts, kept });
+            const read = await readWritten(this.#byHand, fmc);
+            if (turn !== this.#turn) return;
+            this.#change(read, { isStep: false });
+            this.#scramble.tellLeft(left);
         } catch (fault) {
             if (turn === this.#turn) tell(part("alert"), `The steps of this text can't be read: ${fault.words ?? fault.message}.`);
         }
@@ -305,12 +302,7 @@ export class Page {
 
     /** Goes back to where one was, once what had the focus there is shown. */
     #goBack() {
-        if (this.#return === null || part("choices").inert) return;
-        const { key } = this.#return;
-        const found = key === "" ? null : (this.#best.reveal(key) ?? this.#list.reveal(key) ?? this.#table.cell(key));
-        if (key !== "" && !found) return;
-        goTo(this.#return, found);
-        this.#return = null;
+        this.#wayBack.go((key) => this.#best.reveal(key) ?? this.#list.reveal(key) ?? this.#table.cell(key));
     }
 
     /** Shows the open list, if it isn't shown yet; once the cube is known. */
@@ -331,9 +323,7 @@ export class Page {
         this.#kept.show(kept);
         this.#best.mark();
         this.#list.mark();
-        const isKept = this.#kept.has(parts);
-        part("keep-line").textContent = isKept ? "★ Kept" : "☆ Keep";
-        part("keep-line").setAttribute("aria-pressed", String(isKept));
+        this.#line.markKept(this.#kept.has(parts));
         if (kept.length === 0 || !this.#cube || this.#kept.isDescribed(this.#cube.written)) return;
         const { scramble, written } = this.#cube;
         try {
@@ -359,7 +349,7 @@ export class Page {
     #open(step, side) {
         const { list } = this.#state;
         if (list?.step === step && list.side === side) return this.#changeList(null);
-        this.#change({ list: { step, side, slack: list?.slack ?? 0, isAll: list?.isAll ?? false } }, "list");
+        this.#change({ list: { step, side, slack: list?.slack ?? 0, isAll: list?.isAll ?? false } }, { focusNext: "list" });
     }
 
     /** Changes what the open list shows, or closes it. @param {Partial<import("./address.js").List> | null} change */
@@ -371,21 +361,31 @@ export class Page {
         if (change === null && isWithin) (this.#table.cell(`${list.step}.${list.side}`) ?? part("steps-heading")).focus();
     }
 
-    /** @param {Part} taken */
-    #take(taken) {
-        const { scramble, parts } = this.#state;
-        this.#seen.add(scramble, [...parts, taken]);
-        this.#change({ parts: [...parts, taken], side: taken.side }, "table");
+    /**
+     * Changes the line, and says whether a step is undone that was taken from a row, which then comes back into view.
+     * @param {Partial<State>} change
+     */
+    #changeLine(change) {
+        const from = this.#seen.rowBefore(this.#state, change.parts);
+        this.#change({ ...change, ...(from && { list: from.list }) });
+        this.#wayBack.set(from && { key: from.key, scroll: null });
+        return from !== null;
+    }
+
+    /** @param {Part} taken @param {string} [key] of its row */
+    #take(taken, key = taken.moves) {
+        this.#seen.add(this.#state, taken, key);
+        this.#change({ parts: [...this.#state.parts, taken], side: taken.side }, { focusNext: "table" });
         announce(`${spoken(bracketed([taken]))} is taken.`);
     }
 
     /** Takes a row of the best, and opens the list of the reduction that follows. @param {import("./finder.js").Row} row */
-    #goOn({ part: taken, next }) {
-        if (!next) return this.#take(taken);
-        const { scramble, parts } = this.#state;
-        this.#seen.add(scramble, [...parts, taken], next.step);
+    #goOn({ part: taken, next, key }) {
+        if (!next) return this.#take(taken, key);
+        const { parts } = this.#state;
+        this.#seen.add(this.#state, taken, key, next.step);
         const list = { step: next.step, side: next.side, slack: 0, isAll: false };
-        this.#change({ parts: taken.moves === "" ? parts : [...parts, taken], side: next.side, list }, "list");
+        this.#change({ parts: taken.moves === "" ? parts : [...parts, taken], side: next.side, list }, { focusNext: "list" });
     }
 
     /** Says why there is no answer. @param {Error} fault */

@@ -1,6 +1,7 @@
 // Where one was: with each entry of the browser's history that is left, what had the focus there and how far the page was scrolled is kept,
 // so that Back leads to the same place; the way to a card and back; and the lines that were taken in this session,
 // which lists and the best mark.
+import { part } from "./element.js";
 import { bracketed } from "./steps.js";
 
 /** @typedef {import("./steps.js").Part} Part */
@@ -46,10 +47,29 @@ export function writeAddress(address, isStep) {
     if (!isWritten()) writing = setTimeout(writeAddress, AGAIN_AFTER, address, isStep);
 }
 
-/** Goes back to a place. @param {Place} place @param {HTMLElement | null} found what has the focus there */
-export function goTo({ scroll }, found) {
-    found?.focus({ preventScroll: true });
-    scrollTo({ top: scroll, behavior: "instant" });
+/** The way back to where one was, as soon as that is shown. */
+export class WayBack {
+    /** @type {{key: string, scroll: number | null} | null} */
+    #place = null;
+
+    /** @param {{key: string, scroll: number | null} | null} place without `scroll` it only comes into view */
+    set(place) {
+        this.#place = place;
+    }
+
+    /** Goes back, once what had the focus there is shown. @param {(key: string) => HTMLElement | null} find */
+    go(find) {
+        if (this.#place === null || part("choices").inert) return;
+        const { key, scroll } = this.#place;
+        const found = key === "" ? null : find(key);
+        if (key !== "" && !found) return;
+        this.#place = null;
+        // whoever undoes by keys may undo more
+        const stays = scroll === null && document.activeElement.matches("button:focus-visible");
+        if (!stays) found?.focus({ preventScroll: true });
+        if (scroll === null) found?.scrollIntoView({ block: "nearest", behavior: "instant" });
+        else scrollTo({ top: scroll, behavior: "instant" });
+    }
 }
 
 const BACK = "Back";
@@ -95,10 +115,27 @@ const nameOfSeen = (scramble, parts, next) => JSON.stringify([scramble, brackete
 
 export class Seen {
     #names = new Set();
+    /** @type {Map<string, {key: string, list: import("./address.js").List | null}>} */
+    #rows = new Map();
 
-    /** Keeps that a line was taken, and with which step after it. @param {string} scramble @param {Part[]} parts @param {string} [next] */
-    add(scramble, parts, next = "") {
-        for (const step of new Set(["", next])) this.#names.add(nameOfSeen(scramble, parts, step));
+    /**
+     * Keeps that a line was taken, from which row and beside which list, and with which step after it.
+     * @param {import("./address.js").State} state @param {Part} taken @param {string} key of the row @param {string} [next]
+     */
+    add({ scramble, parts, list }, taken, key, next = "") {
+        const all = [...parts, taken];
+        for (const step of new Set(["", next])) this.#names.add(nameOfSeen(scramble, all, step));
+        this.#rows.set(nameOfSeen(scramble, all, ""), { key, list });
+    }
+
+    /**
+     * From which row the last step was taken, and beside which list, if it alone is undone; or null.
+     * @param {import("./address.js").State} state @param {Part[]} [left] what is left of the line
+     */
+    rowBefore({ scramble, parts }, left) {
+        const before = parts.slice(0, -1);
+        const isUndone = parts.length > 0 && left?.length === before.length && bracketed(left) === bracketed(before);
+        return (isUndone && this.#rows.get(nameOfSeen(scramble, parts, ""))) || null;
     }
 
     /** @param {string} scramble @param {Part[]} parts @param {string} [next] */

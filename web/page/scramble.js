@@ -1,9 +1,10 @@
 // The card of the scramble: its field, with what was left out of a text and what is at fault, examples, random scrambles from a seed, and
 // the fold of it if the page is narrow.
 import { LONGEST_SCRAMBLE } from "./address.js";
-import { announce, element, part, tell } from "./element.js";
+import { announce, counted, element, part, tell } from "./element.js";
 import { EngineFault, scrambleOf } from "./engine.js";
 import { plainLine, readFmc } from "./pasted.js";
+import { withoutMoving } from "./view.js";
 import { placeOfFault, showFault } from "./words.js";
 
 /** @typedef {{scramble: string, steps: string[], candidates: {steps: string[], note: string}[]}} Fmc */
@@ -57,14 +58,16 @@ export class ScrambleField {
             this.#fold(false);
             this.#field.focus();
         });
-        part("scramble-card").addEventListener("focusout", ({ relatedTarget }) => {
-            if (!part("scramble-card").contains(relatedTarget) && relatedTarget !== null) this.#fold(this.#isRead);
-        });
+        part("left-back").addEventListener("click", () => history.back());
+        // not as soon as the focus goes: what is pressed would move away under the finger
+        addEventListener("click", ({ target }) => this.#leave(target));
+        addEventListener("keyup", () => this.#leave(document.activeElement));
     }
 
     /** Shows a scramble that did not come from the field. @param {string} scramble */
     show(scramble) {
         clearTimeout(this.#timer);
+        this.tellLeft(0);
         if (plainLine(this.#field.value).line !== scramble || readFmc(this.#field.value)) {
             this.#field.value = scramble;
             this.#leftOut = [];
@@ -90,11 +93,36 @@ export class ScrambleField {
         if (!isTyped || !this.#isRead) this.#fold(this.#isRead);
     }
 
+    /** Says how many kept lines a new scramble leaves, beside a way back to them; nothing of none. @param {number} count */
+    tellLeft(count) {
+        const button = part("left-back");
+        const isFocused = document.activeElement === button;
+        part("left").hidden = count === 0;
+        const words = `${counted(count, "kept line")} ${count === 1 ? "was" : "were"} left.`;
+        part("left-words").textContent = count === 0 ? "" : words;
+        // what is hidden can't keep the focus
+        if (isFocused && count === 0) [part("random"), part("scramble-edit")].find((each) => each.checkVisibility())?.focus();
+    }
+
     /** Closes what begins a page, once there is a scramble; what is opened later stays open. */
     #closeSeeds() {
         if (!this.#isRead || this.#isClosed || part("seeds").contains(document.activeElement)) return;
         this.#isClosed = true;
         part("seeds").open = false;
+    }
+
+    /**
+     * Folds the card once something was done elsewhere, if the page is scrolled far enough for nothing to move by it.
+     * @param {Element} where
+     */
+    #leave(where) {
+        const card = part("scramble-card");
+        if (!this.#isRead || card.contains(where) || card.matches(".folded")) return;
+        const height = card.offsetHeight;
+        withoutMoving(part("results"), () => {
+            this.#fold(true);
+            if (height - card.offsetHeight > scrollY) this.#fold(false);
+        });
     }
 
     /** Folds the card where the page is narrow, or opens it; the focus isn't lost with what is folded. @param {boolean} isFolded */

@@ -221,8 +221,7 @@ export class SolutionList {
         const twins = this.#left.length - this.#entries.length;
         if (earlier === 1) sentences.push("1 that reaches it before its last move is left out.");
         if (earlier > 1) sentences.push(`${earlier.toLocaleString("en")} that reach it before their last move are left out.`);
-        const stand = twins === 1 ? "stands beside its own" : "stand beside theirs";
-        if (twins > 0) sentences.push(`${counted(twins, "twin")} ${stand}: ${counted(this.#entries.length, "row")}.`);
+        if (twins > 0) sentences.push(`${counted(this.#entries.length, "row")}: twins share one.`);
         if (matching < this.#entries.length) sentences.push(`${counted(matching, "row")} ${matching === 1 ? "matches" : "match"}.`);
         if (shown < matching) sentences.push(`The first ${shown.toLocaleString("en")} are shown: type moves to narrow the list.`);
         if (!this.#whole) sentences.push("There are more than the page has room for.");

@@ -2,7 +2,7 @@
 // it makes in all, and how many solutions there are; what is reached, in a line; and the looks, in a table of their own.
 import { counted, element, part } from "./element.js";
 import { caseOfStep } from "./position.js";
-import { SIDES, stateOf, statesOf, titleOf } from "./steps.js";
+import { SIDES, isReduced, stateOf, statesOf, titleOf } from "./steps.js";
 
 /** @typedef {import("./position.js").Offer} Offer */
 /** @typedef {import("./steps.js").Side} Side */
@@ -14,6 +14,12 @@ function wordsOf({ length, solutions }, made) {
     const all = made > 0 ? `${made + length} in all, ` : "";
     return [counted(length, "move"), `${all}${counted(solutions, "solution")}`];
 }
+
+/** Whether offers are reductions. @param {Offer[]} offers */
+const areReductions = ([{ step }]) => step.needs !== null;
+
+/** Whether some offers keep what is reached: each does where that is nothing, and a reduction keeps its orientation. */
+const keepsReached = (offers, reached) => reached.length === 0 || (areReductions(offers) && !isReduced(reached));
 
 /** The least length of a group of offers. @param {Offer[]} offers */
 const leastOf = (offers) => Math.min(...offers.flatMap((offer) => SIDES.map((side) => offer[side].length ?? Infinity)));
@@ -53,10 +59,11 @@ export class StepTable {
      */
     add(added, cube, list) {
         this.#groups.push(...added);
-        const isReduction = (group) => Number(group[0].step.needs !== null);
-        const groups = [...this.#groups].sort((one, other) => isReduction(other) - isReduction(one));
+        const groups = [...this.#groups].sort((one, other) => Number(areReductions(other)) - Number(areReductions(one)));
         const focused = this.#body.contains(document.activeElement) ? document.activeElement.dataset.cell : null;
-        this.#body.replaceChildren(...groups.flatMap((group) => this.#rows(group, cube, list)));
+        const anew = groups.find((group) => !keepsReached(group, cube.reached));
+        this.#body.replaceChildren(...groups.flatMap((group) =>
+            [...(group === anew ? [this.#anew(cube)] : []), ...this.#rows(group, cube, list)]));
         this.#looks.replaceChildren(...groups.flat().map((offer) => element("tr", {},
             element("th", { scope: "row" }, titleOf(offer.step)),
             ...SIDES.map((side) => element("td", { class: "number" }, offer[side].looks.toLocaleString("en"))))));
@@ -113,8 +120,14 @@ export class StepTable {
         return [...this.#body.querySelectorAll("[data-cell]")];
     }
 
+    /** What stands above the offers that begin anew. @param {Cube} cube */
+    #anew({ reached }) {
+        const words = isReduced(reached) ? "Another EO or DR, which need not keep this DR" : "Another EO, which need not keep this one";
+        return element("tr", { class: "anew" }, element("td", { colspan: 3, class: "note" }, words));
+    }
+
     #rows(group, cube, list) {
-        const least = leastOf(group);
+        const least = keepsReached(group, cube.reached) ? leastOf(group) : null;
         // where two orientations hold, each has a way of its own to the same reduction
         const isOneOf = new Set(group.map(({ step }) => step.needs)).size > 1;
         return group.map((offer) => element("tr", { "data-marks": stateOf(offer.step) },
@@ -128,7 +141,7 @@ export class StepTable {
         const count = counts[side];
         const [length, rest] = wordsOf(count, made);
         const name = `${step.name}.${side}`;
-        const isLeast = count.length === least;
+        const isLeast = least !== null && count.length === least;
         return element("td", {}, element("button", {
             type: "button",
             class: isLeast ? "cell least" : "cell",

@@ -6,6 +6,9 @@ const EDGE = 16;
 /** Whether the page is as narrow as a phone's. */
 export const isNarrow = () => matchMedia("(max-width: 37.5rem)").matches;
 
+/** Whether nothing was done yet. @param {import("./address.js").State} state */
+export const isBare = ({ scramble, parts }) => scramble.trim() === "" && parts.length === 0;
+
 /**
  * Scrolls to where a column that stays shows what has the focus. The browser scrolls to where that is, and the column goes along.
  * @param {HTMLElement} column @param {Element} focused
