@@ -199,7 +199,7 @@ def goes_on(tally: Tally, browser: Browser) -> None:
     """Shortest is said of steps that keep what is reached alone; the others are said to begin anew."""
     least = "return [...document.querySelectorAll('#steps-body .least')].map((each) => each.dataset.cell.slice(0, 2))"
     legend = "return document.querySelector('#steps .head .least').checkVisibility()"
-    ways = (
+    ways: tuple[tuple[str, set[str], list[str]], ...] = (
         ("", {"eo"}, []),
         ("&steps=normal.D2_R2_L_U", {"dr"}, ["Another EO, which need not keep this one"]),
         ("&steps=normal.D2_R2_L_U~normal.B_R_D2_B_R_B_R_B", set(), ["Another EO or DR, which need not keep this DR"]),
