@@ -19,6 +19,9 @@ def keeps(tally: Tally, browser: Browser) -> None:
     """Candidates are kept by their stars, with notes, in the address; they are gone on with, copied, and taken away."""
     browser.open(ADDRESS)
     browser.wait_best()
+    browser.press("s")
+    tally.holds("a line without moves has no star", browser.script("return document.getElementById('keep-line').hidden"))
+    tally.holds("and no key keeps it", "kept=" not in browser.script("return location.hash"))
     star = "document.querySelector(arguments[0]).click()"
     browser.script(star, "#best-body tr:nth-child(2) .star")
     browser.act('[data-cell="eorl.normal"]')

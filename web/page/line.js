@@ -106,7 +106,7 @@ export class LineSoFar {
         part("line-empty").hidden = parts.length > 0;
         // where the engine can't read them, no line of other parts stays to be copied
         if (bracketed(parts) !== part("bracketed").textContent) this.#showWhole(bracketed(parts), "", UNKNOWN);
-        for (const name of ["line-list", "whole", "undo", "bar-total", "bar-undo"]) part(name).hidden = parts.length === 0;
+        for (const name of ["line-list", "whole", "undo", "bar-total", "bar-undo", "keep-line"]) part(name).hidden = parts.length === 0;
     }
 
     /**

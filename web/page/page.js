@@ -334,15 +334,16 @@ export class Page {
         }
     }
 
-    /** Keeps a line, or takes it away where it is kept. @param {Part[]} parts @param {string} [next] the reduction that it is kept with */
+    /** Keeps a line with moves, or takes it away if it is kept. @param {Part[]} parts @param {string} [next] the reduction that it is kept with */
     #star(parts, next = "") {
+        if (parts.length === 0) return;
         const { kept, isKept } = withStar(this.#state.kept, parts, next);
         if (kept.length > MOST_CANDIDATES || !fitsAddress({ ...this.#state, kept })) {
             tell(part("alert"), NO_ROOM);
             return;
         }
         withoutMoving(part("results"), () => this.#change({ kept }));
-        announce(`${spoken(bracketed(parts)) || "No moves"}: ${isKept ? "kept" : "no longer kept"}.`);
+        announce(`${spoken(bracketed(parts))}: ${isKept ? "kept" : "no longer kept"}.`);
     }
 
     /** Opens a list, or closes it where it is open. @param {string} step @param {Side} side */
