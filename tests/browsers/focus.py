@@ -72,6 +72,8 @@ def waits(tally: Tally, browser: Browser) -> None:
         const { postMessage } = Worker.prototype;
         Worker.prototype.postMessage = function (...words) { setTimeout(() => postMessage.apply(this, words), 1000); }"""
     browser.open(ADDRESS)
+    # until the shortest step was said
+    time.sleep(1.5)
     browser.script(slow)
     browser.script(LISTEN)
     browser.act('[data-cell="eofb.normal"]')
