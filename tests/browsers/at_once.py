@@ -124,7 +124,7 @@ def more(tally: Tally, browser: Browser) -> None:
     browser.open(address_of(LONGER) + "&list=eofb.normal.1")
     tally.equal("the first rows", len(browser.listed()), 200)
     browser.act("#solutions-more")
-    wanted = re.search(r": (\d+) rows", browser.text("solutions-note"))
+    wanted = re.search(r"(\d+) rows: twins", browser.text("solutions-note"))
     tally.equal("all of them", str(len(browser.listed())), wanted[1] if wanted else "")
     tally.equal("the first that is new has the focus", browser.focused(), browser.listed()[200])
     tally.equal("there are no more", browser.text("solutions-more"), "")
