@@ -15,6 +15,17 @@ KEPT_WORDS = """return [...document.querySelectorAll('#kept-list li')]
     .map((each) => [...each.querySelectorAll('.moves, .chip, .case')].map((one) => one.textContent))"""
 
 
+def keeps_moves_alone(tally: Tally, browser: Browser) -> None:
+    """Of a text that is pasted a block without moves is no candidate, so that the address has the others."""
+    browser.open()
+    browser.fill("scramble", "R U F // scramble\n\n() // nothing\n\nU R // good\n")
+    browser.until("return document.querySelectorAll('#kept-list li').length > 0")
+    tally.equal("what has moves is kept", browser.texts("#kept-list .moves"), ["U R"])
+    browser.driver.refresh()
+    browser.until("return document.querySelectorAll('#kept-list li').length > 0")
+    tally.equal("and is in the address", browser.texts("#kept-list .moves"), ["U R"])
+
+
 def keeps(tally: Tally, browser: Browser) -> None:
     """Candidates are kept by their stars, with notes, in the address; they are gone on with, copied, and taken away."""
     browser.open(ADDRESS)
@@ -327,5 +338,5 @@ def leads_to_kept(tally: Tally, browser: Browser) -> None:
 
 def try_all(tally: Tally, browser: Browser) -> None:
     """All of them."""
-    for part in (keeps, keeps_reductions, keeps_stages, premoves, leads_to_kept, fmc_text, edits, by_keys, plays, solved):
+    for part in (keeps, keeps_moves_alone, keeps_reductions, keeps_stages, premoves, leads_to_kept, fmc_text, edits, by_keys, plays, solved):
         part(tally, browser)

@@ -79,7 +79,7 @@ function stagesOfReduced(walk) {
         { parts: parts.slice(begin, to), states: [...new Set(reduced)], cases: [] },
         { parts: parts.slice(to), states: statesOf(later.map(({ name }) => name)), cases: [] },
     ];
-    return parts.length === 0 ? stages.slice(-1) : stages.filter((stage) => stage.parts.length > 0);
+    return stages.filter((stage) => stage.parts.length > 0);
 }
 
 /** The stages of a candidate; before a reduction one, with the cases that may follow. @param {KeptWalk} walk @returns {Stage[]} */
@@ -98,7 +98,7 @@ function stepOf(parts, walk) {
     const total = walk?.totals.at(-1);
     const count = stages.length > 1 ? `${total} in all` : counted(total ?? 0, "move");
     return element("span", { class: "step" }, ...stages.map((stage, at) => element("span", { class: "step" },
-        element("span", { class: "moves" }, bracketed(stage.parts) || "no moves"),
+        element("span", { class: "moves" }, bracketed(stage.parts)),
         ...(at === stages.length - 1 ? [element("span", { class: "total" }, walk === null ? "" : count)] : []),
         ...stage.states.map((state) => element("span", { class: "chip" }, state)),
         ...stage.cases.map((each) => element("span", { class: "case" }, each)))));

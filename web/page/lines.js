@@ -81,7 +81,8 @@ export async function readWritten(calls, { steps, candidates }) {
     for (const each of candidates.slice(0, MOST_CANDIDATES)) {
         kept.push({ parts: await readAllByHand(calls, each.steps), note: each.note.slice(0, LONGEST_NOTE), next: "" });
     }
-    return { parts, kept };
+    // an address has no candidate without moves
+    return { parts, kept: kept.filter((each) => each.parts.length > 0) };
 }
 
 /** The steps of an address, each read as moves by hand are. @param {Calls} calls @param {Part[]} parts @returns {Promise<Part[]>} */
