@@ -5,11 +5,12 @@ use Rattle.niss_shell.proofs.Names.{take-append-add, SourceCall, TargetCall, Rea
 use Rattle.niss_shell.proofs.Names.{most_bytes, Ending, More, End, Fail, LineAnswers, answers_from, answer_lines, line_with_bytes}
 use Rattle.niss_shell.proofs.Names.{last_line, complete_lines, outcome_of_input, unsearched, AnswerState, Progress, TakesBytes, TakesEnd}
 use Rattle.niss_shell.proofs.Names.{TakesNext, TakesLast, IsAt, Answers, AnswersSource, DeviceFault, Stop, InputTooLong, CannotRead}
-use Rattle.niss_shell.proofs.Names.{Bool, outcome_before, ReadsWhile, IsFaultless}
+use Rattle.niss_shell.proofs.Names.{Bool, outcome_before, ReadsWhile, IsFaultless, AnswersAfter, LastRead, Answer, then_answer}
 use Rattle.niss_shell.proofs.StateLemmas.{calls_more, one_call, reads_more, reads_some, reads_end, reads_fault, nothing_read, while_none, while_more}
-use Rattle.niss_shell.proofs.StateLemmas.{delivers_nothing, answered, answers_more, answers_stopped, choose_false, choose_true}
+use Rattle.niss_shell.proofs.StateLemmas.{delivers_nothing, answered, answers_more, answers_after, answers_stopped, choose_false, choose_true}
+use Rattle.niss_shell.proofs.StateLemmas.{then_nothing, then_then}
 use Rattle.niss_shell.proofs.LinesLemmas.{answers_from-append}
-use Rattle.niss_shell.proofs.EngineLemmas.{takes_none, takes_more, last_kept}
+use Rattle.niss_shell.proofs.EngineLemmas.{takes_none, takes_more, last_kept, lines_joined}
 
 -- the tests of the length of the input
 
@@ -76,53 +77,50 @@ no_fault true due e = absurd (cc e)
 no_fault false due e = sym e
 
 module _ {W : Type 0} (call : W → TargetCall → W → Type 0) (f : LineAnswers) where
-  -- the complete lines of an input stopped the run, or have no fault
+  -- what is due for an input, by its complete lines and by how it ends
 
-  stopped_answers : (input : List ℕ) (m : Ending) {lines : List (List ℕ)} (stop : Stop) (a b : AnswerState W)
-      → complete_lines input m ≡ lines → Answers call (answers_from f 1 lines) (Err stop) a b → Answers call (answer_lines f input m) (Err stop) a b
-  stopped_answers input m stop a b e x =
-      answers_stopped call _ _ stop a b (subst (λ ls. Answers call (answers_from f 1 ls) (Err stop) a b) (sym e) x)
+  lines_due : (input : List ℕ) (m : Ending) {lines : List (List ℕ)} {o : Result (Unit {0}) Stop}
+      → complete_lines input m ≡ lines → outcome_of_input input m ≡ o
+      → answer_lines f input m ≡ then_answer (answers_from f 1 lines) (unsearched [] o)
+  lines_due input m {lines = lines} e g =
+      ap (λ ls. then_answer (answers_from f 1 ls) (unsearched [] (outcome_of_input input m))) e
+      ∙ ap (λ o. then_answer (answers_from f 1 lines) (unsearched [] o)) g
 
-  faultless_answers : (input : List ℕ) (m : Ending) {lines : List (List ℕ)} (r : Result (Unit {0}) Stop) (a b : AnswerState W)
-      → complete_lines input m ≡ lines → Answers call (answers_from f 1 lines) (Ok tt) a b → r ≡ outcome_of_input input m
-      → Answers call (answer_lines f input m) r a b
-  faultless_answers input m r a b e x end =
-      answers_more call _ _ r a b b (subst (λ ls. Answers call (answers_from f 1 ls) (Ok tt) a b) (sym e) x)
-      (answered call false (unsearched [] (outcome_of_input input m)) r b b end (delivers_nothing call b))
+  due_so_far : (input : List ℕ) → length input ≤ most_bytes → answer_lines f input More ≡ answers_from f 1 (ended_lines [] input)
+  due_so_far input fits =
+      lines_due input More (begun_lines input (whole_input _ fits)) (choose_false _ _ _ (short_test fits)) ∙ then_nothing _
 
-  answers_cannot_read : (input : List ℕ) {q : Progress} (a b : AnswerState W)
-      → length input ≤ most_bytes → TakesBytes call f [] input 1 q (Ok tt) a b → Answers call (answer_lines f input Fail) (Err CannotRead) a b
-  answers_cannot_read input a b h x =
-      let end : outcome_of_input input Fail ≡ Err CannotRead = choose_false _ _ _ (short_test h) in
-      faultless_answers input Fail (Err CannotRead) a b (begun_lines input (whole_input _ h)) x.0 (sym end)
+  due_at_end : (input : List ℕ) (n : ℕ) → length input ≤ most_bytes → n ≡ 1 + length (ended_lines [] input)
+      → answer_lines f input End
+      ≡ then_answer (answers_from f 1 (ended_lines [] input)) (answers_from f n (line_with_bytes (last_part [] input)))
+  due_at_end input n fits e =
+      lines_due input End (all_lines input fits) (choose_false _ _ _ (short_test fits)) ∙ then_nothing _
+      ∙ answers_from-append f 1 (ended_lines [] input) (line_with_bytes (last_part [] input))
+      ∙ ap (λ k. then_answer (answers_from f 1 (ended_lines [] input)) (answers_from f k (line_with_bytes (last_part [] input)))) (sym e)
+
+  -- after `input` comes a block, of which this part counts
+  due_after_block : (input part whole : List ℕ) (n : ℕ) {o : Result (Unit {0}) Stop}
+      → take most_bytes whole ≡ input ++ part → n ≡ 1 + length (ended_lines [] input) → outcome_of_input whole More ≡ o
+      → answer_lines f whole More ≡ then_answer (answers_from f 1 (ended_lines [] input))
+      (then_answer (answers_from f n (ended_lines (last_part [] input) part)) (unsearched [] o))
+  due_after_block input part whole n {o = o} cut e g =
+      let before = answers_from f 1 (ended_lines [] input) in
+      let lines = ended_lines (last_part [] input) part in
+      lines_due whole More (begun_lines whole cut) g
+      ∙ ap (λ d. then_answer d (unsearched [] o)) (lines_joined f [] input part 1)
+      ∙ then_then before (answers_from f (1 + length (ended_lines [] input)) lines) (unsearched [] o)
+      ∙ ap (λ k. then_answer before (then_answer (answers_from f k lines) (unsearched [] o))) (sym e)
 
   faultless : (input : List ℕ) {q : Progress} (a b : AnswerState W)
       → length input ≤ most_bytes → TakesBytes call f [] input 1 q (Ok tt) a b → IsFaultless f input
-  faultless input a b h x =
-      let end : outcome_of_input input More ≡ Ok tt = choose_false _ _ _ (short_test h) in
-      let all = faultless_answers input More (Ok tt) a b (begun_lines input (whole_input _ h)) x.0 (sym end) in
-      no_fault all.refused _ all.outcome_is
+  faultless input a b fits x = ap (λ d. d.outcome) (due_so_far input fits) ∙ no_fault x.0.refused _ x.0.outcome_is
 
   -- the end of an input of which all bytes were taken
   input_ends : (input : List ℕ) (q : Progress) (a b c : AnswerState W) (r : Result (Unit {0}) Stop)
       → length input ≤ most_bytes → TakesBytes call f [] input 1 q (Ok tt) a b → TakesEnd call f (last_part [] input) q.line r b c
       → Answers call (answer_lines f input End) r a c
-  input_ends input q a b c r fits x last = by_end r
-      (subst (λ d. Answers call d r a c) (sym (answers_from-append f 1 (ended_lines [] input) (line_with_bytes (last_part [] input))))
-      (answers_more call _ _ r a b c x.0 (subst (λ k. Answers call (answers_from f k (line_with_bytes (last_part [] input))) r b c) x.1.line last)))
-    where
-      by_end : (r : Result (Unit {0}) Stop) → Answers call (answers_from f 1 (ended_lines [] input ++ line_with_bytes (last_part [] input))) r a c
-          → Answers call (answer_lines f input End) r a c
-      by_end (Ok u) y = faultless_answers input End (Ok tt) a c (all_lines input fits) y (sym (choose_false _ _ _ (short_test fits)))
-      by_end (Err stop) y = stopped_answers input End stop a c (all_lines input fits) y
-
-  too_long_answers : (input : List ℕ) {whole : List ℕ} (q : Progress) (h j : AnswerState W) (r : Result (Unit {0}) Stop)
-      → most_bytes < length input → take most_bytes input ≡ whole → TakesBytes call f [] whole 1 q r h j
-      → Answers call (answer_lines f input More) (Err (stop_unless r InputTooLong)) h j
-  too_long_answers input q h j (Ok u) long e x =
-      let end : outcome_of_input input More ≡ Err InputTooLong = choose_true _ _ _ (long_test long) in
-      faultless_answers input More (Err InputTooLong) h j (begun_lines input e) x.0 (sym end)
-  too_long_answers input q h j (Err stop) long e x = stopped_answers input More stop h j (begun_lines input e) x.0
+  input_ends input q a b c r fits x last =
+      subst (λ d. Answers call d r a c) (sym (due_at_end input q.line fits x.1.line)) (answers_more call _ _ r a b c x.0 last)
 
   -- the engine's loop over a source
 
@@ -143,14 +141,38 @@ module _ {W : Type 0} (call : W → TargetCall → W → Type 0) (f : LineAnswer
           while_more (IsFaultless f) x.read.reads x.read.input last x.stops (subst (λ m. Reads x.read.reads x.read.input m) x.goes_on x.read.gave)
           (faultless x.read.input h i (omega (arith, x.count_is, room)) x.takes)
 
-      pub at_failure : (asked : ℕ) (fault : DeviceFault) → count ≤ most_bytes → read b (Read asked (Err fault)) c
-          → AnswersSource call f (Err CannotRead) (Calls read a c) h i
-      at_failure asked fault room made = record {
-        read = read_last read a b c x.read x.goes_on made Fail (reads_fault asked fault);
-        stops = stops_after _ room;
-        answers = answers_cannot_read x.read.input h i (omega (arith, x.count_is, room)) x.takes;
-        read_whole = λ e. absurd (cc e);
+      abbrev last_read : (last : SourceCall) → LastRead (x.read.reads ++ last ∷ [])
+      last_read last = record {
+        earlier = x.read.reads;
+        last = last;
+        whole = refl;
+        input = x.read.input;
+        gave = subst (λ m. Reads x.read.reads x.read.input m) x.goes_on x.read.gave;
       }
+
+      -- what was answered after all that was due for what was read before
+      answered_after : {due rest : Answer} (r : Result (Unit {0}) Stop) (j : AnswerState W) → count ≤ most_bytes
+          → h.pending ≡ [] → i.pending ≡ [] → j.pending ≡ [] → due ≡ then_answer (answers_from f 1 (ended_lines [] x.read.input)) rest
+          → Answers call rest r i j → AnswersAfter call (answer_lines f x.read.input More).output due r h j
+      answered_after {rest = rest} r j room none_first none none_now e more =
+          let so_far = due_so_far x.read.input (omega (arith, x.count_is, room)) in
+          subst (λ d. AnswersAfter call (answer_lines f x.read.input More).output d r h j) (sym e)
+          (subst (λ d. AnswersAfter call d.output (then_answer (answers_from f 1 (ended_lines [] x.read.input)) rest) r h j) (sym so_far)
+          (answers_after call _ rest r h i j none_first none none_now x.takes.0 more))
+
+      pub at_failure : (asked : ℕ) (fault : DeviceFault) → count ≤ most_bytes → h.pending ≡ [] → i.pending ≡ []
+          → read b (Read asked (Err fault)) c → AnswersSource call f (Err CannotRead) (Calls read a c) h i
+      at_failure asked fault room none_first none made =
+          let fits : length x.read.input ≤ most_bytes = omega (arith, x.count_is, room) in
+          record {
+            read = read_last read a b c x.read x.goes_on made Fail (reads_fault asked fault);
+            stops = stops_after _ room;
+            last = last_read _;
+            answers = answered_after (Err CannotRead) i room none_first none none
+                (lines_due x.read.input Fail (begun_lines x.read.input (whole_input _ fits)) (choose_false _ _ _ (short_test fits)))
+                (answered call false (unsearched [] (Err CannotRead)) (Err CannotRead) i i refl (delivers_nothing call i));
+            read_whole = λ e. absurd (cc e);
+          }
 
       module _ (n : ℕ) (block : List ℕ) (bound : n ≤ length block) (made : read b (Read (length block) (Ok (take n block))) c) where
         given_length : length (x.read.input ++ take n block) ≡ count + n
@@ -170,35 +192,61 @@ module _ {W : Type 0} (call : W → TargetCall → W → Type 0) (f : LineAnswer
           count_is = sym given_length;
         }
 
-        pub at_end : (r : Result (Unit {0}) Stop) (j : AnswerState W) → count ≤ most_bytes → n ≡ 0 → 0 < length block
+        pub at_end : (r : Result (Unit {0}) Stop) (j : AnswerState W) → count ≤ most_bytes
+            → h.pending ≡ [] → i.pending ≡ [] → j.pending ≡ [] → n ≡ 0 → 0 < length block
             → TakesLast call f p r i j → AnswersSource call f r (Calls read a c) h j
-        at_end r j room none asked last = record {
-          read = read_last read a b c x.read x.goes_on made End (reads_end (length block) (take n block) asked (length_taken block bound ∙ none));
+        at_end r j room none_first none none_now no_byte asked last = record {
+          read = read_last read a b c x.read x.goes_on made End (reads_end (length block) (take n block) asked (length_taken block bound ∙ no_byte));
           stops = stops_after _ room;
-          answers = input_ends x.read.input _ h i j r (omega (arith, x.count_is, room)) x.takes (last.takes (last_part [] x.read.input) x.takes.1.reader);
+          last = last_read _;
+          answers = answered_after r j room none_first none none_now
+              (due_at_end x.read.input p.line (omega (arith, x.count_is, room)) x.takes.1.line)
+              (last.takes (last_part [] x.read.input) x.takes.1.reader);
           read_whole = λ d. refl;
         }
 
-        -- a block in which the run was stopped
-        stopped_at : (stop : Stop) (j : AnswerState W) → count ≤ most_bytes → n ≢ 0 → Answers call (answer_lines f (x.read.input ++ take n block) More) (Err stop) h j
+        -- a block of which this part counts, and in which the run was stopped
+        stopped_at : (part : List ℕ) {o : Result (Unit {0}) Stop} (stop : Stop) (j : AnswerState W) → count ≤ most_bytes
+            → h.pending ≡ [] → i.pending ≡ [] → j.pending ≡ [] → n ≢ 0
+            → take most_bytes (x.read.input ++ take n block) ≡ x.read.input ++ part
+            → outcome_of_input (x.read.input ++ take n block) More ≡ o
+            → Answers call (then_answer (answers_from f p.line (ended_lines (last_part [] x.read.input) part)) (unsearched [] o)) (Err stop) i j
             → AnswersSource call f (Err stop) (Calls read a c) h j
-        stopped_at stop j room some answers =
-            record { read = given some; stops = stops_after _ room; answers = answers; read_whole = λ e. absurd (cc e) }
+        stopped_at part stop j room none_first none none_now some cut end more = record {
+          read = given some;
+          stops = stops_after _ room;
+          last = last_read _;
+          answers = answered_after (Err stop) j room none_first none none_now
+              (due_after_block x.read.input part (x.read.input ++ take n block) p.line cut x.takes.1.line end) more;
+          read_whole = λ e. absurd (cc e);
+        }
 
-        pub at_limit : (room : ℕ) {q : Progress} (r : Result (Unit {0}) Stop) (j : AnswerState W) → room + count ≡ most_bytes → room < n
+        -- the bytes past the most ones don't count
+        past_limit : (part : List ℕ) {q : Progress} (r : Result (Unit {0}) Stop) (j : AnswerState W)
+            → TakesNext call f part p q r i j
+            → Answers call (then_answer (answers_from f p.line (ended_lines (last_part [] x.read.input) part)) (unsearched [] (Err InputTooLong)))
+            (Err (stop_unless r InputTooLong)) i j
+        past_limit part (Ok u) j next =
+            answers_more call _ _ (Err InputTooLong) i j j (next.takes (last_part [] x.read.input) x.takes.1.reader).0
+            (answered call false (unsearched [] (Err InputTooLong)) (Err InputTooLong) j j refl (delivers_nothing call j))
+        past_limit part (Err stop) j next =
+            answers_stopped call _ _ stop i j (next.takes (last_part [] x.read.input) x.takes.1.reader).0
+
+        pub at_limit : (room : ℕ) {q : Progress} (r : Result (Unit {0}) Stop) (j : AnswerState W)
+            → h.pending ≡ [] → i.pending ≡ [] → j.pending ≡ [] → room + count ≡ most_bytes → room < n
             → TakesNext call f (take room block) p q r i j → AnswersSource call f (Err (stop_unless r InputTooLong)) (Calls read a c) h j
-        at_limit room {q = q} r j sum long next =
-            let y = takes_more call f [] x.read.input (take room block) 1 _ q r h i j x.takes (next.takes (last_part [] x.read.input) x.takes.1.reader) in
-            stopped_at _ j (omega (arith, sum)) (λ e. omega (arith, e, long))
-            (too_long_answers (x.read.input ++ take n block) q h j r (omega (arith, given_length, sum, long))
-            (cut_block x.read.input block n room x.count_is sum (omega (arith, long)) bound) y)
+        at_limit room r j none_first none none_now sum long next =
+            stopped_at (take room block) _ j (omega (arith, sum)) none_first none none_now (λ e. omega (arith, e, long))
+            (cut_block x.read.input block n room x.count_is sum (omega (arith, long)) bound)
+            (choose_true _ _ _ (long_test {n = length (x.read.input ++ take n block)} (omega (arith, given_length, sum, long)))) (past_limit (take room block) r j next)
 
-        pub at_stop : {q : Progress} (stop : Stop) (j : AnswerState W) → n + count ≤ most_bytes → n ≢ 0
+        pub at_stop : {q : Progress} (stop : Stop) (j : AnswerState W) → h.pending ≡ [] → i.pending ≡ [] → j.pending ≡ []
+            → n + count ≤ most_bytes → n ≢ 0
             → TakesNext call f (take n block) p q (Err stop) i j → AnswersSource call f (Err stop) (Calls read a c) h j
-        at_stop {q = q} stop j room some next =
-            let y = takes_more call f [] x.read.input (take n block) 1 _ q (Err stop) h i j x.takes (next.takes (last_part [] x.read.input) x.takes.1.reader) in
-            stopped_at stop j (omega (arith, room)) some (stopped_answers _ More stop h j
-            (begun_lines (x.read.input ++ take n block) (whole_input (x.read.input ++ take n block) (omega (arith, given_length, room)))) y.0)
+        at_stop stop j none_first none none_now room some next =
+            stopped_at (take n block) stop j (omega (arith, room)) none_first none none_now some
+            (whole_input (x.read.input ++ take n block) (omega (arith, given_length, room))) refl
+            (answers_stopped call _ _ stop i j (next.takes (last_part [] x.read.input) x.takes.1.reader).0)
 
   -- a whole text at once
 
@@ -209,9 +257,8 @@ module _ {W : Type 0} (call : W → TargetCall → W → Type 0) (f : LineAnswer
   pub text_stopped : {text : List ℕ} {p q : Progress} {stop : Stop} {h j : AnswerState W}
       → length text ≤ most_bytes → IsFirst p → TakesNext call f text p q (Err stop) h j → Answers call (answer_lines f text End) (Err stop) h j
   text_stopped {text = text} {stop = stop} {h = h} {j = j} fits first next =
-      stopped_answers _ End stop h j (all_lines _ fits)
-      (subst (λ d. Answers call d (Err stop) h j) (sym (answers_from-append f 1 (ended_lines [] text) (line_with_bytes (last_part [] text))))
-      (answers_stopped call _ _ stop h j (text_taken text (Err stop) first next).0))
+      subst (λ d. Answers call d (Err stop) h j) (sym (due_at_end text _ fits refl))
+      (answers_stopped call _ _ stop h j (text_taken text (Err stop) first next).0)
 
   pub text_done : {text : List ℕ} {p q : Progress} {r : Result (Unit {0}) Stop} {h i j : AnswerState W}
       → length text ≤ most_bytes → IsFirst p → TakesNext call f text p q (Ok tt) h i → TakesLast call f q r i j

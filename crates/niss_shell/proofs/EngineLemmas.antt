@@ -22,7 +22,7 @@ unfolding last_part
 inside_last front xs h = ap (λ v. last_part front v) (sym (append-nil xs)) ∙ last_after front xs [] h
 
 -- bytes, and more bytes
-lines_joined : (f : LineAnswers) (front xs ys : List ℕ) (n : ℕ) → answers_from f n (ended_lines front (xs ++ ys))
+pub lines_joined : (f : LineAnswers) (front xs ys : List ℕ) (n : ℕ) → answers_from f n (ended_lines front (xs ++ ys))
     ≡ then_answer (answers_from f n (ended_lines front xs)) (answers_from f (n + length (ended_lines front xs)) (ended_lines (last_part front xs) ys))
 lines_joined f front xs ys n = ap (answers_from f n) (ended_lines-append front xs ys) ∙ answers_from-append f n _ _
 

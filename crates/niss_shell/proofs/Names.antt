@@ -35,11 +35,11 @@ pub use Rattle.niss_search.specs.Delivery.{WentThrough, StoppedIn}
 pub use Rattle.niss_search.specs.Draw.{after_words, next_words, draw}
 pub use Rattle.niss_search.specs.Laws.{LooksWithinBound}
 pub use Rattle.niss_shell.specs.Device.{SourceCall, TargetCall, Read, Write, Flush, IsPiece, Ending, More, End, Fail, left_after}
-pub use Rattle.niss_shell.specs.Device.{Writes, WasRead, ReadsWhile, SourceState, is_end, ReadShows}
+pub use Rattle.niss_shell.specs.Device.{Writes, WritesAfter, StartsWith, ReadsOn, LastRead, WasRead, ReadsWhile, SourceState, is_end, ReadShows}
 unfoldable pub use Rattle.niss_shell.specs.Device.{Calls, Reads, Sends}
 pub use Rattle.niss_shell.specs.Engine.{AnswerState, Answers, output_state, Progress, TakesBytes, TakesNext, TakesLast, IsAt}
 pub use Rattle.niss_shell.specs.Engine.{AnswersSource, HasRoom, TakesEnd, Delivered, Delivers, TakesLine, MayBegin, RunsUnflushed}
-pub use Rattle.niss_shell.specs.Engine.{MayTake, Rises, IsFirst, IsFaultless}
+pub use Rattle.niss_shell.specs.Engine.{MayTake, Rises, IsFirst, IsFaultless, AnswersAfter}
 pub use Rattle.niss_shell.specs.Engine.{FlushesLast, EndsAtOnce, IsInput, Keeps, answers_of, lines_state, progress_of, Takes}
 pub use Rattle.niss_shell.specs.Lines.{line_feed}
 unfoldable pub use Rattle.niss_shell.specs.Lines.{ended_lines, last_part}

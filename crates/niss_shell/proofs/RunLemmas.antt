@@ -2,6 +2,7 @@
 use Rattle.niss_shell.proofs.Names.{◌≡◌, ◌≢◌, ℕ, ◌+◌, ◌≤◌, ◌<◌, Bool, true, false, if◌then◌else◌, Option, Some, None, Result, Ok, Err}
 use Rattle.niss_shell.proofs.Names.{List, [], ◌∷◌, ◌++◌, length, refl, sym, ap, ◌∙◌, subst, arith, nat_lt, nat_le, common_steps}
 use Rattle.niss_shell.proofs.Names.{SourceState, SourceCall, TargetCall, Flush, Calls, Sends, Writes, More, End, Ending, left_after}
+use Rattle.niss_shell.proofs.Names.{WritesAfter, ReadsOn, LastRead, out_of}
 use Rattle.niss_shell.proofs.Names.{most_bytes, Request, OnLines, request_of, reads_source, has_step, joined, Answer}
 use Rattle.niss_shell.proofs.Names.{answer_to, answer_from, searched, complete_lines, LineAnswers, line_answer}
 use Rattle.niss_shell.proofs.Names.{answers_from, joined_answer, answer_lines, answer_request, unsearched}
@@ -10,7 +11,7 @@ use Rattle.niss_shell.proofs.Names.{AnswersSource, Answers, RunsUnflushed, EndsA
 use Rattle.niss_shell.proofs.Names.{flushed_outcome, UsageFault, LineCommand, Rewrite, Search, LineFault, ReadFault, Step, Stop, Usage}
 use Rattle.niss_shell.proofs.Names.{InputTooLong, OutOfMemory, LooksWithinBound}
 use Rattle.niss_shell.proofs.StateLemmas.{calls_more, one_call, nothing_read, while_none, writes_none, delivers_nothing, answered, choose_false}
-use Rattle.niss_shell.proofs.StateLemmas.{choose_true}
+use Rattle.niss_shell.proofs.StateLemmas.{choose_true, sends_front, sends_more}
 use Rattle.niss_shell.proofs.AnswerLemmas.{short_test, long_test}
 use Rattle.niss_shell.proofs.LinesLemmas.{by_test}
 
@@ -69,6 +70,7 @@ module _ {R W : Type 0} (read : R → SourceCall → R → Type 0) (call : W →
     no_memory = false;
     asks_memory = λ e. absurd (cc e);
     answers = answers;
+    reads_on = λ some. absurd (some refl);
     read_whole = λ d r. absurd (unread d r);
     empty = empty;
   }
@@ -82,6 +84,7 @@ module _ {R W : Type 0} (read : R → SourceCall → R → Type 0) (call : W →
     no_memory = true;
     asks_memory = λ e. (asks, refl);
     answers = answered call false (unsearched [] (Err OutOfMemory)) (Err OutOfMemory) h h refl (delivers_nothing call h);
+    reads_on = λ some. absurd (some refl);
     read_whole = λ d r. absurd (cc d);
     empty = begins.empty;
   }
@@ -104,7 +107,8 @@ module _ {R W : Type 0} (read : R → SourceCall → R → Type 0) (call : W →
     stops = x.stops;
     no_memory = false;
     asks_memory = λ e. absurd (cc e);
-    answers = x.answers;
+    answers = x.answers.answers;
+    reads_on = λ some. (x.last, x.answers.writes);
     read_whole = λ d r. x.read_whole d;
     empty = empty;
   })
@@ -167,6 +171,36 @@ bounded_looks : (refused : Bool) (due : Answer) (looks looks_now : ℕ) → IsWi
 bounded_looks true due looks looks_now within p = omega (arith, p.1, within)
 bounded_looks false due looks looks_now within p = omega (arith, p, within)
 
+-- The writes of what is due, which start with all that was due before the last read.
+record SendsAll {W : Type 0} (call : W → TargetCall → W → Type 0) (due : List ℕ → List ℕ) (reads : List SourceCall)
+    (refused : Bool) (text : List ℕ) (a b : W) : Type 0 where
+  writes : Writes call refused text [] a b
+  reads_on : reads ≢ [] → ReadsOn due reads writes.calls
+
+sends_all : {W : Type 0} (call : W → TargetCall → W → Type 0) (due : List ℕ → List ℕ) (reads : List SourceCall)
+    (refused : Bool) (text : List ℕ) (a b : W)
+    → (reads ≢ [] → (last : LastRead reads) × WritesAfter call (due last.input) refused text a b)
+    → Writes call refused text [] a b → SendsAll call due reads refused text a b
+sends_all call due [] refused text a b p w = record { writes = w; reads_on = λ some. absurd (some refl) }
+sends_all call due (r ∷ reads) refused text a b p w =
+    let all = p (λ e. absurd (cc e)) in
+    let before = due all.0.input in
+    let first = all.1.first in
+    let others = all.1.others in
+    record {
+      writes = record {
+        calls = first.calls ++ others.calls;
+        made = calls_more call first.calls others.calls a all.1.middle b first.made others.made;
+        sends = subst (λ t. Sends (first.calls ++ others.calls) t (left_after refused [])) all.1.whole
+            (sends_more first.calls others.calls (before ++ all.1.rest) all.1.rest (left_after refused [])
+            (sends_front first.calls before all.1.rest (Some []) first.sends) others.sends);
+      };
+      reads_on = λ some. record {
+        last = all.0;
+        taken = record { first = first.calls; others = others.calls; whole = refl; sends = first.sends };
+      };
+    }
+
 -- the last flush
 pub runs_flushed : {W E : Type 0} (call : W → TargetCall → W → Type 0) (reports : E → TargetCall → E → Type 0) → LooksWithinBound
     → (words : List (List ℕ)) {source : List SourceCall → Type 0} (outcome outcome_now : Result (Unit {0}) Stop) (x y : AnswerState W) (j : W) (k l : E) {status : ℕ}
@@ -175,7 +209,11 @@ pub runs_flushed : {W E : Type 0} (call : W → TargetCall → W → Type 0) (re
     → Runs words source (Calls call x.target j) (Calls reports k l) x.looks y.looks status
 runs_flushed call reports law words outcome outcome_now x y j k l none r flush error status =
     let due = due_without r.no_memory (answer_request (request_of words) r.read.input r.read.ended) in
-    let w = r.answers.delivered.writes in
+    let written = subst (λ p. Writes call r.answers.refused due.output p x.target y.target) r.empty
+        (subst (λ p. Writes call r.answers.refused (p ++ due.output) y.pending x.target y.target) none r.answers.delivered.writes) in
+    let all = sends_all call (λ input. (out_of words input More).output) r.read.reads r.answers.refused due.output x.target y.target
+        r.reads_on written in
+    let w = all.writes in
     record {
       read = r.read;
       unread = r.unread;
@@ -188,8 +226,8 @@ runs_flushed call reports law words outcome outcome_now x y j k l none r flush e
       writes = w.calls;
       flushed = flush.flushed;
       made = calls_more call w.calls (Flush flush.flushed ∷ []) x.target y.target j w.made (one_call call y.target j flush.made);
-      sends = subst (λ p. Sends w.calls due.output (left_after r.answers.refused p)) r.empty
-          (subst (λ p. Sends w.calls (p ++ due.output) (left_after r.answers.refused y.pending)) none w.sends);
+      sends = w.sends;
+      reads_on = all.reads_on;
       outcome = outcome_now;
       outcome_is = flush.outcome_is ∙ ap (λ o. flushed_outcome o flush.flushed) r.answers.outcome_is;
       read_whole = λ e. r.read_whole (r.answers.outcome_is ∙ e);

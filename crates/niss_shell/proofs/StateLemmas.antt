@@ -3,7 +3,7 @@ use Rattle.niss_shell.proofs.Names.{◌≡◌, ◌≢◌, ℕ, ◌+◌, ◌<◌,
 use Rattle.niss_shell.proofs.Names.{Result, Ok, Err, List, [], ◌∷◌, ◌++◌, take, drop, length, length-append, refl, sym, ap, ◌∙◌, subst}
 use Rattle.niss_shell.proofs.Names.{append_assoc, append-nil, arith, drop-append-le, SourceCall, TargetCall, Read, Write, Flush, Calls}
 use Rattle.niss_shell.proofs.Names.{Reads, ReadsWhile, Sends, IsPiece, Ending, More, End, Fail, left_after, Writes, WasRead, DeviceFault, Stop}
-use Rattle.niss_shell.proofs.Names.{is_end, ReadShows, SourceState, ◌||◌}
+use Rattle.niss_shell.proofs.Names.{is_end, ReadShows, SourceState, ◌||◌, AnswersAfter}
 use Rattle.niss_shell.proofs.Names.{Answer, unsearched, joined_answer, then_answer, AnswerState, Delivered, Answers, Output, output_state}
 use Rattle.niss_shell.proofs.Names.{outcome_before, Looked}
 
@@ -38,7 +38,7 @@ piece_front {piece = piece} more p = record {
 piece_fits : {piece text : List ℕ} → IsPiece piece text → length piece ≤ length text
 piece_fits {piece = piece} p = omega (arith, ap (length {A = ℕ}) p.whole, length-append piece p.rest)
 
-sends_front : (calls : List TargetCall) (text more : List ℕ) (left : Option (List ℕ)) → Sends calls text left → Sends calls (text ++ more) (with_more left more)
+pub sends_front : (calls : List TargetCall) (text more : List ℕ) (left : Option (List ℕ)) → Sends calls text left → Sends calls (text ++ more) (with_more left more)
 unfolding Sends
 sends_front [] text more left p = ap (λ l. with_more l more) p
 sends_front (Flush result ∷ calls) text more left p = absurd p
@@ -51,7 +51,7 @@ sends_front (Write piece (Ok (suc n)) ∷ calls) text more left p = (
       (sends_front calls (drop (suc n) text) more left p.2),
 )
 
-sends_more : (xs ys : List TargetCall) (text mid : List ℕ) (left : Option (List ℕ)) → Sends xs text (Some mid) → Sends ys mid left → Sends (xs ++ ys) text left
+pub sends_more : (xs ys : List TargetCall) (text mid : List ℕ) (left : Option (List ℕ)) → Sends xs text (Some mid) → Sends ys mid left → Sends (xs ++ ys) text left
 unfolding Sends
 sends_more [] ys text mid left p q = let e : mid ≡ text = cc p in subst (λ t. Sends ys t left) e q
 sends_more (Flush result ∷ calls) ys text mid left p q = absurd p
@@ -284,6 +284,35 @@ module _ {W : Type 0} (call : W → TargetCall → W → Type 0) where
       (answered q.refused (joined_answer (Ok tt) a b) r x z q.outcome_is
       (delivers_more call q.refused a.output b.output (a.output ++ b.output) a.looks b.looks (a.looks + b.looks) x y z refl refl
       (good_delivered a x y p) q.delivered))
+
+  nothing_waits : (refused : Bool) (text : List ℕ) (x y : AnswerState W) → x.pending ≡ [] → y.pending ≡ []
+      → Writes call refused (x.pending ++ text) y.pending x.target y.target → Writes call refused text [] x.target y.target
+  nothing_waits refused text x y e f w =
+      subst (λ t. Writes call refused text t x.target y.target) f
+      (subst (λ t. Writes call refused (t ++ text) y.pending x.target y.target) e w)
+
+  -- the same where nothing waits: what was answered first was taken whole
+  pub answers_after : (a b : Answer) (r : Result (Unit {0}) Stop) (x y z : AnswerState W)
+      → x.pending ≡ [] → y.pending ≡ [] → z.pending ≡ []
+      → Answers call a (Ok tt) x y → Answers call b r y z → AnswersAfter call a.output (then_answer a b) r x z
+  answers_after a b r x y z e f g p q =
+      let first = good_delivered a x y p in
+      subst (λ o. AnswersAfter call a.output (joined_answer o a b) r x z) (sym (good_first p.refused a.outcome p.outcome_is).1)
+      (record {
+        answers = record {
+          refused = q.refused;
+          outcome_is = q.outcome_is;
+          delivered = delivers_more call q.refused a.output b.output (a.output ++ b.output) a.looks b.looks (a.looks + b.looks)
+              x y z refl refl first q.delivered;
+        };
+        writes = record {
+          middle = y.target;
+          rest = b.output;
+          whole = refl;
+          first = nothing_waits false a.output x y e f first.writes;
+          others = nothing_waits q.refused b.output y z f g q.delivered.writes;
+        };
+      })
 
   refused_first : (a b : Answer) (o : Result (Unit {0}) Stop) (x z : AnswerState W)
       → Delivered call true a.output a.looks x z → Delivered call true (joined_answer o a b).output (joined_answer o a b).looks x z

@@ -116,6 +116,14 @@ ReadsWhile Holds reads =
     (before after : List SourceCall) (call : SourceCall) (input : List ℕ) →
     before ++ call ∷ after ≡ reads → Reads before input More → Holds input
 
+-- The last of some reads, and the input that those before it gave.
+pub record LastRead (reads : List SourceCall) : Type 0 where
+  pub earlier : List SourceCall
+  pub last : SourceCall
+  pub whole : earlier ++ last ∷ [] ≡ reads
+  pub input : List ℕ
+  pub gave : Reads earlier input More
+
 -- A piece of a text: a beginning of it that has a byte.
 pub record IsPiece (piece text : List ℕ) : Type 0 where
   pub rest : List ℕ
@@ -136,9 +144,30 @@ abbrev pub left_after : Bool → List ℕ → Option (List ℕ)
 left_after true rest = None
 left_after false rest = Some rest
 
+-- The first of some writes took all of a text.
+pub record StartsWith (text : List ℕ) (writes : List TargetCall) : Type 0 where
+  pub first : List TargetCall
+  pub others : List TargetCall
+  pub whole : first ++ others ≡ writes
+  pub sends : Sends first text (Some [])
+
+-- All that was due for the input before the last read had been taken when that was made: so the writes start with it.
+pub record ReadsOn (due : List ℕ → List ℕ) (reads : List SourceCall) (writes : List TargetCall) : Type 0 where
+  pub last : LastRead reads
+  pub taken : StartsWith (due last.input) writes
+
 -- A text was written up to this rest of it, or a write of it was refused.
 pub record Writes {W : Type 0} (call : W → TargetCall → W → Type 0)
     (refused : Bool) (text rest : List ℕ) (old new : W) : Type 0 where
   pub calls : List TargetCall
   pub made : Calls call old new calls
   pub sends : Sends calls text (left_after refused rest)
+
+-- A text was written whole or a write was refused, but none of this beginning of it.
+pub record WritesAfter {W : Type 0} (call : W → TargetCall → W → Type 0)
+    (front : List ℕ) (refused : Bool) (text : List ℕ) (old new : W) : Type 0 where
+  pub middle : W
+  pub rest : List ℕ
+  pub whole : front ++ rest ≡ text
+  pub first : Writes call false front [] old middle
+  pub others : Writes call refused rest [] middle new

@@ -1,7 +1,8 @@
 -- What the engine's steps do. `front` are the bytes of the line that is being read.
-use Rattle.std.specs.Prelude.{◌≡◌, ℕ, ◌+◌, ◌*◌, ◌^◌, ◌<◌, ◌≤◌, Bool, true, false, is_err, Option, Some, None}
+use Rattle.std.specs.Prelude.{◌≡◌, ◌≢◌, ℕ, ◌+◌, ◌*◌, ◌^◌, ◌<◌, ◌≤◌, Bool, true, false, is_err, Option, Some, None}
 use Rattle.std.specs.Prelude.{Result, Ok, Err, OnOk, List, [], ◌++◌, length}
-use Rattle.niss_shell.specs.Device.{SourceState, SourceCall, TargetCall, Flush, More, End, WasRead, ReadsWhile, Writes}
+use Rattle.niss_shell.specs.Device.{SourceState, SourceCall, TargetCall, Flush, More, End, WasRead, ReadsWhile, LastRead}
+use Rattle.niss_shell.specs.Device.{Writes, WritesAfter}
 use Rattle.niss_shell.specs.Lines.{ended_lines, last_part}
 use Rattle.niss_moves.specs.Reader.{Reader, IsFed}
 use Rattle.niss_shell.specs.Words.{Request, reads_source, takes_memory, most_bytes, joined}
@@ -56,6 +57,12 @@ module _ {W : Type 0} (call : W → TargetCall → W → Type 0) where
     pub refused : Bool
     pub outcome_is : outcome ≡ outcome_before refused due.outcome
     pub delivered : Delivered refused due.output due.looks old new
+
+  -- The same, and no write of this beginning of what is due was refused.
+  pub record AnswersAfter (front : List ℕ) (due : Answer) (outcome : Result (Unit {0}) Stop) (old new : AnswerState W)
+      : Type 0 where
+    pub answers : Answers due outcome old new
+    pub writes : WritesAfter call front answers.refused due.output old.target new.target
 
 -- The line that is being read, and its number.
 pub record Progress : Type 0 where
@@ -126,7 +133,8 @@ module _ {W : Type 0} (call : W → TargetCall → W → Type 0) where
       (source : List SourceCall → Type 0) (old new : AnswerState W) : Type 0 where
     pub read : WasRead source
     pub stops : ReadsWhile (IsFaultless f) read.reads
-    pub answers : Answers call (answer_lines f read.input read.ended) outcome old new
+    pub last : LastRead read.reads
+    pub answers : AnswersAfter call (answer_lines f last.input More).output (answer_lines f read.input read.ended) outcome old new
     pub read_whole : outcome ≡ Ok tt → read.ended ≡ End
 
   -- What a run does before its last flush. No answer waits then.
@@ -138,6 +146,8 @@ module _ {W : Type 0} (call : W → TargetCall → W → Type 0) where
     pub no_memory : Bool
     pub asks_memory : no_memory ≡ true → (takes_memory asked ≡ true) × (read.reads ≡ [])
     pub answers : Answers call (due_without no_memory (answer_request asked read.input read.ended)) outcome old new
+    pub reads_on : read.reads ≢ [] → (last : LastRead read.reads) × WritesAfter call (answer_request asked last.input More).output
+        answers.refused (due_without no_memory (answer_request asked read.input read.ended)).output old.target new.target
     pub read_whole : outcome ≡ Ok tt → reads_source asked ≡ true → read.ended ≡ End
     pub empty : new.pending ≡ []
 

@@ -1,6 +1,7 @@
 -- What a run does to its three devices.
-use Rattle.std.specs.Prelude.{◌≡◌, ℕ, ◌+◌, ◌≤◌, Bool, true, false, Result, Ok, Err, List, [], ◌∷◌, ◌++◌}
-use Rattle.niss_shell.specs.Device.{SourceCall, TargetCall, Flush, WasRead, ReadsWhile, More, End, Sends, left_after}
+use Rattle.std.specs.Prelude.{◌≡◌, ◌≢◌, ℕ, ◌+◌, ◌≤◌, Bool, true, false, Result, Ok, Err, List, [], ◌∷◌, ◌++◌}
+use Rattle.niss_shell.specs.Device.{SourceCall, TargetCall, Flush, WasRead, ReadsWhile, ReadsOn, More, End, Sends}
+use Rattle.niss_shell.specs.Device.{left_after}
 use Rattle.niss_shell.specs.Words.{request_of, reads_source, takes_memory}
 use Rattle.niss_shell.specs.Output.{Answer, unsearched, out_of, error_text, status_of}
 use Rattle.niss_shell.specs.Names.{DeviceFault, Stop, CannotWrite, OutOfMemory}
@@ -47,6 +48,8 @@ pub record Runs (words : List (List ℕ)) (source : List SourceCall → Type 0) 
   pub flushed : Result (Unit {0}) DeviceFault
   pub made : output (writes ++ Flush flushed ∷ [])
   pub sends : Sends writes due.output (left_after refused [])
+  -- After a refused write nothing more is read.
+  pub reads_on : read.reads ≢ [] → ReadsOn (λ input. (out_of words input More).output) read.reads writes
   -- how it ends
   pub outcome : Result (Unit {0}) Stop
   pub outcome_is : outcome ≡ flushed_outcome (outcome_before refused due.outcome) flushed

@@ -23,32 +23,33 @@ loop-given-init g c = record {
 pub returns-in_default-clause-answers : goal.returns-in_default-clause-answers
 returns-in_default-clause-answers g c =
     at_failure g.W.Target.call _ g.S.Source.call c.args.source.now c.loop-given.source c.read.new.self c.loop-given.invariant.at _ _
-    c.loop-given.invariant.room c.in_default.ensures.made
+    c.loop-given.invariant.room c.requires.begins.empty c.loop-given.invariant.empty c.in_default.ensures.made
 
 pub returns-then-given-eq0-clause-answers : goal.returns-then-given-eq0-clause-answers
 returns-then-given-eq0-clause-answers g c =
     at_end g.W.Target.call _ g.S.Source.call c.args.source.now c.loop-given.source c.read.new.self c.loop-given.invariant.at c.in-Ok.given c.read.new.buf
-    c.in-Ok.ensures.bound c.in-Ok.ensures.made _ _ c.loop-given.invariant.room c.if-given-eq0.true (rw c.read.auto.buf c.loop-given.invariant.block)
+    c.in-Ok.ensures.bound c.in-Ok.ensures.made _ _ c.loop-given.invariant.room c.requires.begins.empty c.loop-given.invariant.empty c.take_end.ensures.empty c.if-given-eq0.true (rw c.read.auto.buf c.loop-given.invariant.block)
     (last_kept g.W.Target.call c.loop-given.invariant.keeps c.take_end.ensures.ends)
 
 pub returns-in_err-take_block-clause-answers : goal.returns-in_err-take_block-clause-answers
 returns-in_err-take_block-clause-answers g c =
     let p = err_from_is_err_and c.from_residual.result c.from_residual.ensures.1 in
     rw (p.1, p.2) (at_limit g.W.Target.call _ g.S.Source.call c.args.source.now c.loop-given.source c.read.new.self c.loop-given.invariant.at c.in-Ok.given c.read.new.buf
-    c.in-Ok.ensures.bound c.in-Ok.ensures.made (most_bytes - c.loop-given.count) _ _ (omega (arith, c.loop-given.invariant.room)) c.if-given-room.true
-    (kept g.W.Target.call c.loop-given.invariant.keeps c.in_err-take_block.ensures.takes))
+    c.in-Ok.ensures.bound c.in-Ok.ensures.made (most_bytes - c.loop-given.count) _ _ c.requires.begins.empty c.loop-given.invariant.empty c.in_err-take_block.ensures.empty
+    (omega (arith, c.loop-given.invariant.room)) c.if-given-room.true (kept g.W.Target.call c.loop-given.invariant.keeps c.in_err-take_block.ensures.takes))
 
 pub returns-then-given-room-clause-answers : goal.returns-then-given-room-clause-answers
 returns-then-given-room-clause-answers g c =
     at_limit g.W.Target.call _ g.S.Source.call c.args.source.now c.loop-given.source c.read.new.self c.loop-given.invariant.at c.in-Ok.given c.read.new.buf
-    c.in-Ok.ensures.bound c.in-Ok.ensures.made (most_bytes - c.loop-given.count) (Ok tt) _ (omega (arith, c.loop-given.invariant.room)) c.if-given-room.true
-    (kept g.W.Target.call c.loop-given.invariant.keeps c.in_ok-take_block.ensures.takes)
+    c.in-Ok.ensures.bound c.in-Ok.ensures.made (most_bytes - c.loop-given.count) (Ok tt) _ c.requires.begins.empty c.loop-given.invariant.empty c.in_ok-take_block.ensures.empty
+    (omega (arith, c.loop-given.invariant.room)) c.if-given-room.true (kept g.W.Target.call c.loop-given.invariant.keeps c.in_ok-take_block.ensures.takes)
 
 pub returns-in_err-take_block-2-clause-answers : goal.returns-in_err-take_block-2-clause-answers
 returns-in_err-take_block-2-clause-answers g c =
     let p = err_from_is_err_and c.from_residual-in_err-take_block-2.result c.from_residual-in_err-take_block-2.ensures.1 in
     rw (p.1, p.2) (at_stop g.W.Target.call _ g.S.Source.call c.args.source.now c.loop-given.source c.read.new.self c.loop-given.invariant.at c.in-Ok.given c.read.new.buf
-    c.in-Ok.ensures.bound c.in-Ok.ensures.made _ _ (omega (arith, c.loop-given.invariant.room, c.if-given-room.false)) c.if-given-eq0.false
+    c.in-Ok.ensures.bound c.in-Ok.ensures.made _ _ c.requires.begins.empty c.loop-given.invariant.empty c.in_err-take_block-2.ensures.empty
+    (omega (arith, c.loop-given.invariant.room, c.if-given-room.false)) c.if-given-eq0.false
     (kept g.W.Target.call c.loop-given.invariant.keeps c.in_err-take_block-2.ensures.takes))
 
 pub loop-given-preserved : goal.loop-given-preserved
