@@ -36,10 +36,13 @@ def after_list(text: str) -> str:
 
 
 def owner_named(header: str) -> tuple[str, str]:
-    """Returns the type that an `impl` is of, and what a check calls the owner of its methods: type and trait, as `StopFromDeviceFault`."""
-    trait, _, of = after_list(header.removeprefix("unsafe ").removeprefix("impl")).rpartition(" for ")
+    """Returns the type that an `impl` is of, and what a check calls the owner of its methods: type and trait, as `StopFromDeviceFault`, or the
+    type with what it is made for, as `LineCommand+Step` in `impl LineCommand<Step>`."""
+    head = header.removeprefix("unsafe ").removeprefix("impl")
+    trait, _, of = after_list(head).rpartition(" for ")
     name: str = re.findall(r"^\s*(?:\w+::)*(\w+)", of)[0]
-    return name, name + "".join(re.findall(r"\w+", trait.split("::")[-1]))
+    made_for = re.findall(r"^\s*\w+<(\w+)>", head) if not trait else []
+    return name, name + "".join([*(f"+{it}" for it in made_for), *re.findall(r"\w+", trait.split("::")[-1])])
 
 
 def module_of(file: str) -> tuple[str, ...]:
