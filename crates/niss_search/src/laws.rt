@@ -1,10 +1,12 @@
 //! Laws over the definitions, each as a contract.
+ghost use Rattle.std.specs.Prelude.{◌≡◌};
 ghost use Rattle.niss_search.specs.Laws.{CountRecurrence, PartHasNoMore, LooksWithinBound, NoSlackIsLeast};
 ghost use Rattle.niss_search.specs.Laws.{FirstIsLeast, DistanceIsShortest, StepBoundIsLess, BoundIsSmall};
 ghost use Rattle.niss_search.specs.Laws.{EntriesAreCounted, EdgeFillIsSmall, FillIsSmall, DistanceIsLeast};
 ghost use Rattle.niss_search.specs.Laws.{PositionsFollowCubes};
 ghost use Rattle.niss_search.specs.Filling.{EntriesTurn};
 
+use crate::path::Limit;
 use niss_cube::laws::{
     are_coordinates, domino_keeps_start, inverses_of_steps, start_is_kept, step_turns_in_order,
     steps_see_places, turned_is_cube,
@@ -26,6 +28,13 @@ pub fn counts_and_bounds()
 {
     step_turns_in_order();
     domino_keeps_start();
+}
+
+/// `Limit::ZERO` is the limit of no turn.
+pub fn zero_is_no_turn() -> Limit
+    ensures { result ≡ 0 }
+{
+    Limit::ZERO
 }
 
 /// A search without slack is for the solutions of least length alone.
