@@ -9,7 +9,7 @@ use Rattle.niss_cube.proofs.StepLemmas.{step_turns_in_order, step_turns_are_coun
 pub use Rattle.niss_cube.proofs.CoordinateLaws.{cube-itself, alike_is_cube}
 -- a number that is 0 where a set is kept
 pub use Rattle.niss_cube.proofs.Codes.{zero_test}
--- how many turns a step has
-pub use Rattle.niss_cube.proofs.StepLemmas.{turns_of-length, turns_of-oriented}
+-- how many turns a step has, and that its name is its own
+pub use Rattle.niss_cube.proofs.StepLemmas.{turns_of-length, turns_of-oriented, names_differ}
 
-pub ruleset laws = (cubes_permute_places, are_coordinates, kept_is_tested, sets_are_places, start_is_kept, other_turns_leave_start, steps_see_places, inverses_of_steps, step_turns_in_order, step_turns_are_counted, domino_keeps_start)
+pub ruleset laws = (cubes_permute_places, are_coordinates, kept_is_tested, sets_are_places, start_is_kept, other_turns_leave_start, steps_see_places, inverses_of_steps, step_turns_in_order, step_turns_are_counted, domino_keeps_start, names_differ)

@@ -10,7 +10,8 @@ use Rattle.niss_cube.proofs.Words.{Eofb, Eorl, Eoud, DrudEofb, DrrlEofb, DrudEor
 use Rattle.niss_cube.proofs.Words.{DrEofb, DrEorl, DrEoud, steps, goals_of, at_member, DominoKeepsStart, sym, [], ◌∷◌}
 use Rattle.niss_cube.proofs.Words.{IsTrue, Place, SameMap, Flip, Twist, Slice, HasOnlyPlaces, twist_set, slice_set}
 use Rattle.niss_cube.proofs.Words.{may_start, same_truth, reached, StartIsKept, StepsSeePlaces, Cube, map_of}
-use Rattle.niss_cube.proofs.Words.{OtherTurnsLeaveStart, set}
+use Rattle.niss_cube.proofs.Words.{OtherTurnsLeaveStart, set, NamesDiffer, name_of, ℕ}
+use Rattle.std.specs.Prelude.{find, unwrap_or, bytes_eq}
 use Rattle.niss_cube.specs.Names.{Edges}
 use Rattle.niss_cube.specs.Steps.{holds as goal_holds}
 use Rattle.niss_cube.proofs.Codes.{kept_is_tested, kept_same, sets_are_places}
@@ -147,6 +148,30 @@ starts_there _ _ _ h = absurd (cc)
 pub domino_keeps_start : DominoKeepsStart
 domino_keeps_start s o a m =
     starts_there (start_of s) o a (at_member (keeps (start_of s)) (goals_of s) (Domino o a) (at_member (λ s. list_all (keeps (start_of s)) (goals_of s)) steps s goals_keep (member s)) m)
+
+-- a name leads back to its step
+
+named : List ℕ → Step
+named name = unwrap_or (find (λ s. bytes_eq name (name_of s)) steps) Eo
+
+named-itself : (s : Step) → named (name_of s) ≡ s
+unfolding named
+named-itself Eofb = refl
+named-itself Eorl = refl
+named-itself Eoud = refl
+named-itself DrudEofb = refl
+named-itself DrrlEofb = refl
+named-itself DrudEorl = refl
+named-itself DrfbEorl = refl
+named-itself DrrlEoud = refl
+named-itself DrfbEoud = refl
+named-itself Eo = refl
+named-itself DrEofb = refl
+named-itself DrEorl = refl
+named-itself DrEoud = refl
+
+pub names_differ : NamesDiffer
+names_differ s t e = sym (named-itself s) ∙ ap named e ∙ named-itself t
 
 -- the start is kept
 

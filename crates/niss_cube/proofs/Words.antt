@@ -58,7 +58,7 @@ pub use Rattle.niss_cube.specs.Sets.{PermutesPlaces, CubesPermutePlaces, KeptIsE
 pub use Rattle.niss_cube.specs.Sets.{slice_set, twist_set, SetsArePlaces, KeptIsTested}
 unfoldable pub use Rattle.niss_cube.specs.Sets.{is_kept}
 pub use Rattle.niss_cube.specs.StepLaws.{OtherTurnsLeaveStart, DominoKeepsStart, StartIsKept, StepsSeePlaces}
-pub use Rattle.niss_cube.specs.StepLaws.{InversesOfSteps, StepTurnsInOrder, StepTurnsAreCounted}
+pub use Rattle.niss_cube.specs.StepLaws.{InversesOfSteps, StepTurnsInOrder, StepTurnsAreCounted, NamesDiffer}
 pub use Rattle.niss_cube.specs.Steps.{start_of, goals_of, powers_from, is_face_of, steps, name_of}
 unfoldable pub use Rattle.niss_cube.specs.Steps.{turns_of, may_start, reached}
 pub use Rattle.niss_cube.specs.AfterTurn.{IsMoveRow, IsRankAfter, AreMoveRows, turn_in, turn_number}

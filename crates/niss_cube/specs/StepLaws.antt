@@ -4,7 +4,7 @@ use Rattle.std.specs.Option.{option_map_or}
 use Rattle.niss_moves.specs.Canonical.{turn_order}
 use Rattle.niss_cube.specs.Names.{Place, SameMap, turned, inverse_turn, Turn, Axis, Domino, Cube, Step}
 use Rattle.niss_cube.specs.Map.{map_of}
-use Rattle.niss_cube.specs.Steps.{start_of, goals_of, turns_of, may_start, reached}
+use Rattle.niss_cube.specs.Steps.{start_of, goals_of, turns_of, may_start, reached, name_of}
 
 -- A step that may start may start after each of its turns too.
 abbrev pub StartIsKept : Type 0
@@ -42,3 +42,7 @@ StepTurnsAreCounted = (s : Step) → length (turns_of s) ≡ option_map_or (λ a
 abbrev pub DominoKeepsStart : Type 0
 DominoKeepsStart =
     (s : Step) (edges axis : Axis) → Contains (goals_of s) (Domino edges axis) → start_of s ≡ Some edges
+
+-- No two steps have one name.
+abbrev pub NamesDiffer : Type 0
+NamesDiffer = (s t : Step) → name_of s ≡ name_of t → s ≡ t

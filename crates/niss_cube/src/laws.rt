@@ -4,7 +4,7 @@
 ghost use Rattle.niss_cube.specs.AfterTurn.{TurnedIsCube, AreCoordinates};
 ghost use Rattle.niss_cube.specs.Sets.{KeptIsTested, SetsArePlaces, CubesPermutePlaces, KeptIsEqual};
 ghost use Rattle.niss_cube.specs.StepLaws.{StartIsKept, OtherTurnsLeaveStart, StepsSeePlaces, InversesOfSteps};
-ghost use Rattle.niss_cube.specs.StepLaws.{StepTurnsInOrder, StepTurnsAreCounted, DominoKeepsStart};
+ghost use Rattle.niss_cube.specs.StepLaws.{StepTurnsInOrder, StepTurnsAreCounted, DominoKeepsStart, NamesDiffer};
 
 /// A turned cube is a cube.
 pub fn turned_is_cube()
@@ -70,4 +70,9 @@ pub fn step_turns_are_counted()
 /// A step that can reach a domino reduction starts at the oriented edges that this keeps.
 pub fn domino_keeps_start()
     ensures { DominoKeepsStart }
+{}
+
+/// No two steps have one name.
+pub fn names_differ()
+    ensures { NamesDiffer }
 {}
