@@ -5,6 +5,7 @@ ghost use Rattle.niss_embed.specs.Memory.{memory};
 ghost use Rattle.niss_embed.specs.LineSearch.{Builds, SolvesWith, CountsWith};
 
 use niss_cube::Step;
+use niss_cube::laws::names_differ;
 use niss_embed::{CountAnswer, SolveAnswer, Status, Wanted, count_line, solve_line};
 use niss_kept::Held;
 use std::alloc::Global;
@@ -13,12 +14,13 @@ use std::alloc::Global;
 /// this step. `Usage`: no step has this name. `Stopped`: memory was refused. After these two there are no tables, so
 /// that a caller who ignores it never asks those of another step.
 #[unsafe(no_mangle)]
-#[tactic(auto, using(crate::proofs::StepNames::names_differ))]
 pub extern "C" fn nissy_build(alloc: Global, tables: &mut Held, name: &[u8]) -> u8
     ensures builds { Builds name.now tables.new.built tables.new.kept.step result }
     // Tables of the step that are there already stay, and aren't built anew.
     ensures there { tables.old.built ≡ true → name_of tables.old.kept.step ≡ name.now → tables.new ≡ tables.old }
 {
+    // so tables whose step has this name are those of the step that is found
+    names_differ();
     let Some(step) = Step::from_name(name) else {
         *tables = Held::none();
         return Status::Usage.number();
