@@ -120,7 +120,7 @@ export class Engine {
   }
 
   /**
-   * What the engine answers.
+   * What the engine returns.
    * @param {Request} request
    * @returns {Reply}
    */
