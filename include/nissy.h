@@ -51,11 +51,11 @@ enum nissy_fault {
 #define NISSY_LINE_ROOM 2048
 #define NISSY_ERROR_ROOM 128
 
-/* What a call on one line answers. */
+/* What a call on one line returns. */
 typedef struct nissy_line_answer {
     uint16_t status; /* NISSY_DONE, NISSY_FAULT, NISSY_STOPPED or NISSY_ROOM; NISSY_USAGE of the calls that take no line alone */
     uint16_t fault;  /* one of nissy_fault */
-    uint32_t column; /* the place of the fault in bytes, from 1; 0 where there is none */
+    uint32_t column; /* the place of the fault in bytes, from 1; 0 if there is none */
     size_t length;   /* after NISSY_DONE the bytes written, after NISSY_ROOM the bytes that there are to write; else 0 */
 } nissy_line_answer;
 
@@ -71,7 +71,7 @@ nissy_line_answer nissy_cleanup(const uint8_t *line, size_t line_length, uint8_t
 /* the 54 facelet letters of the cube after the moves */
 nissy_line_answer nissy_print(const uint8_t *line, size_t line_length, uint8_t *out, size_t out_room);
 
-/* What nissy_run answers. The bytes of `out` and `err` behind those that are written are as they were. */
+/* What nissy_run returns. The bytes of `out` and `err` behind those that are written are as they were. */
 typedef struct nissy_run_answer {
     uint8_t status;     /* the exit status of the program: NISSY_DONE, NISSY_FAULT, NISSY_USAGE or NISSY_STOPPED */
     bool out_too_small; /* the output is longer than `out`, which holds a beginning of it; the status is NISSY_STOPPED */
@@ -80,8 +80,8 @@ typedef struct nissy_run_answer {
     size_t err_length;  /* how many bytes of `err` are written */
 } nissy_run_answer;
 
-/* Does what the program does with these words after its name, where its input is `input`: its output goes to `out`, its error text to
- * `err`. Each word is followed by a zero byte; for the last one that may be left out where it has a byte. So "invert" is 6 or 7 bytes,
+/* Does what the program does with these words after its name, if its input is `input`: its output goes to `out`, its error text to
+ * `err`. Each word is followed by a zero byte; for the last one that may be left out if it has a byte. So "invert" is 6 or 7 bytes,
  * and `solve eofb 20` is "solve\0eofb\0" "20".
  *
  * It takes memory for the words, and for the tables of a step, from the program's malloc, realloc and free, and has given all of it
@@ -114,7 +114,7 @@ typedef struct nissy_tables {
  * had of another step aren't given back; copies of the struct from before still have them. */
 uint8_t nissy_build(nissy_tables *tables, const uint8_t *step, size_t step_length);
 
-/* What nissy_solve answers. What isn't named for a status is 0 or false after it. */
+/* What nissy_solve returns. What isn't named for a status is 0 or false after it. */
 typedef struct nissy_solve_answer {
     uint8_t status;     /* NISSY_DONE, NISSY_FAULT, NISSY_USAGE, NISSY_STOPPED, or NISSY_ROOM: the next solution doesn't fit into `out` */
     uint8_t fault;      /* after NISSY_FAULT one of nissy_fault */
@@ -137,7 +137,7 @@ typedef struct nissy_solve_answer {
 nissy_solve_answer nissy_solve(const nissy_tables *tables, const uint8_t *line, size_t line_length, uint8_t limit, uint8_t slack,
                                uint64_t most, uint8_t *out, size_t out_room);
 
-/* What nissy_count answers. What isn't named for a status is 0 after it. */
+/* What nissy_count returns. What isn't named for a status is 0 after it. */
 typedef struct nissy_count_answer {
     uint8_t status;     /* NISSY_DONE, NISSY_FAULT, NISSY_USAGE or NISSY_STOPPED, as nissy_solve has them */
     uint8_t fault;      /* after NISSY_FAULT one of nissy_fault */
@@ -151,7 +151,7 @@ typedef struct nissy_count_answer {
  * program's `count`. A number of 2^64 or more is told as 2^64 - 1, here and in nissy_solve_answer. It takes no memory. */
 nissy_count_answer nissy_count(const nissy_tables *tables, const uint8_t *line, size_t line_length, uint8_t limit, uint8_t slack);
 
-/* The calls below write to `out` as those on one line do, and take no memory. They answer NISSY_DONE or NISSY_ROOM, or NISSY_USAGE with a
+/* The calls below write to `out` as those on one line do, and take no memory. They return NISSY_DONE or NISSY_ROOM, or NISSY_USAGE with a
  * length of 0; NISSY_LINE_ROOM is enough for each. */
 
 /* what the program's `scramble STATE STREAM LENGTH 1` writes, without the line feed; NISSY_USAGE for more than 256 turns */

@@ -5,7 +5,7 @@ from typing import Any, Optional, Tuple
 
 @dataclass(frozen=True)
 class Answer:
-    """What a run answers: its exit status, its output and its error text."""
+    """What a run returns: its exit status, its output and its error text."""
 
     status: int
     out: bytes
@@ -74,5 +74,5 @@ class StartFault(ValueError):
 
 
 def _place(line: Optional[int], then: str) -> str:
-    """Returns the words for the number of a line, where there is one."""
+    """Returns the words for the number of a line, if there is one."""
     return "" if line is None else f"line {line}{then}"

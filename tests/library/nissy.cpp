@@ -100,14 +100,27 @@ void misuse_is_thrown() {
     throws<std::length_error>([&] { tables.count(blanks); }, "16,777,217 blanks");
 }
 
-// Refused memory is an exception, and the next object of the step has its tables.
-void refused_memory_is_thrown() {
-    made = 0, refused_at = 1, onward = 1;
-    throws<std::bad_alloc>([] { nissy::tables("dr-eoud"); }, "refused memory");
-    made = 0, refused_at = 1, onward = 1;
-    throws<std::bad_alloc>([] { nissy::scrambles(1, 2, 3, 4); }, "memory refused for the words of scrambles");
+// Each allocation of the library refused in turn is an exception, with all memory given back, until none is refused.
+template <typename Call> void refuses_each(Call call, const char *of) {
+    long refusals = 0;
+    for (bool is_done = false; !is_done; refusals += !is_done) {
+        made = 0, refused_at = refusals + 1, onward = 1, held = 0;
+        try {
+            call();
+            is_done = true;
+        } catch (const std::bad_alloc &thrown) {
+            refused_at = 0;
+            holds(thrown.what()[0] != 0 && held == 0, "it says what, and all memory is given back", of);
+        }
+    }
     refused_at = 0;
-    holds(made > 0 && nissy::tables("dr-eoud").count("").length == 0, "the tables are built later", "dr-eoud");
+    holds(refusals > 1, "it takes memory more than once", of);
+}
+
+void refused_memory_is_thrown() {
+    refuses_each([] { nissy::tables("dr-eoud"); }, "the tables of dr-eoud");
+    holds(nissy::tables("dr-eoud").count("").length == 0, "the tables are built later", "dr-eoud");
+    refuses_each([] { holds(nissy::scrambles(1, 2, 3, 4).size() == 4, "they are drawn later", "scrambles"); }, "the words of scrambles");
 }
 
 // Many solutions come whole, in rooms that grow: all that are counted, each of its length.

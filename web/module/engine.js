@@ -120,7 +120,7 @@ export class Engine {
   }
 
   /**
-   * What the engine answers.
+   * What the engine returns.
    * @param {Request} request
    * @returns {Reply}
    */
@@ -186,14 +186,14 @@ export class Engine {
     }
   }
 
-  /** Looks at the memory anew: where it grows it is another one for JavaScript. */
+  /** Looks at the memory anew: once it grows it is another one for JavaScript. */
   #look() {
     this.#bytes = new Uint8Array(this.#exports.memory.buffer);
     this.#view = new DataView(this.#exports.memory.buffer);
   }
 
   /**
-   * Where parts of these sizes stand in the free memory, one after the other, which grows where they need more.
+   * Where parts of these sizes stand in the free memory, one after the other, which grows if they need more.
    * @param {number[]} sizes
    * @returns {number[]}
    */
@@ -332,7 +332,7 @@ export class Engine {
   }
 
   /**
-   * Where the tables of a step are, which are built where they are asked for the first time, and stay.
+   * Where the tables of a step are, which are built when they are asked for the first time, and stay.
    * @param {string} step
    * @returns {number}
    */

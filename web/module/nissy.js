@@ -32,7 +32,7 @@ export const VERSION = "1.3.0";
 export const NoWideMemory = NoWebAssembly;
 
 /**
- * The engine, loaded. The tables of a step are built where it is asked for the first time, and stay in the module's memory.
+ * The engine, loaded. The tables of a step are built when it is asked for the first time, and stay in the module's memory.
  *
  * Each call throws a `TypeError` if it is given something of another type, and a `RangeError` for a number out of its range, a step that
  * isn't there, or if the host has no memory for the call. A call that reads a line throws `NissyFault` if it can't be read. After a call

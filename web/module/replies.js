@@ -3,7 +3,7 @@ import { textIn } from "./bytes.js";
 import { NissyFault } from "./faults.js";
 
 /**
- * What a run answers.
+ * What a run returns.
  * @typedef {object} Answer
  * @property {number} status the exit status of the program, 0 to 3
  * @property {Uint8Array} out the output

@@ -202,7 +202,7 @@ export class WorkerCalls {
   }
 
   /**
-   * What the engine answers.
+   * What the engine returns.
    * @param {Request} request
    * @param {Stoppable} [options]
    * @returns {Promise<any>}

@@ -1,4 +1,4 @@
--- What a run for C answers.
+-- What a run for C returns.
 use Rattle.niss_embed.specs.declared.answer.Answer.{Answer}
 use Rattle.niss_c.specs.declared.run_call.RunAnswer.{RunAnswer}
 

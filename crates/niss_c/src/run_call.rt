@@ -6,7 +6,7 @@ ghost use Rattle.niss_c.specs.RunCall.{told_by};
 use niss_embed::run_bytes;
 use std::alloc::Global;
 
-/// What `nissy_run` answers: `Answer` of `niss_embed` as C has it.
+/// What `nissy_run` returns: `Answer` of `niss_embed` as C has it.
 #[repr(C)]
 #[derive(Clone, Copy)]
 pub struct RunAnswer {

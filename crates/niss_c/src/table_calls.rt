@@ -1,19 +1,26 @@
 //! The calls by the tables of a step, which are built once, stay, and are asked many times, by any threads at once.
+ghost use Rattle.std.specs.Prelude.{◌≡◌, true};
+ghost use Rattle.niss_cube.specs.Steps.{name_of};
 ghost use Rattle.niss_embed.specs.Memory.{memory};
 ghost use Rattle.niss_embed.specs.LineSearch.{Builds, SolvesWith, CountsWith};
 
 use niss_cube::Step;
+use niss_cube::laws::names_differ;
 use niss_embed::{CountAnswer, SolveAnswer, Status, Wanted, count_line, solve_line};
 use niss_kept::Held;
 use std::alloc::Global;
 
-/// Builds the tables of the step of this name, which stay. `Done`: there are tables of this step. `Usage`: no step has
-/// this name. `Stopped`: memory was refused. After these two there are no tables, so that a caller who ignores it never
-/// asks those of another step.
+/// Builds the tables of the step of this name, which stay, unless they are there already. `Done`: there are tables of
+/// this step. `Usage`: no step has this name. `Stopped`: memory was refused. After these two there are no tables, so
+/// that a caller who ignores it never asks those of another step.
 #[unsafe(no_mangle)]
 pub extern "C" fn nissy_build(alloc: Global, tables: &mut Held, name: &[u8]) -> u8
-    ensures { Builds name.now tables.new.built tables.new.kept.step result }
+    ensures builds { Builds name.now tables.new.built tables.new.kept.step result }
+    // Tables of the step that are there already stay, and aren't built anew.
+    ensures there { tables.old.built ≡ true → name_of tables.old.kept.step ≡ name.now → tables.new ≡ tables.old }
 {
+    // so tables whose step has this name are those of the step that is found
+    names_differ();
     let Some(step) = Step::from_name(name) else {
         *tables = Held::none();
         return Status::Usage.number();

@@ -12,7 +12,7 @@ use Rattle.niss_embed.specs.Run.{text_words, TakesWords, due, Answers, RunsBytes
 use Rattle.niss_embed.proofs.WordLemmas.{no_words, all_words}
 use Rattle.niss_embed.proofs.TargetLemmas.{Filling, state_before, state_after, PutBy, Took, Does, took, took_flushed, puts_took, puts_front}
 
--- what a source in memory gives: the bytes at its beginning, and all of them where its end was found
+-- what a source in memory gives: the bytes at its beginning, and all of them if its end was found
 
 pub record GaveAs (input : List ℕ) (ended : Ending) (left left_now : List ℕ) : Type 0 where
   pub given : left ≡ input ++ left_now
@@ -64,7 +64,7 @@ begins law asked input given left More g =
     subst (λ v. Begins (answer_request asked given More) (answer_request asked v End)) (sym g.given) (law asked given left)
 begins law asked input given left Fail g = absurd (g.works refl)
 
--- where nothing is read the input does not matter
+-- if nothing is read the input does not matter
 unread_same : (asked : Result Request UsageFault) (input given : List ℕ) (m n : Ending) → reads_source asked ≡ false
     → answer_request asked input m ≡ answer_request asked given n
 unread_same (Ok (OnLines command [])) input given m n e = absurd (cc e)
@@ -81,7 +81,7 @@ same_at_end asked input given left ended g whole = by_reading (reads_source aske
         ∙ ap (λ m. answer_request asked given m) (sym (whole r))
     by_reading false r = unread_same asked input given End ended r
 
--- the whole is answered as what was read, where no write was refused
+-- the whole is answered as what was read, if no write was refused
 same_answer : (asked : Result Request UsageFault) (input given left : List ℕ) (ended : Ending) → GaveAs given ended input left
     → Begins (answer_request asked given ended) (answer_request asked input End)
     → ((answer_request asked given ended).outcome ≡ Ok tt → reads_source asked ≡ true → ended ≡ End)
@@ -99,7 +99,7 @@ same_answer asked input given left ended g more whole = by_outcome (answer_reque
         (ap (λ a. a.output) same, ap (λ a. a.outcome) same)
     by_outcome (Err stop) e = let stays = more.stopped stop e in (stays.0, stays.1 ∙ sym e)
 
--- memory is asked for only where there are words
+-- memory is asked for only if there are words
 asks_words : (words : List (List ℕ)) → takes_memory (request_of words) ≡ true → 0 < length words
 asks_words [] e = absurd (cc e)
 asks_words (word ∷ words) e = omega arith

@@ -27,7 +27,7 @@ use Rattle.niss_embed.specs.Memory.{memory, Puts}
 use Rattle.niss_embed.specs.LineSearch.{LinesState, lines_state, Takes, Refuses, most_of_line, Hands, HandedOut, SolvesCube, first_lines, capped}
 use Rattle.niss_embed.proofs.TargetLemmas.{puts_whole, no_front, all_left}
 
--- how many turns the first of some solutions has, where none came before or one did
+-- how many turns the first of some solutions has, if none came before or one did
 abbrev first_of : Option ℕ → List (List Turn) → Option ℕ
 first_of o [] = o
 first_of o (p ∷ ps) = option_or o (Some (length p))

@@ -150,7 +150,7 @@ module _ {D : Type 0} (state : D → Lent) where
       let did : Fills (Flush flushed) (state split.0) (state c) = subst (λ d. Fills (Flush flushed) (state split.0) (state d)) split.1.1.1.1 split.1.1.1.0 in
       after_flush flushed text left (state a) (state split.0) (state c) did (took calls text left a split.0 split.1.0 sends)
 
--- the memory is full where something was refused
+-- the memory is full if something was refused
 
 full_now : (c : Bool) (at count size : ℕ) (piece : List ℕ) → is_empty_answer count piece ≡ c
     → (count ≡ length piece) ⊎ (count ≡ size - at) → at ≤ size → c ≡ true → at + count ≡ size

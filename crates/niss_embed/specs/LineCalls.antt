@@ -50,7 +50,7 @@ fault_number (fault.TooLong column) = 5
 abbrev pub plain_answer : Status → ℕ → LineAnswer
 plain_answer ended length = record { status = status_number ended; fault = 0; column = 0; length = length }
 
--- what is answered where a call ends so
+-- what is returned if a call ends so
 abbrev pub answer_for : Outcome → LineAnswer
 answer_for (Written text) = plain_answer status.Done (length text)
 answer_for (ShortOfRoom text) = plain_answer status.NoRoom (length text)
@@ -67,7 +67,7 @@ buffer_after (Unread fault) out = out
 buffer_after TooLong out = out
 buffer_after Misused out = out
 
--- What a call that ends so answers, and what it does to the buffer.
+-- What a call that ends so returns, and what it does to the buffer.
 pub record Does (outcome : Outcome) (out out_now : List ℕ) (answer : LineAnswer) : Type 0 where
   pub answers : answer ≡ answer_for outcome
   pub leaves : out_now ≡ buffer_after outcome out

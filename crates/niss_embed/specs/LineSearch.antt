@@ -138,7 +138,8 @@ pub record Hands (all : List (List Turn)) (most : ℕ) (out : Memory) (told : So
 
 -- What a search for a step from a cube hands out, of solutions of at most n turns that are at most `slack` turns longer
 -- than the least, and what it tells.
-pub record SolvesCube (step : Step) (n slack most : ℕ) (e : Place → Place) (out : Memory) (told : SolveAnswer) : Type 0 where
+pub record SolvesCube (step : Step) (n slack most : ℕ) (e : Place → Place) (out : Memory) (told : SolveAnswer)
+    : Type 0 where
   pub hands : Hands (near_solutions_of step e n slack) most out told
   pub least : told.least ≡ unwrap_or (least_length_of step e n) 0
   -- the looks are those of the whole search if no solution is left, and else at most these
@@ -154,7 +155,8 @@ SolvesAt (Err fault) step n slack most out told =
     Only (unsolved Fault (number_of_fault fault) (column_of_fault fault)) out told
 
 -- The same of any numbers and any line.
-pub record SolvesLine (step : Step) (n slack most : ℕ) (line : List ℕ) (out : Memory) (told : SolveAnswer) : Type 0 where
+pub record SolvesLine (step : Step) (n slack most : ℕ) (line : List ℕ) (out : Memory) (told : SolveAnswer)
+    : Type 0 where
   pub beyond : (most_limit < n) ⊎ (most_limit < slack) → Only (unsolved Usage 0 0) out told
   pub too_long : n ≤ most_limit → slack ≤ most_limit → most_bytes < length line → Only (unsolved Stopped 0 0) out told
   pub solves : n ≤ most_limit → slack ≤ most_limit → length line ≤ most_bytes →

@@ -1,6 +1,7 @@
 -- What a call writes into memory that it is lent.
 use Rattle.std.specs.Prelude.{◌≡◌, ℕ, ◌≤◌, nat_lt, Bool, false, Some, Ok, Err, List, [], ◌++◌, take, drop, length}
-use Rattle.niss_shell.specs.Device.{SourceState, TargetState, TargetCall, Write, Flush, CallShows, source_state, target_state}
+use Rattle.niss_shell.specs.Device.{SourceState, TargetState, TargetCall, Write, Flush, CallShows, source_state}
+use Rattle.niss_shell.specs.Device.{target_state}
 
 -- The bytes of lent memory before and after a call.
 pub record Memory : Type 0 where

@@ -60,11 +60,11 @@ pub struct Answer {
 pub struct LineAnswer {
     /// The number of a `Status`.
     pub status: u16,
-    /// What is wrong with the line, 1 to 5 in the order of `ReadFault`; 0 where nothing is.
+    /// What is wrong with the line, 1 to 5 in the order of `ReadFault`; 0 if nothing is.
     pub fault: u16,
-    /// The column of the fault in bytes, from 1; 0 where there is none.
+    /// The column of the fault in bytes, from 1; 0 if there is none.
     pub column: u32,
-    /// The bytes of the text, written or not; 0 where there is none.
+    /// The bytes of the text, written or not; 0 if there is none.
     pub length: usize,
 }
 
@@ -171,7 +171,7 @@ impl LineAnswer {
         LineAnswer::plain(Status::Usage, 0)
     }
 
-    /// Writes the text to the front of the buffer where it fits, and answers that it did or didn't.
+    /// Writes the text to the front of the buffer if it fits, and tells whether it did.
     pub fn put(text: &[u8], out: &mut [u8]) -> LineAnswer
         ensures does { Does (outcome_of_text (length out.old) text.now) out.old out.new result }
         ensures room { length text.now ≤ length out.old → result.status ≡ status_number Done }

@@ -39,7 +39,7 @@ fn first_word(bytes: &[u8]) -> Option<(&[u8], &[u8])>
     }
 }
 
-/// The words of these bytes. Where one of them is no text there are none, since such words are no command.
+/// The words of these bytes. If one of them is no text there are none, since such words are no command.
 fn words_in<A: Allocator + Copy>(alloc: A, bytes: &[u8]) -> Result<Vec<String<A>, A>, AllocError>
     ensures words { IfOk result (λ words. TakesWords bytes.now (map string_bytes words.items)) }
     ensures asked { OnErr result (0 < length bytes.now) }
@@ -89,7 +89,7 @@ fn run_words<A: Allocator + Copy>(
     }
 }
 
-/// What memory refused for the words is answered with, as for the tables of a step.
+/// What is returned if memory is refused for the words, as for the tables of a step.
 fn refuse_memory(out: &mut [u8], err: &mut [u8]) -> Answer
     ensures answers { Answers (unsearched [] (Err OutOfMemory)) (memory out.old out.new)
         (memory err.old err.new) result }
@@ -108,10 +108,10 @@ fn refuse_memory(out: &mut [u8], err: &mut [u8]) -> Answer
 /// Runs the command of these words on the input, and writes the output into `out` and the error text into `err`.
 ///
 /// The words are those after the program's name, each ended by a zero byte; what stands after the last zero byte is a
-/// word where it has a byte. Words of which one isn't UTF-8 are no command, as they aren't for `nissy`. The words and
+/// word if it has a byte. Words of which one isn't UTF-8 are no command, as they aren't for `nissy`. The words and
 /// the tables of a step take memory of `alloc`; all else is on the stack, and nothing is kept after the call.
 ///
-/// An output that is longer than `out` ends the run as `nissy` ends where it can't write, with the status 3: then `out`
+/// An output that is longer than `out` ends the run as `nissy` ends if it can't write, with the status 3: then `out`
 /// is full, and `out_too_small` says so. A caller that wants the whole output tries again with more. What is behind the
 /// written bytes is left as it was.
 pub fn run_bytes<A: Allocator + Copy>(

@@ -2,7 +2,7 @@
 //! `app: niss_embed`.
 //!
 //! `run_bytes` is handed what the program `nissy` is given: the words of a command line, the input, and memory for the
-//! output and for the error text. It answers the exit status and how much of that memory it wrote. Its contract says
+//! output and for the error text. It returns the exit status and how much of that memory it wrote. Its contract says
 //! each byte of both, for every word, input and room:
 //!
 //! ```

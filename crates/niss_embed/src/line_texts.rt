@@ -16,7 +16,7 @@ use niss_shell::{MOST_BYTES, Rewriting, put_scramble, put_steps, rewrite, step_n
 /// The most turns of a scramble.
 const MOST_TURNS: u32 = 256;
 
-/// Feeds the first bytes, whole moves or one byte, and answers how many.
+/// Feeds the first bytes, whole moves or one byte, and returns how many.
 fn feed_some(reader: &mut LineReader, bytes: &[u8]) -> usize
     requires some { 0 < length bytes.now }
     requires room { reader.old.fed + length bytes.now ≤ most_bytes }

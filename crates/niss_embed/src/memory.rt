@@ -54,7 +54,7 @@ impl Source for MemorySource<'_> {
     ghost shown = { λ old new c did. did };
 }
 
-/// Writes the piece from byte number `at` on, or as much of it as there is room for, and answers how many bytes.
+/// Writes the piece from byte number `at` on, or as much of it as there is room for, and returns how many bytes.
 pub fn put(bytes: &mut [u8], at: usize, piece: &[u8]) -> usize
     requires { at ≤ length bytes.old }
     ensures bound { result ≤ length piece.now }

@@ -22,7 +22,7 @@ use Rattle.linked_list_allocator.proofs.Nodes.{retypes}
 use Rattle.niss_page.specs.Room.{IsRoomSize, block_owns, block_token}
 use Rattle.niss_page.specs.contracts.room.Block as block
 
--- what `take` answers, of which its clause tells this where the room has `all` bytes and n are asked for
+-- what `take` returns, of which its clause tells this if the room has `all` bytes and n are asked for
 
 abbrev pub Taken : RattleType
 Taken = option.the_row block.the_row

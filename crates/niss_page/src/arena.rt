@@ -21,7 +21,7 @@ fn capacity_of(block: &OneBlock) -> usize {
     block.size().saturating_sub(BESIDE)
 }
 
-/// An arena that has the block already, where that isn't too small.
+/// An arena that has the block already, if that isn't too small.
 pub(crate) fn arena_of(block: &OneBlock) -> Bump<&OneBlock> {
     match Bump::try_with_capacity(block, capacity_of(block)) {
         Ok(arena) => arena,

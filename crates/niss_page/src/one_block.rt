@@ -32,7 +32,7 @@ impl OneBlock {
         self.size
     }
 
-    /// The room again, or none where its block is out.
+    /// The room again, or none if its block is out.
     pub fn into_room(self) -> Room
         ensures { (result.size ≡ self.size) ⊎ (result.size ≡ 0) }
     {
@@ -42,7 +42,7 @@ impl OneBlock {
         }
     }
 
-    /// Takes the block where it is there and has room for so many bytes.
+    /// Takes the block if it is there and has room for so many bytes.
     fn take(&self, size: usize) -> Option<Block>
         ensures { IfSome result (λ block. (block.size ≡ self.now.size) × (size ≤ block.size) × (0 < block.size)) }
     {

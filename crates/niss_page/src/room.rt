@@ -49,7 +49,7 @@ impl Room {
         }
     }
 
-    /// Its block, where it has so many bytes in all, and room for those that are asked for; else the room as it was.
+    /// Its block, if it has so many bytes in all, and room for those that are asked for; else the room as it was.
     pub(crate) fn into_block(self, all: usize, asked: usize) -> Result<Block, Room>
         ensures block { IfOk result (λ block. (block.size ≡ all) × (asked ≤ block.size) × (0 < block.size)) }
         // What is there is given, to the last byte.

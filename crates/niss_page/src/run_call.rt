@@ -20,7 +20,7 @@ pub extern "C" fn nissy_run(
     err: &mut [u8],
 ) -> Answer
     ensures runs { RunsBytes words.now input.now (memory out.old out.new) (memory err.old err.new) result }
-    // It has all its memory again, or none where some stays taken.
+    // It has all its memory again, or none if some stays taken.
     ensures room { (room.new.size ≡ room.old.size) ⊎ (room.new.size ≡ 0) }
 {
     let block = OneBlock::new(replace(room, Room::none()));
