@@ -177,7 +177,7 @@ module _ (law : MoreInputKeepsAnswers) (c : Call) (words : List (List ℕ)) (inp
         answers = record {
           output = p.0;
           error = subst (λ o. PutBy c.err (error_text o)) (outcome_is ∙ p.1) (puts_took c.err x.error_refused (error_text x.outcome) reports).1;
-          status = x.answers ∙ ap status_of (outcome_is ∙ p.1);
+          status = x.status_is ∙ ap status_of (outcome_is ∙ p.1);
         };
       }
 

@@ -231,7 +231,7 @@ runs_flushed call reports law words outcome outcome_now x y j k l none r flush e
       outcome = outcome_now;
       outcome_is = flush.outcome_is ∙ ap (λ o. flushed_outcome o flush.flushed) r.answers.outcome_is;
       read_whole = λ e. r.read_whole (r.answers.outcome_is ∙ e);
-      answers = status;
+      status_is = status;
       looked = r.answers.delivered.looked;
       within_bound = bounded_looks r.answers.refused due x.looks y.looks
           (memory_within r.no_memory _ (answer_within law (request_of words) r.read.input r.read.ended)) r.answers.delivered.looked;

@@ -34,13 +34,13 @@ is_end call = false
 abbrev pub is_failed_read : SourceCall → Bool
 is_failed_read (Read asked gave) = is_err gave
 
--- the answer is 0, though there are bytes
+-- 0 was returned, though there are bytes
 abbrev pub is_empty_answer : ℕ → List ℕ → Bool
 is_empty_answer zero [] = false
 is_empty_answer zero (b ∷ bytes) = true
 is_empty_answer (suc n) bytes = false
 
--- a write with this answer failed
+-- a write that returned this failed
 abbrev pub is_refused : {E : Type 0} → Result ℕ E → List ℕ → Bool
 is_refused (Ok count) piece = is_empty_answer count piece
 is_refused (Err e) piece = true
@@ -66,7 +66,7 @@ pub record TargetState : Type 0 where
 abbrev pub target_state : Option (List ℕ) → Bool → TargetState
 target_state held failed = record { held = held; has_failed = failed }
 
--- A read gives the next bytes, and none at the end alone or where it asks for none; one that fails takes none away.
+-- A read gives the next bytes, and none at the end alone or if it asks for none; one that fails takes none away.
 abbrev pub Gives : SourceCall → Option (List ℕ) → Option (List ℕ) → Type 0
 Gives (Read asked (Ok bytes)) left left_now =
     Consumes left left_now bytes × (bytes ≡ [] → 0 < asked → IsAtEnd left_now)
@@ -110,7 +110,7 @@ pub record WasRead (source : List SourceCall → Type 0) : Type 0 where
   pub ended : Ending
   pub gave : Reads reads input ended
 
--- Each read was made where this holds of the input that the reads before it gave.
+-- Before each read this held of the input that the reads before it gave.
 abbrev pub ReadsWhile : (List ℕ → Type 0) → List SourceCall → Type 0
 ReadsWhile Holds reads =
     (before after : List SourceCall) (call : SourceCall) (input : List ℕ) →
@@ -131,7 +131,7 @@ pub record IsPiece (piece text : List ℕ) : Type 0 where
   pub some : 0 < length piece
 
 -- The calls are writes of a text: each is brought a piece of what is left, and takes first bytes of it. `Some rest` is left
--- at the end, or `None` where the last one was refused.
+-- at the end, or `None` if the last one was refused.
 unfoldable pub Sends : List TargetCall → List ℕ → Option (List ℕ) → Type 0
 Sends [] text left = left ≡ Some text
 Sends (Flush result ∷ calls) text left = ⊥
@@ -139,7 +139,7 @@ Sends (Write piece (Ok (suc n)) ∷ calls) text left =
     IsPiece piece text × (suc n ≤ length piece) × Sends calls (drop (suc n) text) left
 Sends (Write piece result ∷ calls) text left = IsPiece piece text × (calls ≡ []) × (left ≡ None)
 
--- what is left of a text where the last write was refused, or wasn't
+-- what is left of a text if the last write was refused, or wasn't
 abbrev pub left_after : Bool → List ℕ → Option (List ℕ)
 left_after true rest = None
 left_after false rest = Some rest

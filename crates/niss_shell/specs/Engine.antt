@@ -74,7 +74,7 @@ pub record Advanced (front bytes : List ℕ) (n : ℕ) (progress : Progress) : T
   pub reader : IsFed progress.reader (last_part front bytes)
   pub line : progress.line ≡ n + length (ended_lines front bytes)
 
--- how many bytes were taken: one where the run stops
+-- how many bytes were taken: one if the run stops
 abbrev pub piece_of : Result ℕ Stop → ℕ
 piece_of (Ok n) = n
 piece_of (Err stop) = 1

@@ -1,4 +1,4 @@
--- What a run is to write and to answer.
+-- What a run is to write and to return.
 use Rattle.std.specs.Prelude.{◌≡◌, ℕ, zero, suc, ◌+◌, ◌*◌, nat_lt, Bool, true, false, if◌then◌else◌, codes, decimal}
 use Rattle.std.specs.Prelude.{Option, Some, None, Result, Ok, Err, List, [], ◌∷◌, ◌++◌, map, flat_map, take, length, unwrap_or}
 use Rattle.std.specs.List.{range_with_len}
@@ -80,7 +80,7 @@ line_text Print line = letters (effect (joined_moves line))
 abbrev pub home : Moves → Place → Place
 home line q = effect_of_turns (faces (joined_moves line)) q
 
--- the turns with single spaces, and a space after them where there are any
+-- the turns with single spaces, and a space after them if there are any
 abbrev pub turns_text : List Turn → List ℕ
 turns_text [] = []
 turns_text (turn ∷ turns) = with_words [] (turn_words (turn ∷ turns)) ++ space ∷ []
@@ -89,7 +89,7 @@ turns_text (turn ∷ turns) = with_words [] (turn_words (turn ∷ turns)) ++ spa
 abbrev pub solution_line : List Turn → List ℕ
 solution_line turns = turns_text turns ++ codes "(" ++ decimal (length turns) ++ codes ")" ++ line_feed ∷ []
 
--- the line that says that there are no solutions, where they are 0
+-- the line that says that there are no solutions, if they are 0
 abbrev pub none_line : ℕ → ℕ → List ℕ
 none_line n zero = codes "no solution within " ++ decimal n ++ codes " moves" ++ line_feed ∷ []
 none_line n (suc count) = []
@@ -156,12 +156,12 @@ searched step query e = record {
   most_looks = look_bound (turns_of step) (limit_of query);
 }
 
--- the cube, where the step may start on it
+-- the cube, if the step may start on it
 abbrev pub started : Step → Bool → (Place → Place) → Result (Place → Place) LineFault
 started step true e = Ok e
 started step false e = Err (NoStart step)
 
--- the cube that a search for a step begins at where a line was read so: that of the line, or the fault of the line
+-- the cube that a search for a step begins at if a line was read so: that of the line, or the fault of the line
 abbrev pub start_cube : Step → Result Moves ReadFault → Result (Place → Place) LineFault
 start_cube step (Ok line) = started step (may_start step (home line)) (home line)
 start_cube step (Err fault) = Err (Unread fault)
@@ -202,12 +202,12 @@ unfoldable pub answers_from : LineAnswers → ℕ → List (List ℕ) → Answer
 answers_from answers n [] = unsearched [] (Ok tt)
 answers_from answers n (line ∷ lines) = then_answer (answers n line) (answers_from answers (n + 1) lines)
 
--- the line alone, or no line where it has no byte
+-- the line alone, or no line if it has no byte
 abbrev pub line_with_bytes : List ℕ → List (List ℕ)
 line_with_bytes [] = []
 line_with_bytes (b ∷ bytes) = (b ∷ bytes) ∷ []
 
--- a last line without a line feed counts where it has a byte, at the end of an input that isn't too long
+-- a last line without a line feed counts if it has a byte, at the end of an input that isn't too long
 abbrev pub last_line : Ending → List ℕ → List (List ℕ)
 last_line End input = if nat_lt most_bytes (length input) then [] else line_with_bytes (last_part [] input)
 last_line More input = []
@@ -230,7 +230,7 @@ abbrev pub answer_lines : LineAnswers → List ℕ → Ending → Answer
 answer_lines answers input ended =
     then_answer (answers_from answers 1 (complete_lines input ended)) (unsearched [] (outcome_of_input input ended))
 
--- Words that give the input take the source's place, and are refused as a whole where they are too long.
+-- Words that give the input take the source's place, and are refused as a whole if they are too long.
 abbrev pub answer_on_lines : LineAnswers → List (List ℕ) → List ℕ → Ending → Answer
 answer_on_lines answers [] input ended = answer_lines answers input ended
 answer_on_lines answers (word ∷ words) input ended =
@@ -271,6 +271,6 @@ answer_request (Ok ListSteps) input ended = unsearched (flat_map step_line steps
 answer_request (Ok (DrawScrambles state stream turns count)) input ended =
     unsearched (scramble_text turns count (generator_of state stream)) (Ok tt)
 
--- what a run with these words is to write and to answer, where the source gave this input and its reads ended so
+-- what a run with these words is to write and to return, if the source gave this input and its reads ended so
 abbrev pub out_of : List (List ℕ) → List ℕ → Ending → Answer
 out_of words input ended = answer_request (request_of words) input ended

@@ -6,12 +6,12 @@ use Rattle.niss_shell.specs.Words.{request_of, reads_source, takes_memory}
 use Rattle.niss_shell.specs.Output.{Answer, unsearched, out_of, error_text, status_of}
 use Rattle.niss_shell.specs.Names.{DeviceFault, Stop, CannotWrite, OutOfMemory}
 
--- what a run is to write and to answer, where memory was refused or wasn't
+-- what a run is to write and to return, if memory was refused or wasn't
 abbrev pub due_without : Bool → Answer → Answer
 due_without true due = unsearched [] (Err OutOfMemory)
 due_without false due = due
 
--- how it ends before the last flush, where a write was refused or wasn't
+-- how it ends before the last flush, if a write was refused or wasn't
 abbrev pub outcome_before : Bool → Result (Unit {0}) Stop → Result (Unit {0}) Stop
 outcome_before true outcome = Err CannotWrite
 outcome_before false outcome = outcome
@@ -21,7 +21,7 @@ abbrev pub flushed_outcome : Result (Unit {0}) Stop → Result (Unit {0}) Device
 flushed_outcome (Ok u) (Err fault) = Err CannotWrite
 flushed_outcome outcome flushed = outcome
 
--- how far the meter rises, where so many looks are due: no further where a write was refused
+-- how far the meter rises, if so many looks are due: no further if a write was refused
 abbrev pub Looked : Bool → (due looks looks_now : ℕ) → Type 0
 Looked true due looks looks_now = (looks ≤ looks_now) × (looks_now ≤ looks + due)
 Looked false due looks looks_now = looks_now ≡ looks + due
@@ -33,7 +33,7 @@ pub record Runs (words : List (List ℕ)) (source : List SourceCall → Type 0) 
   -- The source is read until its end or until the run stops, and only by a command that takes its input from there.
   pub read : WasRead source
   pub unread : reads_source (request_of words) ≡ false → read.reads ≡ []
-  -- After a fault in a line nothing more is read, nor where the input is too long.
+  -- After a fault in a line nothing more is read, nor if the input is too long.
   pub stops : ReadsWhile (λ input. (out_of words input More).outcome ≡ Ok tt) read.reads
   -- Memory may be refused to a request that takes some: then nothing was read.
   pub no_memory : Bool
@@ -54,7 +54,7 @@ pub record Runs (words : List (List ℕ)) (source : List SourceCall → Type 0) 
   pub outcome : Result (Unit {0}) Stop
   pub outcome_is : outcome ≡ flushed_outcome (outcome_before refused due.outcome) flushed
   pub read_whole : outcome_before refused due.outcome ≡ Ok tt → reads_source (request_of words) ≡ true → read.ended ≡ End
-  pub answers : status ≡ status_of outcome
+  pub status_is : status ≡ status_of outcome
   -- the looks at positions
   pub looked : Looked refused due.looks looks looks_now
   pub within_bound : looks_now ≤ looks + due.most_looks

@@ -14,7 +14,7 @@ use Rattle.niss_shell.specs.declared.command.Command.TheVariants as command
 abbrev pub most_bytes : ℕ
 most_bytes = 16777216
 
--- the number that a word of one or more decimal digits spells, where it is at most `most`
+-- the number that a word of one or more decimal digits spells, if it is at most `most`
 abbrev pub spelled_number : ℕ → List ℕ → Option ℕ
 spelled_number most word =
     if list_all is_ascii_digit word && nat_lt 0 (length word) && nat_le (digits_value 10 word) most
@@ -27,7 +27,7 @@ step_named name = find (λ step. bytes_eq name (name_of step)) steps
 
 -- What the words of a command line ask for.
 pub data Request : Type 0 where
-  -- a command on each line of these words, or of the source where there are none
+  -- a command on each line of these words, or of the source if there are none
   OnLines : LineCommand Step → List (List ℕ) → Request
   -- the names of the steps
   ListSteps : Request
@@ -43,7 +43,7 @@ without_words request (word ∷ words) = Err WrongCount
 abbrev pub most_limit : ℕ
 most_limit = 20
 
--- the request for a search, where the step and both numbers are known
+-- the request for a search, if the step and both numbers are known
 abbrev pub search_request :
     (ℕ → ℕ → Query) → Option Step → (most slack : Option ℕ) → List (List ℕ) → Result Request UsageFault
 search_request query None most slack rest = Err UnknownStep
@@ -81,7 +81,7 @@ most_scrambles = 10000
 abbrev pub most_state : ℕ
 most_state = 2 ^ 64 - 1
 
--- scrambles, where each of the numbers is one
+-- scrambles, if each of the numbers is one
 abbrev pub scramble_with : Option ℕ → Option ℕ → Option ℕ → Option ℕ → Result Request UsageFault
 scramble_with (Some state) (Some stream) (Some turns) (Some count) =
     Ok (DrawScrambles state stream turns count)

@@ -39,7 +39,7 @@ pub enum Rewriting {
     Print,
 }
 
-/// A command. The words that it lends, whose memory is of an allocator `B`, are the input; where there are none, the input
+/// A command. The words that it lends, whose memory is of an allocator `B`, are the input; if there are none, the input
 /// comes from the source.
 #[derive_where(Clone, Copy)]
 pub enum Command<'a, B: Allocator = Global> {

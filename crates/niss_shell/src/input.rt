@@ -15,7 +15,7 @@ use niss_cube::Step;
 use niss_search::{Meter, Tables};
 use std::alloc::{AllocError, Allocator};
 
-/// How many bytes the words give, where these aren't too many.
+/// How many bytes the words give, if these aren't too many.
 fn joined_length<B: Allocator>(words: &[String<B>]) -> Option<usize>
     requires { 0 < length words.now }
     ensures { MatchOption result

@@ -9,7 +9,7 @@ pub fn lines_are_cut()
     ensures only { OneCut }
 {}
 
-/// For a line that is read as moves, and a step that may start on its cube, `solve` answers all solutions of least length
+/// For a line that is read as moves, and a step that may start on its cube, `solve` writes all solutions of least length
 /// within the limit, in turn order, or that there are none, with no more looks than the bound.
 #[tactic(auto, using(crate::proofs::SearchLemmas::accepted_lines))]
 pub fn accepted_lines_are_solved()

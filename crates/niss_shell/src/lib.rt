@@ -1,7 +1,7 @@
 //! The engine of `nissy`, a tool for move sequences of the 3x3x3 cube. In crates.txt: `app: niss_shell`.
 //!
 //! `run` takes the words of a command line, reads lines of moves from a `Source`, writes the answers to one `Target`
-//! and what went wrong to another, and answers the exit status. Its contract says every byte of both as a function of
+//! and what went wrong to another, and returns the exit status. Its contract says every byte of both as a function of
 //! the words and of the bytes read, whatever the devices do. `FromReader` and `ToWriter` make devices of the readers and
 //! writers of `std::io`:
 //!

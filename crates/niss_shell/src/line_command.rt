@@ -92,7 +92,7 @@ fn cube_of(line: &Niss) -> Cube
     cube
 }
 
-/// The position of a line's cube, where the step may start there.
+/// The position of a line's cube, if the step may start there.
 pub fn start_position<A: Allocator>(tables: &Tables<A>, line: &Niss) -> Option<Position>
     ensures { MatchOption result
         (may_start tables.now (home line.now) ≡ false)

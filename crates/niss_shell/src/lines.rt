@@ -50,23 +50,19 @@ impl<'a, A: Allocator> Lines<'a, A> {
         }
     }
 
-    /// Writes what waits, and stops the run by a fault of the line.
-    #[tactic(auto, using(std::proofs::lemmas::Result::err_from_is_err_and))]
-    fn refuse<W: Target>(&mut self, fault: LineFault, output: &mut Output<W>) -> Result<(), Stop>
-        ensures keeps { Keeps self.old self.new }
-        ensures refused { Answers W.call (fault_answer self.old.line fault) result
-            (lines_state output.old self.old) (lines_state output.new self.new) }
-        ensures stops { OnOk result ⊥ }
-        ensures empty { OnErr result (output.new.pending.items ≡ []) }
-        ensures meter { self.new.looks.now ≡ self.old.looks.now }
-        ensures reader { self.new.reader ≡ self.old.reader }
-        ensures line { self.new.line ≡ self.old.line }
+    /// Writes what waits, and returns what stops the run: the fault of the line, or the refused write.
+    fn refuse<W: Target>(&self, fault: LineFault, output: &mut Output<W>) -> Stop
+        ensures refused { Answers W.call (fault_answer self.now.line fault) (Err result)
+            (lines_state output.old self.now) (lines_state output.new self.now) }
+        ensures empty { output.new.pending.items ≡ [] }
     {
-        output.send()?;
-        Err(Stop::Line {
+        if let Err(refusal) = output.send() {
+            return Stop::from(refusal);
+        }
+        Stop::Line {
             line: self.line,
             fault,
-        })
+        }
     }
 
     /// Takes the answer to the moves that were read after what waits. Without a search, and for its counts, it waits too;
@@ -92,7 +88,7 @@ impl<'a, A: Allocator> Lines<'a, A> {
                 // this call shows that the limit is at most 20, which bounds the looks
                 let _at_most_20 = query.limit().get();
                 let Some(position) = start_position(tables, self.reader.moves()) else {
-                    return self.refuse(LineFault::NoStart(tables.step()), output);
+                    return Err(self.refuse(LineFault::NoStart(tables.step()), output));
                 };
                 Ok(query.answer(tables, &position, output, self.looks)?)
             }
@@ -111,7 +107,7 @@ impl<'a, A: Allocator> Lines<'a, A> {
         ensures meter { OnOk result (HasRoom self.new.line self.new.looks.now) }
     {
         if let Err(fault) = self.reader.end() {
-            return self.refuse(LineFault::Unread(fault), output);
+            return Err(self.refuse(LineFault::Unread(fault), output));
         }
         self.answer(output)?;
         self.reader.clear();
@@ -119,7 +115,7 @@ impl<'a, A: Allocator> Lines<'a, A> {
         Ok(())
     }
 
-    /// Takes moves or a byte in front of the next bytes of the input, and answers how many bytes these are.
+    /// Takes moves or a byte in front of the next bytes of the input, and returns how many bytes these are.
     #[tactic(auto, using(crate::proofs::EngineLemmas::inside_taken))]
     fn take_piece<W: Target>(&mut self, bytes: &[u8], output: &mut Output<W>) -> Result<usize, Stop>
         requires some { 0 < length bytes.now }
@@ -160,7 +156,7 @@ impl<'a, A: Allocator> Lines<'a, A> {
         Ok(output.send()?)
     }
 
-    /// Takes the end of the input. A last line counts where it has a byte.
+    /// Takes the end of the input. A last line counts if it has a byte.
     #[tactic(auto, using(crate::proofs::EngineLemmas::no_last, crate::proofs::EngineLemmas::last_line))]
     fn take_end<W: Target>(&mut self, output: &mut Output<W>) -> Result<(), Stop>
         requires empty { output.old.pending.items ≡ [] }

@@ -45,7 +45,7 @@ impl<'a, W: Target> Output<'a, W> {
         sent
     }
 
-    /// Takes the next text after what waits. Where there is no room for it, what waits is written first.
+    /// Takes the next text after what waits. If there is no room for it, what waits is written first.
     pub fn put(&mut self) -> Result<(), DeviceFault>
         ensures same_target { self.new.target.ghost_name ≡ self.old.target.ghost_name }
         ensures taken { Delivers W.call result self.old.next.items self.old self.new }
@@ -67,7 +67,7 @@ impl<'a, W: Target> Output<'a, W> {
         self.send()
     }
 
-    /// Ends a run by its last flush. Where that is refused, a good run ends with a fault.
+    /// Ends a run by its last flush. If that is refused, a good run ends with a fault.
     pub fn finish(&mut self, answered: Result<(), Stop>) -> Result<(), Stop>
         ensures same_target { self.new.target.ghost_name ≡ self.old.target.ghost_name }
         ensures flushes { FlushesLast W.call answered result

@@ -45,7 +45,8 @@ fn write_steps<W: Target>(output: &mut Output<W>) -> Result<(), Stop>
     Ok(output.write()?)
 }
 
-/// Does what the words ask for, up to the last flush. A command on lines takes memory before the first byte is read or written.
+/// Does what the words ask for, up to the last flush. A command on lines takes memory before the first byte is read or
+/// written.
 fn answer_command<A: Allocator + Copy, B: Allocator, R: Source, W: Target>(
     alloc: A,
     words: &[String<B>],
@@ -93,7 +94,7 @@ fn answer_command<A: Allocator + Copy, B: Allocator, R: Source, W: Target>(
     prepared.answer(source, output, looks)
 }
 
-/// Writes what went wrong, or as much of it as the error writer takes, and answers the exit status.
+/// Writes what went wrong, or as much of it as the error writer takes, and returns the exit status.
 #[tactic(auto, using(crate::proofs::RunLemmas::reported, crate::proofs::RunLemmas::nothing_reported))]
 fn report<E: Target>(outcome: Result<(), Stop>, err: &mut E) -> u8
     ensures reports { (refused : Bool) × Writes E.call refused (error_text outcome) [] err.old err.new }
@@ -132,14 +133,15 @@ pub fn run_in<A: Allocator + Copy, B: Allocator, R: Source, W: Target, E: Target
     report(outcome, err)
 }
 
-/// Runs a command, and answers its exit status: 0 where all was written, 1 for a fault of a line, 2 for words that are no
-/// command, 3 for an input that is too long, and where a read, a write, a flush or memory was refused.
+/// Runs a command, and returns its exit status: 0 if all was written, 1 for a fault of a line, 2 for words that are no
+/// command, 3 for an input that is too long, and if a read, a write, a flush or memory was refused.
 ///
-/// The words are those after the program's name. The input, where no words give it, comes from `input`, of which no read has
-/// failed or found the end yet. The answers go to `out`, which is flushed once, at the end, and what went wrong to `err`,
-/// which isn't flushed; what these two did before doesn't matter. `looks` counts the looks at positions of the searches for
-/// the lines; it stands at 2^64 or below. Memory is taken only to join words that give the input, and for the tables of a
-/// step, and before anything is read or written; `nissy: out of memory` comes only where the command takes memory.
+/// The words are those after the program's name. The input, if no words give it, comes from `input`, of which no read has
+/// failed or found the end yet. Nothing more is read after a fault of a line or a refused write. The answers go to `out`,
+/// which is flushed once, at the end, and what went wrong to `err`, which isn't flushed; what these two did before doesn't
+/// matter. `looks` counts the looks at positions of the searches for the lines; it stands at 2^64 or below, and doesn't rise
+/// if memory was refused or no step is searched. Memory is taken only to join words that give the input, and for the tables
+/// of a step, and before anything is read or written; `nissy: out of memory` comes only if the command takes memory.
 pub fn run<R: Source, W: Target, E: Target>(
     alloc: Global,
     words: &[String],

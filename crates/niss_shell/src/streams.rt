@@ -26,7 +26,7 @@ impl<R: io::Read> FromReader<R> {
         }
     }
 
-    /// Sets the flags by what the reader answered to a request for the bytes of `buf`: every error is a failure, and none
+    /// Sets the flags by what the reader returned for a request for the bytes of `buf`: every error is a failure, and none
     /// of some bytes the end.
     fn judge(&mut self, answer: io::Result<usize>, buf: &[u8]) -> Result<usize, DeviceFault>
         ensures answer { MatchResult result (λ count. answer ≡ Ok count) (λ _. IsErr answer) }
@@ -89,7 +89,7 @@ impl<W: io::Write> ToWriter<W> {
         }
     }
 
-    /// Sets the flag by what the writer answered to the piece: every error is a failure, and so is to take none of some
+    /// Sets the flag by what the writer returned for the piece: every error is a failure, and so is to take none of some
     /// bytes, as in the standard library's `write_all`.
     fn judge_write(&mut self, answer: io::Result<usize>, piece: &[u8]) -> Result<usize, DeviceFault>
         ensures answer { MatchResult result (λ count. answer ≡ Ok count) (λ _. IsErr answer) }
@@ -110,7 +110,7 @@ impl<W: io::Write> ToWriter<W> {
         }
     }
 
-    /// Sets the flag by what the writer answered to a flush: every error is a failure.
+    /// Sets the flag by what the writer returned for a flush: every error is a failure.
     fn judge_flush(&mut self, answer: io::Result<()>) -> Result<(), DeviceFault>
         ensures answer { is_ok result ≡ is_ok answer }
         ensures failed { self.new.failed ≡ (self.old.failed || is_err result) }

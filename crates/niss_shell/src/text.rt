@@ -55,7 +55,7 @@ pub fn put_solution(path: &TurnPath, text: &mut LineText)
     put_text(b")\n", text);
 }
 
-/// Sets the text to what stands after so many solutions: where they are none, a line that says so; and an empty line.
+/// Sets the text to what stands after so many solutions: if they are none, a line that says so; and an empty line.
 pub fn put_end(solutions: u128, limit: Limit, text: &mut LineText)
     ensures { text.new.items ≡ none_line limit solutions ++ line_feed ∷ [] }
 {

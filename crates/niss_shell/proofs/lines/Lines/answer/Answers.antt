@@ -17,7 +17,7 @@ returns-in_ok-put-in-Rewrite-clause-answers g c =
 pub returns-in_default-clause-answers : goal.returns-in_default-clause-answers
 returns-in_default-clause-answers g c =
     not_started g.W.Target.call c.in-Search.tables c.in-Search.query _ c.moves-in-Search.result.now _ _ c.in-Search.is c.moves-in-Search.ensures
-    c.step.result c.refuse.result c.in_default.ensures c.step.ensures c.refuse.ensures.refused
+    c.step.result (Err c.refuse.result) c.in_default.ensures c.step.ensures c.refuse.ensures.refused
 
 pub returns-in_ok-answer-in-Search-clause-answers : goal.returns-in_ok-answer-in-Search-clause-answers
 returns-in_ok-answer-in-Search-clause-answers g c =
