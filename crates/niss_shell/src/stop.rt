@@ -34,9 +34,10 @@ pub enum Stop {
 /// Appends the column and the text of a fault in the moves of a line.
 fn put_read_fault(fault: ReadFault, text: &mut LineText)
     requires { length text.old.items ≤ 100 }
-    ensures { text.new.items
+    ensures words { text.new.items
         ≡ text.old.items ++ codes ", column " ++ decimal (fault_column fault) ++ codes ": "
         ++ fault_text fault ++ line_feed ∷ [] }
+    ensures short { length text.new.items ≤ length text.old.items + 64 }
 {
     put_text(b", column ", text);
     put_number(fault.column() as u128, text);
@@ -48,8 +49,9 @@ fn put_read_fault(fault: ReadFault, text: &mut LineText)
 /// Appends the name of the step that has to be reached before this one.
 fn put_start_fault(step: Step, text: &mut LineText)
     requires { length text.old.items ≤ 100 }
-    ensures { text.new.items
+    ensures words { text.new.items
         ≡ text.old.items ++ codes ": " ++ start_text step ++ codes " does not hold" ++ line_feed ∷ [] }
+    ensures short { length text.new.items ≤ length text.old.items + 64 }
 {
     put_text(b": ", text);
     if let Some(name) = step.start_name() {
@@ -61,7 +63,8 @@ fn put_start_fault(step: Step, text: &mut LineText)
 /// Writes the number of the line, and what is wrong with it, into the empty text.
 fn put_line_fault(line: u32, fault: LineFault, text: &mut LineText)
     requires { length text.old.items ≡ 0 }
-    ensures { text.new.items ≡ line_fault_text line fault }
+    ensures words { text.new.items ≡ line_fault_text line fault }
+    ensures short { length text.new.items ≤ 128 }
 {
     put_text(b"nissy: line ", text);
     put_number(line as u128, text);
@@ -101,7 +104,8 @@ impl From<AllocError> for Stop {
 impl Stop {
     /// The text for the error writer.
     pub fn text(self) -> LineText
-        ensures { result.items ≡ stop_text self }
+        ensures words { result.items ≡ stop_text self }
+        ensures short { length result.items ≤ 128 }
     {
         let mut text = LineText::new();
         match self {

@@ -1,5 +1,5 @@
 //! What answers are made of: bytes and numbers, which are appended to a text, and lines, which a text is set to.
-ghost use Rattle.std.specs.Prelude.{◌≡◌, ◌+◌, ◌≤◌, ◌∷◌, ◌++◌, [], decimal, length};
+ghost use Rattle.std.specs.Prelude.{◌≡◌, ◌+◌, ◌≤◌, ◌<◌, ◌^◌, ◌∷◌, ◌++◌, [], decimal, length};
 ghost use Rattle.niss_shell.specs.Lines.{line_feed};
 ghost use Rattle.niss_shell.specs.Output.{solution_line, none_line, count_text, length_text};
 
@@ -22,11 +22,12 @@ fn put_digits(number: u128, text: &mut LineText)
 }
 
 /// Appends the number in decimal digits, of which there are at most 39.
-#[tactic(auto, using(crate::proofs::WordsLemmas::decimal_short))]
+#[tactic(auto, using(crate::proofs::WordsLemmas::decimal_short, crate::proofs::WordsLemmas::decimal_narrow))]
 pub fn put_number(number: u128, text: &mut LineText)
     requires { length text.old.items + 40 ≤ 2048 }
     ensures words { text.new.items ≡ text.old.items ++ decimal number }
     ensures len { length text.new.items ≤ length text.old.items + 40 }
+    ensures narrow { number < 2 ^ 32 → length text.new.items ≤ length text.old.items + 10 }
 {
     put_digits(number, text);
 }
