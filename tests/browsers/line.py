@@ -139,6 +139,41 @@ def keeps_reductions(tally: Tally, browser: Browser) -> None:
     tally.equal("a reduction that may not follow is not said", browser.script(KEPT_WORDS), [["R"], ["R"]])
 
 
+def keeps_a_note(tally: Tally, browser: Browser) -> None:
+    """The press that ends a note is heard: the row of its button stays where it is."""
+    browser.open(f"{ADDRESS}&kept=normal.R,normal.U")
+    browser.until(KEPT_SAID)
+    field = browser.driver.find_element("css selector", "#kept-list li:nth-child(1) .note-field")
+    field.click()
+    field.send_keys("a note ")
+    second = browser.texts("#kept-list .moves")[1]
+    browser.driver.find_element("css selector", "#kept-list li:nth-child(2) button").click()
+    browser.wait()
+    tally.equal("the press after a note is heard", browser.text("bracketed"), second)
+    notes = "return [...document.querySelectorAll('#kept-list .note-field')].map((each) => each.value)"
+    tally.equal("and the note is kept", browser.script(notes), ["a note", ""])
+    browser.script("history.back()")
+    tally.holds("the way back has it too", browser.until("return document.getElementById('bracketed').textContent !== arguments[0]", second))
+    tally.equal("as it was", browser.script(notes), ["a note", ""])
+
+
+def leaves_kept(tally: Tally, browser: Browser) -> None:
+    """A scramble that is pasted in place of the whole leaves what is kept and taken, with a way back; the same one again doesn't."""
+    paste = """const field = document.getElementById('scramble'); field.select(); field.dispatchEvent(new ClipboardEvent('paste'));
+        field.value = arguments[0]; field.dispatchEvent(new InputEvent('input', { inputType: 'insertFromPaste' }))"""
+    said = "return document.getElementById('left').hidden ? '' : document.getElementById('left-words').textContent"
+    browser.open(f"{ADDRESS}&kept=normal.R,normal.U")
+    browser.until(KEPT_SAID)
+    browser.script(paste, f"{SCRAMBLE} // again")
+    browser.wait()
+    tally.equal("the same scramble keeps them", (browser.texts("#kept-list .moves"), browser.script(said)), (["R", "U"], ""))
+    browser.script(paste, EXAMPLE)
+    browser.wait()
+    tally.equal("another one leaves them", (browser.texts("#kept-list .moves"), browser.script(said)), ([], "2 kept lines were left."))
+    browser.click("#left-back")
+    tally.holds("they come back", browser.until("return document.querySelectorAll('#kept-list li').length === 2"))
+
+
 def keeps_stages(tally: Tally, browser: Browser) -> None:
     """What is kept with a reduction is seen in its stages: an orientation with its side, and then the case that was solved."""
 
@@ -338,5 +373,6 @@ def leads_to_kept(tally: Tally, browser: Browser) -> None:
 
 def try_all(tally: Tally, browser: Browser) -> None:
     """All of them."""
-    for part in (keeps, keeps_moves_alone, keeps_reductions, keeps_stages, premoves, leads_to_kept, fmc_text, edits, by_keys, plays, solved):
+    kept = (keeps, keeps_a_note, leaves_kept, keeps_moves_alone, keeps_reductions, keeps_stages, leads_to_kept)
+    for part in (*kept, premoves, fmc_text, edits, by_keys, plays, solved):
         part(tally, browser)

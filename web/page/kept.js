@@ -108,6 +108,8 @@ export class KeptCandidates {
     #acts;
     #candidates = [];
     #walks = [];
+    /** the field of each candidate's note */
+    #notes = [];
     #scramble = "";
     #list = part("kept-list");
     #way = new WayTo(part("bar-kept"), part("kept"), part("kept-heading"));
@@ -122,11 +124,23 @@ export class KeptCandidates {
     /** Shows candidates; what the engine says of them comes by `describe`. @param {Candidate[]} candidates */
     show(candidates) {
         if (candidates === this.#candidates) return;
+        const names = this.#names();
         this.#candidates = candidates;
+        // rows stay where they are, since the press that ends a note may be on a button of one
+        if (names === this.#names()) {
+            for (const [at, { note }] of candidates.entries()) {
+                if (this.#notes[at].value !== note) this.#notes[at].value = note;
+            }
+            return;
+        }
         this.#walks = [];
         part("kept").hidden = candidates.length === 0;
         this.#way.show(candidates.length === 0 ? "" : `★ ${candidates.length}`, `Kept: ${counted(candidates.length, "line")}`);
         this.#draw();
+    }
+
+    #names() {
+        return this.#candidates.map(nameOfCandidate).join("\n");
     }
 
     /** Whether it is shown what the engine says of the candidates after a scramble. @param {string} scramble */
@@ -148,7 +162,7 @@ export class KeptCandidates {
 
     /** The candidates with their walks, in the order that is chosen. */
     #sorted() {
-        const all = this.#candidates.map((candidate, at) => ({ candidate, walk: this.#walks[at] ?? null }));
+        const all = this.#candidates.map((candidate, at) => ({ candidate, walk: this.#walks[at] ?? null, at }));
         if (all.some(({ walk }) => walk === null) || part("kept-sort").value === "kept") return all;
         return all.sort((one, other) => stageOf(other.walk) - stageOf(one.walk) || totalOf(one.walk) - totalOf(other.walk));
     }
@@ -167,30 +181,30 @@ export class KeptCandidates {
         tell(part("kept-count"), this.#candidates.length === 0 ? "" : counted(this.#candidates.length, "line"));
     }
 
-    #item({ candidate, walk }) {
+    #item({ candidate, walk, at }) {
         const { parts, note } = candidate;
         const [name, said] = [nameOfCandidate(candidate), saidOf(candidate)];
-        const without = () => this.#candidates.filter((each) => each !== candidate);
         const field = element("input", {
             class: "note-field", value: note, maxlength: LONGEST_NOTE, placeholder: "Note", autocomplete: "off",
             "data-control": `note ${name}`,
-            "aria-label": `Note on ${said}`,
+            "aria-label": `Note: ${said}`,
             change: (event) => {
                 const text = event.target.value.trim();
-                this.#acts.change(this.#candidates.map((each) => (each === candidate ? { ...candidate, note: text } : each)));
+                this.#acts.change(this.#candidates.map((each, place) => (place === at ? { ...each, note: text } : each)));
             },
         });
+        this.#notes[at] = field;
         return element("li", {},
             stepOf(parts, walk),
             element("span", { class: "row" },
                 field,
                 element("button", {
-                    type: "button", class: "quiet", "data-control": `on ${name}`, "aria-label": `Go on with ${said}`,
+                    type: "button", class: "quiet", "data-control": `on ${name}`, "aria-label": `Go on: ${said}`,
                     click: () => this.#acts.goOn(parts),
                 }, "Go on"),
                 element("button", {
-                    type: "button", class: "quiet", "data-control": `away ${name}`, "aria-label": `Take away ${said}`,
-                    click: () => this.#acts.change(without()),
+                    type: "button", class: "quiet", "data-control": `away ${name}`, "aria-label": `Remove: ${said}`,
+                    click: () => this.#acts.change(this.#candidates.filter((_, place) => place !== at)),
                 }, "Remove")));
     }
 }

@@ -32,6 +32,9 @@ export class ScrambleField {
     #leftOut = [];
     #isRead = false;
     #isClosed = false;
+    /** the scramble that was read last, and whether what is pasted takes the place of all of it */
+    #last = "";
+    #isReplaced = false;
 
     /**
      * @param {import("./calls.js").Calls} calls
@@ -43,6 +46,9 @@ export class ScrambleField {
         this.#changed = changed;
         this.#field.maxLength = LONGEST_SCRAMBLE;
         this.#field.addEventListener("input", (event) => this.#typed(event));
+        this.#field.addEventListener("paste", ({ target: { value, selectionStart, selectionEnd } }) => {
+            this.#isReplaced = selectionStart === 0 && selectionEnd === value.length;
+        });
         this.#field.addEventListener("scroll", () => {
             this.#backdrop.scrollTop = this.#field.scrollTop;
         });
@@ -72,6 +78,7 @@ export class ScrambleField {
             this.#field.value = scramble;
             this.#leftOut = [];
         }
+        this.#last = scramble || this.#last;
     }
 
     /**
@@ -84,6 +91,7 @@ export class ScrambleField {
         showFault(part("scramble-fault"), this.#field, plain, fault, text);
         this.#markPlace(text, placeOfFault(plain, fault, text));
         const sentences = this.#leftOut.length > 0 ? [`Left out: ${this.#leftOut.join(", ")}.`] : [];
+        if (read && plain.line.includes("(")) sentences.push("Moves in brackets count as inverse moves.");
         if (read?.isTurned) sentences.push(`Read as ${read.line || "no moves"}: ${TURNS_LEFT_OUT}`);
         tell(part("scramble-read"), sentences.join(" "));
         part("scramble-folded").textContent = text;
@@ -145,18 +153,23 @@ export class ScrambleField {
     #typed(event) {
         clearTimeout(this.#timer);
         this.#markPlace("", null);
+        const isReplaced = this.#isReplaced;
+        this.#isReplaced = false;
         // what is pasted is whole
-        if (event.inputType === "insertFromPaste") this.#read();
-        else this.#timer = setTimeout(() => this.#read(), PAUSE);
+        if (event.inputType === "insertFromPaste") this.#read(isReplaced);
+        else this.#timer = setTimeout(() => this.#read(false), PAUSE);
     }
 
-    #read() {
+    /** @param {boolean} isReplaced by a text that was pasted: by another scramble, if it isn't the same again */
+    #read(isReplaced) {
         const text = this.#field.value;
         const fmc = readFmc(text);
         const plain = plainLine(fmc ? fmc.scramble : text);
         this.#leftOut = plain.leftOut;
         if (fmc) this.#field.value = plain.line.trim();
-        this.#changed(fmc ? plain.line.trim() : plain.line, fmc !== null, fmc);
+        const isOther = isReplaced && ![plain.line.trim(), ""].includes(this.#last.trim());
+        this.#last = plain.line || this.#last;
+        this.#changed(fmc ? plain.line.trim() : plain.line, fmc !== null || isOther, fmc);
     }
 
     #put(scramble) {
