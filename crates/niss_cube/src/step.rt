@@ -61,9 +61,9 @@ const EDGES_ON_RL: Goal = Goal::Edges(Axis::Rl);
 
 const EDGES_ON_FB: Goal = Goal::Edges(Axis::Fb);
 
-// A domino reduction: on the first axis, of a cube whose edges are oriented on the second.
+// A domino reduction: of a cube whose edges are oriented on the first axis, on the second.
 macro_rules! dr {
-    ($axis:ident, $edges:ident) => {
+    ($edges:ident, $axis:ident) => {
         Goal::Domino {
             edges: Axis::$edges,
             axis: Axis::$axis,
@@ -114,16 +114,16 @@ impl Step {
             Step::Eofb => ("eofb", None, &[EDGES_ON_FB]),
             Step::Eorl => ("eorl", None, &[EDGES_ON_RL]),
             Step::Eoud => ("eoud", None, &[EDGES_ON_UD]),
-            Step::DrudEofb => ("drud-eofb", Some(Axis::Fb), &[dr!(Ud, Fb)]),
-            Step::DrrlEofb => ("drrl-eofb", Some(Axis::Fb), &[dr!(Rl, Fb)]),
-            Step::DrudEorl => ("drud-eorl", Some(Axis::Rl), &[dr!(Ud, Rl)]),
-            Step::DrfbEorl => ("drfb-eorl", Some(Axis::Rl), &[dr!(Fb, Rl)]),
-            Step::DrrlEoud => ("drrl-eoud", Some(Axis::Ud), &[dr!(Rl, Ud)]),
-            Step::DrfbEoud => ("drfb-eoud", Some(Axis::Ud), &[dr!(Fb, Ud)]),
+            Step::DrudEofb => ("drud-eofb", Some(Axis::Fb), &[dr!(Fb, Ud)]),
+            Step::DrrlEofb => ("drrl-eofb", Some(Axis::Fb), &[dr!(Fb, Rl)]),
+            Step::DrudEorl => ("drud-eorl", Some(Axis::Rl), &[dr!(Rl, Ud)]),
+            Step::DrfbEorl => ("drfb-eorl", Some(Axis::Rl), &[dr!(Rl, Fb)]),
+            Step::DrrlEoud => ("drrl-eoud", Some(Axis::Ud), &[dr!(Ud, Rl)]),
+            Step::DrfbEoud => ("drfb-eoud", Some(Axis::Ud), &[dr!(Ud, Fb)]),
             Step::Eo => ("eo", None, &[EDGES_ON_FB, EDGES_ON_RL, EDGES_ON_UD]),
-            Step::DrEofb => ("dr-eofb", Some(Axis::Fb), &[dr!(Ud, Fb), dr!(Rl, Fb)]),
-            Step::DrEorl => ("dr-eorl", Some(Axis::Rl), &[dr!(Ud, Rl), dr!(Fb, Rl)]),
-            Step::DrEoud => ("dr-eoud", Some(Axis::Ud), &[dr!(Rl, Ud), dr!(Fb, Ud)]),
+            Step::DrEofb => ("dr-eofb", Some(Axis::Fb), &[dr!(Fb, Ud), dr!(Fb, Rl)]),
+            Step::DrEorl => ("dr-eorl", Some(Axis::Rl), &[dr!(Rl, Ud), dr!(Rl, Fb)]),
+            Step::DrEoud => ("dr-eoud", Some(Axis::Ud), &[dr!(Ud, Rl), dr!(Ud, Fb)]),
         }
     }
 

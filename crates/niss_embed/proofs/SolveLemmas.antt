@@ -17,7 +17,7 @@ use Rattle.niss_moves.specs.Places.{Place}
 use Rattle.niss_search.specs.Delivery.{WentThrough, StoppedIn}
 use Rattle.niss_search.specs.Laws.{FirstIsLeast}
 use Rattle.niss_search.specs.Cubes.{near_solutions_of, near_looks_of, least_length_of, cubes}
-use Rattle.niss_search.specs.declared.deepening.Outcome.{Outcome}
+use Rattle.niss_search.specs.declared.searching.Outcome.{Outcome}
 use Rattle.niss_shell.specs.Names.{Turn, Step}
 use Rattle.niss_shell.specs.Output.{turns_text, solution_line}
 use Rattle.niss_embed.specs.declared.line_search.SolutionLines.{SolutionLines}

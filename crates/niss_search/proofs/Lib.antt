@@ -1,4 +1,4 @@
-pub mod WordLemmas
+pub mod ByteLemmas
 pub mod Words
 pub mod ListLemmas
 pub mod DepthFirst

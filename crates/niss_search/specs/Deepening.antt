@@ -7,7 +7,7 @@ use Rattle.niss_moves.specs.Canonical.{may_follow, last_turn}
 use Rattle.niss_search.specs.Solutions.{Space, reaching, looks, solutions, all_looks}
 use Rattle.niss_search.specs.Delivery.{Path, at_limit, WentThrough, StoppedIn}
 use Rattle.niss_search.specs.Positions.{positions, distance_at}
-use Rattle.niss_search.specs.declared.deepening.Descent.{Descent}
+use Rattle.niss_search.specs.declared.searching.Descent.{Descent}
 
 -- A part of a search: the paths that it hands out, and how many looks it makes.
 pub record Part : Type 0 where

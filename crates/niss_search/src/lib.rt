@@ -51,15 +51,15 @@
 //! has it (`specs/Cubes`). The functions of `laws` state what follows from the definitions alone.
 #![tactic(auto)]
 
-mod deepening;
 pub mod laws;
 mod path;
 mod scan;
 mod scramble;
+mod searching;
 mod tables;
 
-pub use deepening::{Outcome, Sink, search};
 pub use path::{Limit, TurnPath};
 pub use scan::next_at;
 pub use scramble::{random_turn, random_turns};
+pub use searching::{Outcome, Sink, search};
 pub use tables::{Meter, Position, Tables};

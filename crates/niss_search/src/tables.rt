@@ -3,9 +3,9 @@
 //! `Tables`: a step, with its tables behind one public type; a `Position` has the coordinates of each goal, with their axis
 //!   `Kind`: by the number of its goals and their shape, one of four searches, each compiled by itself
 //!     `SearchTables`: the turns that may follow (`Followers`), and a `StateSpace`, whose states are such coordinates without the axis
-//!       `StateSpace`: one `PruningTable`, or an `Either`, which has the table of one goal more
+//!       `StateSpace`: one `PruningTable`, or a `GoalAndOthers`, which has the table of one goal more
 //!         `PruningTable`: a byte for each entry, and the `GoalMoves` of the goal
-//!           `GoalMoves`: `EdgeMoves` with one `MoveTable`, or `DominoMoves` with two: the number after a turn
+//!           `GoalMoves`: `EdgeMoves` with one `MoveTable`, or `DominoMoves` with two: the ranks after a turn
 mod fill;
 mod followers;
 mod goal_moves;
@@ -51,7 +51,7 @@ impl Tables {
     ghost use Rattle.niss_cube.specs.Steps.{turns_of};
     ghost use Rattle.niss_search.specs.Entries.{entry_count, fill_ticks};
 
-    /// Builds the tables of a step. It takes all memory before the meter rises: for each goal 36 bytes a number of its
+    /// Builds the tables of a step. It takes all memory before the meter rises: for each goal 36 bytes for each rank of its
     /// coordinates and one for each entry (2,048 for an edge orientation, 1,082,565 for a domino reduction).
     /// The meter rises by one for each turn that is tried from an entry. Where the allocator refuses memory, nothing is kept
     /// and the meter stands where it stood. The meter is at most at 2^127 before.
@@ -160,11 +160,11 @@ impl<A: Allocator> Tables<A> {
             → (result ≡ 0) ↔ IsTrue (reached self.now e) }
     {
         positions_follow_cubes();
-        self.distance(position, meter)
+        self.look_by_kind(position, meter)
     }
 
-    /// What a look returns, by the kind of the tables.
-    fn distance(&self, position: &Position, meter: &mut Meter) -> u8
+    /// The same look, by the kind of the tables.
+    fn look_by_kind(&self, position: &Position, meter: &mut Meter) -> u8
         requires position { IsPosition self.now position.now }
         requires meter { meter.old + 1 < 2 ^ 128 }
         ensures tick { meter.new ≡ meter.old + 1 }

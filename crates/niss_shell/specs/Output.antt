@@ -16,7 +16,7 @@ use Rattle.niss_moves.specs.Reader.{read_line}
 use Rattle.niss_moves.specs.Text.{word, with_words, turn_words}
 use Rattle.niss_search.specs.Cubes.{least_length_of, near_solutions_of, near_looks_of}
 use Rattle.niss_search.specs.Solutions.{look_bound}
-use Rattle.niss_search.specs.declared.deepening.Outcome.{Outcome}
+use Rattle.niss_search.specs.declared.searching.Outcome.{Outcome}
 use Rattle.niss_search.specs.Draw.{next_words, after_words, draw}
 use Rattle.rand_pcg.specs.Lcg.{Lcg, started as started_lcg, increment_of}
 use Rattle.rand_pcg.specs.Pcg.{multiplier_64}

@@ -118,7 +118,7 @@ impl<'a, M: GoalMoves> EntryRow<'a, M> {
     {
         entries_turn();
         let places = self.moves.places(entry - self.start);
-        for column in 0..self.moves.turns() {
+        for column in 0..self.moves.turn_count() {
             meter.tick();
             let next = self.starts[column] + places[column] as usize;
             distances[next] = level.meet(distances[next]);

@@ -7,7 +7,7 @@ ghost use Rattle.niss_cube.specs.Steps.{turns_of};
 ghost use Rattle.niss_search.specs.Followers.{AreFollowers};
 ghost use Rattle.niss_search.specs.Moves.{turn_at};
 
-use super::move_table::MOST_TURNS;
+use super::move_table::MOST_STEP_TURNS;
 use arrayvec::ArrayVec;
 use niss_cube::{Face, Step, Turn};
 use niss_moves::{Power, allowed};
@@ -21,7 +21,7 @@ pub struct Follower {
 }
 
 /// Some of a step's turns.
-type FollowerList = ArrayVec<Follower, MOST_TURNS>;
+type FollowerList = ArrayVec<Follower, MOST_STEP_TURNS>;
 
 /// The turns of a step that may stand directly after the last one, in turn order.
 #[tactic(auto, using(crate::proofs::Bounds::few_turns))]

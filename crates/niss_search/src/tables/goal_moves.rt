@@ -8,13 +8,13 @@ ghost use Rattle.niss_search.specs.Moves.{turn_at};
 ghost use Rattle.niss_search.specs.Positions.{coordinates_after};
 ghost use Rattle.niss_cube.specs.declared.cube.coordinate.Coordinate.TheVariants as coordinate;
 
-use super::move_table::{MOST_TURNS, MoveTable, Row};
+use super::move_table::{MOST_STEP_TURNS, MoveTable, Row};
 use super::position::GoalCoordinates;
 use niss_cube::{Axis, Coordinate, OutOfMemory, Step};
 use std::alloc::Allocator;
 
 /// Where the rows of a pruning table begin after the turns of a step, in turn order.
-pub type Starts = [usize; MOST_TURNS];
+pub type Starts = [usize; MOST_STEP_TURNS];
 
 /// The number of the entry of a twist and a slice.
 #[inline(always)]
@@ -24,25 +24,25 @@ fn pair_number(twist: u16, slice: u16) -> usize
     twist as usize * Coordinate::Slice.count() + slice as usize
 }
 
-/// The coordinates of a goal of a step, as numbers without their axis, and where the step's turns lead them. The entries of
+/// The coordinates of a goal of a step, as ranks without their axis, and where the step's turns lead them. The entries of
 /// its pruning table stand in rows, so that after a turn those of one row stand in one row again.
 pub trait GoalMoves {
-    /// The numbers.
+    /// The ranks.
     type State: Copy;
 
     /// The step and the goal.
     ghost alternative: { Self → Alternative };
 
-    /// The coordinates of a state.
-    ghost coordinates: { Self → Self.State → GoalCoordinates };
+    /// What is seen of a cube in a state: the coordinates of the goal.
+    ghost seen: { Self → Self.State → GoalCoordinates };
 
     /// How many turns the step has.
-    fn turns(&self) -> usize
+    fn turn_count(&self) -> usize
         ensures value { result ≡ length (turns_of (alternative self.now).step) }
         ensures few { result ≤ 18 };
 
     /// How many entries the pruning table has.
-    fn entries(&self) -> usize
+    fn entry_count(&self) -> usize
         ensures { result ≡ count_for (alternative self.now).goal };
 
     /// How many entries stand in a row of the table.
@@ -60,24 +60,24 @@ pub trait GoalMoves {
         ensures { ArePlaces (alternative self.now) place result.now };
 
     /// The state of coordinates that the goal looks at.
-    fn state(&self, position: GoalCoordinates) -> Self::State
-        requires { IsEntry (alternative self.now).goal position }
-        ensures { coordinates self.now result ≡ position };
+    fn state(&self, coordinates: GoalCoordinates) -> Self::State
+        requires { IsEntry (alternative self.now).goal coordinates }
+        ensures { seen self.now result ≡ coordinates };
 
     /// The coordinates of a state.
     fn coordinates_of(&self, state: Self::State) -> GoalCoordinates
-        ensures { result ≡ coordinates self.now state };
+        ensures { result ≡ seen self.now state };
 
     /// The number of its entry in the pruning table.
     fn entry(&self, state: Self::State) -> usize
-        ensures number { result ≡ entry_number (coordinates self.now state) }
-        ensures entry { IsEntry (alternative self.now).goal (coordinates self.now state) };
+        ensures number { result ≡ entry_number (seen self.now state) }
+        ensures entry { IsEntry (alternative self.now).goal (seen self.now state) };
 
     /// The state after the turn of a column.
     fn after(&self, state: Self::State, column: usize) -> Self::State
         requires { column < length (turns_of (alternative self.now).step) }
-        ensures { coordinates self.now result
-            ≡ coordinates_after (coordinates self.now state) (turn_at (alternative self.now).step column) };
+        ensures { seen self.now result
+            ≡ coordinates_after (seen self.now state) (turn_at (alternative self.now).step column) };
 }
 
 /// A flip, on an axis that is known.
@@ -109,13 +109,13 @@ impl<A: Allocator> GoalMoves for EdgeMoves<A> {
 
     ghost alternative = { λ m. record { step = m.flips.step; goal = Edges m.flips.axis } };
 
-    ghost coordinates = { λ m s. Flip m.flips.axis s.flip };
+    ghost seen = { λ m s. Flip m.flips.axis s.flip };
 
-    fn turns(&self) -> usize {
-        self.flips.turns()
+    fn turn_count(&self) -> usize {
+        self.flips.turn_count()
     }
 
-    fn entries(&self) -> usize {
+    fn entry_count(&self) -> usize {
         Coordinate::Flip.count()
     }
 
@@ -125,7 +125,7 @@ impl<A: Allocator> GoalMoves for EdgeMoves<A> {
 
     #[tactic(auto, using(crate::proofs::EntryLemmas::row_edges))]
     fn starts(&self, _row: usize) -> Starts {
-        [0; MOST_TURNS]
+        [0; MOST_STEP_TURNS]
     }
 
     #[inline(always)]
@@ -133,8 +133,8 @@ impl<A: Allocator> GoalMoves for EdgeMoves<A> {
         self.flips.row(place as u16)
     }
 
-    fn state(&self, position: GoalCoordinates) -> FlipState {
-        match position {
+    fn state(&self, coordinates: GoalCoordinates) -> FlipState {
+        match coordinates {
             GoalCoordinates::Flip { flip, .. } => FlipState { flip },
             GoalCoordinates::TwistAndSlice { .. } => unreachable!(),
         }
@@ -206,13 +206,13 @@ impl<A: Allocator> GoalMoves for DominoMoves<A> {
 
     ghost alternative = { λ m. record { step = m.twists.step; goal = Domino m.edges m.twists.axis } };
 
-    ghost coordinates = { λ m s. TwistAndSlice m.twists.axis s.twist s.slice };
+    ghost seen = { λ m s. TwistAndSlice m.twists.axis s.twist s.slice };
 
-    fn turns(&self) -> usize {
-        self.twists.turns()
+    fn turn_count(&self) -> usize {
+        self.twists.turn_count()
     }
 
-    fn entries(&self) -> usize {
+    fn entry_count(&self) -> usize {
         Coordinate::Twist.count() * Coordinate::Slice.count()
     }
 
@@ -222,8 +222,8 @@ impl<A: Allocator> GoalMoves for DominoMoves<A> {
 
     fn starts(&self, row: usize) -> Starts {
         let twists = self.twists.row(row as u16);
-        let mut starts = [0; MOST_TURNS];
-        for column in 0..self.turns() {
+        let mut starts = [0; MOST_STEP_TURNS];
+        for column in 0..self.turn_count() {
             starts[column] = pair_number(twists[column], 0);
         }
         starts
@@ -234,8 +234,8 @@ impl<A: Allocator> GoalMoves for DominoMoves<A> {
         self.slices.row(place as u16)
     }
 
-    fn state(&self, position: GoalCoordinates) -> PairState {
-        match position {
+    fn state(&self, coordinates: GoalCoordinates) -> PairState {
+        match coordinates {
             GoalCoordinates::TwistAndSlice { twist, slice, .. } => PairState { twist, slice },
             GoalCoordinates::Flip { .. } => unreachable!(),
         }

@@ -9,7 +9,7 @@ use super::goal_moves::{DominoMoves, EdgeMoves, GoalMoves};
 use super::meter::Meter;
 use super::pruning_table::{EmptyTable, PruningTable};
 use super::search_tables::SearchTables;
-use super::state_space::Either;
+use super::state_space::GoalAndOthers;
 use niss_cube::{Axis, Goal, OutOfMemory, Step};
 use std::alloc::Allocator;
 
@@ -17,10 +17,10 @@ use std::alloc::Allocator;
 type OneGoal<M, A> = SearchTables<PruningTable<M, A>>;
 
 /// Those of a step with two.
-type TwoGoals<M, A> = SearchTables<Either<M, A, PruningTable<M, A>>>;
+type TwoGoals<M, A> = SearchTables<GoalAndOthers<M, A, PruningTable<M, A>>>;
 
 /// Those of a step with three.
-type ThreeGoals<M, A> = SearchTables<Either<M, A, Either<M, A, PruningTable<M, A>>>>;
+type ThreeGoals<M, A> = SearchTables<GoalAndOthers<M, A, GoalAndOthers<M, A, PruningTable<M, A>>>>;
 
 /// The tables of a step, by what it looks at: the flip on an axis, or on each of the three; or twist and slice on an axis, or
 /// on either of two.
@@ -65,8 +65,8 @@ impl<A: Allocator + Copy> Kind<A> {
             [_, Goal::Edges(second), Goal::Edges(third)] => {
                 let second = edge_table(alloc, step, second)?;
                 let third = edge_table(alloc, step, third)?;
-                let others = Either::of(second.fill(meter), third.fill(meter));
-                let space = Either::of(first.fill(meter), others);
+                let others = GoalAndOthers::of(second.fill(meter), third.fill(meter));
+                let space = GoalAndOthers::of(first.fill(meter), others);
                 Ok(Kind::AnyEdges(SearchTables::of(step, space)))
             }
             _ => unreachable!(),
@@ -91,7 +91,7 @@ impl<A: Allocator + Copy> Kind<A> {
             [_] => { Ok(Kind::Domino(SearchTables::of(step, first.fill(meter)))) }
             [_, Goal::Domino { edges, axis }] => {
                 let second = domino_table(alloc, step, edges, axis)?;
-                let space = Either::of(first.fill(meter), second.fill(meter));
+                let space = GoalAndOthers::of(first.fill(meter), second.fill(meter));
                 Ok(Kind::EitherDomino(SearchTables::of(step, space)))
             }
             _ => unreachable!(),

@@ -10,10 +10,10 @@ use std::alloc::Allocator;
 use std::marker::Model;
 
 /// The most turns of a step.
-pub const MOST_TURNS: usize = 18;
+pub const MOST_STEP_TURNS: usize = 18;
 
 /// The ranks after the turns of a step, in turn order.
-pub type Row = [u16; MOST_TURNS];
+pub type Row = [u16; MOST_STEP_TURNS];
 
 /// A coordinate on an axis after the turns of a step: a row for each rank, and in it a column for each turn. So a look has
 /// neither an axis to ask nor a face to rename.
@@ -48,7 +48,7 @@ impl<A: Allocator> MoveTable<A> {
     ) -> Result<MoveTable<A>, OutOfMemory>
         ensures { IfOk result (λ t. t ≡ record { coordinate = coordinate; axis = axis; step = step }) }
     {
-        let Ok(mut rows) = Vec::from_elem(alloc, [0; MOST_TURNS], coordinate.count()) else {
+        let Ok(mut rows) = Vec::from_elem(alloc, [0; MOST_STEP_TURNS], coordinate.count()) else {
             return Err(OutOfMemory);
         };
         coordinate.fill_move_rows(axis, step.turns(), &mut rows);
@@ -69,7 +69,7 @@ impl<A: Allocator> MoveTable<A> {
 
     /// How many turns the step has.
     #[tactic(auto, using(crate::proofs::Bounds::few_turns))]
-    pub fn turns(&self) -> usize
+    pub fn turn_count(&self) -> usize
         ensures value { result ≡ length (turns_of self.now.step) }
         ensures few { result ≤ 18 }
     {

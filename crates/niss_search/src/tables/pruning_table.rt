@@ -32,7 +32,7 @@ impl<M: GoalMoves + Drop, A: Allocator> EmptyTable<M, A> {
     pub fn new_in(alloc: A, moves: M) -> Result<EmptyTable<M, A>, OutOfMemory>
         ensures { IfOk result (λ t. t.moves ≡ moves) }
     {
-        let Ok(mut distances) = Vec::from_elem(alloc, FAR, moves.entries()) else {
+        let Ok(mut distances) = Vec::from_elem(alloc, FAR, moves.entry_count()) else {
             return Err(OutOfMemory);
         };
         distances[GOAL_ENTRY] = 0;
@@ -79,7 +79,7 @@ impl<M: GoalMoves, A: Allocator> PruningTable<M, A> {
     /// The state of the coordinates of its goal.
     pub(super) fn state_of(&self, coordinates: GoalCoordinates) -> M::State
         requires { IsEntry (M.alternative self.now).goal coordinates }
-        ensures { M.coordinates self.now result ≡ coordinates }
+        ensures { M.seen self.now result ≡ coordinates }
     {
         self.moves.state(coordinates)
     }
@@ -92,11 +92,11 @@ impl<M: GoalMoves, A: Allocator> StateSpace for PruningTable<M, A> {
 
     ghost goals = { λ t. (M.alternative t).goal ∷ [] };
 
-    ghost seen = { λ t x. M.coordinates t x ∷ [] };
+    ghost seen = { λ t x. M.seen t x ∷ [] };
 
     #[tactic(auto, unfolding(crate::specs::Filling::AreEntries))]
-    fn state(&self, position: &[GoalCoordinates]) -> M::State {
-        let [coordinates] = *position else {
+    fn state(&self, coordinates: &[GoalCoordinates]) -> M::State {
+        let [coordinates] = *coordinates else {
             unreachable!()
         };
         self.state_of(coordinates)

@@ -13,10 +13,10 @@ use arrayvec::ArrayVec;
 use std::alloc::Allocator;
 use std::marker::Model;
 
-/// The states of a step by some of its goals, each with its own numbers, where the step's turns lead them, and how far they
+/// The states of a step by some of its goals, each with its own ranks, where the step's turns lead them, and how far they
 /// are from the step. One goal costs a look no more than its own table.
 pub trait StateSpace {
-    /// The numbers of each goal.
+    /// The ranks of each goal.
     type State: Copy;
 
     /// The step.
@@ -28,12 +28,12 @@ pub trait StateSpace {
     /// What is seen of a cube in a state: the coordinates of each goal.
     ghost seen: { Self → Self.State → List GoalCoordinates };
 
-    /// The state of a position.
-    fn state(&self, position: &[GoalCoordinates]) -> Self::State
-        requires { AreEntries (goals self.now) position.now }
-        ensures { seen self.now result ≡ position.now };
+    /// The state of the coordinates of a position.
+    fn state(&self, coordinates: &[GoalCoordinates]) -> Self::State
+        requires { AreEntries (goals self.now) coordinates.now }
+        ensures { seen self.now result ≡ coordinates.now };
 
-    /// Appends the coordinates of a state, those of a goal after the other.
+    /// Appends the coordinates of a state, a goal after the other.
     fn put_coordinates(&self, state: Self::State, list: &mut ArrayVec<GoalCoordinates, 3>)
         requires { length list.old.items + length (goals self.now) ≤ 3 }
         ensures { list.new.items ≡ list.old.items ++ seen self.now state };
@@ -51,12 +51,12 @@ pub trait StateSpace {
 
 /// The space of one goal more: the step is reached where it is by that goal, or by those of the other space.
 #[derive(Drop)]
-pub struct Either<M: GoalMoves, A: Allocator, S: StateSpace> {
+pub struct GoalAndOthers<M: GoalMoves, A: Allocator, S: StateSpace> {
     first: PruningTable<M, A>,
     others: S,
 }
 
-impl<M: GoalMoves, A: Allocator, S: StateSpace> Model for Either<M, A, S> {
+impl<M: GoalMoves, A: Allocator, S: StateSpace> Model for GoalAndOthers<M, A, S> {
     ghost use Rattle.std.specs.Prelude.{◌≡◌};
 
     ghost Value = { M × S };
@@ -66,28 +66,28 @@ impl<M: GoalMoves, A: Allocator, S: StateSpace> Model for Either<M, A, S> {
     ghost invariant = { λ s. S.step s.others ≡ (M.alternative s.first).step };
 }
 
-impl<M: GoalMoves, A: Allocator, S: StateSpace> Either<M, A, S> {
+impl<M: GoalMoves, A: Allocator, S: StateSpace> GoalAndOthers<M, A, S> {
     /// The two, of one step.
-    pub fn of(first: PruningTable<M, A>, others: S) -> Either<M, A, S>
+    pub fn of(first: PruningTable<M, A>, others: S) -> GoalAndOthers<M, A, S>
         requires { S.step others ≡ (M.alternative first).step }
         ensures { result ≡ (first, others) }
     {
-        Either { first, others }
+        GoalAndOthers { first, others }
     }
 }
 
-impl<M: GoalMoves, A: Allocator, S: StateSpace> StateSpace for Either<M, A, S> {
+impl<M: GoalMoves, A: Allocator, S: StateSpace> StateSpace for GoalAndOthers<M, A, S> {
     type State = (M::State, S::State);
 
     ghost step = { λ s. (M.alternative s.0).step };
 
     ghost goals = { λ s. (M.alternative s.0).goal ∷ S.goals s.1 };
 
-    ghost seen = { λ s x. M.coordinates s.0 x.0 ∷ S.seen s.1 x.1 };
+    ghost seen = { λ s x. M.seen s.0 x.0 ∷ S.seen s.1 x.1 };
 
     #[tactic(auto, unfolding(crate::specs::Filling::AreEntries))]
-    fn state(&self, position: &[GoalCoordinates]) -> (M::State, S::State) {
-        let [first, others @ ..] = position else {
+    fn state(&self, coordinates: &[GoalCoordinates]) -> (M::State, S::State) {
+        let [first, others @ ..] = coordinates else {
             unreachable!()
         };
         (self.first.state_of(*first), self.others.state(others))

@@ -8,10 +8,10 @@ use super::Coordinate;
 use niss_moves::{Axis, Power, Turn};
 
 /// The most turns of a move table.
-const MOST_TURNS: usize = 18;
+const MOST_STEP_TURNS: usize = 18;
 
 /// Of each column that is looked up, the column of the quarter turn that is made after the turn of the column before it.
-type Quarters = [Option<usize>; MOST_TURNS];
+type Quarters = [Option<usize>; MOST_STEP_TURNS];
 
 impl Coordinate {
     /// Writes the rows of a move table, one for each rank: the ranks on an axis after some turns, at most 18, of any cube that
@@ -26,13 +26,13 @@ impl Coordinate {
     }
 
     /// The turns that do to the rank on the standard axis what some turns do to that on `axis`.
-    fn standard_turns(self, axis: Axis, turns: &[Turn]) -> [Turn; MOST_TURNS]
+    fn standard_turns(self, axis: Axis, turns: &[Turn]) -> [Turn; MOST_STEP_TURNS]
         requires few { length turns.now ≤ 18 }
         ensures { (c i : ℕ) → c < length turns.now →
             rank_after self (standard_axis self) i (turn_in result c)
             ≡ rank_after self axis i (turn_in turns.now c) }
     {
-        let mut standard = [Turn::default(); MOST_TURNS];
+        let mut standard = [Turn::default(); MOST_STEP_TURNS];
         for column in 0..turns.len() {
             standard[column] = self.standard_turn(axis, turns[column]);
         }
@@ -41,7 +41,7 @@ impl Coordinate {
 
     /// Writes the rows on the standard axis. Looking a rank up is quicker than turning cubies, so each half and counter turn
     /// just after the others of its face is looked up.
-    fn fill_standard_rows(self, turns: &[Turn], rows: &mut [[u16; MOST_TURNS]])
+    fn fill_standard_rows(self, turns: &[Turn], rows: &mut [[u16; MOST_STEP_TURNS]])
         requires few { length turns.now ≤ 18 }
         requires each_rank { length rows.old ≡ count_of self }
         ensures { AreMoveRows self (standard_axis self) turns.now rows.new }
@@ -54,7 +54,7 @@ impl Coordinate {
     }
 
     /// Writes the columns that aren't looked up.
-    fn fill_turned(self, turns: &[Turn], quarters: &Quarters, rows: &mut [[u16; MOST_TURNS]])
+    fn fill_turned(self, turns: &[Turn], quarters: &Quarters, rows: &mut [[u16; MOST_STEP_TURNS]])
         requires few { length turns.now ≤ 18 }
         requires each_rank { length rows.old ≡ count_of self }
         ensures { AreWritten self turns.now quarters.now 0 rows.new }
@@ -65,14 +65,14 @@ impl Coordinate {
     }
 
     /// The row of a rank in the columns that aren't looked up.
-    fn turned_row(self, turns: &[Turn], quarters: &Quarters, rank: u16) -> [u16; MOST_TURNS]
+    fn turned_row(self, turns: &[Turn], quarters: &Quarters, rank: u16) -> [u16; MOST_STEP_TURNS]
         requires few { length turns.now ≤ 18 }
         requires rank { rank < count_of self }
         ensures { (c : ℕ) → c < length turns.now → get_or quarters.now c None ≡ None →
             slice_index result c ≡ rank_after self (standard_axis self) rank (turn_in turns.now c) }
     {
         let cube = self.unrank(rank);
-        let mut row = [0; MOST_TURNS];
+        let mut row = [0; MOST_STEP_TURNS];
         for column in 0..turns.len() {
             if quarters[column].is_none() {
                 row[column] = self.standard_rank_after(&cube, turns[column]);
@@ -87,7 +87,7 @@ impl Coordinate {
         turns: &[Turn],
         quarters: &Quarters,
         column: usize,
-        rows: &mut [[u16; MOST_TURNS]],
+        rows: &mut [[u16; MOST_STEP_TURNS]],
     )
         requires column { column < length turns.now }
         requires few { length turns.now ≤ 18 }
@@ -111,7 +111,7 @@ fn quarter_columns(turns: &[Turn]) -> Quarters
     requires few { length turns.now ≤ 18 }
     ensures { GoOn turns.now result }
 {
-    let mut quarters = [None; MOST_TURNS];
+    let mut quarters = [None; MOST_STEP_TURNS];
     for column in 1..turns.len() {
         quarters[column] = quarter_column(turns, column);
     }

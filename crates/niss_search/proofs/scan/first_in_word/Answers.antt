@@ -1,4 +1,4 @@
-use Rattle.niss_search.proofs.WordLemmas.{first-marked}
+use Rattle.niss_search.proofs.ByteLemmas.{first-marked}
 use Rattle.niss_search.proofs.scan.first_in_word.Goals as goal
 
 pub returns : goal.returns

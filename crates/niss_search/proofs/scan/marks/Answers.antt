@@ -1,4 +1,4 @@
-use Rattle.niss_search.proofs.WordLemmas.{marked-word}
+use Rattle.niss_search.proofs.ByteLemmas.{marked-word}
 use Rattle.niss_search.proofs.scan.marks.Goals as goal
 
 pub returns : goal.returns

@@ -5,12 +5,12 @@ use Rattle.niss_search.proofs.tables.Tables.look.Goals as goal
 
 pub returns-clause-in_range : goal.returns-clause-in_range
 returns-clause-in_range g c =
-    omega (arith, c.distance.ensures.value, distance_at-most c.args.self.now c.args.position.now)
+    omega (arith, c.look_by_kind.ensures.value, distance_at-most c.args.self.now c.args.position.now)
 
 pub returns-clause-value : goal.returns-clause-value
 returns-clause-value g c = λ e h.
-    c.distance.ensures.value ∙ sym (distance-cube c.positions_follow_cubes.ensures c.args.self.now e c.args.position.now h)
+    c.look_by_kind.ensures.value ∙ sym (distance-cube c.positions_follow_cubes.ensures c.args.self.now e c.args.position.now h)
 
 pub returns-clause-zero : goal.returns-clause-zero
 returns-clause-zero g c = λ e h.
-    rw c.distance.ensures.value (distance-reached-cube c.positions_follow_cubes.ensures c.args.self.now e c.args.position.now h)
+    rw c.look_by_kind.ensures.value (distance-reached-cube c.positions_follow_cubes.ensures c.args.self.now e c.args.position.now h)

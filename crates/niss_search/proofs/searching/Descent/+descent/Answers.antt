@@ -3,7 +3,7 @@ use Rattle.niss_search.proofs.Words.{distance_at, position_after, ◌^◌, IsFol
 use Rattle.std.proofs.lemmas.List.{length-drop}
 use Rattle.niss_search.proofs.DepthFirst.{no_follower, beyond_at-end, Descends-take, Remains-all, Remains-room}
 use Rattle.niss_search.proofs.DepthFirst.{Remains-room_next, Remains-next, Remains-stops, Remains-far}
-use Rattle.niss_search.proofs.deepening.Descent.+descent.Goals as goal
+use Rattle.niss_search.proofs.searching.Descent.+descent.Goals as goal
 
 pub extend-returns-then-left-eq0-clause-makes : goal.extend-returns-then-left-eq0-clause-makes
 extend-returns-then-left-eq0-clause-makes g t c =

@@ -134,10 +134,10 @@ impl<A: Allocator> Root<'_, A> {
             sink,
             count: 0,
         };
-        let (after, visited) = descent.visit(self.tables, self.position, length, held);
+        let (after, ended) = descent.begin(self.tables, self.position, length, held);
         let solutions = descent.count;
         *meter = after;
-        visited?;
+        ended?;
         Ok(solutions)
     }
 }
@@ -166,7 +166,7 @@ struct Descent<'a, K> {
 impl<K: Sink> Descent<'_, K> {
     /// Looks at the position of the path and, where the look allows, goes on below it with `left` turns more. Hands
     /// what it finds to the sink, and counts it.
-    pub fn visit<A: Allocator>(
+    pub fn begin<A: Allocator>(
         &mut self,
         tables: &Tables<A>,
         position: &Position,
@@ -182,15 +182,15 @@ impl<K: Sink> Descent<'_, K> {
             meter result.0 self.old self.new result.1 }
     {
         match tables.kind() {
-            Kind::Edges(kind) => self.visit_in(kind, position, left, meter),
-            Kind::AnyEdges(kind) => self.visit_in(kind, position, left, meter),
-            Kind::Domino(kind) => self.visit_in(kind, position, left, meter),
-            Kind::EitherDomino(kind) => self.visit_in(kind, position, left, meter),
+            Kind::Edges(kind) => self.begin_in(kind, position, left, meter),
+            Kind::AnyEdges(kind) => self.begin_in(kind, position, left, meter),
+            Kind::Domino(kind) => self.begin_in(kind, position, left, meter),
+            Kind::EitherDomino(kind) => self.begin_in(kind, position, left, meter),
         }
     }
 
-    /// `visit` by the kind of the tables.
-    fn visit_in<S: StateSpace>(
+    /// `begin` by the kind of the tables.
+    fn begin_in<S: StateSpace>(
         &mut self,
         tables: &SearchTables<S>,
         position: &Position,

@@ -1,7 +1,7 @@
 use Rattle.niss_search.proofs.Words.{◌≡◌, ◌+◌, ◌≤◌, ◌-◌, range_with_len, at_limit, last_length, GoesThrough, for_each}
 use Rattle.niss_search.proofs.Words.{progress_at, positions, distance_at, deepening}
 use Rattle.niss_search.proofs.DeepeningLemmas.{least_below}
-use Rattle.niss_search.proofs.deepening.search.Given as goal
+use Rattle.niss_search.proofs.searching.search.Given as goal
 
 abbrev pub decreases-loop-length : goal.decreases-loop-length
 decreases-loop-length g l = 21 - l.length

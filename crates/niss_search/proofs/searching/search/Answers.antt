@@ -4,7 +4,7 @@ use Rattle.niss_search.proofs.Bounds.{all_looks-bound, turns_of-length}
 use Rattle.niss_search.proofs.LookLemmas.{least_length-same}
 use Rattle.niss_search.proofs.DeepeningLemmas.{least_below, least_below-more, length-next, least_length-is, looks-room, goes-on, stops-here}
 use Rattle.niss_search.proofs.DeepeningLemmas.{all-done, searched}
-use Rattle.niss_search.proofs.deepening.search.Goals as goal
+use Rattle.niss_search.proofs.searching.search.Goals as goal
 
 pub deepen-requires-clause-meter : goal.deepen-requires-clause-meter
 deepen-requires-clause-meter g c =

@@ -1,0 +1,20 @@
+use Rattle.niss_search.proofs.Words.{◌≡◌, sym, ap, err_from_is_err_and, Part}
+use Rattle.niss_search.proofs.DepthFirst.{below_at-start}
+use Rattle.niss_search.proofs.searching.Root.deepen.Goals as goal
+
+pub begin-after-requires-clause-meter : goal.begin-after-requires-clause-meter
+begin-after-requires-clause-meter g c =
+    rw (c.requires.empty, c.replace-held.ensures.value, ap (λ (q : Part). q.looks) (below_at-start c.args.self.now.tables.now c.args.self.now.position.now c.args.length)) c.requires.meter
+
+pub returns-in_err-ended-clause-delivers : goal.returns-in_err-ended-clause-delivers
+returns-in_err-ended-clause-delivers g c =
+    let p = err_from_is_err_and c.from_residual.result c.from_residual.ensures.1 in
+    let back : c.sink-1.given.0 ≡ c.begin-after.new.self.sink.now = c.sink-1.given.1 (sym c.begin-after.ensures.keeps.same_sink) in
+    let stops = rw (c.requires.empty, below_at-start c.args.self.now.tables.now c.args.self.now.position.now c.args.length, c.replace-held.ensures.value, c.in_err-ended.was) at c.begin-after.ensures.makes in
+    rw (p.1, back) record { stopped = stops.stopped; rises = stops.rises; looked = stops.looked }
+
+pub returns-clause-delivers : goal.returns-clause-delivers
+returns-clause-delivers g c =
+    let back : c.sink-1.given.0 ≡ c.begin-after.new.self.sink.now = c.sink-1.given.1 (sym c.begin-after.ensures.keeps.same_sink) in
+    let went = rw (c.requires.empty, below_at-start c.args.self.now.tables.now c.args.self.now.position.now c.args.length, c.replace-held.ensures.value, c.in_ok-ended.was) at c.begin-after.ensures.makes in
+    rw back went
