@@ -1,8 +1,8 @@
 -- From what a run did to its devices to what a call answers.
-use Rattle.std.proofs.Common.{◌≡◌, ◌≢◌, ℕ, ◌<◌, Bool, true, false, Result, Ok, Err, List, [], ◌∷◌, ◌++◌, length, refl, sym, ap, ◌∙◌, subst, append_assoc, append-nil, length-append, arith}
+use Rattle.std.proofs.Common.{◌≤◌, ◌≡◌, ◌≢◌, ℕ, ◌<◌, Bool, true, false, Result, Ok, Err, List, [], ◌∷◌, ◌++◌, length, refl, sym, ap, ◌∙◌, subst, append_assoc, append-nil, length-append, arith}
 use Rattle.niss_shell.specs.Device.{SourceCall, TargetCall, Read, ReadShows, Ending, More, End, Fail, Calls, Reads, left_after}
 use Rattle.niss_shell.specs.Words.{Request, OnLines, request_of, reads_source, takes_memory}
-use Rattle.niss_shell.specs.Output.{Answer, out_of, answer_request, unsearched, error_text, status_of}
+use Rattle.niss_shell.specs.Output.{Answer, out_of, answer_request, unsearched, error_text, most_error_text, status_of}
 use Rattle.niss_shell.specs.Run.{due_without, outcome_before, flushed_outcome, Runs}
 use Rattle.niss_shell.specs.Laws.{Begins, MoreInputKeepsAnswers}
 use Rattle.niss_shell.specs.declared.device.DeviceFault.{DeviceFault}
@@ -10,7 +10,7 @@ use Rattle.niss_embed.specs.Names.{Answer as Given, UsageFault, Stop, OutOfMemor
 use Rattle.niss_embed.specs.Memory.{Memory, memory, shown_input, Lent}
 use Rattle.niss_embed.specs.Run.{text_words, TakesWords, due, Answers, RunsBytes, RunsWords}
 use Rattle.niss_embed.proofs.WordLemmas.{no_words, all_words}
-use Rattle.niss_embed.proofs.TargetLemmas.{Filling, state_before, state_after, PutBy, Took, Does, took, took_flushed, puts_took, puts_front}
+use Rattle.niss_embed.proofs.TargetLemmas.{has_room, Filling, state_before, state_after, PutBy, Took, Does, took, took_flushed, puts_took, puts_front}
 
 -- what a source in memory gives: the bytes at its beginning, and all of them if its end was found
 
@@ -171,12 +171,14 @@ module _ (law : MoreInputKeepsAnswers) (c : Call) (words : List (List ℕ)) (inp
       subst (λ l. Took (error_text x.outcome) (left_after x.error_refused []) l (state_after c.err)) err_old
       (subst (λ l. Took (error_text x.outcome) (left_after x.error_refused []) (err e) l) err_new
       (took err x.reports (error_text x.outcome) (left_after x.error_refused []) e f x.made_reports x.sends_reports)) in
+      let error = subst (λ o. PutBy c.err (error_text o)) (outcome_is ∙ p.1) (puts_took c.err x.error_refused (error_text x.outcome) reports).1 in
       record {
         refused = x.no_memory;
         asked = λ h. asks_words words (x.asks_memory h).0;
         answers = record {
           output = p.0;
-          error = subst (λ o. PutBy c.err (error_text o)) (outcome_is ∙ p.1) (puts_took c.err x.error_refused (error_text x.outcome) reports).1;
+          error = error;
+          room = has_room error (subst (λ o. length (error_text o) ≤ most_error_text) (outcome_is ∙ p.1) x.short);
           status = x.status_is ∙ ap status_of (outcome_is ∙ p.1);
         };
       }

@@ -7,7 +7,7 @@ use Rattle.std.proofs.lemmas.Grind.{common_steps}
 use Rattle.niss_shell.specs.Device.{TargetCall, Write, Flush, IsPiece, left_after, is_empty_answer}
 use Rattle.niss_shell.specs.Device.{Calls, Sends}
 use Rattle.niss_shell.specs.declared.device.DeviceFault.{DeviceFault}
-use Rattle.niss_embed.specs.Memory.{memory, Puts, Lent, lent, Appended, Fills}
+use Rattle.niss_embed.specs.Memory.{Memory, memory, Puts, Lent, lent, Appended, Fills}
 
 pub fills_piece : (bytes bytes_now piece : List ℕ) (reference reference_now at count : ℕ) (refused : Bool)
     → reference_now ≡ reference → at ≤ length bytes → count ≤ length piece → count ≤ length bytes - at
@@ -268,6 +268,15 @@ puts_took f false text t =
 
 pub puts_nothing : (bytes : List ℕ) → Puts [] (memory bytes bytes) 0 false
 puts_nothing bytes = puts_whole bytes bytes [] 0 (no_front bytes) refl (omega arith) (omega arith)
+
+not_below : (n m : ℕ) → m ≤ n → nat_lt n m ≡ false
+not_below n m h = grind (arith, common_steps)
+
+-- a room is enough that has as many bytes as the text at most has
+pub has_room : {text : List ℕ} {room : Memory} {count : ℕ} {too_small : Bool} {most : ℕ} → Puts text room count too_small
+    → length text ≤ most → most ≤ length room.before → too_small ≡ false
+has_room {text = text} {room = room} p short enough =
+    p.too_small_is ∙ not_below (length room.before) (length text) (omega (arith, short, enough))
 
 pub puts_text : (before after text : List ℕ) (count : ℕ) → count ≤ length text → count ≤ length before - 0
     → (count ≡ length text) ⊎ (count ≡ length before - 0)

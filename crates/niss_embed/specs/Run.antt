@@ -1,12 +1,12 @@
 -- What a call that runs a command in memory does: the words of a command line, one after the other in the bytes of one
 -- text, and what it returns.
-use Rattle.std.specs.Prelude.{◌≡◌, ◌⊎◌, ℕ, ◌<◌, if◌then◌else◌, Bool, true, List, [], ◌∷◌, ◌++◌, length}
+use Rattle.std.specs.Prelude.{◌≡◌, ◌⊎◌, ℕ, ◌<◌, ◌≤◌, if◌then◌else◌, Bool, true, false, List, [], ◌∷◌, ◌++◌, length}
 use Rattle.std.specs.List.{list_all}
 use Rattle.std.specs.Str.{is_utf8}
 use Rattle.niss_shell.specs.Words.{request_of}
 use Rattle.niss_shell.specs.Device.{End}
 use Rattle.niss_shell.specs.Lines.{HasNo, IsCutAt}
-use Rattle.niss_shell.specs.Output.{Answer, answer_request, error_text, status_of, line_with_bytes}
+use Rattle.niss_shell.specs.Output.{Answer, answer_request, error_text, most_error_text, status_of, line_with_bytes}
 use Rattle.niss_shell.specs.Run.{due_without, outcome_before}
 use Rattle.niss_embed.specs.Names.{Answer as Given}
 use Rattle.niss_embed.specs.Memory.{Memory, Puts}
@@ -44,6 +44,8 @@ pub record Answers (due : Answer) (out err : Memory) (answer : Given) : Type 0 w
   pub output : Puts due.output out answer.out_length answer.out_too_small
   pub error : Puts (error_text (outcome_before answer.out_too_small due.outcome)) err answer.err_length
       answer.err_too_small
+  -- so much room is enough for each error text
+  pub room : most_error_text ≤ length err.before → answer.err_too_small ≡ false
   pub status : answer.status ≡ status_of (outcome_before answer.out_too_small due.outcome)
 
 -- What a call with the words in these bytes does to the two memories, and what it returns.

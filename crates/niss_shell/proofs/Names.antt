@@ -51,7 +51,7 @@ pub use Rattle.niss_shell.specs.Output.{LineAnswers, line_answer, unsearched, th
 pub use Rattle.niss_shell.specs.Output.{line_with_bytes, complete_lines, outcome_of_input, Answer, joined_answer, solution_line}
 pub use Rattle.niss_shell.specs.Output.{started, step_line, last_line, answer_to, answer_from, searched}
 pub use Rattle.niss_shell.specs.Output.{none_line, solve_text, count_text, outcome_at_end, answer_request, out_of, limit_of, slack_of}
-pub use Rattle.niss_shell.specs.Output.{error_text, status_of, fault_answer, start_cube, scramble_text, scramble, scrambles, turns_line}
+pub use Rattle.niss_shell.specs.Output.{error_text, most_error_text, status_of, fault_answer, start_cube, scramble_text, scramble, scrambles, turns_line}
 unfoldable pub use Rattle.niss_shell.specs.Output.{answers_from}
 pub use Rattle.niss_shell.specs.Run.{Runs, Looked, due_without, outcome_before, flushed_outcome}
 pub use Rattle.niss_shell.specs.Words.{most_bytes, spaced_word, OnLines, ListSteps, DrawScrambles, request_of, joined, Parses, IsInRange, name_of_command}

@@ -9,7 +9,7 @@ use Rattle.niss_shell.proofs.Names.{answers_from, joined_answer, answer_lines, a
 use Rattle.niss_shell.proofs.Names.{outcome_of_input, error_text, status_of, limit_of, slack_of, start_cube, Moves, read_line, AnswerState, MayBegin}
 use Rattle.niss_shell.proofs.Names.{AnswersSource, Answers, RunsUnflushed, EndsAtOnce, FlushesLast, IsInput, Looked, Runs, due_without}
 use Rattle.niss_shell.proofs.Names.{flushed_outcome, UsageFault, LineCommand, Rewrite, Search, LineFault, ReadFault, Step, Stop, Usage}
-use Rattle.niss_shell.proofs.Names.{InputTooLong, OutOfMemory, LooksWithinBound}
+use Rattle.niss_shell.proofs.Names.{most_error_text, InputTooLong, OutOfMemory, LooksWithinBound}
 use Rattle.niss_shell.proofs.StateLemmas.{calls_more, one_call, nothing_read, while_none, writes_none, delivers_nothing, answered, choose_false}
 use Rattle.niss_shell.proofs.StateLemmas.{choose_true, sends_front, sends_more}
 use Rattle.niss_shell.proofs.AnswerLemmas.{short_test, long_test}
@@ -205,9 +205,10 @@ sends_all call due (r ∷ reads) refused text a b p w =
 pub runs_flushed : {W E : Type 0} (call : W → TargetCall → W → Type 0) (reports : E → TargetCall → E → Type 0) → LooksWithinBound
     → (words : List (List ℕ)) {source : List SourceCall → Type 0} (outcome outcome_now : Result (Unit {0}) Stop) (x y : AnswerState W) (j : W) (k l : E) {status : ℕ}
     → x.pending ≡ [] → RunsUnflushed call (request_of words) outcome source x y → FlushesLast call outcome outcome_now y.target j
-    → (r : Bool) × Writes reports r (error_text outcome_now) [] k l → status ≡ status_of outcome_now
+    → (r : Bool) × Writes reports r (error_text outcome_now) [] k l → length (error_text outcome_now) ≤ most_error_text
+    → status ≡ status_of outcome_now
     → Runs words source (Calls call x.target j) (Calls reports k l) x.looks y.looks status
-runs_flushed call reports law words outcome outcome_now x y j k l none r flush error status =
+runs_flushed call reports law words outcome outcome_now x y j k l none r flush error short status =
     let due = due_without r.no_memory (answer_request (request_of words) r.read.input r.read.ended) in
     let written = subst (λ p. Writes call r.answers.refused due.output p x.target y.target) r.empty
         (subst (λ p. Writes call r.answers.refused (p ++ due.output) y.pending x.target y.target) none r.answers.delivered.writes) in
@@ -239,4 +240,5 @@ runs_flushed call reports law words outcome outcome_now x y j k l none r flush e
       reports = error.1.calls;
       made_reports = error.1.made;
       sends_reports = error.1.sends;
+      short = short;
     }

@@ -60,6 +60,10 @@ abbrev pub error_text : Result (Unit {0}) Stop → List ℕ
 error_text (Ok u) = []
 error_text (Err stop) = stop_text stop
 
+-- so many bytes it has at most
+abbrev pub most_error_text : ℕ
+most_error_text = 128
+
 -- the exit status
 abbrev pub status_of : Result (Unit {0}) Stop → ℕ
 status_of (Ok u) = 0

@@ -1,9 +1,9 @@
 -- What a run does to its three devices.
-use Rattle.std.specs.Prelude.{◌≡◌, ◌≢◌, ℕ, ◌+◌, ◌≤◌, Bool, true, false, Result, Ok, Err, List, [], ◌∷◌, ◌++◌}
+use Rattle.std.specs.Prelude.{◌≡◌, ◌≢◌, ℕ, ◌+◌, ◌≤◌, Bool, true, false, Result, Ok, Err, List, [], ◌∷◌, ◌++◌, length}
 use Rattle.niss_shell.specs.Device.{SourceCall, TargetCall, Flush, WasRead, ReadsWhile, ReadsOn, More, End, Sends}
 use Rattle.niss_shell.specs.Device.{left_after}
 use Rattle.niss_shell.specs.Words.{request_of, reads_source, takes_memory}
-use Rattle.niss_shell.specs.Output.{Answer, unsearched, out_of, error_text, status_of}
+use Rattle.niss_shell.specs.Output.{Answer, unsearched, out_of, error_text, most_error_text, status_of}
 use Rattle.niss_shell.specs.Names.{DeviceFault, Stop, CannotWrite, OutOfMemory}
 
 -- what a run is to write and to return, if memory was refused or wasn't
@@ -63,3 +63,4 @@ pub record Runs (words : List (List ℕ)) (source : List SourceCall → Type 0) 
   pub reports : List TargetCall
   pub made_reports : error reports
   pub sends_reports : Sends reports (error_text outcome) (left_after error_refused [])
+  pub short : length (error_text outcome) ≤ most_error_text

@@ -2,7 +2,7 @@
 ghost use Rattle.std.specs.Prelude.{◌≡◌, ◌≤◌, ◌^◌, Bool, false, [], ℕ, Ok, length, map, flat_map, string_bytes};
 ghost use Rattle.niss_shell.specs.Device.{Calls, Writes};
 ghost use Rattle.niss_shell.specs.Words.{request_of};
-ghost use Rattle.niss_shell.specs.Output.{error_text, status_of, step_line, unsearched};
+ghost use Rattle.niss_shell.specs.Output.{error_text, most_error_text, status_of, step_line, unsearched};
 ghost use Rattle.niss_cube.specs.Steps.{steps};
 ghost use Rattle.niss_shell.specs.Engine.{MayBegin, Answers, RunsUnflushed, output_state};
 ghost use Rattle.niss_shell.specs.Run.{Runs};
@@ -98,6 +98,7 @@ fn answer_command<A: Allocator + Copy, B: Allocator, R: Source, W: Target>(
 #[tactic(auto, using(crate::proofs::RunLemmas::reported, crate::proofs::RunLemmas::nothing_reported))]
 fn report<E: Target>(outcome: Result<(), Stop>, err: &mut E) -> u8
     ensures reports { (refused : Bool) × Writes E.call refused (error_text outcome) [] err.old err.new }
+    ensures short { length (error_text outcome) ≤ most_error_text }
     ensures status { result ≡ status_of outcome }
 {
     let Err(stop) = outcome else {

@@ -1,6 +1,6 @@
 //! What stops a run before its good end: what it then writes to the error writer, and its exit status.
 ghost use Rattle.std.specs.Prelude.{◌≡◌, decimal, codes, ◌+◌, ◌∷◌, [], ◌++◌, ◌≤◌, length};
-ghost use Rattle.niss_shell.specs.Output.{stop_text, stop_status, start_text, line_fault_text};
+ghost use Rattle.niss_shell.specs.Output.{stop_text, stop_status, start_text, line_fault_text, most_error_text};
 ghost use Rattle.niss_shell.specs.Lines.{line_feed};
 ghost use Rattle.niss_moves.specs.Faults.{fault_column, fault_text};
 ghost use Rattle.niss_shell.specs.Names.{CannotWrite, OutOfMemory};
@@ -64,7 +64,7 @@ fn put_start_fault(step: Step, text: &mut LineText)
 fn put_line_fault(line: u32, fault: LineFault, text: &mut LineText)
     requires { length text.old.items ≡ 0 }
     ensures words { text.new.items ≡ line_fault_text line fault }
-    ensures short { length text.new.items ≤ 128 }
+    ensures short { length text.new.items ≤ most_error_text }
 {
     put_text(b"nissy: line ", text);
     put_number(line as u128, text);
@@ -105,7 +105,7 @@ impl Stop {
     /// The text for the error writer.
     pub fn text(self) -> LineText
         ensures words { result.items ≡ stop_text self }
-        ensures short { length result.items ≤ 128 }
+        ensures short { length result.items ≤ most_error_text }
     {
         let mut text = LineText::new();
         match self {

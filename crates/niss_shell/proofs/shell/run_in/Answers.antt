@@ -9,5 +9,5 @@ returns g c =
     record {
       runs = rw (back, ← c.new-output.ensures.unchanged) (runs_flushed g.W.Target.call g.E.Target.call c.counts_and_bounds.ensures.within _ _ _ _ _ _ _ _
           c.new-output.ensures.empty c.answer_command-answered.ensures
-          c.finish-outcome.ensures.flushes c.report.ensures.reports c.report.ensures.status);
+          c.finish-outcome.ensures.flushes c.report.ensures.reports c.report.ensures.short c.report.ensures.status);
     }
