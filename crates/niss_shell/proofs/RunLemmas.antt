@@ -211,9 +211,9 @@ pub runs_flushed : {W E : Type 0} (call : W → TargetCall → W → Type 0) (re
 runs_flushed call reports law words outcome outcome_now x y j k l none r flush error short status =
     let due = due_without r.no_memory (answer_request (request_of words) r.read.input r.read.ended) in
     let written = subst (λ p. Writes call r.answers.refused due.output p x.target y.target) r.empty
-        (subst (λ p. Writes call r.answers.refused (p ++ due.output) y.pending x.target y.target) none r.answers.delivered.writes) in
+    (subst (λ p. Writes call r.answers.refused (p ++ due.output) y.pending x.target y.target) none r.answers.delivered.writes) in
     let all = sends_all call (λ input. (out_of words input More).output) r.read.reads r.answers.refused due.output x.target y.target
-        r.reads_on written in
+    r.reads_on written in
     let w = all.writes in
     record {
       read = r.read;
