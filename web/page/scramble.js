@@ -91,8 +91,8 @@ export class ScrambleField {
         showFault(part("scramble-fault"), this.#field, plain, fault, text);
         this.#markPlace(text, placeOfFault(plain, fault, text));
         const sentences = this.#leftOut.length > 0 ? [`Left out: ${this.#leftOut.join(", ")}.`] : [];
-        if (read && plain.line.includes("(")) sentences.push("Moves in brackets count as inverse moves.");
         if (read?.isTurned) sentences.push(`Read as ${read.line || "no moves"}: ${TURNS_LEFT_OUT}`);
+        else if (read && plain.line.includes("(")) sentences.push("Moves in brackets count as inverse moves.");
         tell(part("scramble-read"), sentences.join(" "));
         part("scramble-folded").textContent = text;
         this.#isRead = read !== null && read.line !== "";
