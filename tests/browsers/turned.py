@@ -50,6 +50,8 @@ def scrambles(tally: Tally, browser: Browser) -> None:
     tally.equal("a rotation alone", browser.text("scramble-read"), READ.format("no moves"))
     browser.fill("scramble", "Rw Rw'")
     tally.equal("where nothing is left out nothing is said", browser.text("scramble-read"), "")
+    browser.fill("scramble", "R (U F)")
+    tally.equal("of brackets it is said what they mean", browser.text("scramble-read"), "Moves in brackets count as inverse moves.")
     browser.fill("scramble", "M E " * 128)
     tally.equal("too many", browser.texts("#scramble-fault p"), ["More than 256 moves, as face turns."])
 
