@@ -9,6 +9,7 @@ from tally import Tally
 from wanted import TITLES, Position, fault_column
 
 NO_MOVE = "\u201c{}\u201d is no move."
+ODD_MOVE = "\u201c{0}\u201d is no move: write {1}, {1}2 or {1}'."
 # a line, the sign that the fault's column names, one that isn't seen by a sign for it, and what is said; the column comes from the model
 LINES = (
     ("R q", "q", NO_MOVE.format("q")),
@@ -24,6 +25,11 @@ LINES = (
     ("R\tU2\tq", "q", NO_MOVE.format("q")),
     ("R U \u202eF2", "\ufffd", NO_MOVE.format("\ufffdF2")),
     ("R U \0F2", "\ufffd", NO_MOVE.format("\ufffdF2")),
+    ("R U1", "1", ODD_MOVE.format("U1", "U")),
+    ("F-1 R", "-", ODD_MOVE.format("F-1", "F")),
+    ("U Ri D", "i", ODD_MOVE.format("Ri", "R")),
+    ("U (Rw'2 D)", "2", ODD_MOVE.format("Rw'2", "Rw")),
+    ("R Right", "i", NO_MOVE.format("ight")),
     ("R Abracadabrasimsalabim", "A", NO_MOVE.format("Abracadabras\u2026")),
 )
 # text as solvers write it, the line that is read of it, and what is said to be left out

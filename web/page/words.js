@@ -56,17 +56,34 @@ function wordAt(line, place) {
     return visible(word.slice(0, LONGEST_WORD).join("")) + (word.length > LONGEST_WORD ? "…" : "");
 }
 
+/**
+ * A move that ends as no move does, such as `R1` or `F-1`, if it stands at a place: all of it, and its letters.
+ * @param {string} line @param {number} place of the first sign that can't be read @returns {{word: string, letters: string} | null}
+ */
+function oddMove(line, place) {
+    const begin = /([UDRLFB]w?|[MESudrlfbxyz])['2]?$/.exec(line.slice(0, place));
+    const isOdd = /^(?:[-+*^'0-9]|i(?!\p{L}))/u.test(line.slice(place));
+    return begin && isOdd ? { word: begin[0] + wordAt(line, place), letters: begin[1] } : null;
+}
+
+/** Why a line is no line of moves from a place on. @param {string} line @param {number} place */
+function sentenceOfMove(line, place) {
+    const odd = oddMove(line, place);
+    if (odd === null) return `“${wordAt(line, place)}” is no move.`;
+    return `“${odd.word}” is no move: write ${odd.letters}, ${odd.letters}2 or ${odd.letters}'.`;
+}
+
 /** The engine's words as a solver reads them. @param {EngineFault} fault @param {string} line what the engine read */
 function sentenceOf(fault, line) {
+    const place = fault.column === null ? 0 : placeOfColumn(line, fault.column);
     const sentences = {
-        "not a move": (word) => `“${word}” is no move.`,
+        "not a move": () => sentenceOfMove(line, place),
         "bracket inside a bracket": () => "A bracket stands inside a bracket.",
         "bracket closed that was not opened": () => "A bracket is closed that was not opened.",
         "bracket not closed": () => "A bracket isn't closed.",
     };
-    const place = fault.column === null ? 0 : placeOfColumn(line, fault.column);
     const sentence = Object.hasOwn(sentences, fault.words) ? sentences[fault.words] : null;
-    return sentence === null ? `${fault.words[0].toUpperCase()}${fault.words.slice(1)}.` : sentence(wordAt(line, place));
+    return sentence === null ? `${fault.words[0].toUpperCase()}${fault.words.slice(1)}.` : sentence();
 }
 
 /** The text around a place, with a mark at it and a sign under it. @param {string} text @param {number} place */
