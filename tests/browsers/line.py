@@ -246,6 +246,35 @@ def edits(tally: Tally, browser: Browser) -> None:
     tally.equal("another is taken away", browser.text("bracketed"), "(U2) L F")
 
 
+def takes_away(tally: Tally, browser: Browser) -> None:
+    """A step says what it no longer reaches once one before it is edited or taken away, until it does again."""
+    edit = """const { children } = document.getElementById('line-list'); children[0].querySelector('button').click();
+        const field = children[0].querySelector('input'); field.value = arguments[0]; field.form.requestSubmit()"""
+    said = """return [...document.querySelectorAll('#line-list li')].map((each) => ['.reaches', '.lost']
+        .map((name) => each.querySelector(name)).map((one) => one.checkVisibility() ? one.textContent : ''))"""
+    inverse, normal = "B D R F2 B D", "R B' D2 R"
+    browser.open("#scramble=" + EXAMPLE.replace(" ", "_").replace("'", "-") + "&steps=inverse.B_D_R_F2_B_D~normal.R_B-_D2_R")
+    whole = [["EO U/D", ""], ["DR F/B", ""]]
+    tally.equal("two steps, each with what it reaches", browser.script(said), whole)
+    for moves in (f"({inverse}')", "(B D R F2)", f"({inverse})"):
+        browser.script(edit, moves)
+        browser.until("return document.querySelector('#line-list .moves')?.textContent === arguments[0]", moves)
+        browser.wait()
+        position = Position(EXAMPLE, normal, moves.strip("()"))
+        holds = [position.may_start("drfb-eoud"), position.may_start("drfb-eoud") and position.count("drfb-eoud", "normal")[0] == 0]
+        for state, so, (reaches, lost) in zip(("EO U/D", "DR F/B"), holds, browser.script(said)):
+            tally.equal(f"{state} after {moves}", (state in reaches, lost), (so, "" if so else f"no longer {state}"))
+    tally.equal("the last of them brings both back", holds, [True, True])
+    browser.act("#line-list li:nth-child(1) button:nth-of-type(2)")
+    tally.equal("without the first step", browser.script(said), [["", "no longer DR F/B"]])
+    browser.script("history.back()")
+    browser.until("return document.querySelectorAll('#line-list li').length === 2")
+    browser.wait()
+    tally.equal("the way back", browser.script(said), whole)
+    browser.act("#undo-move")
+    tally.equal("a step that is cut says nothing", browser.script(said)[1], ["", ""])
+
+
 def by_keys(tally: Tally, browser: Browser) -> None:
     """Single keys, where nothing is typed, and their switch."""
     browser.open(ADDRESS)
@@ -374,5 +403,5 @@ def leads_to_kept(tally: Tally, browser: Browser) -> None:
 def try_all(tally: Tally, browser: Browser) -> None:
     """All of them."""
     kept = (keeps, keeps_a_note, leaves_kept, keeps_moves_alone, keeps_reductions, keeps_stages, leads_to_kept)
-    for part in (*kept, premoves, fmc_text, edits, by_keys, plays, solved):
+    for part in (*kept, premoves, fmc_text, edits, takes_away, by_keys, plays, solved):
         part(tally, browser)

@@ -36,6 +36,15 @@ function endOf({ parts, letters, reached, totals }) {
     return `${listed(states)} ${states.length === 1 ? "is" : "are"} reached: ${total}. nissy has no step after a DR.`;
 }
 
+/**
+ * What is known of the steps that two lines begin with in common.
+ * @template Known @param {Known[]} known of each of `parts` @param {Part[]} parts @param {Part[]} others
+ */
+function keptOf(known, parts, others) {
+    const end = parts.findIndex(({ side, moves }, at) => side !== others[at]?.side || moves !== others[at].moves);
+    return end < 0 ? known : known.slice(0, end);
+}
+
 /** What is to be known of a line without brackets before the cube is solved, or "". @param {Walk} walk */
 function noteOfJoined({ parts, letters }) {
     if (isSolved(letters.at(-1)) || !parts.some(({ side }) => side === "inverse")) return "";
@@ -46,6 +55,10 @@ export class LineSoFar {
     #calls;
     #acts;
     #parts = [];
+    /** what each step reached as long as nothing took it away @type {string[][]} */
+    #reached = [];
+    /** the same of steps that are about to be shown, one of which was edited or removed @type {string[][] | null} */
+    #wanted = null;
     #side = "normal";
     #fmc = "";
 
@@ -99,6 +112,8 @@ export class LineSoFar {
 
     /** Shows the parts at once; what the engine says of them comes by `describe`. @param {Part[]} parts */
     show(parts) {
+        this.#reached = this.#wanted ?? keptOf(this.#reached, this.#parts, parts);
+        this.#wanted = null;
         this.#parts = parts;
         this.#fmc = "";
         tell(part("finished"), "");
@@ -119,9 +134,18 @@ export class LineSoFar {
         [...part("line-list").children].forEach((item, index) => {
             const inAll = index === 0 ? "" : `, ${walk.totals[index + 1]} in all`;
             item.querySelector(".count").textContent = `${counted(walk.turns[index], "move")}${inAll}`;
-            tell(item.querySelector(".reaches"), newlyReached(walk, index).join(", "));
+            const [fresh, lost] = [newlyReached(walk, index), this.#lost(walk, index)];
+            tell(item.querySelector(".reaches"), fresh.join(", "));
+            tell(item.querySelector(".lost"), lost.length === 0 ? "" : `no longer ${listed(lost)}`);
+            if (lost.length === 0 || fresh.length > 0) this.#reached[index] = fresh;
         });
         tell(part("finished"), endOf(walk));
+    }
+
+    /** What a step reached before it or an earlier one was changed, and what doesn't hold then, nor in the end. @param {Walk} walk */
+    #lost({ reached }, index) {
+        const holds = statesOf([...reached[index + 1], ...reached.at(-1)]);
+        return (this.#reached[index] ?? []).filter((state) => !holds.includes(state));
     }
 
     /** @param {string} line @param {string} joined @param {string} total @param {string} [note] on what is joined */
@@ -143,20 +167,21 @@ export class LineSoFar {
             type: "button",
             class: "quiet",
             "aria-label": `Take away ${spoken(text)}`,
-            click: () => this.#undo(this.#parts.filter((_, at) => at !== index)),
+            click: () => this.#replace(index, []),
         }, "Remove");
         return element("li", {},
             element("span", { class: "step" },
                 element("span", { class: "moves" }, text),
                 element("span", { class: "reaches", hidden: true }),
+                element("span", { class: "lost", "aria-live": "polite", hidden: true }),
                 element("span", { class: "note" }, element("span", { class: "count" }))),
             element("span", { class: "acts" }, edit, remove));
     }
 
     /** Puts a field in place of a step. @param {number} index */
     #edit(index) {
-        const [item, parts] = [part("line-list").children[index], this.#parts];
-        const text = bracketed([parts[index]]);
+        const item = part("line-list").children[index];
+        const text = bracketed([this.#parts[index]]);
         const shown = [...item.childNodes];
         const field = element("input", {
             class: "moves wide", value: text, spellcheck: "false", autocapitalize: "off", autocomplete: "off", maxlength: 4096,
@@ -172,9 +197,7 @@ export class LineSoFar {
             submit: (event) => {
                 event.preventDefault();
                 // the step is seen as it is written down, so what has no brackets goes on the normal side
-                this.#read(field, fault, "normal", (added) => {
-                    this.#undo([...parts.slice(0, index), ...added, ...parts.slice(index + 1)]);
-                });
+                this.#read(field, fault, "normal", (added) => this.#replace(index, added));
             },
             keydown: (event) => {
                 if (event.key === "Escape") leave();
@@ -183,6 +206,13 @@ export class LineSoFar {
         item.replaceChildren(form, fault);
         field.focus();
         field.setSelectionRange(text.length, text.length);
+    }
+
+    /** Puts steps in place of one: the last of them is to reach what that one reached. @param {number} index @param {Part[]} added */
+    #replace(index, added) {
+        const reached = added.map((_, at) => (at === added.length - 1 ? this.#reached[index] : []));
+        this.#wanted = this.#reached.toSpliced(index, 1, ...reached);
+        this.#undo(this.#parts.toSpliced(index, 1, ...added));
     }
 
     #undo(parts) {
