@@ -79,10 +79,7 @@ def best(tally: Tally, browser: Browser) -> None:
     )
     tally.equal("both sides are marked where they are as short", marks, [1 + (row[4] == row[5]) for row in rows])
     tally.holds("which is seen", {1, 2} <= set(marks))
-    browser.choose("best-axis", "EO R/L")
-    tally.holds("those of an axis", browser.until(MORE))
-    tally.equal("are left by its filter", [tuple(row) for row in browser.script(ROWS)], [row for row in rows if row[2] == "EO R/L"])
-    browser.choose("best-axis", "")
+    filters_orientations(tally, browser, rows)
     browser.script("const all = document.getElementById('best-all'); all.checked = true; all.dispatchEvent(new Event('change'))")
     browser.wait_best()
     tally.holds("all of them", browser.until(MORE))
@@ -100,6 +97,33 @@ def best(tally: Tally, browser: Browser) -> None:
     tally.equal("one of them finishes", browser.text("finished").split(".")[0], f"{reached} is reached: {total} moves")
 
 
+def filters_orientations(tally: Tally, browser: Browser, rows: list[tuple[str, ...]]) -> None:
+    """The best orientations are filtered by their axis, by their side and by the reduction that follows, each alone and all together."""
+    sides = {"inverse": True, "normal": False}
+    filters = [("best-axis", TITLES[step]) for step in STEPS] + [("best-side", side) for side in sides]
+    filters += [("best-next", state) for state in ("DR U/D", "DR R/L", "DR F/B")]
+
+    def left(name: str, value: str, some: list[tuple[str, ...]]) -> list[tuple[str, ...]]:
+        if name == "best-side":
+            return [row for row in some if row[1].startswith("(") == sides[value]]
+        return [row for row in some if row[2 if name == "best-axis" else 3] == value]
+
+    for name, value in filters:
+        browser.choose(name, value)
+        wanted = left(name, value, rows)
+        tally.holds(f"{value} leaves some, and not all", 0 < len(wanted) < len(rows) and browser.until(MORE))
+        tally.equal(f"what {value} leaves", [tuple(row) for row in browser.script(ROWS)], wanted)
+        browser.choose(name, "")
+    some = rows
+    for name, value in (("best-axis", rows[0][2]), ("best-side", "normal"), ("best-next", rows[0][3])):
+        browser.choose(name, value)
+        some = left(name, value, some)
+    tally.holds("all together", browser.until(MORE))
+    tally.equal("leave what each leaves", [tuple(row) for row in browser.script(ROWS)], some)
+    for name, _ in filters:
+        browser.choose(name, "")
+
+
 def filters_reductions(tally: Tally, browser: Browser, rows: list[tuple[int, str, str]]) -> None:
     """The best reductions are filtered by their axis, by turns and by the last turn; those of another cube aren't."""
     seen = "return ['best-filters', 'best-turns'].map((name) => !document.getElementById(name).hidden)"
@@ -113,6 +137,12 @@ def filters_reductions(tally: Tally, browser: Browser, rows: list[tuple[int, str
         browser.choose("best-reduction", state)
         tally.equal(f"those of {state}", (browser.until(MORE), browser.script(moves)), (True, [row[1] for row in rows if row[2] == state]))
     browser.choose("best-reduction", "")
+    for side, begin in (("inverse", "("), ("normal", "")):
+        browser.choose("best-reduction-side", side)
+        wanted = [row[1] for row in rows if row[1].startswith("(") == bool(begin)]
+        tally.equal(f"those on the {side} side", (browser.until(MORE), browser.script(moves)), (True, wanted))
+        tally.holds("are some, and not all", 0 < len(wanted) < len(rows))
+    browser.choose("best-reduction-side", "")
     first, last = " ".join(plain[0].split()[:2]), plain[-1].split()[-1]
     browser.script(TYPE.replace("'filter'", "'best-filter'"), "", first)
     typed = [row[1] for row, line in zip(rows, plain) if f" {first} " in f" {line} "]

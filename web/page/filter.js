@@ -1,4 +1,4 @@
-// What is left of rows: by how many corners and edges their cases may have, by turns that are typed, by the last turn, and by the axis.
+// What is left of rows: by how many corners and edges their cases may have, by turns that are typed, by the last turn, by axis and side.
 import { sizeOf } from "./cases.js";
 import { element, part } from "./element.js";
 
@@ -168,22 +168,26 @@ export class ListFilter {
     }
 }
 
+/** Whether a choice leaves a value: the first choice leaves each. @param {HTMLSelectElement} field @param {string} value */
+const leaves = (field, value) => field.value === "" || field.value === value;
+
 /**
- * The filters of the best: of orientations their axis and the cases that follow, of reductions, after which there is no case, their axis
- * and their turns. Those of reductions belong to one cube.
+ * The filters of the best: of orientations their axis and side, the reduction that follows and its case; of reductions, after which there
+ * is no case, their axis, their side and their turns. Those of reductions belong to one cube.
  */
 export class BestFilter {
     #cases;
     #turns;
-    #orientation = part("best-axis");
-    #reduction = part("best-reduction");
+    #orientation = { axis: part("best-axis"), side: part("best-side"), next: part("best-next") };
+    #reduction = { axis: part("best-reduction"), side: part("best-reduction-side") };
     #isOfReductions = false;
 
     /** @param {{changed: () => void, typed: () => void}} acts */
     constructor(acts) {
         this.#cases = new CaseFilter("best", acts.changed);
         this.#turns = new TurnFilter({ typed: "best-filter", last: "best-last" }, acts);
-        for (const field of [this.#orientation, this.#reduction]) field.addEventListener("change", acts.changed);
+        const fields = [this.#orientation, this.#reduction].flatMap((each) => Object.values(each));
+        for (const field of fields) field.addEventListener("change", acts.changed);
     }
 
     /** Takes another cube. @param {string[]} reductions what may be reached, if an orientation holds; none before one */
@@ -192,8 +196,9 @@ export class BestFilter {
         part("best-filters").hidden = this.#isOfReductions;
         part("best-turns").hidden = !this.#isOfReductions;
         this.#turns.clear();
-        this.#reduction.value = "";
-        offerChoices(this.#reduction, reductions);
+        this.#reduction.side.value = "";
+        this.#reduction.axis.value = "";
+        offerChoices(this.#reduction.axis, reductions);
     }
 
     /** Offers the last turns of the rows. @param {Row[]} rows */
@@ -203,13 +208,13 @@ export class BestFilter {
 
     /** What is left of the rows, or null if what is typed isn't moves. @param {Row[]} rows @returns {Row[] | null} */
     left(rows) {
-        const axis = (this.#isOfReductions ? this.#reduction : this.#orientation).value;
-        const ofAxis = rows.filter(({ state }) => axis === "" || state === axis);
+        const { axis, side } = this.#isOfReductions ? this.#reduction : this.#orientation;
+        const some = rows.filter(({ state, part: own }) => leaves(axis, state) && leaves(side, own.side));
         if (!this.#isOfReductions) {
             const hasCase = this.#cases.test() ?? (() => true);
-            return ofAxis.filter(({ next }) => hasCase(next.case));
+            return some.filter(({ next }) => leaves(this.#orientation.next, next.marks) && hasCase(next.case));
         }
         const hasTurn = this.#turns.test();
-        return hasTurn && ofAxis.filter(({ part: { moves }, others }) => hasTurn({ moves, others }));
+        return hasTurn && some.filter(({ part: { moves }, others }) => hasTurn({ moves, others }));
     }
 }
