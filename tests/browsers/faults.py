@@ -123,11 +123,13 @@ def pasted(tally: Tally, browser: Browser) -> None:
     tally.equal("what else it has is kept", sorted(browser.texts("#kept-list .step .moves")), ["(U F)", "L2 D'"])
     notes = browser.script("return [...document.querySelectorAll('#kept-list .note-field')].map((each) => each.value).sort()")
     tally.equal("with its notes", notes, ["", "a note"])
-    browser.fill("scramble", "R U F2\nD q // EO")
-    tally.holds(
-        "steps that can't be read are said",
-        browser.until("return document.getElementById('alert').textContent.startsWith('The steps of this text')"),
-    )
+    browser.fill("scramble", "R U F2\nD // EO\nB R1 L // DR\nU F\n\nL2\n")
+    browser.until("return document.querySelectorAll('#kept-list li').length === 1")
+    browser.wait()
+    said = f"The steps of this text are read up to the line \u201cB R1 L\u201d: {ODD_MOVE.format('R1', 'R')}"
+    tally.equal("a step that can't be read is said", browser.text("alert"), said)
+    tally.equal("those before it are read", browser.text("bracketed"), "D")
+    tally.equal("and so is what is kept", browser.texts("#kept-list .step .moves"), ["L2"])
 
 
 def together(tally: Tally, browser: Browser) -> None:

@@ -61,28 +61,42 @@ export async function readByHand(calls, text, side) {
     return runs.map((run, index) => ({ side: run.side, moves: moves[index] })).filter((run) => run.moves !== "");
 }
 
+/** @typedef {{line: string, fault: EngineFault}} Unread a line of a text that can't be read, and why */
+
 /**
- * The steps of some lines of text, as solvers write them.
- * @param {Calls} calls @param {string[]} texts @returns {Promise<Part[]>}
+ * The steps of some lines of text, as solvers write them, up to the first that can't be read.
+ * @param {Calls} calls @param {string[]} texts @returns {Promise<{parts: Part[], unread: Unread | null}>}
  */
 async function readAllByHand(calls, texts) {
-    const all = [];
-    for (const text of texts) all.push(...(await readByHand(calls, plainLine(text).line.trim(), "normal")));
-    return all;
+    const parts = [];
+    for (const text of texts) {
+        const line = plainLine(text).line.trim();
+        try {
+            parts.push(...(await readByHand(calls, line, "normal")));
+        } catch (fault) {
+            if (!(fault instanceof EngineFault)) throw fault;
+            return { parts, unread: { line, fault } };
+        }
+    }
+    return { parts, unread: null };
 }
 
 /**
- * The steps and the candidates of a text as solvers write it.
- * @param {Calls} calls @param {import("./scramble.js").Fmc} fmc @returns {Promise<{parts: Part[], kept: import("./address.js").Candidate[]}>}
+ * The steps and the candidates of a text as solvers write it, and the first line of it that can't be read, if there is one.
+ * @param {Calls} calls @param {import("./scramble.js").Fmc} fmc
+ * @returns {Promise<{parts: Part[], kept: import("./address.js").Candidate[], unread: Unread | null}>}
  */
 export async function readWritten(calls, { steps, candidates }) {
-    const parts = await readAllByHand(calls, steps);
+    const { parts, unread } = await readAllByHand(calls, steps);
     const kept = [];
+    const notRead = [unread];
     for (const each of candidates.slice(0, MOST_CANDIDATES)) {
-        kept.push({ parts: await readAllByHand(calls, each.steps), note: each.note.slice(0, LONGEST_NOTE), next: "" });
+        const read = await readAllByHand(calls, each.steps);
+        kept.push({ parts: read.parts, note: each.note.slice(0, LONGEST_NOTE), next: "" });
+        notRead.push(read.unread);
     }
     // an address has no candidate without moves
-    return { parts, kept: kept.filter((each) => each.parts.length > 0) };
+    return { parts, kept: kept.filter((each) => each.parts.length > 0), unread: notRead.find((each) => each !== null) ?? null };
 }
 
 /** The steps of an address, each read as moves by hand are. @param {Calls} calls @param {Part[]} parts @returns {Promise<Part[]>} */

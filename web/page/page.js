@@ -17,11 +17,10 @@ import { OpenList, SolutionList } from "./solutions.js";
 import { ORIENTATIONS, bracketed, isReduced, stateOf, stepNamed } from "./steps.js";
 import { StepTable } from "./table.js";
 import { isBare, keepInView, listenToKeys, setUsable, showStart, star, withoutMoving } from "./view.js";
-import { NO_ROOM, titleOfPage, unanswered, whyNotListed } from "./words.js";
+import { NO_ROOM, titleOfPage, unanswered, whyNotListed, whyUnread } from "./words.js";
 
 /** @typedef {import("./address.js").State} State */
 /** @typedef {import("./steps.js").Part} Part */
-/** @typedef {import("./steps.js").Side} Side */
 
 export class Page {
     /** @type {State} */
@@ -164,12 +163,13 @@ export class Page {
         if (!fmc) return;
         const turn = this.#turn;
         try {
-            const read = await readWritten(this.#byHand, fmc);
+            const { unread, ...read } = await readWritten(this.#byHand, fmc);
             if (turn !== this.#turn) return;
             this.#change(read, { isStep: false });
             this.#scramble.tellLeft(left);
+            tell(part("alert"), whyUnread(unread));
         } catch (fault) {
-            if (turn === this.#turn) tell(part("alert"), `The steps of this text can't be read: ${fault.words ?? fault.message}.`);
+            if (turn === this.#turn) tell(part("alert"), unanswered(fault));
         }
     }
 
@@ -346,7 +346,7 @@ export class Page {
         announce(`${spoken(bracketed(parts))}: ${isKept ? "kept" : "no longer kept"}.`);
     }
 
-    /** Opens a list, or closes it where it is open. @param {string} step @param {Side} side */
+    /** Opens a list, or closes it where it is open. @param {string} step @param {import("./steps.js").Side} side */
     #open(step, side) {
         const { list } = this.#state;
         if (list?.step === step && list.side === side) return this.#changeList(null);

@@ -7,7 +7,7 @@ import { bracketed, openSteps, stateOf, stepNamed, titleOf } from "./steps.js";
 export const NO_ROOM = "No more lines can be kept: the address of the page has no room for them.";
 const PAGE_NAME = "nissy";
 const TOO_MANY = `more than ${MOST_MOVES} moves`;
-const MOST_SIGNS_OF_TITLE = 40;
+const MOST_SIGNS = 40;
 
 /** Why there is no answer. @param {Error & {words?: string}} fault */
 export function unanswered(fault) {
@@ -20,7 +20,7 @@ export function unanswered(fault) {
 export function titleOfPage({ scramble, parts }) {
     const words = [bracketed(parts), scramble.trim()].filter(Boolean).join(" · ");
     if (words === "") return `${PAGE_NAME}: edge orientation and domino reduction`;
-    return `${words.slice(0, MOST_SIGNS_OF_TITLE)}${words.length > MOST_SIGNS_OF_TITLE ? "…" : ""} – ${PAGE_NAME}`;
+    return `${words.slice(0, MOST_SIGNS)}${words.length > MOST_SIGNS ? "…" : ""} – ${PAGE_NAME}`;
 }
 
 /** Why a step can't be listed, or "". @param {string} name of the step @param {string[]} reached */
@@ -84,6 +84,14 @@ function sentenceOf(fault, line) {
     };
     const sentence = Object.hasOwn(sentences, fault.words) ? sentences[fault.words] : null;
     return sentence === null ? `${fault.words[0].toUpperCase()}${fault.words.slice(1)}.` : sentence();
+}
+
+/** What is said of a text with a line that can't be read, or "". @param {import("./lines.js").Unread | null} unread */
+export function whyUnread(unread) {
+    if (unread === null) return "";
+    const { line, fault } = unread;
+    const shown = visible(line.slice(0, MOST_SIGNS)) + (line.length > MOST_SIGNS ? "…" : "");
+    return `The steps of this text are read up to the line “${shown}”: ${sentenceOf(fault, line)}`;
 }
 
 /** The text around a place, with a mark at it and a sign under it. @param {string} text @param {number} place */
