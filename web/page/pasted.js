@@ -51,7 +51,8 @@ export function plainLine(text) {
 
 /**
  * Text with moves on several lines, as solvers write a solution: the scramble, then a step a line with a comment; blocks after a blank
- * line are candidates. Null if the text isn't of this form.
+ * line are candidates. The only one is the solution itself, if nothing stands between it and the scramble. Null if the text isn't of this
+ * form.
  * @param {string} text
  * @returns {{scramble: string, steps: string[], candidates: {steps: string[], note: string}[]} | null}
  */
@@ -61,10 +62,11 @@ export function readFmc(text) {
     const lines = blocks.flat();
     if (!lines.slice(1).some((line) => line.includes("//"))) return null;
     const isMoves = (line) => plainLine(line).line.trim() !== "";
-    const [[scramble, ...steps], ...others] = blocks;
+    const [[scramble, ...first], ...others] = blocks;
     const candidates = others.map((block) => ({
         steps: block.filter(isMoves),
         note: block.filter((line) => !isMoves(line)).map((line) => line.replace(/^[^/]*\/\/\s*/, "").trim()).join(" "),
-    }));
-    return { scramble, steps: steps.filter(isMoves), candidates: candidates.filter((each) => each.steps.length > 0) };
+    })).filter((each) => each.steps.length > 0);
+    const steps = first.filter(isMoves);
+    return { scramble, steps: steps.length === 0 && candidates.length === 1 ? candidates[0].steps : steps, candidates };
 }
