@@ -16,6 +16,19 @@ LEAST_TARGET = 24
 # how high a row of the best may be there, and how small its signs
 MOST_OF_ROW = 56
 LEAST_SIGN = 10
+# how wide and high what a selector finds is for a finger, each: the points around its middle that reach it
+REACHED = """
+    const far = (each, x, y, [right, down]) => {
+        let steps = 0;
+        while (steps < 99 && document.elementFromPoint(x + (steps + 1) * right, y + (steps + 1) * down) === each) steps++;
+        return steps;
+    };
+    return [...document.querySelectorAll(arguments[0])].map((each) => {
+        each.scrollIntoView({ block: 'center', behavior: 'instant' });
+        const { left, top, width, height } = each.getBoundingClientRect();
+        const [back, right, up, down] = [[-1, 0], [1, 0], [0, -1], [0, 1]].map((way) => far(each, left + width / 2, top + height / 2, way));
+        return [back + 1 + right, up + 1 + down];
+    })"""
 HEIGHTS = "return [...document.querySelectorAll(arguments[0])].map((each) => each.getBoundingClientRect().height)"
 ROWS_OF_BEST = """
     const areOn = (one, other) => one.left < other.right - 0.5 && other.left < one.right - 0.5
@@ -157,6 +170,8 @@ def has_two_lines(tally: Tally, browser: Browser) -> None:
         tally.equal(f"{after}: parts of a row on each other", [row for row in rows if row["on"]], [])
         tally.equal(f"{after}: signs that are too small", [row for row in rows if row["size"] < LEAST_SIGN], [])
         tally.equal(f"{after}: stars that are too small", [row for row in rows if min(row["star"]) < LEAST_TARGET], [])
+        stars = browser.script(REACHED, "#best-body .star")
+        tally.holds(f"{after}: stars that a finger misses: {min(map(min, stars))}", min(map(min, stars)) >= TARGET)
     browser.choose("best-sort", "total")
 
 
