@@ -154,6 +154,34 @@ def returns(tally: Tally, browser: Browser) -> None:
     tally.holds(f"and stands where it stood in the list: {before}, {after}", abs(before[1] - after[1]) < 3)
 
 
+def offers_last(tally: Tally, browser: Browser) -> None:
+    """Whoever opens the page anew, without an address, is offered what was done last: the scramble, the line and what is kept."""
+    offered = "return document.getElementById('last-back').checkVisibility()"
+    browser.script("localStorage.removeItem('nissy-last')")
+    browser.open()
+    tally.equal("nothing was done", browser.script(offered), False)
+    browser.open(f"{ADDRESS}&steps=inverse.R")
+    browser.open()
+    tally.equal("an address alone was done by another", browser.script(offered), False)
+    browser.open(f"{ADDRESS}&steps=inverse.R")
+    browser.submit("own", "U F")
+    browser.until("return document.querySelectorAll('#line-list li').length === 2")
+    browser.wait()
+    browser.act("#keep-line")
+    address = browser.script("return location.hash")
+    browser.open()
+    tally.equal("a step is offered", browser.script(offered), True)
+    tally.equal("with its scramble and line", browser.text("last-line"), f"{SCRAMBLE} \u00b7 (R) U F")
+    tally.equal("and what is kept", browser.text("last-kept"), "1 line kept")
+    browser.script("document.getElementById('results').setAttribute('aria-busy', 'true')")
+    browser.act("#last-back")
+    tally.equal("it is gone on with", (browser.script("return location.hash"), browser.text("bracketed")), (address, "(R) U F"))
+    for broken in ("#scramble=%", "#steps=normal.R", "<b>", "#scramble=R&x=1"):
+        browser.script("localStorage.setItem('nissy-last', arguments[0])", broken)
+        browser.open()
+        tally.equal(f"{broken!r} isn't offered", browser.script(offered), False)
+
+
 def leaves_list(tally: Tally, browser: Browser) -> None:
     """An open list doesn't outlast its cube, is closed by its cell, its button and a key, and is looked for once."""
     for act in ("#undo-step", "#undo-move", "#clear", "#bar-undo", "#best-body .take"):
@@ -208,5 +236,5 @@ def filters(tally: Tally, browser: Browser) -> None:
 
 def try_all(tally: Tally, browser: Browser) -> None:
     """All of them."""
-    for part in (history, refused, undo, kept, returns, leaves_list, filters):
+    for part in (history, refused, undo, kept, returns, leaves_list, offers_last, filters):
         part(tally, browser)

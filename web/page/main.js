@@ -4,6 +4,7 @@ import { Calls, workersOf } from "./calls.js";
 import { copy } from "./copying.js";
 import { part } from "./element.js";
 import { Finder } from "./finder.js";
+import { offerLast } from "./last.js";
 import { Page } from "./page.js";
 import { offerThemes, placeHelp } from "./view.js";
 
@@ -23,6 +24,7 @@ function start(module) {
 part("unstarted").remove();
 offerThemes();
 placeHelp();
+offerLast();
 part("copy-link").addEventListener("click", (event) => copy(location.href, event.currentTarget));
 // if it can't be compiled each worker says why, once it is asked
 compiled(bytes).catch(() => bytes).then(start);

@@ -2,6 +2,7 @@
 // so that Back leads to the same place; the way to a card and back; and the lines that were taken in this session,
 // which lists and the best mark.
 import { part } from "./element.js";
+import { keepLast } from "./last.js";
 import { bracketed } from "./steps.js";
 
 /** @typedef {import("./steps.js").Part} Part */
@@ -36,6 +37,7 @@ export const dropAddress = () => clearTimeout(writing);
  */
 export function writeAddress(address, isStep) {
     dropAddress();
+    keepLast(address);
     const isWritten = () => address === (location.hash || "#");
     try {
         // what may be missed later can be had back by the browser
