@@ -1,4 +1,4 @@
-"""What a finger does on a phone: the first tap after the scramble was edited, another scramble beside lines that are kept, and undo."""
+"""What a finger does on a phone: the first tap after the scramble was edited, another scramble beside lines that are kept, undo, edits."""
 from browser import Browser
 from selenium.webdriver.common.keys import Keys
 from steps import ADDRESS, SCRAMBLE
@@ -135,9 +135,28 @@ def undoes(tally: Tally, browser: Browser) -> None:
         tally.equal(f"by keys, with {left} left", browser.focused() if left else browser.until(row), "bar-undo" if left else True)
 
 
+def stays(tally: Tally, browser: Browser) -> None:
+    """The line stays where it is while a step of it is edited, though what stands above it becomes higher or lower."""
+    edit = """const item = document.getElementById('line-list').children[0]; item.querySelector('button').click();
+        const field = item.querySelector('input'); field.value = arguments[0]; field.form.requestSubmit()"""
+    place = "return document.getElementById('line').getBoundingClientRect().top"
+    height = "return document.getElementById('results').offsetHeight"
+    browser.open(f"{ADDRESS}&steps=normal.D2_R2_L_U~normal.B_R_D2_B_R_B_R_B")
+    browser.wait_best()
+    browser.script("document.getElementById('line').scrollIntoView({ block: 'start', behavior: 'instant' })")
+    for moves in ("D2", "D2 R2 L U"):
+        before = (browser.script(height), browser.script(place))
+        browser.script(edit, moves)
+        browser.until("return document.querySelector('#line-list .moves')?.textContent === arguments[0]", moves)
+        browser.wait_best()
+        tally.holds(f"after {moves} the results are as high as before", browser.script(height) != before[0])
+        moved = browser.script(place) - before[1]
+        tally.holds(f"after {moves} the line stays where it is: {moved}", abs(moved) < 3)
+
+
 def try_all(tally: Tally, browser: Browser) -> None:
     """All of them, in a window of 360 by 740 points that is touched."""
     browser.command("Emulation.setDeviceMetricsOverride", width=360, height=740, deviceScaleFactor=1, mobile=True)
     browser.command("Emulation.setTouchEmulationEnabled", enabled=True)
-    for part in (reaches_rows, leads_back, undoes):
+    for part in (reaches_rows, leads_back, undoes, stays):
         part(tally, browser)

@@ -81,7 +81,8 @@ export class BestContinuations {
         this.#progress = null;
         this.#shown = shownFirst();
         const isNeeded = cube !== null && !isReduced(cube.reached);
-        part("best").hidden = cube !== null && !isNeeded;
+        // until another cube is known nothing shows or hides the card, or what is read below it would move
+        if (cube !== null) part("best").hidden = !isNeeded;
         if (!isNeeded) {
             this.#body.replaceChildren();
             tell(part("best-note"), "");

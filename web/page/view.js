@@ -2,6 +2,8 @@
 import { announce, part } from "./element.js";
 
 const EDGE = 16;
+/** Where the columns stand beside each other. */
+const BESIDE = "(min-width: 60rem)";
 
 /** Whether the page is as narrow as a phone's. */
 export const isNarrow = () => matchMedia("(max-width: 37.5rem)").matches;
@@ -27,7 +29,8 @@ function showFocused(column, focused) {
  */
 export function keepInView(column) {
     const place = () => {
-        column.style.top = `${Math.min(EDGE, innerHeight - column.offsetHeight - EDGE)}px`;
+        // where nothing stays the browser keeps still what is read, but not beside a change of this
+        if (matchMedia(BESIDE).matches) column.style.top = `${Math.min(EDGE, innerHeight - column.offsetHeight - EDGE)}px`;
     };
     new ResizeObserver(place).observe(column);
     addEventListener("resize", place);
