@@ -242,6 +242,7 @@ def edits(tally: Tally, browser: Browser) -> None:
     browser.until("return document.querySelectorAll('#line-list li').length === 4")
     browser.wait()
     tally.equal("it is changed", browser.text("bracketed"), "R (U2) L F")
+    tally.equal("and the focus stays with it", browser.script("return document.activeElement.ariaLabel"), "Edit L")
     browser.act("#line-list li:nth-child(1) button:nth-of-type(2)")
     tally.equal("another is taken away", browser.text("bracketed"), "(U2) L F")
 

@@ -213,6 +213,9 @@ export class LineSoFar {
         const reached = added.map((_, at) => (at === added.length - 1 ? this.#reached[index] : []));
         this.#wanted = this.#reached.toSpliced(index, 1, ...reached);
         this.#undo(this.#parts.toSpliced(index, 1, ...added));
+        // the field or button that had the focus is gone
+        const last = Math.min(index + Math.max(added.length, 1), this.#parts.length) - 1;
+        part("line-list").children[last]?.querySelector("button").focus({ preventScroll: true });
     }
 
     #undo(parts) {
