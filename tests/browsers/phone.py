@@ -154,9 +154,33 @@ def stays(tally: Tally, browser: Browser) -> None:
         tally.holds(f"after {moves} the line stays where it is: {moved}", abs(moved) < 3)
 
 
+def is_whole(tally: Tally, browser: Browser) -> None:
+    """A scramble of 25 moves is seen whole; so are the words of the buttons beside a long line, and a number with its word in the table."""
+    scramble = "R' U' F D2 L2 F' R2 U2 R2 B' D2 L' B2 D' B2 L' R' B' D2 B2 F' L' R' U' F"
+    browser.open()
+    browser.script("document.getElementById('scramble').focus()")
+    browser.fill("scramble", scramble)
+    tally.equal("the scramble is open", browser.script(IS_OPEN), True)
+    cut = "const { scrollHeight, clientHeight } = document.getElementById('scramble'); return scrollHeight - clientHeight"
+    tally.equal("what is cut of the scramble", browser.script(cut), 0)
+    browser.open(f"{ADDRESS}&steps=normal.D2_R2_L_U_R_U2_F_L-_R_L2_U_R-~inverse.R2_U-_L_D2_U_R-_B_L2")
+    narrow = "return [...document.querySelectorAll('#whole button')].filter((each) => each.scrollWidth > each.clientWidth).map((each) => each.id)"
+    tally.equal("buttons that are narrower than their words", browser.script(narrow), [])
+    browser.open(f"{ADDRESS}&steps=normal.D2_R2_L_U")
+    apart = """return [...document.querySelectorAll('#steps-body small')].filter((each) => {
+        const found = /[0-9,]+.solutions?$/.exec(each.textContent), range = document.createRange();
+        if (!found) return false;
+        range.setStart(each.firstChild, found.index);
+        range.setEnd(each.firstChild, found.index + found[0].length);
+        return range.getClientRects().length > 1;
+    }).map((each) => each.textContent)"""
+    tally.equal("numbers on another line than their word", browser.script(apart), [])
+    tally.holds("there are some", any("in all" in text for text in browser.texts("#steps-body small")))
+
+
 def try_all(tally: Tally, browser: Browser) -> None:
     """All of them, in a window of 360 by 740 points that is touched."""
     browser.command("Emulation.setDeviceMetricsOverride", width=360, height=740, deviceScaleFactor=1, mobile=True)
     browser.command("Emulation.setTouchEmulationEnabled", enabled=True)
-    for part in (reaches_rows, leads_back, undoes, stays):
+    for part in (reaches_rows, leads_back, undoes, stays, is_whole):
         part(tally, browser)

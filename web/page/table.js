@@ -149,6 +149,6 @@ export class StepTable {
             "aria-pressed": String(list !== null && name === `${list.step}.${list.side}`),
             "aria-label": `${titleOf(step)}, ${side} side: ${length}, ${rest}${isLeast ? ", shortest" : ""}`,
             click: () => this.#chosen(step.name, side),
-        }, element("strong", {}, length), element("small", {}, rest)));
+        }, element("strong", {}, length), element("small", {}, rest.replace(/ (?=solution)/, "\u00A0"))));
     }
 }
