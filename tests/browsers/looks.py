@@ -357,7 +357,8 @@ def places(tally: Tally, browser: Browser, width: int, height: int) -> None:
     tally.holds(f"{width}: there are long solutions", any(len(moves.split()) == 8 for moves in browser.listed()))
     tally.equal(f"{width}: solutions of more than one line", browser.script(BROKEN), [])
     browser.act("#solutions-groups .take")
-    for name in ("line-list", "finished", "bracketed", "joined", "copy-bracketed", "copy-fmc"):
+    beside = () if width < 960 else ("net-normal", "net-inverse")
+    for name in ("line-list", "finished", "bracketed", "joined", "copy-bracketed", "copy-fmc", *beside):
         tally.holds(f"{width}: after the last step {name} is in view", browser.script(IN_VIEW, name))
     inner = """return [...document.querySelectorAll('main *')]
         .filter((each) => each.checkVisibility() && ['auto', 'scroll'].includes(getComputedStyle(each).overflowY)

@@ -54,13 +54,14 @@ export function setUsable(usable) {
 }
 
 /**
- * Scrolls to what follows a step; on a narrow page to the results, and after the last step to the line below them.
+ * Scrolls to what follows a step; on a narrow page to the results, and after the last step to the line: below the results, or beside them.
  * @param {boolean} isFinished
  */
 export function showStart(isFinished) {
-    const isBelow = part("side-column").offsetTop > part("results").offsetTop;
-    if (!isBelow) scrollTo({ top: 0, behavior: "instant" });
-    else part(isFinished ? "line" : "results").scrollIntoView({ block: "start" });
+    if (!matchMedia(BESIDE).matches) return part(isFinished ? "line" : "results").scrollIntoView({ block: "start" });
+    scrollTo({ top: 0, behavior: "instant" });
+    // no further than to its end, so that what is beside it stays in view
+    if (isFinished) part("whole").scrollIntoView({ block: "nearest" });
 }
 
 const KEY = "nissy-theme";
