@@ -41,6 +41,8 @@ PASTED = (
     ("1. R U F2", "R U F2", "Left out: line numbers."),
     ("3) R U F2 // the third", "R U F2", "Left out: comments, line numbers."),
     ("Scramble: R U F2", "R U F2", "Left out: the word Scramble."),
+    ("EO: R U F2", "R U F2", "Left out: labels."),
+    ("Final solution : R U F2", "R U F2", "Left out: labels."),
     ("R U // up\nF2", "R U F2", "Left out: comments."),
 )
 # a text of several lines with comments: its scramble, its steps, and the candidates after it with their notes
@@ -128,6 +130,10 @@ def pasted(tally: Tally, browser: Browser) -> None:
     browser.wait()
     tally.equal("one solution after an empty line is the line", browser.text("bracketed"), "D R (L2)")
     tally.equal("which is kept too", browser.texts("#kept-list .step .moves"), ["D R (L2)"])
+    browser.fill("scramble", "Scramble: R' U' F\nEO: D R\nDR after it: (L2) F // note: no\nleave: U\n")
+    browser.until("return document.querySelectorAll('#line-list li').length === 4")
+    browser.wait()
+    tally.equal("lines with labels", (browser.text("bracketed"), browser.text("scramble-read")), ("D R (L2) F U", "Left out: the word Scramble."))
     browser.fill("scramble", "R U F2\nD // EO\nB R1 L // DR\nU F\n\nL2\n")
     browser.until("return document.querySelectorAll('#kept-list li').length === 1")
     browser.wait()

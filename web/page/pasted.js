@@ -7,8 +7,12 @@ const APOSTROPHES = /[\u2018\u2019\u02BC\u2032\u00B4`]/;
 const UNSEEN = /[\u200B-\u200D\u2060\uFEFF]/;
 const COMMAS = /[,;]/;
 
-/** What is left out as a whole, and what it is called. */
+/** What stands before the moves of a line, such as `EO:` or `Final solution:`. */
+const LABEL = /^[^\S\n]*\p{L}[\p{L}\p{N}]+(?: \p{L}+){0,2}[^\S\n]*:/gmu;
+
+/** What is left out as a whole, and what it is called; the last name counts. */
 const LEFT_OUT = [
+    { form: LABEL, name: "labels" },
     { form: /\/\/[^\n]*/g, name: "comments" },
     { form: /^[^\S\n]*\d+[.)]/gm, name: "line numbers" },
     { form: /^[^\S\n]*scramble[^\S\n]*:/gim, name: "the word Scramble" },
@@ -50,8 +54,8 @@ export function plainLine(text) {
 }
 
 /**
- * Text with moves on several lines, as solvers write a solution: the scramble, then a step a line with a comment; blocks after a blank
- * line are candidates. The only one is the solution itself, if nothing stands between it and the scramble. Null if the text isn't of this
+ * Text with moves on several lines, as solvers write a solution: the scramble, then a step a line with a comment or a label; blocks after a
+ * blank line are candidates. The only one is the solution itself, if nothing stands between it and the scramble. Null if the text isn't of this
  * form.
  * @param {string} text
  * @returns {{scramble: string, steps: string[], candidates: {steps: string[], note: string}[]} | null}
@@ -60,7 +64,7 @@ export function readFmc(text) {
     const linesOf = (block) => block.split("\n").filter((line) => line.trim() !== "");
     const blocks = text.split(/\n[^\S\n]*\n/).map(linesOf).filter((block) => block.length > 0);
     const lines = blocks.flat();
-    if (!lines.slice(1).some((line) => line.includes("//"))) return null;
+    if (!lines.slice(1).some((line) => line.includes("//") || line.search(LABEL) >= 0)) return null;
     const isMoves = (line) => plainLine(line).line.trim() !== "";
     const [[scramble, ...first], ...others] = blocks;
     const candidates = others.map((block) => ({
