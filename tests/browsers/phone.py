@@ -178,9 +178,32 @@ def is_whole(tally: Tally, browser: Browser) -> None:
     tally.holds("there are some", any("in all" in text for text in browser.texts("#steps-body small")))
 
 
+def lies(tally: Tally, browser: Browser) -> None:
+    """Where a phone is turned all that is pressed is large enough for a finger too, and the best have their room before they come."""
+    browser.command("Emulation.setDeviceMetricsOverride", width=740, height=360, deviceScaleFactor=1, mobile=True)
+    browser.open(f"{ADDRESS}&kept=normal.R,normal.U;a_note&list=eofb.normal.0")
+    browser.wait_best()
+    small = """return [...document.querySelectorAll("button, select, summary, input:not([type=checkbox])")]
+        .filter((each) => each.checkVisibility() && !each.closest(".skip, .popover"))
+        .map((each) => [each.id || each.className || each.textContent, each.getBoundingClientRect()])
+        .filter(([, { width, height }]) => Math.min(width, height) < 44).map(([name]) => name)"""
+    tally.equal("what is too small", browser.script(small), [])
+    room = "return parseFloat(getComputedStyle(document.getElementById('best-rows')).minHeight)"
+    rows = "return [document.querySelectorAll('#best-body tr').length, document.getElementById('best-table').offsetHeight]"
+    count, height = browser.script(rows)
+    tally.holds(f"the room of {count} rows: {height}", count == 8 and height <= browser.script(room) < height + 8)
+    browser.command("Emulation.setDeviceMetricsOverride", width=180, height=740, deviceScaleFactor=1, mobile=True)
+    browser.open(f"{ADDRESS}&steps=normal.D2_R2_L_U&kept=normal.R,normal.U;a_note")
+    browser.wait_best()
+    beyond = """return [...document.querySelectorAll("header *, .bar *, #line *, #kept *")].filter((each) => each.checkVisibility()
+        && each.getBoundingClientRect().right > 180.5).map((each) => each.id || each.textContent.trim())"""
+    tally.equal("text of twice the size: what stands beyond the window", browser.script(beyond), [])
+    browser.command("Emulation.setDeviceMetricsOverride", width=360, height=740, deviceScaleFactor=1, mobile=True)
+
+
 def try_all(tally: Tally, browser: Browser) -> None:
     """All of them, in a window of 360 by 740 points that is touched."""
     browser.command("Emulation.setDeviceMetricsOverride", width=360, height=740, deviceScaleFactor=1, mobile=True)
     browser.command("Emulation.setTouchEmulationEnabled", enabled=True)
-    for part in (reaches_rows, leads_back, undoes, stays, is_whole):
+    for part in (reaches_rows, leads_back, undoes, stays, is_whole, lies):
         part(tally, browser)
