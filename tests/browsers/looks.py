@@ -201,6 +201,10 @@ def prints(tally: Tally, browser: Browser) -> None:
     tally.equal("what is pressed isn't printed", pressed, [])
     for name in ("scramble", "net-normal", "line-list", "kept-list", "bracketed"):
         tally.holds(f"{name} is printed", browser.script("return document.getElementById(arguments[0]).checkVisibility()", name))
+    browser.command("Emulation.setDeviceMetricsOverride", width=794, height=1123, deviceScaleFactor=1, mobile=False)
+    gap = "const [room, rows] = ['rows', 'table'].map((name) => document.getElementById(`best-${name}`).offsetHeight); return room - rows"
+    tally.equal("no room for rows that aren't there is printed", browser.script(gap), 0)
+    browser.command("Emulation.setDeviceMetricsOverride", width=360, height=800, deviceScaleFactor=1, mobile=False)
     cut = (
         "return [...document.querySelectorAll('main *')].filter((each) => each.checkVisibility() && !each.matches('.unseen') && "
         "each.scrollHeight > each.clientHeight + 4 && getComputedStyle(each).overflowY !== 'visible').map((each) => each.id)"
