@@ -164,7 +164,8 @@ def is_whole(tally: Tally, browser: Browser) -> None:
     cut = "const { scrollHeight, clientHeight } = document.getElementById('scramble'); return scrollHeight - clientHeight"
     tally.equal("what is cut of the scramble", browser.script(cut), 0)
     browser.open(f"{ADDRESS}&steps=normal.D2_R2_L_U_R_U2_F_L-_R_L2_U_R-~inverse.R2_U-_L_D2_U_R-_B_L2")
-    narrow = "return [...document.querySelectorAll('#whole button')].filter((each) => each.scrollWidth > each.clientWidth).map((each) => each.id)"
+    narrow = """return [...document.querySelectorAll('#whole button')]
+        .filter((each) => each.scrollWidth > each.clientWidth).map((each) => each.id)"""
     tally.equal("buttons that are narrower than their words", browser.script(narrow), [])
     browser.open(f"{ADDRESS}&steps=normal.D2_R2_L_U")
     apart = """return [...document.querySelectorAll('#steps-body small')].filter((each) => {
