@@ -10,6 +10,9 @@ from steps import ADDRESS, EXAMPLE, SCRAMBLE
 from tally import Tally
 from wanted import Position, answer
 
+# what the page asks of the engine comes late
+SLOW = """const { postMessage } = Worker.prototype;
+    Worker.prototype.postMessage = function (...words) { setTimeout(() => postMessage.apply(this, words), 500); }"""
 KEPT_SAID = "return [...document.querySelectorAll('#kept-list .total')].every((each) => each.textContent !== '')"
 KEPT_WORDS = """return [...document.querySelectorAll('#kept-list li')]
     .map((each) => [...each.querySelectorAll('.moves, .chip, .case')].map((one) => one.textContent))"""
@@ -276,6 +279,20 @@ def takes_away(tally: Tally, browser: Browser) -> None:
     tally.equal("a step that is cut says nothing", browser.script(said)[1], ["", ""])
 
 
+def edits_early(tally: Tally, browser: Browser) -> None:
+    """A step may be edited before the engine says what it reaches."""
+    browser.open("#scramble=R_U_F")
+    browser.script(SLOW)
+    browser.submit("own", "F' L")
+    browser.until("return document.querySelectorAll('#line-list li').length === 1")
+    browser.script("document.querySelector('#line-list button').click()")
+    tally.equal("its field is there first", browser.texts("#total"), ["\u2026"])
+    browser.wait()
+    tally.equal("nothing is wrong", (browser.text("alert"), browser.script("return document.getElementById('results').inert")), ("", False))
+    browser.press(Keys.ESCAPE)
+    tally.equal("left as it was it has its count", browser.texts("#line-list .count"), ["2 moves"])
+
+
 def by_keys(tally: Tally, browser: Browser) -> None:
     """Single keys, where nothing is typed, and their switch."""
     browser.open(ADDRESS)
@@ -404,5 +421,5 @@ def leads_to_kept(tally: Tally, browser: Browser) -> None:
 def try_all(tally: Tally, browser: Browser) -> None:
     """All of them."""
     kept = (keeps, keeps_a_note, leaves_kept, keeps_moves_alone, keeps_reductions, keeps_stages, leads_to_kept)
-    for part in (*kept, premoves, fmc_text, edits, takes_away, by_keys, plays, solved):
+    for part in (*kept, premoves, fmc_text, edits, edits_early, takes_away, by_keys, plays, solved):
         part(tally, browser)

@@ -59,6 +59,8 @@ export class LineSoFar {
     #reached = [];
     /** the same of steps that are about to be shown, one of which was edited or removed @type {string[][] | null} */
     #wanted = null;
+    /** the elements that say of each step what it reaches and how long it is, also while a field stands in place of them */
+    #words = [];
     #side = "normal";
     #fmc = "";
 
@@ -115,6 +117,11 @@ export class LineSoFar {
         this.#reached = this.#wanted ?? keptOf(this.#reached, this.#parts, parts);
         this.#wanted = null;
         this.#parts = parts;
+        this.#words = parts.map(() => ({
+            reaches: element("span", { class: "reaches", hidden: true }),
+            lost: element("span", { class: "lost", "aria-live": "polite", hidden: true }),
+            count: element("span", { class: "count" }),
+        }));
         this.#fmc = "";
         tell(part("finished"), "");
         part("line-list").replaceChildren(...parts.map((each, index) => this.#item(each, index)));
@@ -131,13 +138,13 @@ export class LineSoFar {
     describe(walk, whole, scramble) {
         this.#fmc = fmcOf(scramble, walk);
         this.#showWhole(bracketed(walk.parts), whole, counted(walk.totals.at(-1), "move"), noteOfJoined(walk));
-        [...part("line-list").children].forEach((item, index) => {
+        this.#words.forEach(({ reaches, lost, count }, index) => {
             const inAll = index === 0 ? "" : `, ${walk.totals[index + 1]} in all`;
-            item.querySelector(".count").textContent = `${counted(walk.turns[index], "move")}${inAll}`;
-            const [fresh, lost] = [newlyReached(walk, index), this.#lost(walk, index)];
-            tell(item.querySelector(".reaches"), fresh.join(", "));
-            tell(item.querySelector(".lost"), lost.length === 0 ? "" : `no longer ${listed(lost)}`);
-            if (lost.length === 0 || fresh.length > 0) this.#reached[index] = fresh;
+            count.textContent = `${counted(walk.turns[index], "move")}${inAll}`;
+            const [fresh, missed] = [newlyReached(walk, index), this.#lost(walk, index)];
+            tell(reaches, fresh.join(", "));
+            tell(lost, missed.length === 0 ? "" : `no longer ${listed(missed)}`);
+            if (missed.length === 0 || fresh.length > 0) this.#reached[index] = fresh;
         });
         tell(part("finished"), endOf(walk));
     }
@@ -169,12 +176,10 @@ export class LineSoFar {
             "aria-label": `Take away ${spoken(text)}`,
             click: () => this.#replace(index, []),
         }, "Remove");
+        const { reaches, lost, count } = this.#words[index];
         return element("li", {},
             element("span", { class: "step" },
-                element("span", { class: "moves" }, text),
-                element("span", { class: "reaches", hidden: true }),
-                element("span", { class: "lost", "aria-live": "polite", hidden: true }),
-                element("span", { class: "note" }, element("span", { class: "count" }))),
+                element("span", { class: "moves" }, text), reaches, lost, element("span", { class: "note" }, count)),
             element("span", { class: "acts" }, edit, remove));
     }
 
