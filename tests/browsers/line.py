@@ -293,6 +293,30 @@ def edits_early(tally: Tally, browser: Browser) -> None:
     tally.equal("left as it was it has its count", browser.texts("#line-list .count"), ["2 moves"])
 
 
+def keeps_focus(tally: Tally, browser: Browser) -> None:
+    """Whoever changes or takes away one of several steps or lines has the focus at what is there then."""
+    name = "return document.activeElement.ariaLabel ?? document.activeElement.id"
+    press = "const it = [...document.querySelectorAll(arguments[0])].at(arguments[1]); it.focus(); it.click()"
+    browser.open("#scramble=R_U_F&steps=normal.R~inverse.U~normal.L&kept=normal.R,normal.U,normal.D")
+    browser.until(KEPT_SAID)
+    browser.script(press, "#line-list button", 2)
+    browser.press(Keys.BACKSPACE, "2)", Keys.ENTER)
+    browser.until("return document.getElementById('bracketed').textContent === 'R (U2) L'")
+    browser.wait()
+    tally.equal("a step that is changed", browser.script(name), "Edit on the inverse side U2")
+    browser.script(press, "#line-list button", 3)
+    browser.wait()
+    tally.equal("after a step that is taken away the next one", browser.script(name), "Remove L")
+    browser.script(press, "#line-list button", 3)
+    browser.wait()
+    tally.equal("after the last one the one before", browser.script(name), "Remove R")
+    browser.choose("kept-sort", "kept")
+    for place, wanted in ((1, "Remove: D"), (1, "Remove: R"), (0, "line-heading")):
+        browser.script(press, "#kept-list [data-control^=away]", place)
+        browser.wait()
+        tally.equal(f"after line {place} is taken away", browser.script(name), wanted)
+
+
 def by_keys(tally: Tally, browser: Browser) -> None:
     """Single keys, where nothing is typed, and their switch."""
     browser.open(ADDRESS)
@@ -421,5 +445,5 @@ def leads_to_kept(tally: Tally, browser: Browser) -> None:
 def try_all(tally: Tally, browser: Browser) -> None:
     """All of them."""
     kept = (keeps, keeps_a_note, leaves_kept, keeps_moves_alone, keeps_reductions, keeps_stages, leads_to_kept)
-    for part in (*kept, premoves, fmc_text, edits, edits_early, takes_away, by_keys, plays, solved):
+    for part in (*kept, premoves, fmc_text, edits, edits_early, takes_away, keeps_focus, by_keys, plays, solved):
         part(tally, browser)

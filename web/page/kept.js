@@ -176,9 +176,13 @@ export class KeptCandidates {
     #draw() {
         const focused = this.#list.contains(document.activeElement) ? document.activeElement.dataset.control : null;
         this.#list.replaceChildren(...this.#sorted().map((each) => this.#item(each)));
-        const controls = [...this.#list.querySelectorAll("[data-control]")];
-        if (focused) controls.find(({ dataset }) => dataset.control === focused)?.focus({ preventScroll: true });
+        if (focused) this.#control(focused)?.focus({ preventScroll: true });
         tell(part("kept-count"), this.#candidates.length === 0 ? "" : counted(this.#candidates.length, "line"));
+    }
+
+    /** What is pressed or typed in, by its name. @param {string} name */
+    #control(name) {
+        return [...this.#list.querySelectorAll("[data-control]")].find(({ dataset }) => dataset.control === name);
     }
 
     #item({ candidate, walk, at }) {
@@ -204,7 +208,16 @@ export class KeptCandidates {
                 }, "Go on"),
                 element("button", {
                     type: "button", class: "quiet", "data-control": `away ${name}`, "aria-label": `Remove: ${said}`,
-                    click: () => this.#acts.change(this.#candidates.filter((_, place) => place !== at)),
+                    click: () => this.#remove(at),
                 }, "Remove")));
+    }
+
+    /** Takes a candidate away; the focus, if it was in its row, goes to the next one. @param {number} at its place among the candidates */
+    #remove(at) {
+        const row = [...this.#list.children].find((each) => each.contains(document.activeElement));
+        const next = row?.nextElementSibling ?? row?.previousElementSibling;
+        const control = next?.querySelector("[data-control^=away]").dataset.control;
+        this.#acts.change(this.#candidates.filter((_, place) => place !== at));
+        if (row) (this.#control(control) ?? part("line-heading")).focus({ preventScroll: true });
     }
 }

@@ -174,7 +174,7 @@ export class LineSoFar {
             type: "button",
             class: "quiet",
             "aria-label": `Take away ${spoken(text)}`,
-            click: () => this.#replace(index, []),
+            click: () => this.#replace(index, [], 1),
         }, "Remove");
         const { reaches, lost, count } = this.#words[index];
         return element("li", {},
@@ -202,7 +202,7 @@ export class LineSoFar {
             submit: (event) => {
                 event.preventDefault();
                 // the step is seen as it is written down, so what has no brackets goes on the normal side
-                this.#read(field, fault, "normal", (added) => this.#replace(index, added));
+                this.#read(field, fault, "normal", (added) => this.#replace(index, added, 0));
             },
             keydown: (event) => {
                 if (event.key === "Escape") leave();
@@ -213,14 +213,19 @@ export class LineSoFar {
         field.setSelectionRange(text.length, text.length);
     }
 
-    /** Puts steps in place of one: the last of them is to reach what that one reached. @param {number} index @param {Part[]} added */
-    #replace(index, added) {
+    /**
+     * Puts parts in place of a step: the last of them is to reach what that one reached. The focus, if it was in the step's row, goes to the
+     * last row that is there then.
+     * @param {number} index @param {Part[]} added @param {number} button the place among its buttons of the one that has the focus then
+     */
+    #replace(index, added, button) {
+        const isWithin = part("line-list").children[index].contains(document.activeElement);
         const reached = added.map((_, at) => (at === added.length - 1 ? this.#reached[index] : []));
         this.#wanted = this.#reached.toSpliced(index, 1, ...reached);
         this.#undo(this.#parts.toSpliced(index, 1, ...added));
-        // the field or button that had the focus is gone
-        const last = Math.min(index + Math.max(added.length, 1), this.#parts.length) - 1;
-        part("line-list").children[last]?.querySelector("button").focus({ preventScroll: true });
+        const place = index + Math.max(added.length, 1) - 1;
+        const row = part("line-list").children[Math.min(place, this.#parts.length - 1)];
+        if (isWithin) row?.querySelectorAll("button")[button].focus({ preventScroll: true });
     }
 
     #undo(parts) {
