@@ -1,4 +1,6 @@
 """How the page looks and what it is called: contrast in light and dark, 360 points of width, names, the focus, help."""
+import re
+
 from browser import Browser
 from selenium.webdriver.common.keys import Keys
 from tally import Tally
@@ -113,6 +115,15 @@ def is_named(tally: Tally, browser: Browser, what: str) -> None:
         f"{what}: the tables' names are without help: {named}",
         {"Best continuations, by all moves", "Shortest next steps"} <= set(named),
     )
+
+
+def has_its_words(tally: Tally, browser: Browser, what: str) -> None:
+    """What is pressed by the voice is called as it is seen: the words on a button are in its name. Moves and signs aren't said so."""
+    pairs = browser.script("""return [...document.querySelectorAll('button[aria-label]:not(.take, .help, .moves)')]
+        .filter((each) => each.checkVisibility() && /[a-z]{2}/i.test(each.innerText)).map((each) => [each.innerText, each.ariaLabel])""")
+    tally.holds(f"{what}: there are words", len(pairs) > 10)
+    plain = [[re.sub(r"[\s,]+", " ", words).lower() for words in pair] for pair in pairs]
+    tally.equal(f"{what}: words that aren't in the name", [pair for pair in plain if pair[0] not in pair[1]], [])
 
 
 def is_bordered(tally: Tally, browser: Browser, what: str) -> None:
@@ -397,6 +408,7 @@ def try_all(tally: Tally, browser: Browser) -> None:
         is_legible(tally, browser, colours)
         is_bordered(tally, browser, colours)
         is_named(tally, browser, colours)
+        has_its_words(tally, browser, colours)
         fits(tally, browser, colours)
     is_told_apart(tally, browser)
     for part in (presses, has_two_lines, begins, prints, themes, hovers, helps, copies):

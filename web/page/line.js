@@ -173,7 +173,7 @@ export class LineSoFar {
         const remove = element("button", {
             type: "button",
             class: "quiet",
-            "aria-label": `Take away ${spoken(text)}`,
+            "aria-label": `Remove ${spoken(text)}`,
             click: () => this.#replace(index, [], 1),
         }, "Remove");
         const { reaches, lost, count } = this.#words[index];
