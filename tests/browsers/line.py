@@ -349,6 +349,30 @@ def by_keys(tally: Tally, browser: Browser) -> None:
     tally.equal("switched off", browser.text("side"), "normal side")
 
 
+def keys_rest(tally: Tally, browser: Browser) -> None:
+    """Single keys use nothing that is dimmed; the key for the scramble opens its folded card."""
+    browser.open("#scramble=R_U_F&steps=normal.F-")
+    browser.script("document.getElementById('keys-on').checked = true")
+    before = browser.script("return location.hash")
+    browser.fill("scramble", "R U F q")
+    browser.script("document.activeElement.blur()")
+    browser.press(*"1iusn")
+    browser.wait()
+    tally.equal("under a fault", browser.script("return location.hash"), before.replace("F&", "F_q&"))
+    browser.fill("scramble", "R U F")
+    browser.script(SLOW)
+    browser.script("document.activeElement.blur(); document.getElementById('undo-step').click(); document.activeElement.blur()")
+    browser.press("1")
+    browser.wait()
+    tally.equal("while the next cells are looked for", browser.script("return location.hash"), "#scramble=R_U_F")
+    browser.command("Emulation.setDeviceMetricsOverride", width=640, height=740, deviceScaleFactor=1, mobile=False)
+    browser.open("#scramble=R_U_F")
+    browser.script("document.activeElement.blur()")
+    browser.press("/")
+    tally.equal("a folded scramble", browser.focused(), "scramble")
+    browser.command("Emulation.setDeviceMetricsOverride", width=1280, height=1000, deviceScaleFactor=1, mobile=False)
+
+
 def plays(tally: Tally, browser: Browser) -> None:
     """The moves of the line are played on the nets, by single moves where less motion is wanted; the view is turned."""
     browser.open("#scramble=R_U&steps=normal.F_D~inverse.L")
@@ -445,5 +469,5 @@ def leads_to_kept(tally: Tally, browser: Browser) -> None:
 def try_all(tally: Tally, browser: Browser) -> None:
     """All of them."""
     kept = (keeps, keeps_a_note, leaves_kept, keeps_moves_alone, keeps_reductions, keeps_stages, leads_to_kept)
-    for part in (*kept, premoves, fmc_text, edits, edits_early, takes_away, keeps_focus, by_keys, plays, solved):
+    for part in (*kept, premoves, fmc_text, edits, edits_early, takes_away, keeps_focus, by_keys, keys_rest, plays, solved):
         part(tally, browser)

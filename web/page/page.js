@@ -76,14 +76,16 @@ export class Page {
     }
 
     #listenToKeys() {
-        const numbers = [1, 2, 3, 4, 5, 6].map((number) => [String(number), () => this.#table.cells()[number - 1]?.click()]);
+        const numbers = [1, 2, 3, 4, 5, 6].map((number) => [String(number), () => this.#table.press(number - 1)]);
+        // what is dimmed is no more used by keys than by the mouse
+        const onLine = (act) => () => part("line").inert || act();
         listenToKeys({
             ...Object.fromEntries(numbers),
-            n: () => this.#line.turn("normal"),
-            i: () => this.#line.turn("inverse"),
-            u: () => this.#line.undoStep(),
-            s: () => star(() => this.#star(this.#state.parts)),
-            "/": () => (this.#state.list ? this.#list.focusFilter() : part("scramble").focus()),
+            n: onLine(() => this.#line.turn("normal")),
+            i: onLine(() => this.#line.turn("inverse")),
+            u: onLine(() => this.#line.undoStep()),
+            s: onLine(() => star(() => this.#star(this.#state.parts))),
+            "/": () => (this.#state.list && !part("results").inert ? this.#list.focusFilter() : this.#scramble.focus()),
             Escape: () => this.#state.list && this.#changeList(null),
         });
     }

@@ -60,14 +60,17 @@ export class ScrambleField {
         for (const example of document.querySelectorAll("[data-example]")) {
             example.addEventListener("click", () => this.#put(example.dataset.example));
         }
-        part("scramble-edit").addEventListener("click", () => {
-            this.#fold(false);
-            this.#field.focus();
-        });
+        part("scramble-edit").addEventListener("click", () => this.focus());
         part("left-back").addEventListener("click", () => history.back());
         // not as soon as the focus goes: what is pressed would move away under the finger
         addEventListener("click", ({ target }) => this.#leave(target));
         addEventListener("keyup", () => this.#leave(document.activeElement));
+    }
+
+    /** Puts the focus on the field, also where the card is folded. */
+    focus() {
+        this.#fold(false);
+        this.#field.focus();
     }
 
     /** Shows a scramble that did not come from the field. @param {string} scramble */

@@ -115,9 +115,10 @@ export class StepTable {
         (this.#least() ?? part("steps-heading")).focus({ preventScroll: true });
     }
 
-    /** The cells, in their order. */
-    cells() {
-        return [...this.#body.querySelectorAll("[data-cell]")];
+    /** Presses a cell, if there is one that isn't dimmed. @param {number} at its place among the cells */
+    press(at) {
+        const cell = this.#body.querySelectorAll("[data-cell]")[at];
+        if (!cell?.closest("[inert]")) cell?.click();
     }
 
     /** What stands above the offers that begin anew. @param {Cube} cube */
