@@ -108,6 +108,27 @@ def says_shortest(tally: Tally, browser: Browser) -> None:
         tally.equal(f"what is said of the scramble {scramble!r}", browser.script("return said.splice(0)"), said)
 
 
+def says_typed(tally: Tally, browser: Browser) -> None:
+    """What is wrong with a scramble that is typed is said once nothing more is typed; what was left out already isn't said again."""
+    browser.open()
+    browser.script(LISTEN)
+    browser.script("""const field = document.getElementById('scramble');
+        ["R (", "R (U", "R (U F", "R (U F2"].forEach((text, at) => setTimeout(() => {
+            field.value = text;
+            field.dispatchEvent(new Event('input'));
+        }, 300 * at))""")
+    browser.until("return document.getElementById('scramble-fault').textContent.includes('F2')")
+    time.sleep(1.2)
+    tally.equal("what is said of a bracket", browser.script("return said.splice(0)"), ["A bracket isn't closed."])
+    live = "return document.getElementById(arguments[0]).closest('[aria-live], [role]')?.id ?? ''"
+    tally.equal("the words below the field are silent", browser.script(live, "scramble-fault"), "")
+    browser.fill("scramble", "R, U")
+    browser.script("window.words = document.getElementById('scramble-read').firstChild")
+    browser.fill("scramble", "R, U F")
+    tally.equal("what is left out", browser.text("scramble-read"), "Left out: commas.")
+    tally.holds("stays as it was", browser.script("return words === document.getElementById('scramble-read').firstChild"))
+
+
 def comes_back(tally: Tally, browser: Browser) -> None:
     """By the browser's Back no focus is lost with what it closes or dims."""
     stop = "document.getElementById(arguments[0]).focus()"
@@ -214,5 +235,5 @@ def goes_on(tally: Tally, browser: Browser) -> None:
 
 def try_all(tally: Tally, browser: Browser) -> None:
     """All of them."""
-    for part in (dimmed, ends, stays, waits, says_filtered, says_shortest, comes_back, one_stop, across, words, goes_on):
+    for part in (dimmed, ends, stays, waits, says_filtered, says_shortest, says_typed, comes_back, one_stop, across, words, goes_on):
         part(tally, browser)

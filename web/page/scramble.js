@@ -1,7 +1,7 @@
 // The card of the scramble: its field, with what was left out of a text and what is at fault, examples, random scrambles from a seed, and
 // the fold of it if the page is narrow.
 import { LONGEST_SCRAMBLE } from "./address.js";
-import { announce, counted, element, part, tell } from "./element.js";
+import { announce, announceLater, counted, element, part, tell } from "./element.js";
 import { EngineFault, scrambleOf } from "./engine.js";
 import { plainLine, readFmc } from "./pasted.js";
 import { withoutMoving } from "./view.js";
@@ -92,11 +92,15 @@ export class ScrambleField {
         const text = this.#field.value;
         const plain = plainLine(text);
         showFault(part("scramble-fault"), this.#field, plain, fault, text);
+        // of what is typed not after each sign
+        if (fault) announceLater(part("scramble-fault").firstChild.textContent);
         this.#markPlace(text, placeOfFault(plain, fault, text));
         const sentences = this.#leftOut.length > 0 ? [`Left out: ${this.#leftOut.join(", ")}.`] : [];
         if (read?.isTurned) sentences.push(`Read as ${read.line || "no moves"}: ${TURNS_LEFT_OUT}`);
         else if (read && plain.line.includes("(")) sentences.push("Moves in brackets count as inverse moves.");
-        tell(part("scramble-read"), sentences.join(" "));
+        const words = sentences.join(" ");
+        // what stays as it was isn't said again
+        if (words !== part("scramble-read").textContent) tell(part("scramble-read"), words);
         part("scramble-folded").textContent = text;
         this.#isRead = read !== null && read.line !== "";
         this.#closeSeeds();
