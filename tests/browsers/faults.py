@@ -101,6 +101,33 @@ def by_hand(tally: Tally, browser: Browser) -> None:
     browser.act("#clear")
 
 
+def lines_by_hand(tally: Tally, browser: Browser) -> None:
+    """Of lines that are pasted among moves by hand the moves are taken, whatever comments stand between; what is left out is said."""
+    paste = """const field = document.querySelector(arguments[0]); field.focus(); field.select();
+        const clipboardData = new DataTransfer(); clipboardData.setData('text/plain', arguments[1]);
+        field.dispatchEvent(new ClipboardEvent('paste', { clipboardData, bubbles: true, cancelable: true }))"""
+    browser.open("#scramble=R_U")
+    for end in ("\n", "\r\n"):
+        browser.script(paste, "#own", end.join(("R U // EO", "(F2 D) // DR", "")))
+        tally.equal(f"{end!r}: what is left out", browser.text("own-read"), "Left out: comments.")
+        browser.script("document.getElementById('own-form').requestSubmit()")
+        browser.until("return document.querySelectorAll('#line-list li').length === 2")
+        browser.wait()
+        tally.equal(f"{end!r}: the line", browser.text("bracketed"), "R U (F2 D)")
+        browser.act("#clear")
+    browser.submit("own", "R, U // EO F2")
+    browser.until("return document.querySelectorAll('#line-list li').length === 1")
+    browser.wait()
+    said = "Left out: comments, commas."
+    tally.equal("what is left out of one line", (browser.text("bracketed"), browser.text("own-read")), ("R U", said))
+    browser.act("#line-list button")
+    browser.script(paste, "#line-list input", "R // one\nD // another")
+    browser.script("document.querySelector('#line-list form').requestSubmit()")
+    browser.until("return document.getElementById('bracketed').textContent === 'R D'")
+    browser.wait()
+    tally.equal("a step that is edited", browser.text("bracketed"), "R D")
+
+
 def pasted(tally: Tally, browser: Browser) -> None:
     """Text as solvers write it is read, and what is left out is said."""
     browser.open()
@@ -224,5 +251,5 @@ def unstarted(tally: Tally, browser: Browser) -> None:
 def try_all(tally: Tally, browser: Browser) -> None:
     """All of them."""
     browser.open()
-    for part in (scrambles, by_hand, pasted, together, stale, seeds, starts, without_engine, unstarted):
+    for part in (scrambles, by_hand, lines_by_hand, pasted, together, stale, seeds, starts, without_engine, unstarted):
         part(tally, browser)

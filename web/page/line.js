@@ -4,7 +4,7 @@ import { isSolved } from "./cases.js";
 import { copy, fmcOf } from "./copying.js";
 import { announce, counted, element, part, spoken, tell } from "./element.js";
 import { readByHand } from "./lines.js";
-import { plainLine } from "./pasted.js";
+import { plainLine, wordsOfLeftOut } from "./pasted.js";
 import { newlyReached } from "./position.js";
 import { bracketed, isReduced, otherSide, statesOf } from "./steps.js";
 import { showFault } from "./words.js";
@@ -13,6 +13,7 @@ import { showFault } from "./words.js";
 /** @typedef {import("./position.js").Walk} Walk */
 /** @typedef {import("./steps.js").Side} Side */
 
+const LONGEST_PASTED = 65536;
 const UNKNOWN = "…";
 const NO_MOVES = "No moves yet";
 
@@ -51,6 +52,21 @@ function noteOfJoined({ parts, letters }) {
     return "Not finished: the inverse moves stand at the end as premoves, and what follows goes before them.";
 }
 
+/**
+ * Has lines that are pasted go into a field of one line without their comments, of which the first would leave out all after it.
+ * @param {HTMLInputElement} field
+ */
+function takeLines(field) {
+    field.addEventListener("paste", (event) => {
+        const text = event.clipboardData.getData("text/plain").trim().replace(/\r\n?/g, "\n");
+        if (!text.includes("\n") || text.length > LONGEST_PASTED) return;
+        event.preventDefault();
+        const { line, leftOut } = plainLine(text);
+        document.execCommand("insertText", false, line);
+        tell(part("own-read"), wordsOfLeftOut(leftOut));
+    });
+}
+
 export class LineSoFar {
     #calls;
     #acts;
@@ -76,6 +92,7 @@ export class LineSoFar {
             event.preventDefault();
             this.#add();
         });
+        takeLines(part("own"));
         part("switch").addEventListener("click", () => this.turn(otherSide(this.#side)));
         for (const name of ["undo-step", "bar-undo"]) part(name).addEventListener("click", () => this.undoStep());
         part("undo-move").addEventListener("click", () => this.#undo(withoutLastMove(this.#parts)));
@@ -123,7 +140,7 @@ export class LineSoFar {
             count: element("span", { class: "count" }),
         }));
         this.#fmc = "";
-        tell(part("finished"), "");
+        for (const name of ["finished", "own-read"]) tell(part(name), "");
         part("line-list").replaceChildren(...parts.map((each, index) => this.#item(each, index)));
         part("line-empty").hidden = parts.length > 0;
         // where the engine can't read them, no line of other parts stays to be copied
@@ -192,6 +209,7 @@ export class LineSoFar {
             class: "moves wide", value: text, spellcheck: "false", autocapitalize: "off", autocomplete: "off", maxlength: 4096,
             "aria-label": `Step ${index + 1}`,
         });
+        takeLines(field);
         const fault = element("div", { class: "fault", hidden: true });
         const leave = () => {
             item.replaceChildren(...shown);
@@ -259,6 +277,7 @@ export class LineSoFar {
             if (!isStill()) return;
             showFault(where, field, plain, null, text);
             use(added);
+            tell(part("own-read"), wordsOfLeftOut(plain.leftOut));
         } catch (fault) {
             if (isStill()) showFault(where, field, plain, fault, text);
         }

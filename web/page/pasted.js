@@ -53,6 +53,9 @@ export function plainLine(text) {
     return { line, places, leftOut: [...leftOut] };
 }
 
+/** What is said of what was left out, or "". @param {string[]} leftOut */
+export const wordsOfLeftOut = (leftOut) => (leftOut.length === 0 ? "" : `Left out: ${leftOut.join(", ")}.`);
+
 /**
  * Text with moves on several lines, as solvers write a solution: the scramble, then a step a line with a comment or a label; blocks after a
  * blank line are candidates. The only one is the solution itself, if nothing stands between it and the scramble. Null if the text isn't of this

@@ -3,7 +3,7 @@
 import { LONGEST_SCRAMBLE } from "./address.js";
 import { announce, announceLater, counted, element, part, tell } from "./element.js";
 import { EngineFault, scrambleOf } from "./engine.js";
-import { plainLine, readFmc } from "./pasted.js";
+import { plainLine, readFmc, wordsOfLeftOut } from "./pasted.js";
 import { withoutMoving } from "./view.js";
 import { placeOfFault, showFault } from "./words.js";
 
@@ -95,7 +95,7 @@ export class ScrambleField {
         // of what is typed not after each sign
         if (fault) announceLater(part("scramble-fault").firstChild.textContent);
         this.#markPlace(text, placeOfFault(plain, fault, text));
-        const sentences = this.#leftOut.length > 0 ? [`Left out: ${this.#leftOut.join(", ")}.`] : [];
+        const sentences = [wordsOfLeftOut(this.#leftOut)].filter(Boolean);
         if (read?.isTurned) sentences.push(`Read as ${read.line || "no moves"}: ${TURNS_LEFT_OUT}`);
         else if (read && plain.line.includes("(")) sentences.push("Moves in brackets count as inverse moves.");
         const words = sentences.join(" ");
