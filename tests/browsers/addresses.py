@@ -150,6 +150,27 @@ def longest(tally: Tally, browser: Browser) -> None:
     tally.equal("the longest scramble: its cube", browser.letters("normal"), Position("(Rw2') " * 255 + "(F)").letters("normal"))
 
 
+def has_no_room(tally: Tally, browser: Browser) -> None:
+    """What outgrows the address stays on the page, which says so; the address stays one that is read, and follows once there is room."""
+    note = "document.querySelectorAll('.note-field')[23].value = arguments[0];" \
+        "document.querySelectorAll('.note-field')[23].dispatchEvent(new Event('change'))"
+    lines = ["normal." + "_".join(["R", "U"] * at) + ";" + quote("\u754c" * 80) for at in range(16, 40)]
+    address = "#scramble=R&kept=" + ",".join(lines).rsplit(";", 1)[0]
+    tally.holds(f"there is room for less than a note: {len(address)}", 19_280 < len(address) < 20_000)
+    browser.open(address)
+    browser.choose("kept-sort", "kept")
+    browser.script(note, "\u754c" * 80)
+    said = "The address of the page has no room for all of this, and stays as it was."
+    tally.equal("a note too much", (browser.text("alert"), browser.script("return location.hash")), (said, address))
+    browser.driver.refresh()
+    browser.wait()
+    tally.equal("what was there is read again", (browser.text("alert"), len(browser.texts("#kept-list li"))), ("", 24))
+    browser.choose("kept-sort", "kept")
+    browser.script(note, "\u754c" * 80)
+    browser.script(note, "a")
+    tally.equal("a shorter one", (browser.text("alert"), browser.script("return location.hash")), ("", address + ";a"))
+
+
 def overtaken(tally: Tally, browser: Browser) -> None:
     """What is done on a page while another address is read belongs to what is seen: the address and the page say the same."""
     act = """addEventListener('hashchange', () => document.querySelector(arguments[0]).click(), { once: true });
@@ -177,4 +198,5 @@ def try_all(tally: Tally, browser: Browser) -> None:
     changed(tally, browser)
     line_ends(tally, browser)
     longest(tally, browser)
+    has_no_room(tally, browser)
     overtaken(tally, browser)

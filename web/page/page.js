@@ -17,7 +17,7 @@ import { OpenList, SolutionList } from "./solutions.js";
 import { ORIENTATIONS, bracketed, isReduced, stateOf, stepNamed } from "./steps.js";
 import { StepTable } from "./table.js";
 import { isBare, keepInView, listenToKeys, setUsable, showStart, star, withoutMoving } from "./view.js";
-import { NO_ROOM, titleOfPage, unanswered, whyNotListed, whyUnread } from "./words.js";
+import { NOT_IN_ADDRESS, NO_ROOM, titleOfPage, unanswered, whyNotListed, whyUnread } from "./words.js";
 
 /** @typedef {import("./address.js").State} State */
 /** @typedef {import("./steps.js").Part} Part */
@@ -76,11 +76,10 @@ export class Page {
     }
 
     #listenToKeys() {
-        const numbers = [1, 2, 3, 4, 5, 6].map((number) => [String(number), () => this.#table.press(number - 1)]);
         // what is dimmed is no more used by keys than by the mouse
         const onLine = (act) => () => part("line").inert || act();
         listenToKeys({
-            ...Object.fromEntries(numbers),
+            ...Object.fromEntries([1, 2, 3, 4, 5, 6].map((number) => [String(number), () => this.#table.press(number - 1)])),
             n: onLine(() => this.#line.turn("normal")),
             i: onLine(() => this.#line.turn("inverse")),
             u: onLine(() => this.#line.undoStep()),
@@ -139,22 +138,22 @@ export class Page {
         this.#wayBack.set(null);
         if ("parts" in change) keepPlace();
         this.#state = { ...this.#state, ...("parts" in change ? { list: null } : {}), ...change };
+        const isOther = "scramble" in change || "parts" in change || this.#isReading;
+        if (isOther) tell(part("alert"), "");
         this.#writeAddress(isStep);
-        if ("scramble" in change || "parts" in change || this.#isReading) {
-            tell(part("alert"), "");
-            this.#refresh();
-            return;
-        }
+        if (isOther) return void this.#refresh();
         this.#line.turnTo(this.#state.side);
         this.#table.mark(this.#state.list);
         this.#showList();
         if ("kept" in change) this.#showKept();
     }
 
-    /** Puts the state into the address and the title. @param {boolean} isStep */
+    /** Puts the state into the title, and into the address if that has room for it, since a longer one isn't read. @param {boolean} isStep */
     #writeAddress(isStep) {
         document.title = titleOfPage(this.#state);
-        writeAddress(addressOf(this.#state), isStep);
+        const isLong = !fitsAddress(this.#state);
+        if (isLong || part("alert").textContent === NOT_IN_ADDRESS) tell(part("alert"), isLong ? NOT_IN_ADDRESS : "");
+        if (!isLong) writeAddress(addressOf(this.#state), isStep);
     }
 
     /** @param {string} scramble @param {boolean} isNew @param {import("./scramble.js").Fmc | null} fmc */
@@ -340,10 +339,7 @@ export class Page {
     #star(parts, next = "") {
         if (parts.length === 0) return;
         const { kept, isKept } = withStar(this.#state.kept, parts, next);
-        if (kept.length > MOST_CANDIDATES || !fitsAddress({ ...this.#state, kept })) {
-            tell(part("alert"), NO_ROOM);
-            return;
-        }
+        if (kept.length > MOST_CANDIDATES || !fitsAddress({ ...this.#state, kept })) return tell(part("alert"), NO_ROOM);
         withoutMoving(part("results"), () => this.#change({ kept }));
         announce(`${spoken(bracketed(parts))}: ${isKept ? "kept" : "no longer kept"}.`);
     }

@@ -5,6 +5,7 @@ import { MOST_MOVES } from "./lines.js";
 import { bracketed, openSteps, stateOf, stepNamed, titleOf } from "./steps.js";
 
 export const NO_ROOM = "No more lines can be kept: the address of the page has no room for them.";
+export const NOT_IN_ADDRESS = "The address of the page has no room for all of this, and stays as it was.";
 const PAGE_NAME = "nissy";
 const TOO_MANY = `more than ${MOST_MOVES} moves`;
 const MOST_SIGNS = 40;
