@@ -83,7 +83,18 @@ def addresses(tally: Tally, browser: Browser) -> None:
     tally.equal("steps of an address", browser.text("bracketed"), "(L) R U2")
 
 
+def kept(tally: Tally, browser: Browser) -> None:
+    """Lines that an address keeps are read as its steps are; one that can't be read is said, and stays."""
+    lines = {f"normal.{written(typed)}": faces for typed, faces in LINES if faces and "(" not in typed}
+    browser.open("#scramble=F&kept=" + ",".join(lines))
+    browser.choose("kept-sort", "kept")
+    tally.equal("by their face turns", browser.texts("#kept-list .moves"), list(lines.values()))
+    browser.open("#scramble=F&kept=normal.M_2,normal.R")
+    tally.holds("one that can't be read", browser.until("return document.getElementById('alert').textContent.startsWith('The lines that are')"))
+    tally.equal("both stay", browser.texts("#kept-list .moves"), ["M 2", "R"])
+
+
 def try_all(tally: Tally, browser: Browser) -> None:
     """All of them."""
-    for part in (scrambles, by_hand, addresses):
+    for part in (scrambles, by_hand, addresses, kept):
         part(tally, browser)

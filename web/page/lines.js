@@ -108,3 +108,20 @@ export async function readSteps(calls, parts) {
     const moves = read.map((line, index) => (FACE_TURNS.test(line) ? line : withoutTurns(cleaned[index])));
     return parts.map(({ side }, index) => ({ side, moves: moves[index] })).filter((part) => part.moves !== "");
 }
+
+/**
+ * The candidates of an address, each read as its steps are; one that can't be read stays, since that is said where it is shown.
+ * @param {Calls} calls @param {import("./address.js").Candidate[]} kept @returns {Promise<import("./address.js").Candidate[]>}
+ */
+export async function readKept(calls, kept) {
+    const read = await Promise.all(kept.map(async (each) => {
+        if (each.parts.every(({ moves }) => FACE_TURNS.test(moves))) return each;
+        try {
+            return { ...each, parts: await readSteps(calls, each.parts) };
+        } catch (fault) {
+            if (fault instanceof EngineFault) return each;
+            throw fault;
+        }
+    }));
+    return read.filter(({ parts }) => parts.length > 0);
+}

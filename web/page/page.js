@@ -8,7 +8,7 @@ import { announce, announceLater, part, setBusy, spoken, tell } from "./element.
 import { EngineFault } from "./engine.js";
 import { KeptCandidates, withStar } from "./kept.js";
 import { LineSoFar } from "./line.js";
-import { readScramble, readSteps, readWritten } from "./lines.js";
+import { readKept, readScramble, readSteps, readWritten } from "./lines.js";
 import { plainLine } from "./pasted.js";
 import { Seen, WayBack, dropAddress, keepPlace, placeIn, writeAddress } from "./places.js";
 import { examine, framesOf, inPortions, offersOf, walkKept } from "./position.js";
@@ -106,6 +106,7 @@ export class Page {
         part("welcome").hidden = !isBare(state);
         try {
             state.parts = await readSteps(this.#calls, state.parts);
+            state.kept = await readKept(this.#calls, state.kept);
         } catch (stop) {
             if (turn !== this.#turn) return;
             if (!(stop instanceof EngineFault)) return this.#showUnread(state, stop);
