@@ -1,5 +1,5 @@
 #!/usr/bin/env bash
-# Tries the page that `make page` built, drives it in Chromium, and shows it in Firefox and WebKit; mypy reads what does so:
+# Tries the page that `make page` built, drives it in Chromium, and shows it in Firefox and WebKit; tsc reads its types, and mypy what tries it:
 #
 #     tests/browsers.sh [PAGE [PROGRAM]]
 #
@@ -18,6 +18,21 @@ export SE_OFFLINE=true SE_AVOID_STATS=true
 
 if [ ! -e "$page" ] || missing python3; then skips_all "the page, since make page built none or there is no python3"; fi
 typed tests/tally.py tests/browsers/*.py
+
+fit() { # SCRIPT..: the types in the comments of these scripts and of all that they import
+    tsc --allowJs --checkJs --noEmit --target es2022 --module es2022 --moduleResolution node --lib es2022,dom,dom.iterable \
+        tests/browsers/page.d.ts "$@"
+}
+call_fits() { # CALL
+    echo "import { counted } from \"$PWD/web/page/element.js\"; $1;" > "$room/call.js"
+    fit "$room/call.js"
+}
+if missing tsc; then skips "the types of the page's JavaScript, since there is no tsc"; else
+    holds "the page's JavaScript has the types that its comments say" fit web/page/main.js web/page/worker.js
+    holds "a call by these types fits" call_fits 'counted(3, "move")'
+    holds "and another doesn't" refuses call_fits 'counted("3", "move")'
+fi
+
 add python3 tests/browsers/files.py "$page"
 
 # Debian's Python has Debian's selenium, whatever other Python comes first

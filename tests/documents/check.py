@@ -108,6 +108,22 @@ def heads_of_scripts(tally: Tally) -> None:
         tally.holds(f"the first line of {script.relative_to(TOP)} says its task", says_its_task(script))
 
 
+def unread_types(script: Path) -> list[str]:
+    """Returns the comments of a script whose first type stands behind other words of its line: tsc reads none there, so it may be wrong."""
+    found = []
+    for comment in re.findall(r"/\*\*[\s\S]*?\*/", script.read_text(encoding="utf-8")):
+        before = re.split(r"@(?:param|returns|type|template|typedef)\b", comment, maxsplit=1)
+        if len(before) > 1 and not re.fullmatch(r"\s*(/\*)?\*\s*", before[0].split("\n")[-1]):
+            found.append(comment)
+    return found
+
+
+def types_in_scripts(tally: Tally) -> None:
+    """Each type in a comment of a script for the page and the module is one that tsc reads."""
+    for script in sorted(path for folder in ("page", "module") for path in (TOP / "web" / folder).glob("*.*js")):
+        tally.equal(f"types of {script.relative_to(TOP)} that tsc doesn't read", unread_types(script), [])
+
+
 def clauses_of_functions(texts: list[str]) -> list[str]:
     """Returns what texts say as '`f` and `T::g`, clauses `c`, `d`' or 'clause `c` of `f`': each function with each of its clauses."""
     found = []
@@ -177,6 +193,7 @@ def main() -> None:
     for what in unlike or [""]:
         tally.holds(f"docs/ARCHITECTURE.md maps each file: {what}", not what)
     heads_of_scripts(tally)
+    types_in_scripts(tally)
     promises(tally, code)
     examples(tally)
     tally.end()

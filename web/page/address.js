@@ -1,6 +1,6 @@
 // The state of the page in its address, after the #, so that it can be kept and sent. What an address says is checked piece by piece:
 // each piece becomes a part of the state, or is left out and named.
-import { REDUCTIONS, SIDES, stepNamed } from "./steps.js";
+import { REDUCTIONS, isSide, stepNamed } from "./steps.js";
 
 /** @typedef {import("./steps.js").Part} Part */
 /** @typedef {{step: string, side: import("./steps.js").Side, slack: number, isAll: boolean}} List */
@@ -31,7 +31,8 @@ function written(text) {
         .replace(/'/g, "-");
 }
 
-/** A text as the one line that the engine reads of it. @param {string} text */
+/** A text as the one line that the engine reads of it.
+ * @param {string} text */
 export const oneLine = (text) => text.replace(/[\r\n]/g, " ");
 
 const spelled = (text) => decodeURIComponent(text.replace(/_/g, "%20").replace(/-/g, "'"));
@@ -53,14 +54,15 @@ export function addressOf({ scramble, parts, side, list, kept }) {
     return `#${fields.join("&")}`;
 }
 
-/** Whether an address has room for a state. @param {State} state */
+/** Whether an address has room for a state.
+ * @param {State} state */
 export const fitsAddress = (state) => addressOf(state).length <= LONGEST_ADDRESS;
 
 /** @param {string} text @returns {Part} */
 function readPart(text) {
     const [side, moves, ...rest] = text.split(".");
     const plain = spelled(moves ?? "");
-    if (!SIDES.includes(side) || rest.length > 0 || !MOVES.test(plain)) throw new Error("not steps");
+    if (!isSide(side) || rest.length > 0 || !MOVES.test(plain)) throw new Error("not steps");
     return { side, moves: plain };
 }
 
@@ -74,7 +76,7 @@ function readParts(text) {
 /** @param {string} text @returns {List} */
 function readList(text) {
     const [step, side, slack, all, ...rest] = text.split(".");
-    const known = stepNamed(step) && SIDES.includes(side) && /^[0-9]$/.test(slack) && Number(slack) <= GREATEST_SLACK;
+    const known = stepNamed(step) && isSide(side) && /^[0-9]$/.test(slack) && Number(slack) <= GREATEST_SLACK;
     if (!known || rest.length > 0 || (all !== undefined && all !== ALL_ROWS)) throw new Error("no list");
     return { step, side, slack: Number(slack), isAll: all === ALL_ROWS };
 }
@@ -88,7 +90,8 @@ function readCandidate(text) {
     return { parts: readParts(parts), note: plain, next };
 }
 
-/** What each field of an address puts into the state. @type {Record<string, (state: State, text: string) => void>} */
+/** What each field of an address puts into the state.
+ * @type {Record<string, (state: State, text: string) => void>} */
 const FIELDS = {
     scramble: (state, text) => {
         const scramble = oneLine(spelled(text));
@@ -99,7 +102,7 @@ const FIELDS = {
         state.parts = readParts(text);
     },
     side: (state, text) => {
-        if (!SIDES.includes(text)) throw new Error("no side");
+        if (!isSide(text)) throw new Error("no side");
         state.side = text;
     },
     list: (state, text) => {

@@ -23,10 +23,12 @@ const MOST_KEPT_SEARCHES = 8;
 
 const shownFirst = () => (isNarrow() ? SHOWN_FIRST.narrow : SHOWN_FIRST.wide);
 
-/** What a search is known by. @param {Question} question */
+/** What a search is known by.
+ * @param {Question} question */
 const nameOfSearch = ({ now, slack, isAll }) => [now.normal, now.inverse, slack, isAll].join("/");
 
-/** A cell whose role stays where a narrow page lays the row out as a grid. @param {"td" | "th"} name */
+/** A cell whose role stays where a narrow page lays the row out as a grid.
+ * @param {"td" | "th"} name */
 function cell(name, attributes, ...children) {
     const role = name === "th" ? { role: "rowheader", scope: "row" } : { role: "cell" };
     return element(name, { ...role, ...attributes }, ...children);
@@ -117,7 +119,8 @@ export class BestContinuations {
         if (this.#progress !== null) announceLater(part("best-note").textContent);
     }
 
-    /** Makes the row seen that has this name, and answers its button, or null. @param {string} key */
+    /** Makes the row seen that has this name, and answers its button, or null.
+     * @param {string} key */
     reveal(key) {
         const at = (this.#rows() ?? []).findIndex((row) => row.key === key);
         if (at < 0) return null;
@@ -155,7 +158,8 @@ export class BestContinuations {
         if (isStill()) this.#working(false);
     }
 
-    /** Keeps what was found, in place of what was kept longest. @param {Question} question */
+    /** Keeps what was found, in place of what was kept longest.
+     * @param {Question} question */
     #keep(question) {
         this.#found.set(nameOfSearch(question), this.#progress);
         if (this.#found.size > MOST_KEPT_SEARCHES) this.#found.delete(this.#found.keys().next().value);
@@ -232,7 +236,8 @@ export class BestContinuations {
         this.#body.querySelectorAll(".take")[from]?.focus();
     }
 
-    /** Shows the rows in place of the last ones; the same row keeps the focus, if it is there. @param {HTMLElement[]} rows */
+    /** Shows the rows in place of the last ones; the same row keeps the focus, if it is there.
+     * @param {HTMLElement[]} rows */
     #showRows(rows) {
         const focused = focusWithin(this.#body);
         this.#body.replaceChildren(...rows);

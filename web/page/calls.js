@@ -48,7 +48,8 @@ export class Calls extends WorkerCalls {
         super(module, listenedTo(() => newWorker()));
     }
 
-    /** What the program answers to words and input. @param {string[]} words @param {string} input @returns {Promise<Told>} */
+    /** What the program answers to words and input.
+     * @param {string[]} words @param {string} input @returns {Promise<Told>} */
     async tell(words, input) {
         const short = await this.run(words, input, { room: SHORT_ANSWER });
         const { status, out, err, full } = short.full ? await this.run(words, input, { room: LONGEST_ANSWER }) : short;
@@ -56,7 +57,8 @@ export class Calls extends WorkerCalls {
         return { status, full, out: text.decode(out), err: text.decode(err) };
     }
 
-    /** Has the tables of some steps built before they are needed, one after another, until calls are given up. @param {string[]} steps */
+    /** Has the tables of some steps built before they are needed, one after another, until calls are given up.
+     * @param {string[]} steps */
     async ready(steps) {
         const unready = steps.filter((name) => !this.#ready.has(name));
         this.#unready = unready;

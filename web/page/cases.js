@@ -23,10 +23,12 @@ const CORNERS = [
  */
 const AXES = ["U/D", "F/B", "R/L"];
 
-/** Whether a face is one of an axis. @param {string} face @param {string} axis */
+/** Whether a face is one of an axis.
+ * @param {string} face @param {string} axis */
 const isOn = (face, axis) => axis.includes(face);
 
-/** The face that a place is on. @param {number} place */
+/** The face that a place is on.
+ * @param {number} place */
 const faceOf = (place) => FACE_NAMES[Math.floor(place / 9)];
 
 /**
@@ -51,7 +53,8 @@ export function badEdges(letters, axis) {
     });
 }
 
-/** The case of a domino reduction on an axis. @param {string} letters @param {string} axis @returns {Case} */
+/** The case of a domino reduction on an axis.
+ * @param {string} letters @param {string} axis @returns {Case} */
 export function caseOf(letters, axis) {
     const isOff = (place) => isOn(letters[place], axis) && !isOn(faceOf(place), axis);
     const isOfSlice = (places) => places.every((place) => !isOn(letters[place], axis));
@@ -80,19 +83,23 @@ export function caseSize(letters, axis) {
     return size;
 }
 
-/** A case as solvers write it, such as `4c1e`. @param {Size} size */
+/** A case as solvers write it, such as `4c1e`.
+ * @param {Size} size */
 export const nameOfCase = ({ corners, edges }) => `${corners}c${edges}e`;
 
-/** The case of a reduction, such as `4c1e`. @param {string} letters @param {string} axis */
+/** The case of a reduction, such as `4c1e`.
+ * @param {string} letters @param {string} axis */
 export const caseName = (letters, axis) => nameOfCase(caseSize(letters, axis));
 
-/** The numbers in the name of a case. @param {string} name such as `4c1e` @returns {Size} */
+/** The numbers in the name of a case.
+ * @param {string} name such as `4c1e` @returns {Size} */
 export function sizeOf(name) {
     const [corners, edges] = name.match(/\d+/g).map(Number);
     return { corners, edges };
 }
 
-/** How far a case is, to sort by: an edge outside the slice costs about two corners. @param {Size} size */
+/** How far a case is, to sort by: an edge outside the slice costs about two corners.
+ * @param {Size} size */
 export const farnessOf = ({ corners, edges }) => corners + 2 * edges;
 
 /**
@@ -105,8 +112,10 @@ export function reachedBy(letters) {
     return [...held, ...reduced.map(({ name }) => name)];
 }
 
-/** Whether each face has one letter. @param {string} letters */
+/** Whether each face has one letter.
+ * @param {string} letters */
 export const isSolved = (letters) => /^(?:(.)\1{8})+$/.test(letters);
 
-/** The name of a piece by the faces of its places, such as `UF`. @param {Piece} places */
+/** The name of a piece by the faces of its places, such as `UF`.
+ * @param {Piece} places */
 export const pieceName = (places) => places.map(faceOf).join("");

@@ -16,13 +16,15 @@ function stepLine(walk, index) {
     return `${bracketed([walk.parts[index]])} // ${[newlyReached(walk, index).join(", "), count].filter(Boolean).join(" ")}`;
 }
 
-/** The steps of a line, a text of a line each. @param {Walk} walk */
+/** The steps of a line, a text of a line each.
+ * @param {Walk} walk */
 const stepLines = (walk) => walk.parts.map((_, index) => stepLine(walk, index));
 
 /** @param {string} scramble @param {Walk} walk */
 export const fmcOf = (scramble, walk) => [scramble, ...stepLines(walk)].join("\n");
 
-/** Some candidates of a scramble, with their notes. @param {string} scramble @param {{walk: Walk, notes: string[]}[]} candidates */
+/** Some candidates of a scramble, with their notes.
+ * @param {string} scramble @param {{walk: Walk, notes: string[]}[]} candidates */
 export function fmcOfAll(scramble, candidates) {
     const blocks = candidates.map(({ walk, notes }) => [...stepLines(walk), ...notes.map((note) => `// ${note}`)].join("\n"));
     return [scramble, ...blocks].join("\n\n");
@@ -30,7 +32,8 @@ export function fmcOfAll(scramble, candidates) {
 
 const MOMENT = 1500;
 
-/** A word on a button for a moment. @param {HTMLElement} button @param {string} word */
+/** A word on a button for a moment.
+ * @param {HTMLElement} button @param {string} word */
 function sayOn(button, word) {
     button.dataset.word ??= button.textContent;
     button.textContent = word;
@@ -39,7 +42,8 @@ function sayOn(button, word) {
     }, MOMENT);
 }
 
-/** Copies by the older way of browsers, which a page that is opened as a file needs in some. @param {string} text */
+/** Copies by the older way of browsers, which a page that is opened as a file needs in some.
+ * @param {string} text */
 function copiedByField(text) {
     const field = document.createElement("textarea");
     const focused = document.activeElement;

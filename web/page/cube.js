@@ -71,7 +71,8 @@ export class Cube {
         this.#draw();
     }
 
-    /** What the cell of the open list would mark, or "". @param {string} choice */
+    /** What the cell of the open list would mark, or "".
+     * @param {string} choice */
     follow(choice) {
         this.#open = choice;
         this.#draw();

@@ -1,17 +1,25 @@
 // Makes and fills elements of the page. Text from outside goes through here as text, never as markup.
 
-/** The element of the page that has this id. @param {string} id */
+/**
+ * An element of the page, which may be a field, a bar or what folds.
+ * @typedef {HTMLElement & {value: any, checked: boolean, selectedIndex: number, maxLength: number, selectionStart: number,
+ *     selectionEnd: number, setSelectionRange(from: number, to: number): void, max: number, open: boolean}} PageElement
+ */
+
+/** The element of the page that has this id.
+ * @param {string} id @returns {PageElement} */
 export function part(id) {
     const found = document.getElementById(id);
     if (!found) throw new Error(`the page has no part ${id}`);
-    return found;
+    return /** @type {any} */ (found);
 }
 
 /**
  * A new element: attributes by name, listeners as functions, children as elements or text.
  * @param {string} name
- * @param {Record<string, string | number | boolean | ((event: Event) => void)>} attributes
+ * @param {Record<string, string | number | boolean | ((event: any) => void)>} attributes
  * @param {...(Node | string)} children
+ * @returns {PageElement}
  */
 export function element(name, attributes = {}, ...children) {
     const made = document.createElement(name);
@@ -21,10 +29,11 @@ export function element(name, attributes = {}, ...children) {
         else if (value !== false) made.setAttribute(key, String(value));
     }
     made.append(...children);
-    return made;
+    return /** @type {any} */ (made);
 }
 
-/** Shows text in an element, and hides the element where there is none. @param {HTMLElement} where @param {string} text */
+/** Shows text in an element, and hides the element where there is none.
+ * @param {HTMLElement} where @param {string} text */
 export function tell(where, text) {
     where.textContent = text;
     where.hidden = text === "";
@@ -33,7 +42,8 @@ export function tell(where, text) {
 const QUIET = 700;
 let later = 0;
 
-/** Says something to screen readers, in place of what would be said later. @param {string} text */
+/** Says something to screen readers, in place of what would be said later.
+ * @param {string} text */
 export function announce(text) {
     clearTimeout(later);
     part("status").textContent = text;
@@ -61,10 +71,12 @@ export function setBusy(id, isBusy, text = "") {
     if (isBusy && text !== "") waiting.set(id, setTimeout(announce, LONG_WAIT, text));
 }
 
-/** A number with its word: `1 move`, `1,200 moves`. @param {number} count @param {string} word */
+/** A number with its word: `1 move`, `1,200 moves`.
+ * @param {number} count @param {string} word */
 export function counted(count, word) {
     return `${count.toLocaleString("en")} ${word}${count === 1 ? "" : "s"}`;
 }
 
-/** Moves as they are said, since an apostrophe isn't read as solvers read it. @param {string} moves */
+/** Moves as they are said, since an apostrophe isn't read as solvers read it.
+ * @param {string} moves */
 export const spoken = (moves) => moves.replace(/'/g, " prime").replace(/\(/g, "on the inverse side ").replace(/\)/g, "");

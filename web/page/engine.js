@@ -8,21 +8,26 @@ import { NissyFault } from "../module/faults.js";
 const SCRAMBLE_TURNS = "25";
 const STREAM = "1";
 
-/** The inverse of each line. @param {Calls} calls @param {string[]} lines */
+/** The inverse of each line.
+ * @param {Calls} calls @param {string[]} lines */
 export const invertAll = (calls, lines) => answersOf(calls, ["invert"], lines);
 
-/** Each line without brackets. @param {Calls} calls @param {string[]} lines */
+/** Each line without brackets.
+ * @param {Calls} calls @param {string[]} lines */
 export const joinAll = (calls, lines) => answersOf(calls, ["unniss"], lines);
 
-/** Each line cleaned. @param {Calls} calls @param {string[]} lines */
+/** Each line cleaned.
+ * @param {Calls} calls @param {string[]} lines */
 export const cleanAll = (calls, lines) => answersOf(calls, ["cleanup"], lines);
 
-/** How many face turns each line has once it is cleaned. @param {Calls} calls @param {string[]} lines */
+/** How many face turns each line has once it is cleaned.
+ * @param {Calls} calls @param {string[]} lines */
 export async function turnsOfAll(calls, lines) {
     return (await cleanAll(calls, lines)).map((text) => text.match(/[UDRLFB]/g)?.length ?? 0);
 }
 
-/** The 54 letters of the cube after each line. @param {Calls} calls @param {string[]} lines */
+/** The 54 letters of the cube after each line.
+ * @param {Calls} calls @param {string[]} lines */
 export const printAll = (calls, lines) => answersOf(calls, ["print"], lines);
 
 /**
@@ -37,7 +42,8 @@ export const countAll = (calls, step, lines) => countsOf(calls, step, lines);
  */
 export const solve = (calls, step, slack, line) => solutionsOf(calls, step, slack, line);
 
-/** The scramble of a seed. @param {Calls} calls @param {string} seed */
+/** The scramble of a seed.
+ * @param {Calls} calls @param {string} seed */
 export async function scrambleOf(calls, seed) {
     // a word can't hold a zero byte
     const [scramble] = await answersOf(calls, ["scramble", seed.replaceAll("\0", "?"), STREAM, SCRAMBLE_TURNS, "1"], [""]);
@@ -63,14 +69,16 @@ export class EngineFault extends Error {
     }
 }
 
-/** The output of a run, or its fault. @param {Calls} calls @param {string[]} words @param {string[]} lines */
+/** The output of a run, or its fault.
+ * @param {Calls} calls @param {string[]} words @param {string[]} lines */
 async function output(calls, words, lines) {
     const answer = await calls.tell(words, lines.map((line) => `${line}\n`).join(""));
     if (answer.status !== 0 && !answer.full) throw new EngineFault(answer.err);
     return answer;
 }
 
-/** One answer for each line. @param {Calls} calls @param {string[]} words @param {string[]} lines @returns {Promise<string[]>} */
+/** One answer for each line.
+ * @param {Calls} calls @param {string[]} words @param {string[]} lines @returns {Promise<string[]>} */
 export async function answersOf(calls, words, lines) {
     if (lines.length === 0) return [];
     const { out, full } = await output(calls, words, lines);
@@ -78,14 +86,16 @@ export async function answersOf(calls, words, lines) {
     return out.split("\n").slice(0, lines.length);
 }
 
-/** Throws a fault in the words of the program, if it is one. @param {unknown} fault @returns {never} */
+/** Throws a fault in the words of the program, if it is one.
+ * @param {unknown} fault @returns {never} */
 function tellFault(fault) {
     if (!(fault instanceof NissyFault)) throw fault;
     const column = fault.column === null ? "" : `, column ${fault.column}`;
     throw new EngineFault(`nissy: line ${fault.line ?? 1}${column}: ${fault.text}`);
 }
 
-/** The counts of a step for each line. @param {Calls} calls @param {string} step @param {string[]} lines @returns {Promise<Count[]>} */
+/** The counts of a step for each line.
+ * @param {Calls} calls @param {string} step @param {string[]} lines @returns {Promise<Count[]>} */
 export async function countsOf(calls, step, lines) {
     const counts = await calls.countAll(step, lines).catch(tellFault);
     return counts.map(({ length, solutions, nodes }) => ({ length, solutions, looks: nodes }));

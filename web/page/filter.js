@@ -12,7 +12,7 @@ const MOST_OF_CASE = { corners: [8, 7, 6, 5, 4, 3, 2, 0], edges: [4, 3, 2, 1, 0]
 
 /**
  * Offers choices, of which the first leaves all; the one that is chosen stays, if it is among them.
- * @param {HTMLElement} field @param {string[]} choices
+ * @param {import("./element.js").PageElement} field @param {string[]} choices
  */
 function offerChoices(field, choices) {
     const chosen = field.value;
@@ -56,7 +56,8 @@ export class CaseFilter {
 /** Of two turns of opposite faces, which may stand in either order, the lists have these first. */
 const FIRST_OF_AXIS = { D: "U", L: "R", B: "F" };
 
-/** Turns as the lists have them, where neighbours of opposite faces are the other way round. @param {string[]} turns */
+/** Turns as the lists have them, where neighbours of opposite faces are the other way round.
+ * @param {string[]} turns */
 function inListOrder(turns) {
     const ordered = [...turns];
     for (let at = 1; at < ordered.length; at++) {
@@ -66,17 +67,20 @@ function inListOrder(turns) {
     return ordered;
 }
 
-/** The face turns that are typed, or null where the text isn't moves. @param {string} text @returns {string[] | null} */
+/** The face turns that are typed, or null where the text isn't moves.
+ * @param {string} text @returns {string[] | null} */
 function turnsOf(text) {
     const plain = text.replace(/[\u2019\u2032\u00B4`]/g, "'").toUpperCase();
     if (!/^\s*(?:[UDRLFB](?:2'?|')?\s*)*$/.test(plain)) return null;
     return inListOrder((plain.match(/[UDRLFB][2']*/g) ?? []).map((turn) => turn.replace("2'", "2")));
 }
 
-/** Whether moves have these turns one after another. @param {string} moves @param {string[]} wanted */
+/** Whether moves have these turns one after another.
+ * @param {string} moves @param {string[]} wanted */
 const hasTurns = (moves, wanted) => wanted.length === 0 || ` ${moves} `.includes(` ${wanted.join(" ")} `);
 
-/** The last turn of some moves, "" where there is none. @param {string} moves */
+/** The last turn of some moves, "" where there is none.
+ * @param {string} moves */
 const lastTurn = (moves) => moves.slice(moves.lastIndexOf(" ") + 1);
 
 /**
@@ -105,7 +109,8 @@ export class TurnFilter {
         this.#typed.focus();
     }
 
-    /** Offers the last turns of a list; the one that is chosen stays, if it is among them. @param {{moves: string}[]} entries */
+    /** Offers the last turns of a list; the one that is chosen stays, if it is among them.
+     * @param {{moves: string}[]} entries */
     offer(entries) {
         const turns = [...new Set(entries.map(({ moves }) => lastTurn(moves)).filter(Boolean))].sort();
         offerChoices(this.#last, turns);
@@ -149,7 +154,8 @@ export class ListFilter {
         this.#turns.focus();
     }
 
-    /** Offers the last turns of a list. @param {{moves: string}[]} entries */
+    /** Offers the last turns of a list.
+     * @param {{moves: string}[]} entries */
     offerLastTurns(entries) {
         this.#turns.offer(entries);
     }
@@ -168,7 +174,8 @@ export class ListFilter {
     }
 }
 
-/** Whether a choice leaves a value: the first choice leaves each. @param {HTMLSelectElement} field @param {string} value */
+/** Whether a choice leaves a value: the first choice leaves each.
+ * @param {import("./element.js").PageElement} field @param {string} value */
 const leaves = (field, value) => field.value === "" || field.value === value;
 
 /**
@@ -190,7 +197,8 @@ export class BestFilter {
         for (const field of fields) field.addEventListener("change", acts.changed);
     }
 
-    /** Takes another cube. @param {string[]} reductions what may be reached, if an orientation holds; none before one */
+    /** Takes another cube.
+     * @param {string[]} reductions what may be reached, if an orientation holds; none before one */
     begin(reductions) {
         this.#isOfReductions = reductions.length > 0;
         part("best-filters").hidden = this.#isOfReductions;
@@ -201,12 +209,14 @@ export class BestFilter {
         offerChoices(this.#reduction.axis, reductions);
     }
 
-    /** Offers the last turns of the rows. @param {Row[]} rows */
+    /** Offers the last turns of the rows.
+     * @param {Row[]} rows */
     offer(rows) {
         if (this.#isOfReductions) this.#turns.offer(rows.map(({ part: { moves } }) => ({ moves })));
     }
 
-    /** What is left of the rows, or null if what is typed isn't moves. @param {Row[]} rows @returns {Row[] | null} */
+    /** What is left of the rows, or null if what is typed isn't moves.
+     * @param {Row[]} rows @returns {Row[] | null} */
     left(rows) {
         const { axis, side } = this.#isOfReductions ? this.#reduction : this.#orientation;
         const some = rows.filter(({ state, part: own }) => leaves(axis, state) && leaves(side, own.side));

@@ -25,13 +25,15 @@ export const MOST_KEPT = 10000;
 /** @param {Row} one @param {Row} other */
 export const byTotal = (one, other) => one.total - other.total || one.length - other.length || byCase(one, other);
 
-/** How far the case of a row is. @param {Row} row */
+/** How far the case of a row is.
+ * @param {Row} row */
 const farness = ({ next }) => (next === null ? 0 : next.far);
 
 /** @param {Row} one @param {Row} other */
 export const byCase = (one, other) => farness(one) - farness(other);
 
-/** Puts new rows among sorted ones. @param {Row[]} rows @param {Row[]} added @returns {Row[]} */
+/** Puts new rows among sorted ones.
+ * @param {Row[]} rows @param {Row[]} added @returns {Row[]} */
 function withRows(rows, added) {
     if (added.length === 0) return rows;
     // where two orientations hold, a reduction may follow each of them
@@ -92,7 +94,8 @@ export class Finder {
         });
     }
 
-    /** Has the tables of some steps built before they are needed. @param {string[]} steps */
+    /** Has the tables of some steps built before they are needed.
+     * @param {string[]} steps */
     ready(steps) {
         if (this.#running === null) this.#send({ id: this.#next++, steps });
     }
@@ -128,7 +131,8 @@ export class Finder {
         else running.ended();
     }
 
-    /** Ends the worker, and gives up what it looks for. @param {Error} reason */
+    /** Ends the worker, and gives up what it looks for.
+     * @param {Error} reason */
     #end(reason) {
         const running = this.#running;
         this.#worker?.terminate();

@@ -10,13 +10,15 @@ import { ORIENTATIONS, REDUCTIONS, SIDES, bracketed, isReduced, reductionsAfter,
 /** @typedef {import("./steps.js").Part} Part */
 /** @typedef {import("./position.js").KeptWalk} KeptWalk */
 
-/** What a candidate is known by. @param {Part[]} parts @param {string} next */
+/** What a candidate is known by.
+ * @param {Part[]} parts @param {string} next */
 const nameOf = (parts, next) => [bracketed(parts), next].join(" ").trim();
 
 /** @param {Candidate} candidate */
 const nameOfCandidate = ({ parts, next }) => nameOf(parts, next);
 
-/** What a candidate is called where it is said. @param {Candidate} candidate */
+/** What a candidate is called where it is said.
+ * @param {Candidate} candidate */
 const saidOf = ({ parts, next }) => spoken(bracketed(parts)) + (next === "" ? "" : `, ${stateOf(stepNamed(next))}`);
 
 /**
@@ -29,16 +31,19 @@ export function withStar(candidates, parts, next) {
     return { kept: isKept ? [...others, { parts, note: "", next }] : others, isKept };
 }
 
-/** How far a candidate has come: 2 with a reduction, also one that is still to be made, 1 with an orientation. @param {KeptWalk} walk */
+/** How far a candidate has come: 2 with a reduction, also one that is still to be made, 1 with an orientation.
+ * @param {KeptWalk} walk */
 function stageOf({ reached, next }) {
     const last = reached.at(-1);
     return next !== null || isReduced(last) ? 2 : Math.min(1, last.length);
 }
 
-/** How many moves a candidate has, with the reduction that it was kept with. @param {KeptWalk} walk */
+/** How many moves a candidate has, with the reduction that it was kept with.
+ * @param {KeptWalk} walk */
 const totalOf = ({ totals, next }) => next?.total ?? totals.at(-1);
 
-/** The reduction that a candidate was kept with, as its row says it: `DR F/B 6c2e: N 4 I 7, 9 in all`; or "". @param {KeptWalk} walk */
+/** The reduction that a candidate was kept with, as its row says it: `DR F/B 6c2e: N 4 I 7, 9 in all`; or "".
+ * @param {KeptWalk} walk */
 function wordsOfNext({ next }) {
     if (next === null) return "";
     const [normal, inverse] = next.lengths.map((length) => length ?? "–");
@@ -48,10 +53,12 @@ function wordsOfNext({ next }) {
 
 /** @typedef {{parts: Part[], states: string[], cases: string[]}} Stage some steps of a candidate, what they reach, and cases after them */
 
-/** From which beginning on it has held. @param {KeptWalk} walk @param {string} name of a step that is reached in the end */
+/** From which beginning on it has held.
+ * @param {KeptWalk} walk @param {string} name of a step that is reached in the end */
 const heldFrom = ({ reached }, name) => reached.findLastIndex((each) => !each.includes(name)) + 1;
 
-/** On which sides some steps are. @param {Part[]} parts */
+/** On which sides some steps are.
+ * @param {Part[]} parts */
 function sidesOf(parts) {
     const sides = SIDES.filter((side) => parts.some((each) => each.side === side));
     return sides.length === 1 ? sides[0] : "both sides";
@@ -82,7 +89,8 @@ function stagesOfReduced(walk) {
     return stages.filter((stage) => stage.parts.length > 0);
 }
 
-/** The stages of a candidate; before a reduction one, with the cases that may follow. @param {KeptWalk} walk @returns {Stage[]} */
+/** The stages of a candidate; before a reduction one, with the cases that may follow.
+ * @param {KeptWalk} walk @returns {Stage[]} */
 function stagesOf(walk) {
     const { parts, letters, next } = walk;
     const reached = walk.reached.at(-1);
@@ -92,7 +100,8 @@ function stagesOf(walk) {
     return [{ parts, states: statesOf(reached), cases: next === null ? cases : [wordsOfNext(walk)] }];
 }
 
-/** What is seen of a candidate: its stages, each together, and the moves in all. @param {Part[]} parts @param {KeptWalk | null} walk */
+/** What is seen of a candidate: its stages, each together, and the moves in all.
+ * @param {Part[]} parts @param {KeptWalk | null} walk */
 function stepOf(parts, walk) {
     const stages = walk === null ? [{ parts, states: [], cases: [] }] : stagesOf(walk);
     const total = walk?.totals.at(-1);
@@ -121,7 +130,8 @@ export class KeptCandidates {
         part("kept-sort").addEventListener("change", () => this.#draw());
     }
 
-    /** Shows candidates; what the engine says of them comes by `describe`. @param {Candidate[]} candidates */
+    /** Shows candidates; what the engine says of them comes by `describe`.
+     * @param {Candidate[]} candidates */
     show(candidates) {
         if (candidates === this.#candidates) return;
         const names = this.#names();
@@ -143,7 +153,8 @@ export class KeptCandidates {
         return this.#candidates.map(nameOfCandidate).join("\n");
     }
 
-    /** Whether it is shown what the engine says of the candidates after a scramble. @param {string} scramble */
+    /** Whether it is shown what the engine says of the candidates after a scramble.
+     * @param {string} scramble */
     isDescribed(scramble) {
         return this.#scramble === scramble && this.#walks.length === this.#candidates.length;
     }
@@ -155,7 +166,8 @@ export class KeptCandidates {
         this.#draw();
     }
 
-    /** Whether a line is kept, by itself or with a reduction. @param {Part[]} parts @param {string} [next] */
+    /** Whether a line is kept, by itself or with a reduction.
+     * @param {Part[]} parts @param {string} [next] */
     has(parts, next = "") {
         return this.#candidates.some((each) => nameOfCandidate(each) === nameOf(parts, next));
     }
@@ -180,7 +192,8 @@ export class KeptCandidates {
         tell(part("kept-count"), this.#candidates.length === 0 ? "" : counted(this.#candidates.length, "line"));
     }
 
-    /** What is pressed or typed in, by its name. @param {string} name */
+    /** What is pressed or typed in, by its name.
+     * @param {string} name */
     #control(name) {
         return [...this.#list.querySelectorAll("[data-control]")].find(({ dataset }) => dataset.control === name);
     }
@@ -212,7 +225,8 @@ export class KeptCandidates {
                 }, "Remove")));
     }
 
-    /** Takes a candidate away; the focus, if it was in its row, goes to the next one. @param {number} at its place among the candidates */
+    /** Takes a candidate away; the focus, if it was in its row, goes to the next one.
+     * @param {number} at its place among the candidates */
     #remove(at) {
         const row = [...this.#list.children].find((each) => each.contains(document.activeElement));
         const next = row?.nextElementSibling ?? row?.previousElementSibling;

@@ -5,7 +5,8 @@ import { bracketed } from "./steps.js";
 
 const LAST = "nissy-last";
 
-/** Keeps an address, if it says something. @param {string} address */
+/** Keeps an address, if it says something.
+ * @param {string} address */
 export function keepLast(address) {
     try {
         if (address !== "#") localStorage.setItem(LAST, address);

@@ -17,17 +17,20 @@ const LONGEST_PASTED = 65536;
 const UNKNOWN = "…";
 const NO_MOVES = "No moves yet";
 
-/** The parts without their last move. @param {Part[]} parts @returns {Part[]} */
+/** The parts without their last move.
+ * @param {Part[]} parts @returns {Part[]} */
 export function withoutLastMove(parts) {
     const { side, moves } = parts.at(-1);
     const left = moves.split(" ").slice(0, -1).join(" ");
     return left === "" ? parts.slice(0, -1) : [...parts.slice(0, -1), { side, moves: left }];
 }
 
-/** Words in a row: `one`, `one and another`, `one, another and a third`. @param {string[]} words */
+/** Words in a row: `one`, `one and another`, `one, another and a third`.
+ * @param {string[]} words */
 const listed = (words) => [words.slice(0, -1).join(", "), ...words.slice(-1)].filter((each) => each !== "").join(" and ");
 
-/** What is said of a line that ends, or "". @param {Walk} walk */
+/** What is said of a line that ends, or "".
+ * @param {Walk} walk */
 function endOf({ parts, letters, reached, totals }) {
     const total = counted(totals.at(-1), "move");
     if (parts.length === 0) return "";
@@ -46,7 +49,13 @@ function keptOf(known, parts, others) {
     return end < 0 ? known : known.slice(0, end);
 }
 
-/** What is to be known of a line without brackets before the cube is solved, or "". @param {Walk} walk */
+/** A list with others in place of one of its members.
+ * @template Member
+ * @param {Member[]} list @param {number} index @param {Member[]} others */
+const withOthers = (list, index, others) => [...list.slice(0, index), ...others, ...list.slice(index + 1)];
+
+/** What is to be known of a line without brackets before the cube is solved, or "".
+ * @param {Walk} walk */
 function noteOfJoined({ parts, letters }) {
     if (isSolved(letters.at(-1)) || !parts.some(({ side }) => side === "inverse")) return "";
     return "Not finished: the inverse moves stand at the end as premoves, and what follows goes before them.";
@@ -54,7 +63,7 @@ function noteOfJoined({ parts, letters }) {
 
 /**
  * Has lines that are pasted go into a field of one line without their comments, of which the first would leave out all after it.
- * @param {HTMLInputElement} field
+ * @param {import("./element.js").PageElement} field
  */
 function takeLines(field) {
     field.addEventListener("paste", (event) => {
@@ -71,12 +80,15 @@ export class LineSoFar {
     #calls;
     #acts;
     #parts = [];
-    /** what each step reached as long as nothing took it away @type {string[][]} */
+    /** what each step reached as long as nothing took it away
+     * @type {string[][]} */
     #reached = [];
-    /** the same of steps that are about to be shown, one of which was edited or removed @type {string[][] | null} */
+    /** the same of steps that are about to be shown, one of which was edited or removed
+     * @type {string[][] | null} */
     #wanted = null;
     /** the elements that say of each step what it reaches and how long it is, also while a field stands in place of them */
     #words = [];
+    /** @type {Side} */
     #side = "normal";
     #fmc = "";
 
@@ -105,20 +117,23 @@ export class LineSoFar {
         part("copy-fmc").addEventListener("click", (event) => copy(this.#fmc, event.currentTarget));
     }
 
-    /** Shows on which side moves by hand go. @param {Side} side */
+    /** Shows on which side moves by hand go.
+     * @param {Side} side */
     turnTo(side) {
         this.#side = side;
         part("side").textContent = `${side} side`;
         part("switch").textContent = `Switch to the ${otherSide(side)} side`;
     }
 
-    /** Shows whether the line is kept. @param {boolean} isKept */
+    /** Shows whether the line is kept.
+     * @param {boolean} isKept */
     markKept(isKept) {
         part("keep-line").textContent = isKept ? "★ Kept" : "☆ Keep";
         part("keep-line").setAttribute("aria-pressed", String(isKept));
     }
 
-    /** Has moves by hand go on another side. @param {Side} side */
+    /** Has moves by hand go on another side.
+     * @param {Side} side */
     turn(side) {
         this.#acts.change({ side });
         announce(`Moves by hand go on the ${side} side.`);
@@ -129,7 +144,8 @@ export class LineSoFar {
         if (this.#parts.length > 0) this.#undo(this.#parts.slice(0, -1));
     }
 
-    /** Shows the parts at once; what the engine says of them comes by `describe`. @param {Part[]} parts */
+    /** Shows the parts at once; what the engine says of them comes by `describe`.
+     * @param {Part[]} parts */
     show(parts) {
         this.#reached = this.#wanted ?? keptOf(this.#reached, this.#parts, parts);
         this.#wanted = null;
@@ -166,7 +182,8 @@ export class LineSoFar {
         tell(part("finished"), endOf(walk));
     }
 
-    /** What a step reached before it or an earlier one was changed, and what doesn't hold then, nor in the end. @param {Walk} walk */
+    /** What a step reached before it or an earlier one was changed, and what doesn't hold then, nor in the end.
+     * @param {Walk} walk */
     #lost({ reached }, index) {
         const holds = statesOf([...reached[index + 1], ...reached.at(-1)]);
         return (this.#reached[index] ?? []).filter((state) => !holds.includes(state));
@@ -200,7 +217,8 @@ export class LineSoFar {
             element("span", { class: "acts" }, edit, remove));
     }
 
-    /** Puts a field in place of a step. @param {number} index */
+    /** Puts a field in place of a step.
+     * @param {number} index */
     #edit(index) {
         const item = part("line-list").children[index];
         const text = bracketed([this.#parts[index]]);
@@ -239,8 +257,8 @@ export class LineSoFar {
     #replace(index, added, button) {
         const isWithin = part("line-list").children[index].contains(document.activeElement);
         const reached = added.map((_, at) => (at === added.length - 1 ? this.#reached[index] : []));
-        this.#wanted = this.#reached.toSpliced(index, 1, ...reached);
-        this.#undo(this.#parts.toSpliced(index, 1, ...added));
+        this.#wanted = withOthers(this.#reached, index, reached);
+        this.#undo(withOthers(this.#parts, index, added));
         const place = index + Math.max(added.length, 1) - 1;
         const row = part("line-list").children[Math.min(place, this.#parts.length - 1)];
         if (isWithin) row?.querySelectorAll("button")[button].focus({ preventScroll: true });
@@ -265,7 +283,7 @@ export class LineSoFar {
 
     /**
      * Reads what a field has as steps.
-     * @param {HTMLInputElement} field @param {HTMLElement} where for a fault @param {Side} side @param {(added: Part[]) => void} use
+     * @param {import("./element.js").PageElement} field @param {HTMLElement} where for a fault @param {Side} side @param {(added: Part[]) => void} use
      */
     async #read(field, where, side, use) {
         const [text, parts] = [field.value, this.#parts];

@@ -12,7 +12,8 @@ import { bracketed } from "./steps.js";
 export const MOST_MOVES = 256;
 const FACE_TURNS = /^[UDRLFB2' ]*$/;
 
-/** A cleaned line without turns of the whole cube. @param {string} cleaned */
+/** A cleaned line without turns of the whole cube.
+ * @param {string} cleaned */
 function withoutTurns(cleaned) {
     const line = cleaned.replace(/[xyz][2']?/g, "").replace(/ +/g, " ").replace(/\( /g, "(").replace(/ \)/g, ")");
     if ((line.match(/[UDRLFB]/g)?.length ?? 0) > MOST_MOVES) throw new EngineFault(`more than ${MOST_MOVES} moves, as face turns`);
@@ -30,16 +31,19 @@ function runsOf(text, side) {
     );
 }
 
-/** A line as the engine reads it, without brackets. @param {Calls} calls @param {string} line */
+/** A line as the engine reads it, without brackets.
+ * @param {Calls} calls @param {string} line */
 async function readLine(calls, line) {
     const [read] = await joinAll(calls, [line]);
     return read;
 }
 
-/** What the last scramble was read as: each step asks for it again. @type {{text: string, line: string, isTurned: boolean} | null} */
+/** What the last scramble was read as: each step asks for it again.
+ * @type {{text: string, line: string, isTurned: boolean} | null} */
 let lastRead = null;
 
-/** A scramble by its face turns, and whether turns of the whole cube were left out. @param {Calls} calls @param {string} text */
+/** A scramble by its face turns, and whether turns of the whole cube were left out.
+ * @param {Calls} calls @param {string} text */
 export async function readScramble(calls, text) {
     if (lastRead?.text !== text) {
         const [cleaned] = await cleanAll(calls, [await readLine(calls, text)]);
@@ -99,7 +103,8 @@ export async function readWritten(calls, { steps, candidates }) {
     return { parts, kept: kept.filter((each) => each.parts.length > 0), unread: notRead.find((each) => each !== null) ?? null };
 }
 
-/** The steps of an address, each read as moves by hand are. @param {Calls} calls @param {Part[]} parts @returns {Promise<Part[]>} */
+/** The steps of an address, each read as moves by hand are.
+ * @param {Calls} calls @param {Part[]} parts @returns {Promise<Part[]>} */
 export async function readSteps(calls, parts) {
     await readLine(calls, bracketed(parts));
     const lines = parts.map(({ moves }) => moves);

@@ -43,7 +43,8 @@ export function emptyNet() {
     return net;
 }
 
-/** The letters in words: each face with its three rows. @param {string} letters */
+/** The letters in words: each face with its three rows.
+ * @param {string} letters */
 function inWords(letters) {
     return FACES.map(({ name }, face) => {
         const rows = [0, 3, 6].map((row) => [...letters.slice(9 * face + row, 9 * face + row + 3)].join(" "));
@@ -72,7 +73,8 @@ export function showCube(net, letters, title, { places, view }) {
 
 const PLACES = Array.from({ length: 54 }, (_, place) => place);
 
-/** Where the sticker of a place is, in space: U is up, R is right, F is towards the eye. @param {number} place */
+/** Where the sticker of a place is, in space: U is up, R is right, F is towards the eye.
+ * @param {number} place @returns {number[]} */
 function pointOf(place) {
     const [row, column] = [Math.floor((place % 9) / 3), place % 3];
     const points = [
@@ -86,7 +88,8 @@ function pointOf(place) {
     return points[Math.floor(place / 9)];
 }
 
-/** Where each turn of the whole cube takes a point. */
+/** Where each turn of the whole cube takes a point.
+ * @type {Record<"x" | "y", (point: number[]) => number[]>} */
 const TURNS_OF_VIEW = {
     y: ([across, up, near]) => [-near, up, across],
     x: ([across, up, near]) => [across, near, -up],

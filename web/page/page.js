@@ -89,12 +89,12 @@ export class Page {
         });
     }
 
-    /** Keeps where the browser's Back or Forward leads to. @param {unknown} state of the history */
+    /** @param {unknown} state of the history, to which the browser's Back or Forward leads */
     returnTo(state) {
         this.#wayBack.set(placeIn(state));
     }
 
-    /** Begins with what an address says. @param {string} hash */
+    /** @param {string} hash of the address, with which the page begins */
     async begin(hash) {
         const turn = ++this.#turn;
         const { state, fault } = readAddress(hash);
@@ -119,7 +119,8 @@ export class Page {
         await this.#refresh();
     }
 
-    /** Shows what an address says as it stands there, where no engine reads it. @param {State} state @param {Error} fault */
+    /** Shows what an address says as it stands there, where no engine reads it.
+     * @param {State} state @param {Error} fault */
     #showUnread({ scramble, parts }, fault) {
         this.#scramble.show(scramble);
         this.#line.show(parts);
@@ -127,12 +128,10 @@ export class Page {
         this.#refuse(fault);
     }
 
-    /**
-     * Takes another state, or parts of it. Where an address is still read, what is done meanwhile on the page that is seen overtakes it.
+    /** Takes another state, or parts of it. While an address is still read, what is done on the page that is seen overtakes it.
      * A list doesn't outlast a change of the steps, since it belongs to the cube before it.
-     * @param {Partial<State>} change @param {{focusNext?: "list" | "table", isStep?: boolean}} [how] where the focus is to go with the
-     * answers, and whether the browser's Back leads to what was before
-     */
+     * @param {Partial<State>} change @param {{focusNext?: "list" | "table", isStep?: boolean}} how where the focus is to go with the
+     * answers, and whether the browser's Back leads to what was before */
     #change(change, { focusNext, isStep = "parts" in change } = {}) {
         this.#scramble.tellLeft(0);
         this.#focusNext = focusNext ? { to: focusNext, from: document.activeElement } : null;
@@ -149,7 +148,8 @@ export class Page {
         if ("kept" in change) this.#showKept();
     }
 
-    /** Puts the state into the title, and into the address if that has room for it, since a longer one isn't read. @param {boolean} isStep */
+    /** Puts the state into the title, and into the address if that has room for it, since a longer one isn't read.
+     * @param {boolean} isStep whether the browser's Back leads to what the address said before */
     #writeAddress(isStep) {
         document.title = titleOfPage(this.#state);
         const isLong = !fitsAddress(this.#state);
@@ -200,7 +200,7 @@ export class Page {
         if (turn === this.#turn) setBusy("results", false);
     }
 
-    /** Shows what the engine answers, as it comes. @param {number} turn */
+    /** @param {number} turn of which the engine's answers are shown as they come */
     async #answer(turn) {
         const read = await this.#readScramble(turn);
         if (read === null) return;
@@ -215,7 +215,7 @@ export class Page {
         this.#readiness.begin(this.#cube.reached, part("choices").hidden, () => this.#best.isWorking());
     }
 
-    /** The scramble as it is read, or null where it is at fault or overtaken. @param {number} turn */
+    /** @param {number} turn @returns the scramble as it is read, or null if it is at fault or overtaken */
     async #readScramble(turn) {
         let read = null;
         let fault = null;
@@ -248,7 +248,8 @@ export class Page {
         this.#showKept();
     }
 
-    /** Closes a list whose step may not start, and says why. @param {string[]} reached */
+    /** Closes a list whose step may not start, and says why.
+     * @param {string[]} reached */
     #checkList(reached) {
         const { list } = this.#state;
         const why = list ? whyNotListed(list.step, reached) : "";
@@ -258,7 +259,8 @@ export class Page {
         this.#writeAddress(false);
     }
 
-    /** Shows the steps that may follow as soon as they are known, and has the best looked for. @param {number} turn */
+    /** Shows the steps that may follow as soon as they are known, and has the best looked for.
+     * @param {number} turn */
     async #showOffers(turn, portions) {
         let isFirst = true;
         for (const portion of portions) {
@@ -286,7 +288,7 @@ export class Page {
         this.#goBack();
     }
 
-    /** Whether the focus is to go there now: it stays where it went meanwhile. @param {"list" | "table"} to */
+    /** @param {"list" | "table"} to @returns whether the focus is to go there now: it stays where it went meanwhile */
     #isFocusNext(to) {
         const next = this.#focusNext;
         if (next?.to !== to) return false;
@@ -294,7 +296,7 @@ export class Page {
         return [next.from, document.body].includes(document.activeElement);
     }
 
-    /** After a step what follows comes into view and has the focus. @param {boolean} isFinished */
+    /** @param {boolean} isFinished whether no step follows: what does comes into view and has the focus */
     #showTaken(isFinished) {
         // first, since the page is laid out for it, and the focus changes the marks
         showStart(isFinished);
@@ -336,7 +338,8 @@ export class Page {
         }
     }
 
-    /** Keeps a line with moves, or takes it away if it is kept. @param {Part[]} parts @param {string} [next] the reduction that it is kept with */
+    /** Keeps a line with moves, or takes it away if it is kept.
+     * @param {Part[]} parts @param {string} [next] the reduction that it is kept with */
     #star(parts, next = "") {
         if (parts.length === 0) return;
         const { kept, isKept } = withStar(this.#state.kept, parts, next);
@@ -345,14 +348,14 @@ export class Page {
         announce(`${spoken(bracketed(parts))}: ${isKept ? "kept" : "no longer kept"}.`);
     }
 
-    /** Opens a list, or closes it where it is open. @param {string} step @param {import("./steps.js").Side} side */
+    /** @param {string} step @param {import("./steps.js").Side} side of the list, which is opened, or closed if it is open */
     #open(step, side) {
         const { list } = this.#state;
         if (list?.step === step && list.side === side) return this.#changeList(null);
         this.#change({ list: { step, side, slack: list?.slack ?? 0, isAll: list?.isAll ?? false } }, { focusNext: "list" });
     }
 
-    /** Changes what the open list shows, or closes it. @param {Partial<import("./address.js").List> | null} change */
+    /** @param {Partial<import("./address.js").List> | null} change of what the open list shows; null closes it */
     #changeList(change) {
         const { list } = this.#state;
         if (!list) return;
@@ -361,10 +364,8 @@ export class Page {
         if (change === null && isWithin) (this.#table.cell(`${list.step}.${list.side}`) ?? part("steps-heading")).focus();
     }
 
-    /**
-     * Changes the line, and says whether a step is undone that was taken from a row, which then comes back into view.
-     * @param {Partial<State>} change
-     */
+    /** Changes the line, and says whether a step is undone that was taken from a row, which then comes back into view.
+     * @param {Partial<State>} change */
     #changeLine(change) {
         const from = this.#seen.rowBefore(this.#state, change.parts);
         this.#change({ ...change, ...(from && { list: from.list }) });
@@ -379,7 +380,7 @@ export class Page {
         announce(`${spoken(bracketed([taken]))} is taken.`);
     }
 
-    /** Takes a row of the best, and opens the list of the reduction that follows. @param {import("./finder.js").Row} row */
+    /** @param {import("./finder.js").Row} row of the best, which is taken; the list of its reduction opens */
     #goOn({ part: taken, next, key }) {
         if (!next) return this.#take(taken, key);
         const { parts } = this.#state;
@@ -388,7 +389,7 @@ export class Page {
         this.#change({ parts: taken.moves === "" ? parts : [...parts, taken], side: next.side, list }, { focusNext: "list" });
     }
 
-    /** Says why there is no answer. @param {Error} fault */
+    /** @param {Error} fault why there is no answer */
     #refuse(fault) {
         if (fault instanceof Stopped) return;
         setBusy("results", false);

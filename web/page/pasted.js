@@ -18,7 +18,8 @@ const LEFT_OUT = [
     { form: /^[^\S\n]*scramble[^\S\n]*:/gim, name: "the word Scramble" },
 ];
 
-/** The places in a text that are left out, each with the name of what stands there. @param {string} text @returns {Map<number, string>} */
+/** The places in a text that are left out, each with the name of what stands there.
+ * @param {string} text @returns {Map<number, string>} */
 function omitted(text) {
     const places = new Map();
     for (const { form, name } of LEFT_OUT) {
@@ -29,7 +30,8 @@ function omitted(text) {
     return places;
 }
 
-/** What a sign is read as, and what of it is left out, if anything is. @param {string} sign @returns {[string, string]} */
+/** What a sign is read as, and what of it is left out, if anything is.
+ * @param {string} sign @returns {[string, string]} */
 function readAs(sign) {
     if (UNSEEN.test(sign)) return ["", "signs that aren't seen"];
     if (COMMAS.test(sign)) return [" ", "commas"];
@@ -53,7 +55,8 @@ export function plainLine(text) {
     return { line, places, leftOut: [...leftOut] };
 }
 
-/** What is said of what was left out, or "". @param {string[]} leftOut */
+/** What is said of what was left out, or "".
+ * @param {string[]} leftOut */
 export const wordsOfLeftOut = (leftOut) => (leftOut.length === 0 ? "" : `Left out: ${leftOut.join(", ")}.`);
 
 /**

@@ -8,7 +8,8 @@ import { bracketed } from "./steps.js";
 /** @typedef {import("./steps.js").Part} Part */
 /** @typedef {{key: string, scroll: number}} Place */
 
-/** A place that came out of the history, or null. @param {unknown} state @returns {Place | null} */
+/** A place that came out of the history, or null.
+ * @param {unknown} state @returns {Place | null} */
 export function placeIn(state) {
     if (state === null || typeof state !== "object") return null;
     const { key, scroll } = /** @type {Record<string, unknown>} */ (state);
@@ -59,7 +60,8 @@ export class WayBack {
         this.#place = place;
     }
 
-    /** Goes back, once what had the focus there is shown. @param {(key: string) => HTMLElement | null} find */
+    /** Goes back, once what had the focus there is shown.
+     * @param {(key: string) => HTMLElement | null} find */
     go(find) {
         if (this.#place === null || part("choices").inert) return;
         const { key, scroll } = this.#place;
@@ -97,7 +99,8 @@ export class WayTo {
         new IntersectionObserver(([{ isIntersecting }]) => isIntersecting || this.#setScroll(null)).observe(card);
     }
 
-    /** Says what the button leads to; where that is nothing there is no button. @param {string} words @param {string} name as it is said */
+    /** Says what the button leads to; where that is nothing there is no button.
+     * @param {string} words @param {string} name as it is said */
     show(words, name) {
         [this.#words, this.#name] = [words, name];
         this.#button.hidden = words === "";

@@ -16,7 +16,8 @@ import { SIDES, bracketed, isReduced, joined, movesOn, openSteps, stateOf, state
  * `inverse`: the letters of the inverse side at the end; `turns`: of each part
  */
 
-/** The beginnings of parts, from none to all. @param {Part[]} parts */
+/** The beginnings of parts, from none to all.
+ * @param {Part[]} parts */
 const beginningsOfParts = (parts) => Array.from({ length: parts.length + 1 }, (_, count) => parts.slice(0, count));
 
 /**
@@ -70,7 +71,8 @@ export async function walkAll(calls, scramble, candidates) {
 /** @typedef {{state: string, case: string, lengths: (number | null)[], total: number}} Next `lengths`: on each side; `total`: in all */
 /** @typedef {Walk & {next: Next | null}} KeptWalk */
 
-/** What is said of a reduction that follows a line. @param {Walk} walk @param {Offer} offer @returns {Next} */
+/** What is said of a reduction that follows a line.
+ * @param {Walk} walk @param {Offer} offer @returns {Next} */
 function nextOf({ letters, totals }, offer) {
     const lengths = SIDES.map((side) => offer[side].length);
     const least = Math.min(...lengths.map((length) => length ?? Infinity));
@@ -158,14 +160,16 @@ export async function inPortions(groups) {
     return portions;
 }
 
-/** What solvers choose a step by: bad edges, or the case. @param {string} letters @param {import("./steps.js").OfferedStep} step */
+/** What solvers choose a step by: bad edges, or the case.
+ * @param {string} letters @param {import("./steps.js").OfferedStep} step */
 export function caseOfStep(letters, { axis, needs }) {
     if (needs !== null) return caseName(letters, axis);
     const count = badEdges(letters, axis).length;
     return `${count} bad edge${count === 1 ? "" : "s"}`;
 }
 
-/** What a step of a line newly reaches; a reduction says the orientations that hold with it. @param {Walk} walk @param {number} index */
+/** What a step of a line newly reaches; a reduction says the orientations that hold with it.
+ * @param {Walk} walk @param {number} index */
 export function newlyReached({ reached }, index) {
     const before = statesOf(reached[index]);
     const fresh = statesOf(reached[index + 1]).filter((state) => !before.includes(state));

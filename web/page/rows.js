@@ -18,7 +18,8 @@ export function takeButton(text, { key, about = [], isSeen }, click) {
     }, text);
 }
 
-/** The button that keeps the moves of a row. @param {string} text @param {boolean} isKept @param {() => void} click */
+/** The button that keeps the moves of a row.
+ * @param {string} text @param {boolean} isKept @param {() => void} click */
 export function starButton(text, isKept, click) {
     return element("button", {
         type: "button",
@@ -39,7 +40,8 @@ const buttonsOf = (row) => [...row.querySelectorAll("button")];
 const takesOf = (holder) => [...holder.querySelectorAll(".take")];
 const nearest = (list, place) => list[Math.min(list.length - 1, Math.max(0, place))];
 
-/** The button that a key leads to from another one, or null. @param {string} key @param {HTMLElement} button @param {HTMLElement} holder */
+/** The button that a key leads to from another one, or null.
+ * @param {string} key @param {HTMLElement} button @param {HTMLElement} holder */
 function buttonAfter(key, button, holder) {
     const [row, takes] = [rowOf(button), takesOf(holder)];
     if (key === "Home") return takes[0];
@@ -76,7 +78,8 @@ export function focusWithin(holder) {
     return { key: row.querySelector(".take").dataset.key, place: buttonsOf(row).indexOf(focused) };
 }
 
-/** Puts the focus on a button of a row. @param {HTMLElement} take that takes the row's moves @param {number} place of the button */
+/** Puts the focus on a button of a row.
+ * @param {HTMLElement} take that takes the row's moves @param {number} place of the button */
 export function focusButton(take, place) {
     buttonsOf(rowOf(take))[place].focus({ preventScroll: true });
 }

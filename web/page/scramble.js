@@ -46,7 +46,8 @@ export class ScrambleField {
         this.#changed = changed;
         this.#field.maxLength = LONGEST_SCRAMBLE;
         this.#field.addEventListener("input", (event) => this.#typed(event));
-        this.#field.addEventListener("paste", ({ target: { value, selectionStart, selectionEnd } }) => {
+        this.#field.addEventListener("paste", () => {
+            const { value, selectionStart, selectionEnd } = this.#field;
             this.#isReplaced = selectionStart === 0 && selectionEnd === value.length;
         });
         this.#field.addEventListener("scroll", () => {
@@ -73,7 +74,8 @@ export class ScrambleField {
         this.#field.focus();
     }
 
-    /** Shows a scramble that did not come from the field. @param {string} scramble */
+    /** Shows a scramble that did not come from the field.
+     * @param {string} scramble */
     show(scramble) {
         clearTimeout(this.#timer);
         this.tellLeft(0);
@@ -108,7 +110,8 @@ export class ScrambleField {
         if (!isTyped || !this.#isRead) this.#fold(this.#isRead);
     }
 
-    /** Says how many kept lines a new scramble leaves, beside a way back to them; nothing of none. @param {number} count */
+    /** Says how many kept lines a new scramble leaves, beside a way back to them; nothing of none.
+     * @param {number} count */
     tellLeft(count) {
         const button = part("left-back");
         const isFocused = document.activeElement === button;
@@ -140,7 +143,8 @@ export class ScrambleField {
         });
     }
 
-    /** Folds the card where the page is narrow, or opens it; the focus isn't lost with what is folded. @param {boolean} isFolded */
+    /** Folds the card where the page is narrow, or opens it; the focus isn't lost with what is folded.
+     * @param {boolean} isFolded */
     #fold(isFolded) {
         const focused = document.activeElement;
         part("scramble-card").classList.toggle("folded", isFolded);
@@ -148,7 +152,8 @@ export class ScrambleField {
         if (isFolded && matchMedia(NARROW).matches && isWithin) part("scramble-edit").focus({ preventScroll: true });
     }
 
-    /** Marks a place in the field, by a text behind it. @param {string} text @param {number | null} place */
+    /** Marks a place in the field, by a text behind it.
+     * @param {string} text @param {number | null} place */
     #markPlace(text, place) {
         if (place === null) return this.#backdrop.replaceChildren();
         const sign = String.fromCodePoint(text.codePointAt(place) ?? 32);

@@ -18,7 +18,8 @@ const MOST_TOLD = 10_000;
 const MOST_SOLUTIONS = 1_000_000;
 const MOST_SEARCHED = 20;
 
-/** How many moves there are in all with a part. @param {Nissy} nissy @param {Part[]} made @param {Sided} added @returns {number} */
+/** How many moves there are in all with a part.
+ * @param {Nissy} nissy @param {Part[]} made @param {Sided} added @returns {number} */
 function totalWith(nissy, made, added) {
     if (made.length === 0) return added.length;
     return nissy.cleanup(bracketed([...made, added])).match(/[UDRLFB]/g)?.length ?? 0;
@@ -35,7 +36,8 @@ function onSides(nissy, step, { now, isAll }, slack) {
     });
 }
 
-/** Puts neighbours together that are twins, if not each is asked for. @param {Sided[]} list @param {string} step @param {boolean} isAll */
+/** Puts neighbours together that are twins, if not each is asked for.
+ * @param {Sided[]} list @param {string} step @param {boolean} isAll */
 function twinsOf(list, step, isAll) {
     const groups = [];
     let last = "";
@@ -66,7 +68,8 @@ function tried(nissy, part, { now, parts }) {
     return { part, lines, total: totalWith(nissy, parts, part) };
 }
 
-/** The row of an orientation with a reduction. @returns {Row} */
+/** The row of an orientation with a reduction.
+ * @returns {Row} */
 function rowOf(nissy, { part: { side, moves, length }, lines, total }, state, step, key) {
     const [normal, inverse] = SIDES.map((each) => leastOf(nissy, step.name, lines[each], MOST_SEARCHED));
     const lengths = { normal, inverse };
@@ -113,7 +116,8 @@ class Bound {
     }
 }
 
-/** A list in batches. @template Item @param {Item[]} list @returns {Generator<Item[]>} */
+/** A list in batches.
+ * @template Item @param {Item[]} list @returns {Generator<Item[]>} */
 function* batchesOf(list) {
     for (let from = 0, size = 0; from < list.length; size++) {
         const end = from + BATCHES[Math.min(size, BATCHES.length - 1)];

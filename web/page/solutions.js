@@ -50,8 +50,8 @@ export class SolutionList {
      */
     constructor(acts) {
         this.#acts = acts;
-        part("slack").addEventListener("change", (event) => acts.change({ slack: Number(event.target.value) }));
-        part("twins").addEventListener("change", (event) => acts.change({ isAll: event.target.checked }));
+        part("slack").addEventListener("change", () => acts.change({ slack: Number(part("slack").value) }));
+        part("twins").addEventListener("change", () => acts.change({ isAll: part("twins").checked }));
         part("solutions-close").addEventListener("click", () => acts.change(null));
         part("list-sort").addEventListener("change", () => this.#filtered());
         part("solutions-more").addEventListener("click", () => this.#more());
@@ -60,7 +60,8 @@ export class SolutionList {
         part("list-filters").open = !isNarrow();
     }
 
-    /** Shows that a list is looked for, or that none is open. @param {List | null} list */
+    /** Shows that a list is looked for, or that none is open.
+     * @param {List | null} list */
     open(list) {
         const isSame = list?.step === this.#list?.step && list?.side === this.#list?.side;
         // the filters stay for the same list with other rows, and what is typed while it is looked for stays too
@@ -95,7 +96,8 @@ export class SolutionList {
         return stepNamed(step).needs === null ? this.#entries.slice(0, MOST_WITH_CASES) : [];
     }
 
-    /** Shows the list, with what is known of its cases. @param {string[]} letters after each of those that were wanted */
+    /** Shows the list, with what is known of its cases.
+     * @param {string[]} letters after each of those that were wanted */
     show(letters) {
         letters.forEach((each, at) => {
             this.#entries[at].letters = each;
@@ -110,7 +112,8 @@ export class SolutionList {
         if (this.#all !== null) this.#draw();
     }
 
-    /** Says why there is no list. @param {string} text */
+    /** Says why there is no list.
+     * @param {string} text */
     refuse(text) {
         this.#setWorking(false);
         tell(part("solutions-note"), text);
@@ -127,7 +130,8 @@ export class SolutionList {
         (this.#groups.querySelector(".take") ?? part("solutions-heading")).focus();
     }
 
-    /** Makes the row of some moves seen, and answers its button, or null. @param {string} key */
+    /** Makes the row of some moves seen, and answers its button, or null.
+     * @param {string} key */
     reveal(key) {
         const at = this.#all === null ? -1 : this.#ordered.findIndex(({ moves }) => moves === key);
         if (at >= this.#shown) {
@@ -175,14 +179,16 @@ export class SolutionList {
         if (this.#all !== null) announceLater(part("solutions-note").textContent);
     }
 
-    /** The names of the cases after a solution, for each reduction that may follow. @param {Entry} entry */
+    /** The names of the cases after a solution, for each reduction that may follow.
+     * @param {Entry} entry */
     #casesOf({ letters }) {
         if (letters === undefined) return [];
         const caseOfOne = (step) => ({ state: stateOf(step), axis: step.axis, name: caseName(letters, step.axis) });
         return reductionsAfter(this.#list.step).map(caseOfOne);
     }
 
-    /** The nearest case of an entry, and how far it is. @param {Entry} entry */
+    /** The nearest case of an entry, and how far it is.
+     * @param {Entry} entry */
     #nearest(entry) {
         const cases = this.#casesOf(entry).map(({ name }) => ({ name, far: farnessOf(sizeOf(name)) }));
         return cases.sort((one, other) => one.far - other.far)[0] ?? { name: "unknown case", far: Infinity };
@@ -240,7 +246,8 @@ export class SolutionList {
         return { side: this.#list.side, moves };
     }
 
-    /** A solution as it is shown: on the inverse side in brackets. @param {Entry} entry */
+    /** A solution as it is shown: on the inverse side in brackets.
+     * @param {Entry} entry */
     #textOf({ moves }) {
         return bracketed([this.#partOf(moves)]);
     }

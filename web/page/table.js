@@ -15,13 +15,15 @@ function wordsOf({ length, solutions }, made) {
     return [counted(length, "move"), `${all}${counted(solutions, "solution")}`];
 }
 
-/** Whether offers are reductions. @param {Offer[]} offers */
+/** Whether offers are reductions.
+ * @param {Offer[]} offers */
 const areReductions = ([{ step }]) => step.needs !== null;
 
 /** Whether some offers keep what is reached: each does where that is nothing, and a reduction keeps its orientation. */
 const keepsReached = (offers, reached) => reached.length === 0 || (areReductions(offers) && !isReduced(reached));
 
-/** The least length of a group of offers. @param {Offer[]} offers */
+/** The least length of a group of offers.
+ * @param {Offer[]} offers */
 const leastOf = (offers) => Math.min(...offers.flatMap((offer) => SIDES.map((side) => offer[side].length ?? Infinity)));
 
 export class StepTable {
@@ -44,7 +46,8 @@ export class StepTable {
         part("choices").inert = true;
     }
 
-    /** Begins with another cube, of which no step is known. @param {Cube} cube */
+    /** Begins with another cube, of which no step is known.
+     * @param {Cube} cube */
     begin({ reached }) {
         this.#groups = [];
         const states = statesOf(reached);
@@ -75,7 +78,8 @@ export class StepTable {
         if (focused) this.cell(focused)?.focus({ preventScroll: true });
     }
 
-    /** The cell of this name, or null. @param {string} name */
+    /** The cell of this name, or null.
+     * @param {string} name */
     cell(name) {
         return [...this.#body.querySelectorAll("[data-cell]")].find(({ dataset }) => dataset.cell === name) ?? null;
     }
@@ -102,7 +106,8 @@ export class StepTable {
         places.find((place) => place?.isConnected && place.checkVisibility() && !place.disabled)?.focus({ preventScroll: true });
     }
 
-    /** Shows which list is open. @param {import("./address.js").List | null} list */
+    /** Shows which list is open.
+     * @param {import("./address.js").List | null} list */
     mark(list) {
         const open = list && `${list.step}.${list.side}`;
         for (const cell of this.#body.querySelectorAll("[data-cell]")) {
@@ -115,13 +120,15 @@ export class StepTable {
         (this.#least() ?? part("steps-heading")).focus({ preventScroll: true });
     }
 
-    /** Presses a cell, if there is one that isn't dimmed. @param {number} at its place among the cells */
+    /** Presses a cell, if there is one that isn't dimmed.
+     * @param {number} at its place among the cells */
     press(at) {
         const cell = this.#body.querySelectorAll("[data-cell]")[at];
         if (!cell?.closest("[inert]")) cell?.click();
     }
 
-    /** What stands above the offers that begin anew. @param {Cube} cube */
+    /** What stands above the offers that begin anew.
+     * @param {Cube} cube */
     #anew({ reached }) {
         const words = isReduced(reached) ? "Another EO or DR, which need not keep this DR" : "Another EO, which need not keep this one";
         return element("tr", { class: "anew" }, element("td", { colspan: 3, class: "note" }, words));

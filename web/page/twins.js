@@ -7,14 +7,16 @@ import { stepNamed } from "./steps.js";
 
 const AXES_OF_TURNS = ["U/D", "R/L", "F/B"];
 
-/** The axis whose quarter turns end a step's solutions. @param {string} step its name */
+/** The axis whose quarter turns end a step's solutions.
+ * @param {string} step its name */
 function lastAxisOf(step) {
     const { axis, needs } = stepNamed(step);
     if (needs === null) return axis;
     return AXES_OF_TURNS.find((each) => each !== axis && each !== stepNamed(needs).axis);
 }
 
-/** Where the last moves of a line begin that turn one axis alone. @param {string} moves @param {string} axis */
+/** Where the last moves of a line begin that turn one axis alone.
+ * @param {string} moves @param {string} axis */
 function startOfLast(moves, axis) {
     let start = moves.length;
     while (start > 0) {
@@ -34,7 +36,8 @@ export function twinKey(moves, step) {
     return moves.slice(0, start) + moves.slice(start).replaceAll("'", "");
 }
 
-/** The last turns of some moves, in whose direction twins differ. @param {string} moves @param {string} step its name */
+/** The last turns of some moves, in whose direction twins differ.
+ * @param {string} moves @param {string} step its name */
 export const lastTurnsOf = (moves, step) => moves.slice(startOfLast(moves, lastAxisOf(step)));
 
 /**
@@ -71,7 +74,8 @@ function* beginningsOf(moves, length, least) {
     }
 }
 
-/** The solutions in which the step isn't reached before the last move. @param {Solution[]} solutions all, from the shortest on */
+/** The solutions in which the step isn't reached before the last move.
+ * @param {Solution[]} solutions all, from the shortest on */
 export function withoutEarlier(solutions) {
     const least = solutions[0]?.length ?? 0;
     if (solutions.at(-1)?.length === least) return solutions;

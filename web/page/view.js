@@ -8,7 +8,8 @@ const BESIDE = "(min-width: 60rem)";
 /** Whether the page is as narrow as a phone's. */
 export const isNarrow = () => matchMedia("(max-width: 37.5rem)").matches;
 
-/** Whether nothing was done yet. @param {import("./address.js").State} state */
+/** Whether nothing was done yet.
+ * @param {import("./address.js").State} state */
 export const isBare = ({ scramble, parts }) => scramble.trim() === "" && parts.length === 0;
 
 /**
@@ -48,7 +49,8 @@ export function withoutMoving(still, change) {
     scrollBy({ top: still.getBoundingClientRect().top - top, behavior: "instant" });
 }
 
-/** Makes what rests on a readable scramble usable or not. @param {boolean} usable */
+/** Makes what rests on a readable scramble usable or not.
+ * @param {boolean} usable */
 export function setUsable(usable) {
     for (const name of ["line", "results", "kept", "cube"]) part(name).inert = !usable;
 }
@@ -141,7 +143,8 @@ export function listenToKeys(acts) {
     });
 }
 
-/** Keeps the row that has the focus, or what is given where none has it. @param {() => void} otherwise */
+/** Keeps the row that has the focus, or what is given where none has it.
+ * @param {() => void} otherwise */
 export function star(otherwise) {
     const button = starOfRow();
     if (button) button.click();

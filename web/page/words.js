@@ -10,21 +10,24 @@ const PAGE_NAME = "nissy";
 const TOO_MANY = `more than ${MOST_MOVES} moves`;
 const MOST_SIGNS = 40;
 
-/** Why there is no answer. @param {Error & {words?: string}} fault */
+/** Why there is no answer.
+ * @param {Error & {words?: string}} fault */
 export function unanswered(fault) {
     const words = fault.words ?? fault.message;
     if (words !== TOO_MANY) return `There is no answer: ${words}.`;
     return `The scramble and the moves after it can't be read together: they have ${TOO_MANY}.`;
 }
 
-/** What tells the tabs of pages apart. @param {import("./address.js").State} state */
+/** What tells the tabs of pages apart.
+ * @param {import("./address.js").State} state */
 export function titleOfPage({ scramble, parts }) {
     const words = [bracketed(parts), scramble.trim()].filter(Boolean).join(" · ");
     if (words === "") return `${PAGE_NAME}: edge orientation and domino reduction`;
     return `${words.slice(0, MOST_SIGNS)}${words.length > MOST_SIGNS ? "…" : ""} – ${PAGE_NAME}`;
 }
 
-/** Why a step can't be listed, or "". @param {string} name of the step @param {string[]} reached */
+/** Why a step can't be listed, or "".
+ * @param {string} name of the step @param {string[]} reached */
 export function whyNotListed(name, reached) {
     if (openSteps(reached).some((step) => step.name === name)) return "";
     const step = stepNamed(name);
@@ -35,7 +38,8 @@ export function whyNotListed(name, reached) {
 const AROUND = 24;
 const LONGEST_WORD = 12;
 
-/** The place of a column in a text: columns count bytes from 1. @param {string} text @param {number} column */
+/** The place of a column in a text: columns count bytes from 1.
+ * @param {string} text @param {number} column */
 export function placeOfColumn(text, column) {
     const bytes = new TextEncoder();
     let before = 0;
@@ -48,10 +52,12 @@ export function placeOfColumn(text, column) {
     return place;
 }
 
-/** A text in which each sign has its place: blanks have one width, and what isn't seen is told by a sign. @param {string} text */
+/** A text in which each sign has its place: blanks have one width, and what isn't seen is told by a sign.
+ * @param {string} text */
 const visible = (text) => text.replace(/\s/g, " ").replace(/[\p{Cc}\p{Cf}]/gu, "\uFFFD");
 
-/** The word that stands at a place, up to a blank or a bracket. @param {string} line @param {number} place */
+/** The word that stands at a place, up to a blank or a bracket.
+ * @param {string} line @param {number} place */
 function wordAt(line, place) {
     const word = [.../^[^\s()]*/.exec(line.slice(place))[0]];
     return visible(word.slice(0, LONGEST_WORD).join("")) + (word.length > LONGEST_WORD ? "…" : "");
@@ -67,14 +73,16 @@ function oddMove(line, place) {
     return begin && isOdd ? { word: begin[0] + wordAt(line, place), letters: begin[1] } : null;
 }
 
-/** Why a line is no line of moves from a place on. @param {string} line @param {number} place */
+/** Why a line is no line of moves from a place on.
+ * @param {string} line @param {number} place */
 function sentenceOfMove(line, place) {
     const odd = oddMove(line, place);
     if (odd === null) return `“${wordAt(line, place)}” is no move.`;
     return `“${odd.word}” is no move: write ${odd.letters}, ${odd.letters}2 or ${odd.letters}'.`;
 }
 
-/** The engine's words as a solver reads them. @param {EngineFault} fault @param {string} line what the engine read */
+/** The engine's words as a solver reads them.
+ * @param {EngineFault} fault @param {string} line what the engine read */
 function sentenceOf(fault, line) {
     const place = fault.column === null ? 0 : placeOfColumn(line, fault.column);
     const sentences = {
@@ -87,7 +95,8 @@ function sentenceOf(fault, line) {
     return sentence === null ? `${fault.words[0].toUpperCase()}${fault.words.slice(1)}.` : sentence();
 }
 
-/** What is said of a text with a line that can't be read, or "". @param {import("./lines.js").Unread | null} unread */
+/** What is said of a text with a line that can't be read, or "".
+ * @param {import("./lines.js").Unread | null} unread */
 export function whyUnread(unread) {
     if (unread === null) return "";
     const { line, fault } = unread;
@@ -95,7 +104,8 @@ export function whyUnread(unread) {
     return `The steps of this text are read up to the line “${shown}”: ${sentenceOf(fault, line)}`;
 }
 
-/** The text around a place, with a mark at it and a sign under it. @param {string} text @param {number} place */
+/** The text around a place, with a mark at it and a sign under it.
+ * @param {string} text @param {number} place */
 function marked(text, place) {
     const from = Math.max(0, place - AROUND);
     const sign = String.fromCodePoint(text.codePointAt(place) ?? 32);

@@ -6,7 +6,7 @@ import { found } from "./search.js";
 /** @typedef {{id: number, orientation: string, question: import("./finder.js").Question}} Search */
 /** @typedef {{id: number, steps: string[]}} TablesWanted the steps whose tables are wanted */
 
-/** @param {DedicatedWorkerGlobalScope} port the worker itself */
+/** @param {import("../module/serve.js").Port} port the worker itself */
 function serveFinder(port) {
     serveBy(port, (module) => Nissy.load(module), (nissy, /** @type {Search | TablesWanted} */ message) => {
         if ("steps" in message) {
@@ -19,5 +19,7 @@ function serveFinder(port) {
     });
 }
 
-if (self.name === "finder") serveFinder(self);
-else serve(self);
+/** @type {any} a worker, and no window */
+const worker = self;
+if (worker.name === "finder") serveFinder(worker);
+else serve(worker);

@@ -1,0 +1,31 @@
+// What the page's scripts know of their elements and of today's browsers, beyond what tsc has of them: tests/browsers.sh reads the types of
+// web/page with it.
+
+/** What the page finds by a selector, or has in focus, is an element of HTML, or an SVG one of which no more is asked. */
+interface ParentNode {
+  querySelector(selectors: string): HTMLElement | null;
+  querySelectorAll(selectors: string): NodeListOf<HTMLElement>;
+}
+
+interface Element extends HTMLOrSVGElement {
+  checkVisibility(): boolean;
+  scrollIntoView(how: { block: ScrollLogicalPosition; behavior: "instant" }): void;
+}
+
+/** What is pressed, typed in or has the focus is such an element. */
+interface UIEvent {
+  readonly target: HTMLElement;
+  readonly currentTarget: HTMLElement;
+}
+
+/** Of a popover that opens or closes. */
+interface Event {
+  newState?: "open" | "closed";
+}
+
+interface Array<T> {
+  findLastIndex(is: (value: T, index: number) => boolean): number;
+}
+
+declare function scrollTo(to: { top: number; behavior: "instant" }): void;
+declare function scrollBy(by: { top: number; behavior: "instant" }): void;
