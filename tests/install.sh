@@ -157,6 +157,15 @@ for command in solve count near; do
     holds "bash completes the steps of $command" test "$(completed nissy "$command")" = "$steps"
 done
 holds "bash offers nothing where moves stand" test -z "$(completed nissy invert)$(completed nissy solve eofb 20)"
+# shellcheck disable=SC2016 # that bash is to read $FILE and $@
+by_tab() { # LINE: its words and its input, after the Tab key, in a bash that stands beside a file
+    printf '. "$FILE"\nnissy() { printf "%%s\\n" "$@"; cat; }\n%s\t\n' "$1" |
+        FILE=$share/bash-completion/completions/nissy HOME=$room/typed env -C "$room/typed" bash --norc --noprofile -i 2> /dev/null
+}
+mkdir "$room/typed" && echo "R U" > "$room/typed/scrambles.txt"
+holds "bash completes a file behind <" test "$(by_tab "nissy invert < scr")" = "$(printf 'invert\nR U')"
+holds "and one behind >" test "$(by_tab "nissy steps < /dev/null > scr"; cat "$room/typed/scrambles.txt")" = steps
+holds "and none among moves" test "$(by_tab "nissy invert scr")" = "$(printf 'invert\nscr')"
 listed_in() { # PAGE: the commands that it offers or explains
     case $1 in
         */_nissy) sed -n "s/^ *'\([a-z]*\):.*/\1/p" "$1" ;;
