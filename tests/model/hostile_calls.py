@@ -160,13 +160,15 @@ def calls(trial, draw):
                  "one growth refused", "every growth from one on refused")
     for words, data, errors in (
             (["invert"], b"R\nU\nF", ["EIO", "EINTR", "EAGAIN", "EISDIR"]), (["print"], lines(draw, 700, 6)[:9000] + b"\n", ["EIO", "EINTR"]),
-            (["solve", "eofb", "2"], b"F\nB\n(U)\nF", ["EIO"]), (["unniss"], b"R\nq\n", ["EIO"])):
+            (["solve", "eofb", "2"], b"F\nB\n(U)\nF", ["EIO"]), (["unniss"], b"R\nq\n", ["EIO"]), (["cleanup"], lines(draw, 500, 8), ["EIO"]),
+            (["count", "dr-eofb", "9"], b"R U\n\nL2 U" + b" " * 4100 + b"\nR", ["EIO"]), (["near", "eo", "2", "1"], b"F R U\nF B\nM", ["EIO"])):
         refused_reads(trial, words, data, errors)
     for words, data, errors in (
             (["solve", "eofb", "5", "F B"], b"", ["EIO", "EINTR", "EAGAIN", "ENOSPC"]), (["invert"], b"R\nU2\n\nM'\nq\n", ["EIO", "EINTR"]),
             (["scramble", "1", "2", "30", "3"], b"", ["EIO", "ENOSPC"]), (["steps"], b"", ["EIO"]),
             (["count", "drud-eofb", "5", "R U"], b"", ["EIO"]), (["near", "eo", "2", "1", "F R U"], b"", ["EIO"]),
-            (["cleanup"], lines(draw, 60, 6), ["EIO"]), (["unniss"], "\n".join([" ".join(draw.moves(256))] * 2).encode(), ["EIO"])):
+            (["cleanup"], lines(draw, 60, 6), ["EIO"]), (["print"], lines(draw, 100, 6), ["EIO"]),
+            (["unniss"], "\n".join([" ".join(draw.moves(256))] * 2).encode(), ["EIO"])):
         refused_writes(trial, words, data, errors)
     for words in (["invert", "q"], ["solve"], ["solve", "drud-eofb", "5", "F"]):
         refused_faults(trial, words)
