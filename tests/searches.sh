@@ -38,11 +38,29 @@ writes "$quarters_of_f" solve eofb 3 '(F)'
 # count
 counts() { writes "length $1 solutions $2 nodes $3\n" count "${@:4}"; } # LENGTH SOLUTIONS NODES STEP LIMIT MOVES
 counts 2 4 75 eofb 5 'F B'
-# far from the nearest of several goals: the superflip, and a cube in three orientations, whose numbers are the model's
-counts 7 1344 33020 eo 20 "U R2 F B R B2 R U2 L B2 R U' D' R2 F R' L B2 U2 F2"
-counts 10 708 26077 dr-eofb 20 "U2 D' B2 D2 R2 B2 R2 U B2 U2 L F2 B2 R2 L U R' L F2 U D' L'"
-counts 10 708 26079 dr-eorl 20 "U2 D' R2 D2 F2 R2 F2 U R2 U2 B L2 R2 F2 B U F' B L2 U D' B'"
-counts 10 708 26079 dr-eoud 20 "F2 B' U2 B2 R2 U2 R2 F U2 F2 L D2 U2 R2 L F R' L D2 F B' L'"
+# LENGTH SOLUTIONS NODES STEP MOVES: as far from the nearest of several goals as a cube can be; with a turn less each length takes one look
+farthest() {
+    local less=$(($1 - 1))
+    counts "${@:1:4}" 20 "$5"
+    counts none 0 "$1" "$4" "$less" "$5"
+    writes "no solution within $less moves\n\n" solve "$4" "$less" "$5"
+}
+# the superflip, and a cube in three orientations: the numbers are the model's
+farthest 7 1344 33020 eo "U R2 F B R B2 R U2 L B2 R U' D' R2 F R' L B2 U2 F2"
+farthest 10 708 26077 dr-eofb "U2 D' B2 D2 R2 B2 R2 U B2 U2 L F2 B2 R2 L U R' L F2 U D' L'"
+farthest 10 708 26079 dr-eorl "U2 D' R2 D2 F2 R2 F2 U R2 U2 B L2 R2 F2 B U F' B L2 U D' B'"
+farthest 10 708 26079 dr-eoud "F2 B' U2 B2 R2 U2 R2 F U2 F2 L D2 U2 R2 L F R' L D2 F B' L'"
+# SOLUTIONS MORE NODES LENGTH STEP MOVES: the same of drawn cubes, with so many solutions up to a turn longer. The numbers are those of a
+# program that moves sets of sticker places.
+drawn() {
+    farthest "$4" "$1" "$3" "$5" "$6"
+    answers "near $5 20 1 $6" 0 "$2\n" '' how_many near "$5" 20 1 "$6"
+}
+how_many() { "$nissy" "$@" | grep -c ')$'; }
+drawn 1728 86952 38573 7 eo "U R' F' U2 F B U F D' B R' L' B D2 L2 B L2 B2 R' U'"
+drawn 134 5132 4829 10 dr-eofb "U R2 U2 F2 L2 D' B2 R' D U2 L B2 L' F2 L' U L'"
+drawn 124 5532 4814 10 dr-eorl "U R2 L2 B2 R2 D R2 B D2 U L2 R2 B' U D R2 F'"
+drawn 164 6042 5764 10 dr-eoud "R F2 L B2 D2 B' L2 R' U2 B D2 L B R' B'"
 counts none 0 2 eofb 1 'F B'
 counts 0 1 1 eofb 20 ''
 counts none 0 1 eofb 0 F
