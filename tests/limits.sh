@@ -51,7 +51,7 @@ comes_true() {
 }
 has_answered() { [ "$(wc -l < answers)" -eq "$1" ]; } # LINES
 
-# The program is stopped and goes on, and at last is ended, while it answers lines as they come.
+# The program is stopped and goes on, as it does at SIGPIPE, and at last is ended, while it answers lines as they come.
 stopped_and_ended() {
     local program status
     mkfifo lines
@@ -65,6 +65,7 @@ stopped_and_ended() {
     kill -STOP "$program"
     echo "F2" >&9
     kill -CONT "$program"
+    kill -PIPE "$program"
     comes_true has_answered 2
     kill -TERM "$program"
     wait "$program" 2> /dev/null
@@ -73,7 +74,7 @@ stopped_and_ended() {
     cat answers
     return "$status"
 }
-answers "a stopped job that goes on, and SIGTERM" 143 "U' R'\nF2\n" "" stopped_and_ended
+answers "a stopped job that goes on, SIGPIPE, and SIGTERM" 143 "U' R'\nF2\n" "" stopped_and_ended
 
 # KILOBYTES WORD..: the program in so much memory. For `steps` it asks for none, and so tells where it is loaded at all.
 within() { prlimit --as=$(($1 * 1024)) "$nissy" "${@:2}" < /dev/null; }
