@@ -1,8 +1,15 @@
 """Brings the library into the package: the one that stands in it already, else the one that `make lib` of the repository built."""
 from pathlib import Path
+from typing import Tuple
 
-from setuptools import setup
+from setuptools import Distribution, setup
 from setuptools.command.build_py import build_py
+
+try:
+    from setuptools.command.bdist_wheel import bdist_wheel
+except ImportError:
+    # an older setuptools leaves wheels to the package of this name
+    from wheel.bdist_wheel import bdist_wheel
 
 HERE = Path(__file__).resolve().parent
 LIBRARY = "libnissy.so.1"
@@ -21,4 +28,20 @@ class WithLibrary(build_py):
         self.copy_file(str(library), str(Path(self.build_lib) / "nissy" / LIBRARY))
 
 
-setup(cmdclass={"build_py": WithLibrary})
+class OfOneProcessor(Distribution):
+    """The package, which isn't one of Python alone: it stands with those of this processor."""
+
+    def has_ext_modules(self) -> bool:
+        """Whether something in it is for one kind of processor, as extension modules are: the library is."""
+        return True
+
+
+class ForLinux(bdist_wheel):
+    """Packs a wheel for any Python 3 on Linux: the library is linked with the C library 2.14 and needs no newer one."""
+
+    def get_tag(self) -> Tuple[str, str, str]:
+        """The platform has two names: a pip of before 20.3 knows the second alone."""
+        return "py3", "none", "manylinux_2_17_x86_64.manylinux2014_x86_64"
+
+
+setup(distclass=OfOneProcessor, cmdclass={"build_py": WithLibrary, "bdist_wheel": ForLinux})

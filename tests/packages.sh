@@ -64,7 +64,7 @@ holds "it has nothing of the library" test "$(stands_in "$room/unpacked/$archive
     "$(stands_in "$room/installed/usr" | grep -vE '(include|lib)/|/EMBEDDING')"
 
 # the wheel, in an environment of its own
-wheel=$made/nissy-$version-py3-none-manylinux_2_17_x86_64.whl
+wheel=$made/nissy-$version-py3-none-manylinux_2_17_x86_64.manylinux2014_x86_64.whl
 if [ ! -e "$wheel" ]; then skips "the wheel, which wasn't made"; elif ! /usr/bin/python3 -m venv "$room/venv" > /dev/null 2>&1; then
     skips "the wheel, since Python makes no environment here (python3-venv)"
 else
@@ -73,6 +73,9 @@ else
     stands() { find "$room/venv" ! -name '*.pyc' ! -name __pycache__ | sort; }
     before=$(stands)
     holds "the wheel is installed" pip install -q --no-index "$wheel"
+    says() { grep -qxF "$1" "$room"/venv/lib/python3*/site-packages/nissy-*.dist-info/WHEEL; }
+    holds "it isn't of Python alone" says "Root-Is-Purelib: false"
+    for platform in manylinux_2_17 manylinux2014; do holds "it is for $platform" says "Tag: py3-none-${platform}_x86_64"; done
     holds "its module finds the library beside it" test "$(in_venv -c 'import nissy; print(nissy.invert("R U"), nissy.__version__)')" = "U' R' $version"
     if missing mypy; then skips "mypy isn't installed"; else
         printf 'import nissy\n\nlength: int = nissy.solve("eofb", "R U F")[0].length\n' > "$room/typed.py"
@@ -80,7 +83,7 @@ else
         printf 'import nissy\n\nlength: str = nissy.count("eofb", "R U F")\n' > "$room/untyped.py"
         holds "and seen where they don't fit" refuses env -C / mypy --strict --cache-dir "$room/mypy" --python-executable "$room/venv/bin/python" "$room/untyped.py"
     fi
-    other=${wheel/x86_64/aarch64}
+    other=${wheel//x86_64/aarch64}
     holds "a wheel for another processor" cp "$wheel" "$room/${other##*/}"
     holds "isn't installed" refuses pip install --no-index --force-reinstall "$room/${other##*/}"
     head -c 20000 "$wheel" > "$room/${wheel##*/}"
