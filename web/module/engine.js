@@ -1,6 +1,9 @@
 // An instance of the module: what is asked of it is written into its memory, and what it returns is read from there.
 import { bytesOf, roomFor, textIn, writeLine } from "./bytes.js";
 import { EngineMissing } from "./faults.js";
+import {
+  ANSWER, COUNT_ANSWER, ERROR_ROOM, LARGE_ROOM, LINE_ANSWER, LINE_ROOM, ROOM, RUN_ANSWER, SMALL_ROOM, SOLUTION, SOLVE_ANSWER, TABLES,
+} from "./layout.js";
 import { STATUS } from "./replies.js";
 import { compiled } from "./source.js";
 
@@ -34,11 +37,6 @@ const ALIGNMENT = 16;
 const FIRST_LENT = 3 * 1_048_576;
 const MOST_LENT = 1_024 * 1_048_576;
 
-/** What the tables of a step take, which stay: two rooms that fit for each step, and what the module holds them by. */
-const SMALL_ROOM = 256;
-const LARGE_ROOM = 2_621_440;
-const TABLES = 16;
-
 /** The room for the output of a run at first, beside eight bytes for each byte of the input, and the greatest. */
 const FIRST_ROOM = 65_536;
 const MOST_ROOM = 512 * 1_048_576;
@@ -48,21 +46,6 @@ const GROWTH = 8;
 
 /** The rooms for solutions, of which the next one is taken if one was too small: they are searched for again then. */
 const SOLUTION_ROOMS = [65_536, 4 * 1_048_576, 256 * 1_048_576];
-
-/** The longest line of a solution: twenty turns of two bytes with blanks between them, and ` (20)` with a line feed. */
-const SOLUTION = 65;
-
-/** The room for a line, and for an error text, which is enough for each. */
-const LINE_ROOM = 2_048;
-const ERROR_ROOM = 128;
-
-/** The room for the module's answer of a call, and where the fields are of each of its structs. */
-const ANSWER = 32;
-const RUN_ANSWER = { status: 0, outLength: 8, errLength: 16, outTooSmall: 24 };
-const LINE_ANSWER = { status: 0, fault: 2, column: 4, length: 8 };
-const SOLVE_ANSWER = { status: 0, fault: 1, column: 4, length: 8 };
-const COUNT_ANSWER = { status: 0, fault: 1, least: 2, column: 4, solutions: 8, looks: 16 };
-const ROOM = { bytes: 16, block: 0, size: 8 };
 
 /** What the module calls each rewriting. */
 const REWRITINGS = { invert: "nissy_invert", unniss: "nissy_unniss", cleanup: "nissy_cleanup", facelets: "nissy_print" };
