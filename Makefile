@@ -11,7 +11,7 @@ LIBRARY ?= yes
 # asked for by `make dist` alone
 VERSION = $(shell tools/version)
 SONAME := libnissy.so.1
-# What is built is proved first: where the kit isn't there, a build says so.
+# What is built is proved first: if the kit isn't there, a build says so.
 NEEDS_KIT = @command -v rt > /dev/null || { echo "no rt on the PATH: nissy is built by the Rattle kit that README.md names" >&2; exit 1; }
 
 # What program and library are made of, without the crates that only test them or show the libraries' use.
