@@ -152,6 +152,13 @@ def promises(tally: Tally, code: Code) -> None:
     each(tally, page.name, "a wrong body", named, code.wrong_bodies.__contains__)
 
 
+def wrong_bodies(tally: Tally, code: Code) -> None:
+    """Each function that a crate exports has a wrong body that the gate tries, as CONTRIBUTING.md says."""
+    for crate in code.libraries():
+        tally.holds(f"{crate} exports functions", exported := code.exported(crate))
+        tally.equal(f"functions of {crate} without a wrong body of the gate", sorted(exported - code.tried(crate)), [])
+
+
 def statement(line: str) -> str:
     """A line of code without its comment and indentation."""
     return re.sub(r"//.*", "", line).strip()
@@ -195,6 +202,7 @@ def main() -> None:
     heads_of_scripts(tally)
     types_in_scripts(tally)
     promises(tally, code)
+    wrong_bodies(tally, code)
     examples(tally)
     tally.end()
 

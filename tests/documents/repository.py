@@ -11,6 +11,8 @@ from bodies import HEAD, NAMED
 # where a word that a page gives may stand
 FOLDERS = ("crates", "tests", "tools", "include", "python", "web")
 CLAUSE = re.compile(r" *ensures ([a-z_]+) \{")
+# an open function, of a file or of a type
+OPEN = re.compile(r" *pub (?:const )?(?:extern \"C\" )?fn (\w+)")
 # how a law, a record and so on are declared
 DECLARED = {"clause": r"ensures ({}) \{{", "law": r"pub fn ({})\(\)", "record": r"record ({}) ", "field": r"pub ({}) :"}
 
@@ -65,6 +67,30 @@ class Code:
         """The names of the wrong bodies."""
         lines = (line for path, text in self.texts.items() if path.startswith("tests/wrong-bodies/") for line in text.splitlines())
         return {named[2] for line in lines if (named := NAMED.fullmatch(line))}
+
+    def exported(self, crate: str) -> set[str]:
+        """Returns the functions that a crate exports, but its laws, each behind the name of its type or of its file."""
+        used = re.findall(r"^pub use (?!niss_)[\w:]+::(\w+|\{[^}]*\});", self.texts[f"crates/{crate}/src/lib.rt"], re.MULTILINE)
+        names = {name for part in used for name in re.findall(r"\w+", part)}
+        found = set()
+        for path, text in self.texts.items():
+            if not re.match(rf"crates/{crate}/src/(?!laws|lib).*\.rt$", path):
+                continue
+            owner, file = "", Path(path).stem
+            for line in text.splitlines():
+                if of := re.match(r"impl(?:<[^>]*>)? (\w+)", line):
+                    owner = of[1]
+                elif line == "}":
+                    owner = ""
+                elif (of := OPEN.match(line)) and (owner or of[1]) in names:
+                    found.add(f"{owner or file}::{of[1]}")
+        return found
+
+    def tried(self, crate: str) -> set[str]:
+        """Returns the functions of a crate for which the gate has a wrong body, in the same way."""
+        texts = [text for path, text in self.texts.items() if path.startswith(f"tests/wrong-bodies/{crate}/")]
+        bodies = re.findall(r"^gate: \w+\n.*\nrefused: (\S+)$", "\n".join(texts), re.MULTILINE)
+        return {"::".join(function.split("::")[-2:]) for function in bodies}
 
     def libraries(self) -> list[str]:
         """Returns the crates that have definitions."""
