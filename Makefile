@@ -64,7 +64,7 @@ page: build/nissy.html
 
 build/nissy: $(SOURCES)
 	$(NEEDS_KIT)
-	@echo "Proving and building. The first time this takes some ten minutes; later, seconds."
+	@echo "Proving and building. The first time this takes ten minutes or more; later, seconds."
 	cd crates/nissy && rt run -- invert "" > /dev/null
 	mkdir -p build
 	cp crates/nissy/out/nissy build/nissy.part && mv build/nissy.part build/nissy
