@@ -7,7 +7,7 @@ use niss_search::{Meter, Tables};
 use std::alloc::Global;
 use std::{env, io};
 
-/// Builds the tables of a step, or the turn tables where the word is no step, and gives them back.
+/// Builds the tables of a step, or the turn tables if the word is no step, and gives them back.
 fn build(alloc: Global, word: &str) -> Result<(), OutOfMemory> {
     match Step::from_name(word.as_bytes()) {
         Some(step) => drop(Tables::build(alloc, step, &mut Meter::new())?),

@@ -18,7 +18,7 @@ IsCube e = (c : Cube) × SameMap (map_of c) e
 abbrev pub TurnedIsCube : Type 0
 TurnedIsCube = (e : Place → Place) (t : Turn) → IsCube e → IsCube (λ q. turned t (e q))
 
--- On an axis each rank below the count is some cube's, and each cube's is one of them. It is 0 where the set is kept,
+-- On an axis each rank below the count is some cube's, and each cube's is one of them. It is 0 if the set is kept,
 -- and the rank after a turn follows from the rank alone.
 pub record IsCoordinate (k : Coordinate) (a : Axis) : Type 0 where
   pub below : (e : Place → Place) → IsCube e → rank_of k a e < count_of k

@@ -89,7 +89,7 @@ count_of Flip = 2048
 count_of Twist = 2187
 count_of Slice = 495
 
--- A rank is that of a map on an axis, below the count, and 0 exactly where the map keeps the coordinate's set.
+-- A rank is that of a map on an axis, below the count, and 0 exactly if the map keeps the coordinate's set.
 pub record IsRank (k : Coordinate) (a : Axis) (e : Place → Place) (n : ℕ) : Type 0 where
   pub value : n ≡ rank_of k a e
   pub in_range : n < count_of k

@@ -48,7 +48,7 @@ face_by XQuarter f = face_before_power Rl Counter f
 face_by YQuarter f = face_before_power Ud Counter f
 face_by ZCounter f = face_before_power Fb Quarter f
 
--- the same where the cube may be left as it is
+-- the same if the cube may be left as it is
 abbrev pub renamed_if : Option Renaming → (Place → Place) → Place → Place
 renamed_if None e = e
 renamed_if (Some v) e = renamed_by v e

@@ -40,12 +40,12 @@ is_kept set e = list_all (λ q. not (set q) || set (e q)) places
 abbrev pub HasOnlyPlaces : (Place → Bool) → Type 0
 HasOnlyPlaces set = (q : Place) → IsTrue (set q) → IsPlace q
 
--- The test says where a set is kept, for each set of the 54 places.
+-- The test says whether a set is kept, for each set of the 54 places.
 abbrev pub KeptIsTested : Type 0
 KeptIsTested =
     (set : Place → Bool) (e : Place → Place) → HasOnlyPlaces set → IsTrue (is_kept set e) ↔ Kept set e
 
--- the set of a coordinate: the places that are kept where it is 0
+-- the set of a coordinate: the places that are kept if it is 0
 abbrev pub set_of : Coordinate → Axis → Place → Bool
 set_of Flip = flip_set
 set_of Twist = twist_set
@@ -64,7 +64,7 @@ pub record PermutesPlaces (e : Place → Place) : Type 0 where
 abbrev pub CubesPermutePlaces : Type 0
 CubesPermutePlaces = (c : Cube) → PermutesPlaces (map_of c)
 
--- Where a cube's map keeps a set of places, it brings no other place to one of the set: the set is brought to itself.
+-- If a cube's map keeps a set of places, it brings no other place to one of the set: the set is brought to itself.
 abbrev pub KeptIsEqual : Type 0
 KeptIsEqual =
     (c : Cube) (set : Place → Bool) → Kept set (map_of c) →

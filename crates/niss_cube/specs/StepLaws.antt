@@ -34,7 +34,7 @@ InversesOfSteps = (s : Step) (t : Turn) → Contains (turns_of s) t → Contains
 abbrev pub StepTurnsInOrder : Type 0
 StepTurnsInOrder = (s : Step) → (part : Turn → Bool) × (turns_of s ≡ filter part turn_order)
 
--- They are all 18, or the 14 that keep edges oriented, where these must be oriented before the step.
+-- They are all 18, or the 14 that keep edges oriented, if these must be oriented before the step.
 abbrev pub StepTurnsAreCounted : Type 0
 StepTurnsAreCounted = (s : Step) → length (turns_of s) ≡ option_map_or (λ axis. 14) (start_of s) 18
 

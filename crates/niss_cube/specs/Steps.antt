@@ -14,7 +14,7 @@ steps =
     ∷ Eo ∷ DrEofb ∷ DrEorl ∷ DrEoud ∷ []
 
 -- What makes a step: its name; the axis on which the edges must be oriented before it, if it needs that; and its
--- alternatives: it is reached where one of them holds.
+-- alternatives: it is reached if one of them holds.
 pub record StepRow : Type 0 where
   pub name : List ℕ
   pub start : Option Axis
@@ -63,7 +63,7 @@ is_face_of Ud f = same_face f U || same_face f D
 is_face_of Rl f = same_face f R || same_face f L
 is_face_of Fb f = same_face f F || same_face f B
 
--- how far a face may turn in a step: where the edges are oriented on an axis before it, the axis' faces make half turns only
+-- how far a face may turn in a step: if the edges are oriented on an axis before it, the axis' faces make half turns only
 abbrev pub powers_from : Option Axis → Face → List Power
 powers_from None f = powers
 powers_from (Some axis) f = if is_face_of axis f then Half ∷ [] else powers

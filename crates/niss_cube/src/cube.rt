@@ -95,8 +95,8 @@ impl Cube {
     }
 
     /// The edge orientation with respect to an axis, from 0 to 2,047: the flips at the first eleven edge places of the cube
-    /// that is renamed for this axis (by `x'` for Ud, by `y` for Rl), as a number in base 2. It is 0 exactly where all
-    /// edges are oriented: where their stickers of the set `flip_set` stand on places of this set.
+    /// that is renamed for this axis (by `x'` for Ud, by `y` for Rl), as a number in base 2. It is 0 exactly if all
+    /// edges are oriented: if their stickers of the set `flip_set` stand on places of this set.
     pub fn flip(&self, axis: Axis) -> u16
         ensures { IsRank Flip axis (map_of self.now) result }
     {
@@ -104,8 +104,8 @@ impl Cube {
     }
 
     /// The corner orientation with respect to an axis, from 0 to 2,186: the twists at the first seven corner places of the
-    /// cube that is renamed for this axis (by `z'` for Rl, by `x` for Fb), as a number in base 3. It is 0 exactly where all
-    /// corners are oriented: where their stickers of the set `twist_set` stand on places of this set.
+    /// cube that is renamed for this axis (by `z'` for Rl, by `x` for Fb), as a number in base 3. It is 0 exactly if all
+    /// corners are oriented: if their stickers of the set `twist_set` stand on places of this set.
     pub fn twist(&self, axis: Axis) -> u16
         ensures { IsRank Twist axis (map_of self.now) result }
     {
@@ -114,7 +114,7 @@ impl Cube {
 
     /// The slice coordinate of an axis, from 0 to 494: the number of the places at which the four edges between the axis's
     /// two faces stand, in any order, on the cube that is renamed for this axis (by `z'` for Rl, by `x` for Fb). It is 0
-    /// exactly where each of them stands in the slice.
+    /// exactly if each of them stands in the slice.
     pub fn slice(&self, axis: Axis) -> u16
         ensures { IsRank Slice axis (map_of self.now) result }
     {

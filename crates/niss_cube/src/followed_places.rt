@@ -53,7 +53,7 @@ struct FollowedPlaces {
     ghost in_range: { (k : ℕ) → k < 26 → slice_index positions k < 54 },
 }
 
-/// Replaces each position by the one that a table has for it. It stands by itself: where it is inlined, the compiler keeps
+/// Replaces each position by the one that a table has for it. It stands by itself: if it is inlined, the compiler keeps
 /// each position twice.
 #[inline(never)]
 fn replace_each(positions: &mut [u8; 26], table: &[u8; 54])

@@ -21,13 +21,13 @@ pub fn kept_is_equal()
     ensures { KeptIsEqual }
 {}
 
-/// Flips, twists and slices are coordinates on each axis: each rank is some cube's, 0 is where a set of places is kept,
+/// Flips, twists and slices are coordinates on each axis: each rank is some cube's, it is 0 if a set of places is kept,
 /// and the rank after a turn follows from the rank alone.
 pub fn are_coordinates()
     ensures { AreCoordinates }
 {}
 
-/// The test of a set is true exactly where the set is kept.
+/// The test of a set is true exactly if the set is kept.
 pub fn kept_is_tested()
     ensures { KeptIsTested }
 {}
@@ -62,7 +62,7 @@ pub fn step_turns_in_order()
     ensures { StepTurnsInOrder }
 {}
 
-/// A step has 18 turns, or 14 where it starts at oriented edges.
+/// A step has 18 turns, or 14 if it starts at oriented edges.
 pub fn step_turns_are_counted()
     ensures { StepTurnsAreCounted }
 {}

@@ -30,8 +30,8 @@
 //! ```
 //!
 //! A contract names a cube by `map_of`: where each sticker place's sticker stands, by the geometry of `niss_moves`. A
-//! coordinate is 0 exactly where the map keeps a set of places, and its rank after a turn follows from the rank alone:
-//! the functions of `laws` state this. A step of solving may start, and is reached, where the map keeps its sets of places.
+//! coordinate is 0 exactly if the map keeps a set of places, and its rank after a turn follows from the rank alone:
+//! the functions of `laws` state this. A step of solving may start, and is reached, if the map keeps its sets of places.
 #![tactic(auto)]
 
 mod cube;

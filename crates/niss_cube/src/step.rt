@@ -12,7 +12,7 @@ use crate::cube::coordinate::Coordinate;
 use niss_moves::{Axis, Face, Power, Turn, turn_order};
 
 /// A step of solving, named as solvers do: an edge orientation (`eo`) on an axis, or a domino reduction (`dr`) on an axis
-/// of a cube whose edges are oriented on another axis. Where the name has no axis for it, any one will do.
+/// of a cube whose edges are oriented on another axis. If the name has no axis for it, any one will do.
 #[derive(Clone, Copy, Debug, PartialEq, Eq)]
 pub enum Step {
     Eofb,
@@ -145,14 +145,14 @@ impl Step {
             .find(|step| step.name().as_bytes() == name)
     }
 
-    /// The axis on which the edges must be oriented before the step; `None` where it needs nothing.
+    /// The axis on which the edges must be oriented before the step; `None` if it needs nothing.
     pub fn start(self) -> Option<Axis>
         ensures { result ≡ start_of self }
     {
         self.row().1
     }
 
-    /// The name of the step that must be reached before this one; `None` where it needs none.
+    /// The name of the step that must be reached before this one; `None` if it needs none.
     pub fn start_name(self) -> Option<&'static str>
         ensures { option_copied result ≡ start_name_of self }
     {
@@ -177,7 +177,7 @@ impl Step {
         }
     }
 
-    /// The step's alternatives: it is reached where one of them holds.
+    /// The step's alternatives: it is reached if one of them holds.
     pub fn goals(self) -> &'static [Goal]
         ensures { result.now ≡ goals_of self }
     {

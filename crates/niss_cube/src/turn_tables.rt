@@ -41,7 +41,7 @@ impl<A: Allocator> Model for TurnTable<A> {
 }
 
 impl<A: Allocator> TurnTable<A> {
-    /// Builds the table of a coordinate, 36 bytes for each of its ranks. Where the allocator refuses memory nothing is kept.
+    /// Builds the table of a coordinate, 36 bytes for each of its ranks. If the allocator refuses memory nothing is kept.
     pub fn build_in(alloc: A, coordinate: Coordinate) -> Result<TurnTable<A>, OutOfMemory>
         ensures { IfOk result (λ table. table ≡ coordinate) }
     {
@@ -82,7 +82,7 @@ pub struct TurnTables<A: Allocator = Global> {
 }
 
 impl TurnTables {
-    /// Builds the tables, of 170,280 bytes in all. Where the allocator refuses one of the three it answers `OutOfMemory`, and
+    /// Builds the tables, of 170,280 bytes in all. If the allocator refuses one of the three it returns `OutOfMemory`, and
     /// what was taken before is given back.
     pub fn build(alloc: Global) -> Result<TurnTables, OutOfMemory> {
         TurnTables::build_in(alloc)

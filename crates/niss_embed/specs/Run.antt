@@ -52,7 +52,7 @@ pub record Answers (due : Answer) (out err : Memory) (answer : Given) : Type 0 w
 pub record RunsBytes (bytes input : List ℕ) (out err : Memory) (answer : Given) : Type 0 where
   pub words : List (List ℕ)
   pub are_words : AreWords bytes words
-  -- whether memory was refused, which is asked for only where there are words
+  -- whether memory was refused, which is asked for only if there are words
   pub refused : Bool
   pub asked : refused ≡ true → 0 < length bytes
   pub answers : Answers (due refused (text_words words) input) out err answer

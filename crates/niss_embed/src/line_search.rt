@@ -18,7 +18,7 @@ use crate::memory::put;
 use niss_moves::{LineReader, LineText, Turn};
 use niss_search::laws::first_is_least;
 use niss_search::{Limit, Meter, Position, Sink, Tables, TurnPath, search};
-use niss_shell::{LineFault, MOST_BYTES, count_solutions, put_solution, start_position};
+use niss_shell::{LineFault, MOST_BYTES, count_solutions, set_solution, start_position};
 use std::alloc::Allocator;
 
 /// Which solutions are asked for, in numbers that a caller may give in any way.
@@ -122,7 +122,7 @@ impl Sink for SolutionLines<'_> {
         if self.solutions == self.most {
             return Err(Refused);
         }
-        put_solution(path, &mut self.line);
+        set_solution(path, &mut self.line);
         if self.line.len() > self.bytes.len() - self.written {
             self.too_small = true;
             return Err(Refused);

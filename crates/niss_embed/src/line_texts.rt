@@ -11,7 +11,7 @@ ghost use Rattle.niss_embed.specs.declared.answer.Status.TheVariants.{NoRoom};
 
 use crate::answer::LineAnswer;
 use niss_moves::{LineReader, LineText, Niss, ReadFault};
-use niss_shell::{MOST_BYTES, Rewriting, put_scramble, put_steps, rewrite, step_named};
+use niss_shell::{MOST_BYTES, Rewriting, rewrite, set_scramble, set_steps, step_named};
 
 /// The most turns of a scramble.
 const MOST_TURNS: u32 = 256;
@@ -83,7 +83,7 @@ pub fn scramble(state: u64, stream: u64, turns: u32, out: &mut [u8]) -> LineAnsw
         return LineAnswer::misused();
     }
     let mut line = LineText::new();
-    put_scramble(state, stream, turns as usize, &mut line);
+    set_scramble(state, stream, turns as usize, &mut line);
     line.pop();
     LineAnswer::put(line.as_slice(), out)
 }
@@ -94,7 +94,7 @@ pub fn step_names(out: &mut [u8]) -> LineAnswer
     ensures room { 2048 ≤ length out.old → result.status ≢ status_number NoRoom }
 {
     let mut text = LineText::new();
-    put_steps(&mut text);
+    set_steps(&mut text);
     LineAnswer::put(text.as_slice(), out)
 }
 

@@ -28,7 +28,7 @@ abbrev pub turn_by : Face → Option Power → List Turn
 turn_by f None = []
 turn_by f (Some p) = record { face = f; power = p } ∷ []
 
--- two turns of one face as the turn of their sum, or as nothing where the sum is a whole round
+-- two turns of one face as the turn of their sum, or as nothing if the sum is a whole round
 abbrev pub sum_of_turns : Turn → Turn → List Turn
 sum_of_turns t u = turn_by t.face (sum_of_powers t.power u.power)
 
@@ -61,7 +61,7 @@ abbrev pub disorder : List Turn → ℕ
 disorder [] = 0
 disorder (t ∷ ts) = count_by (are_disordered t) ts + disorder ts
 
--- the list with the leftmost neighbours rewritten that break the order, where there are any
+-- the list with the leftmost neighbours rewritten that break the order, if there are any
 unfoldable pub rewritten_once : List Turn → Option (List Turn)
 rewritten_once [] = None
 rewritten_once (t ∷ []) = None
@@ -103,7 +103,7 @@ rotation_left s = unwrap_or (find (moves_centres_as s) rotations) (record { top 
 abbrev pub clean_words : List Token → List (List ℕ)
 clean_words s = cleaned_words (clean_turns (faces s)) (rotation_left s)
 
--- the text with a cleaned line appended: the normal moves, and the bracketed ones in a bracket, where any word is left
+-- the text with a cleaned line appended: the normal moves, and the bracketed ones in a bracket, if any word is left
 abbrev pub with_clean_line : List ℕ → Moves → List ℕ
 with_clean_line text line =
     with_bracket (with_words text (clean_words line.normal)) (clean_words line.bracketed)

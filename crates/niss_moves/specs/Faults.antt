@@ -6,7 +6,7 @@ use Rattle.std.specs.List.{list_all}
 use Rattle.niss_moves.specs.Line.{IsLine, Moves, Spells, opening, closing, base_bytes}
 use Rattle.niss_moves.specs.Names.{Base, ReadFault, NotAMove, Nested, Unopened, Unclosed, TooLong}
 
--- what a cut U+2019 still lacks: nothing where there is none, one byte or two
+-- what a cut U+2019 still lacks: nothing if there is none, one byte or two
 pub data Cut : Type 0 where
   Whole : Cut
   LacksOne : Cut

@@ -14,11 +14,11 @@ use Rattle.niss_moves.specs.declared.rotation.MoveTurns.TheVariants.{NoTurn, One
 use Rattle.niss_moves.specs.Line.{token_of, base_bytes, Apostrophe, apostrophe_bytes, Suffix, suffix_bytes}
 use Rattle.niss_moves.specs.Line.{suffix_power, Blank, blank_byte}
 
--- one turn after another: their sum where they are of one face, and else both
+-- one turn after another: their sum if they are of one face, and else both
 abbrev pub pair_of_turns : Turn → Turn → List Turn
 pair_of_turns t u = if same_face t.face u.face then sum_of_turns t u else t ∷ u ∷ []
 
--- a list with one turn more, summed with the last one where that is of its face
+-- a list with one turn more, summed with the last one if that is of its face
 abbrev pub list_with_turn : List Turn → Turn → List Turn
 list_with_turn [] t = t ∷ []
 list_with_turn (x ∷ []) t = pair_of_turns x t
@@ -34,7 +34,7 @@ abbrev pub is_empty : List (List ℕ) → Bool
 is_empty [] = true
 is_empty (w ∷ ws) = false
 
--- the rotation about the vertical axis that brings a face to the front, once another one is at the top; none where none does
+-- the rotation about the vertical axis that brings a face to the front, once another one is at the top; none if none does
 abbrev pub vertical_of : Face → Face → Option Power
 vertical_of top front =
     if same_face front (face_before_if (to_top top) F) then None
@@ -63,7 +63,7 @@ turns_in NoTurn = []
 turns_in (One t) = t ∷ []
 turns_in (Two t u) = t ∷ u ∷ []
 
--- a text with words after it that wait; where no gap is due, the space before the first of them is left out
+-- a text with words after it that wait; if no gap is due, the space before the first of them is left out
 abbrev pub with_buffered : List ℕ → Bool → List ℕ → List ℕ
 with_buffered text true words = text ++ drop 1 words
 with_buffered text false words = text ++ words

@@ -19,7 +19,7 @@ pub record State : Type 0 where
 abbrev pub start : State
 start = record { moves = record { normal = []; bracketed = [] }; bracket = None; last = LastMove.Finished; fed = 0 }
 
--- the moves with more of them, in the bracket where one is open
+-- the moves with more of them, in the bracket if one is open
 abbrev pub with_more : Option ℕ → Moves → List Token → Moves
 with_more None m more = record m { normal = m.normal ++ more }
 with_more (Some c) m more = record m { bracketed = m.bracketed ++ more }
@@ -76,14 +76,14 @@ cut (LastMove.Bare b) s = Ok (with_last (LastMove.FirstByte (token_of b Counter)
 cut (LastMove.Doubled b) s = Ok (with_last (LastMove.FirstByte (token_of b Half)) s)
 cut _ s = refused s
 
--- a move begins, where fewer than so many stand before it
+-- a move begins, if fewer than so many stand before it
 abbrev pub begun : ℕ → Base → State → Result State ReadFault
 begun limit b s =
     if nat_lt (count (settled s)) limit
     then Ok (with_last (LastMove.Bare b) (settled s))
     else Err (TooLong (s.fed + 1))
 
--- the next byte where no U+2019 is cut
+-- the next byte, which isn't to continue a U+2019
 abbrev pub step_by : ℕ → Symbol → State → Result State ReadFault
 step_by limit Symbol.Blank s = Ok (settled s)
 step_by limit Symbol.Open s = opened s.bracket s
@@ -130,7 +130,7 @@ run s bytes = run_within 256 s bytes
 abbrev pub HasRoom : State → Type 0
 HasRoom s = count (settled s) ≤ 256
 
--- A step answers a fault, or leaves the next state.
+-- A step returns a fault, or leaves the next state.
 abbrev pub IsStep : (State → Result State ReadFault) → State → Result (Unit {0}) ReadFault → State → Type 0
 IsStep next old result new = MatchResult result (λ _. next old ≡ Ok new) (λ f. next old ≡ Err f)
 

@@ -11,7 +11,7 @@ pub record Reader : Type 0 where
   pub fault : Option ReadFault
   pub so_far : State
 
--- the moves that were read, without the last one where it isn't whole
+-- the moves that were read, without the last one if it isn't whole
 abbrev pub moves_of : Reader → Moves
 moves_of reader = reader.so_far.moves
 
@@ -25,7 +25,7 @@ moves_if (Ok u) m = Ok m
 moves_if (Err f) m = Err f
 
 -- These bytes were fed. A caller knows of it what the contracts say: it holds of a new reader and no bytes, each byte that is
--- fed keeps it, and at the end of the line the reader answers `read_line` of the bytes.
+-- fed keeps it, and at the end of the line the reader returns `read_line` of the bytes.
 pub record IsFed (reader : Reader) (bytes : List ℕ) : Type 0 where
   pub fed : reader.fed ≡ length bytes
   pub holds : state_or reader.fault reader.so_far ≡ run start bytes

@@ -6,7 +6,7 @@ use Rattle.niss_moves.specs.Facelets.{centre}
 use Rattle.niss_moves.specs.Names.{Face, U, D, R, L, F, B, Power, Quarter, Half, Counter, Turn, Axis, Ud, Rl, Fb}
 use Rattle.niss_moves.specs.Names.{Token, Rotation, M, E, S}
 
--- the rotation about an axis that brings a face to the top, where it isn't there
+-- the rotation about an axis that brings a face to the top, if it isn't there
 abbrev pub to_top : Face → Option (Axis × Power)
 to_top U = None
 to_top F = Some (Rl, Quarter)

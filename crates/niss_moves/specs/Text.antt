@@ -47,7 +47,7 @@ rotation_words r = map word (spelling r)
 abbrev pub cleaned_words : List Turn → Rotation → List (List ℕ)
 cleaned_words ts r = turn_words ts ++ rotation_words r
 
--- the text with words in a bracket appended, where there is a word
+-- the text with words in a bracket appended, if there is a word
 abbrev pub with_bracket : List ℕ → List (List ℕ) → List ℕ
 with_bracket text [] = text
 with_bracket text (w ∷ ws) = with_words (with_word text (codes "(")) (w ∷ ws) ++ codes ")"

@@ -25,7 +25,7 @@ fn push_sum(turns: &mut Faces, first: Turn, second: Turn)
     }
 }
 
-/// Appends two turns, or their sum where they are of one face.
+/// Appends two turns, or their sum if they are of one face.
 fn push_pair(turns: &mut Faces, first: Turn, second: Turn)
     requires { length turns.old.items + 1 < 512 }
     ensures len { length turns.new.items ≤ length turns.old.items + 2 }
@@ -39,7 +39,7 @@ fn push_pair(turns: &mut Faces, first: Turn, second: Turn)
     }
 }
 
-/// Appends a turn, or sums it with the last one where that is of its face.
+/// Appends a turn, or sums it with the last one if that is of its face.
 #[tactic(auto, using(crate::proofs::Cleaned::turn_at_end))]
 fn push_or_sum(turns: &mut Faces, turn: Turn)
     requires { length turns.old.items < 512 }
@@ -109,7 +109,7 @@ fn push_all_and_clean(turns: &mut Faces, more: MoveTurns)
     }
 }
 
-/// Writes the cleaned face turns of a sequence into an empty list, and answers the rotation that is left at its end.
+/// Writes the cleaned face turns of a sequence into an empty list, and returns the rotation that is left at its end.
 #[tactic(auto, using(crate::proofs::Home::left_none))]
 pub(crate) fn clean_sequence(tokens: &[Token], turns: &mut Faces) -> Rotation
     requires moves { length tokens.now ≤ 256 }
@@ -127,7 +127,7 @@ pub(crate) fn clean_sequence(tokens: &[Token], turns: &mut Faces) -> Rotation
 }
 
 /// The face turns of a sequence made canonical, and the rotation that is left at its end. As long as two neighbours break
-/// the order, the leftmost two are summed, where they are of one face, or exchanged: `R L R` is `R2 L`, `U D U'` is `D`.
+/// the order, the leftmost two are summed, if they are of one face, or exchanged: `R L R` is `R2 L`, `U D U'` is `D`.
 /// A sum that is a whole round leaves nothing: so does `F F F F`. That the list is the shortest of its effect isn't said.
 /// A sequence has at most 256 moves.
 #[tactic(auto, using(crate::proofs::Home::of_cleaning))]

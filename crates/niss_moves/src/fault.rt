@@ -10,7 +10,7 @@ pub enum ReadFault {
     NotAMove { column: u32 },
     /// An opening bracket inside a bracket.
     Nested { column: u32 },
-    /// A closing bracket where none is open.
+    /// A closing bracket while none is open.
     Unopened { column: u32 },
     /// An opening bracket that the line's end leaves open.
     Unclosed { column: u32 },

@@ -19,7 +19,7 @@ ghost use Rattle.niss_moves.specs.Text.{word, with_words};
 ghost use Rattle.niss_moves.specs.Reading.{read_line};
 ghost use Rattle.niss_moves.specs.declared.token.Token.TheVariants as token;
 
-/// `read_line`, the answer of `read` and `finish`, is the moves that spell the line, where they are at most 256, and else
+/// `read_line`, which `read` and `finish` return, is the moves that spell the line, if they are at most 256, and else
 /// the fault of the line.
 pub fn line_is_read()
     ensures spelled { (bytes : List ℕ) (m : Moves) → (read_line bytes ≡ Ok m)

@@ -154,7 +154,7 @@ impl PartialLine {
         }
     }
 
-    /// Takes the moves in front of the bytes that can be read at once, and answers how many bytes they have.
+    /// Takes the moves in front of the bytes that can be read at once, and returns how many bytes they have.
     pub fn take_moves(&mut self, bytes: &[u8]) -> usize
         requires fits { self.old.fed + length bytes.now ≤ 16777216 }
         ensures taken { result ≤ length bytes.now }
@@ -220,7 +220,7 @@ impl PartialLine {
         self.fed = 0;
     }
 
-    /// Takes the next byte where no U+2019 is cut.
+    /// Takes the next byte, which isn't to continue a U+2019.
     fn step_by(&mut self, symbol: Symbol) -> Result<(), ReadFault>
         ensures { IsStep (step_by 256 symbol) self.old result self.new }
     {

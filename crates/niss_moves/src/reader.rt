@@ -1,4 +1,4 @@
-//! Lines read byte by byte.
+//! Lines that come in pieces, read by single bytes or by whole moves.
 ghost use Rattle.std.specs.Prelude.{◌≡◌, ◌≤◌, length};
 ghost use Rattle.niss_moves.specs.Faults.{IsReading};
 ghost use Rattle.niss_moves.specs.Reader.{read_line};
@@ -8,7 +8,7 @@ use crate::niss::Niss;
 use crate::partial_line::PartialLine;
 use std::marker::Model;
 
-/// Reads a line byte by byte, in at most 16,777,216 bytes.
+/// Reads a line of at most 16,777,216 bytes, by single bytes or by whole moves.
 ///
 /// The `PartialLine` reads, the reader keeps the first fault: in one type each step would have to say what a fault does
 /// to it.
@@ -53,7 +53,7 @@ impl LineReader {
         self.line.fed()
     }
 
-    /// Takes one byte. It answers a fault as soon as the bytes are the beginning of no line, and from then on that fault
+    /// Takes one byte. It returns a fault as soon as the bytes are the beginning of no line, and from then on that fault
     /// until `clear`. At most 16,777,216 bytes can be fed.
     pub fn feed(&mut self, byte: u8) -> Result<(), ReadFault>
         requires { self.old.fed < 16777216 }
@@ -61,7 +61,7 @@ impl LineReader {
         ensures bytes { (bytes : List ℕ) → IsFed self.old bytes →
             IsFed self.new (bytes ++ byte ∷ []) }
 
-        // A byte is taken where some line begins so, and else the fault is that of such a byte.
+        // A byte is taken if some line begins so, and else the fault is that of such a byte.
         ensures taken { (bytes : List ℕ) → IsFed self.old bytes →
             IsOk result ↔ CanContinue (bytes ++ byte ∷ []) }
         ensures fault { (bytes : List ℕ) → IsFed self.old bytes →
@@ -83,9 +83,9 @@ impl LineReader {
         taken
     }
 
-    /// Takes whole moves in front of the bytes, each with the blank after it, and answers how many bytes these are. How many
-    /// moves it takes is a matter of speed and may be none: `feed` takes what is left. After a fault it takes none. With those fed
-    /// before, the bytes are at most 16,777,216.
+    /// Takes whole moves in front of the bytes, each with the blank after it, and returns how many bytes these are. How
+    /// many moves it takes is a matter of speed and may be none: `feed` takes what is left. After a fault it takes none.
+    /// With those fed before, the bytes are at most 16,777,216.
     pub fn feed_moves(&mut self, bytes: &[u8]) -> usize
         requires { self.old.fed + length bytes.now ≤ 16777216 }
         ensures taken { result ≤ length bytes.now }
@@ -102,7 +102,7 @@ impl LineReader {
         }
     }
 
-    /// Ends the line: the bytes spell `moves`, or have a fault, and then the reader stays as it was. Ended again it answers
+    /// Ends the line: the bytes spell `moves`, or have a fault, and then the reader stays as it was. Ended again it returns
     /// the same. Once the line is ended well, `clear` comes before the next byte.
     #[tactic(auto, using(crate::proofs::ReaderLemmas::at_the_end))]
     pub fn end(&mut self) -> Result<(), ReadFault>

@@ -177,7 +177,7 @@ impl RotationSoFar {
         self.before[face as usize]
     }
 
-    /// The rotation and then `turn` is the answer and then the rotation: `x U` is `F x`.
+    /// The turn that, made before the rotation, does what `turn` does after it: `x U` is `F x`.
     pub fn turn_before(&self, turn: Turn) -> Turn
         ensures { result ≡ renamed_turn (face_before self.now) turn }
     {

@@ -8,7 +8,7 @@ use crate::token::{Base, Slice, Token};
 use crate::turn::{Axis, Face, Power};
 use Symbol::{Apostrophe, Blank, Close, Cut, Open, Other, Two, Wide};
 
-/// What a byte may be where no U+2019 is cut.
+/// What a byte may be, unless it is to continue a U+2019.
 #[derive(Clone, Copy)]
 pub enum Symbol {
     Blank,
@@ -18,7 +18,7 @@ pub enum Symbol {
     Wide,
     Two,
     Apostrophe,
-    /// The first byte of U+2019.
+    /// The first byte of U+2019, which is cut until its other two come.
     Cut,
     Other,
 }
@@ -71,7 +71,7 @@ static SYMBOLS: [Symbol; 256] = symbols!(
     _ _ _ _ _ _ _ _ _ _ _ _ _ _ _ _
 );
 
-/// What a byte may be where no U+2019 is cut.
+/// What a byte may be, unless it is to continue a U+2019.
 pub fn symbol_of(byte: u8) -> Symbol
     ensures { result ≡ symbol_of byte }
 {

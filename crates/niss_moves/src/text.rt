@@ -149,7 +149,7 @@ impl WordBuffer {
         self.len += word.len;
     }
 
-    /// Takes one more word. Where there is no room, the others go to the text first.
+    /// Takes one more word. If there is no room, the others go to the text first.
     pub fn push(&mut self, word: Word, text: &mut LineText)
         requires room { array_vec_len text.old + self.old.len + word.len ≤ 2048 }
         requires word { word.len ≤ 4 }
@@ -307,7 +307,7 @@ fn put_cleaned(turns: &[Turn], rotation: Rotation, text: &mut LineText)
     put_rotation(rotation, text);
 }
 
-/// Appends them in a bracket, where there is any word.
+/// Appends them in a bracket, if there is any word.
 #[tactic(auto, using(crate::proofs::Words::bracket_empty, crate::proofs::Words::bracket_filled))]
 fn put_bracketed(turns: &[Turn], rotation: Rotation, text: &mut LineText)
     requires { length text.old.items + 3 * length turns.now + 9 ≤ 2048 }
@@ -325,7 +325,7 @@ fn put_bracketed(turns: &[Turn], rotation: Rotation, text: &mut LineText)
 }
 
 /// Appends the cleaned line, as `R (U2 x)`: the normal face turns and rotation, and then the bracketed ones in a bracket,
-/// where any word of these is left. The normal and the bracketed moves are cleaned each by itself. That takes at most
+/// if any word of these is left. The normal and the bracketed moves are cleaned each by itself. That takes at most
 /// three bytes for each of 512 face turns, six for each rotation and three for the bracket: the text needs 1,600 free bytes.
 pub fn put_niss_clean(niss: &Niss, text: &mut LineText)
     requires { length text.old.items + 1600 ≤ 2048 }

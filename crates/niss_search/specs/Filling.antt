@@ -81,7 +81,7 @@ pub record IsFilled (alt : Alternative) (level : ℕ) (xs : List ℕ) : Type 0 w
   pub size : length xs ≡ count_for alt.goal
   pub bytes : (i : ℕ) → i < count_for alt.goal → slice_index xs i ≡ byte_at level (entry_distance alt i)
 
--- the same, where some entries of the next level may have been met: one that was has its distance
+-- the same, if some entries of the next level may have been met: one that was has its distance
 pub record MayBeAt (level distance byte : ℕ) : Type 0 where
   pub near : distance ≤ level → byte ≡ distance
   pub met : byte ≢ 21 → byte ≡ distance

@@ -9,7 +9,7 @@ use Rattle.niss_cube.specs.Steps.{goals_of, turns_of}
 use Rattle.niss_cube.specs.declared.cube.coordinate.Coordinate.TheVariants as coordinate
 use Rattle.niss_search.specs.Solutions.{Space, distance}
 
--- the coordinates of a map of the places that decide whether a goal holds, where the step may start
+-- the coordinates of a map of the places that decide whether a goal holds, if the step may start
 abbrev pub coordinates_of : Goal → (Place → Place) → GoalCoordinates
 coordinates_of (Edges axis) e = Flip axis (flip_of axis e)
 coordinates_of (Domino edges axis) e = TwistAndSlice axis (twist_of axis e) (slice_of axis e)

@@ -30,7 +30,7 @@ impl Limit {
     /// The limit of no turn.
     pub const ZERO: Limit = Limit { turns: 0 };
 
-    /// The limit of so many turns, or `None` where they are more than 20.
+    /// The limit of so many turns, or `None` if they are more than 20.
     pub fn new(turns: u8) -> Option<Limit>
         ensures variant { IsSome result ↔ (turns ≤ 20) }
         ensures value { IfSome result (λ l. l ≡ turns) }

@@ -1,4 +1,4 @@
-//! The bytes of a table that are at a level, found eight at a time as one number: quick also where a target has no vectors.
+//! The bytes of a table that are at a level, found eight at a time as one number: quick also if a target has no vectors.
 ghost use Rattle.std.specs.Prelude.{◌≡◌, ◌≢◌, ℕ, ◌+◌, ◌<◌, ◌≤◌, ◌==◌, length, drop, map, not, slice_index, if◌then◌else◌};
 ghost use Rattle.std.specs.Prelude.{IfSome, IfNone, false};
 ghost use Rattle.std.specs.Int.{w64, from_le_bytes};
@@ -20,7 +20,7 @@ fn marks(word: &[u8; 8], level: u8) -> u64
     (others & HIGH_BITS) ^ HIGH_BITS
 }
 
-/// The first index of the level in eight bytes, or 8 where there is none.
+/// The first index of the level in eight bytes, or 8 if there is none.
 fn first_in_word(word: &[u8; 8], level: u8) -> usize
     ensures { result ≡ prefix_len (λ byte. not (byte == level)) word.now }
 {
@@ -54,7 +54,7 @@ fn skip_blocks(table: &[u8], from: usize, level: u8) -> usize
     at
 }
 
-/// The least index from `from` on, by eight bytes at a time; the table's length where there is none.
+/// The least index from `from` on, by eight bytes at a time; the table's length if there is none.
 fn next_by_words(table: &[u8], from: usize, level: u8) -> usize
     requires { from ≤ length table.now }
     ensures { result ≡ from + prefix_len (λ byte. not (byte == level)) (drop from table.now) }

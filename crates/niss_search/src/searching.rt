@@ -37,7 +37,7 @@ pub trait Sink {
         ensures err { OnErr result (refused self.old path.now self.new) };
 }
 
-/// What a search handed to its sink: the least length of a solution in turns, `None` where there is none within the
+/// What a search handed to its sink: the least length of a solution in turns, `None` if there is none within the
 /// limit, and how many solutions it handed out, of all lengths.
 #[derive(Clone, Copy, Debug, PartialEq, Eq)]
 pub struct Outcome {
@@ -50,8 +50,8 @@ pub struct Outcome {
 /// of that limit. What is said here holds of every cube that has the position.
 ///
 /// The position is one of the tables' step, the path is empty, and the meter is at most at 2^127. The path is empty
-/// again at the end, of the same limit. The meter rises by one for each look: by those of the whole search where the
-/// sink took every path, and by at most these where it refused one.
+/// again at the end, of the same limit. The meter rises by one for each look: by those of the whole search if the
+/// sink took every path, and by at most these if it refused one.
 pub fn search<K: Sink, A: Allocator>(
     tables: &Tables<A>,
     position: &Position,
@@ -142,7 +142,7 @@ impl<A: Allocator> Root<'_, A> {
     }
 }
 
-/// The greatest length of a deepening, by the least length of a solution where one is known.
+/// The greatest length of a deepening, by the least length of a solution if one is known.
 fn last_length(least: Option<u8>, limit: Limit, slack: Limit) -> u8
     ensures value { result ≡ last_length least limit slack }
     ensures in_range { result ≤ 20 }
@@ -164,7 +164,7 @@ struct Descent<'a, K> {
 }
 
 impl<K: Sink> Descent<'_, K> {
-    /// Looks at the position of the path and, where the look allows, goes on below it with `left` turns more. Hands
+    /// Looks at the position of the path and, if the look allows, goes on below it with `left` turns more. Hands
     /// what it finds to the sink, and counts it.
     pub fn begin<A: Allocator>(
         &mut self,
@@ -182,15 +182,15 @@ impl<K: Sink> Descent<'_, K> {
             meter result.0 self.old self.new result.1 }
     {
         match tables.kind() {
-            Kind::Edges(kind) => self.begin_in(kind, position, left, meter),
-            Kind::AnyEdges(kind) => self.begin_in(kind, position, left, meter),
-            Kind::Domino(kind) => self.begin_in(kind, position, left, meter),
-            Kind::EitherDomino(kind) => self.begin_in(kind, position, left, meter),
+            Kind::Edges(kind) => self.begin_with(kind, position, left, meter),
+            Kind::AnyEdges(kind) => self.begin_with(kind, position, left, meter),
+            Kind::Domino(kind) => self.begin_with(kind, position, left, meter),
+            Kind::EitherDomino(kind) => self.begin_with(kind, position, left, meter),
         }
     }
 
-    /// `begin` by the kind of the tables.
-    fn begin_in<S: StateSpace>(
+    /// `begin` with tables of one kind.
+    fn begin_with<S: StateSpace>(
         &mut self,
         tables: &SearchTables<S>,
         position: &Position,
@@ -214,7 +214,7 @@ impl<K: Sink> Descent<'_, K> {
     }
 
     /// Goes on below the path with `left` turns more, once its state was looked at. So a turn is put on the path only
-    /// where the look after it allows.
+    /// if the look after it allows.
     #[cycle(descent)]
     fn extend<S: StateSpace>(
         &mut self,
@@ -234,7 +234,7 @@ impl<K: Sink> Descent<'_, K> {
             meter result.0 self.old self.new result.1 }
     {
         if left == 0 {
-            // counted first, since nothing follows on the hand-out: of the count nothing is said where the sink refuses
+            // counted first, since nothing follows on the hand-out: of the count nothing is said if the sink refuses
             self.count += 1;
             return (meter, self.sink.take(self.path));
         }

@@ -53,7 +53,7 @@ impl Tables {
 
     /// Builds the tables of a step. It takes all memory before the meter rises: for each goal 36 bytes for each rank of its
     /// coordinates and one for each entry (2,048 for an edge orientation, 1,082,565 for a domino reduction).
-    /// The meter rises by one for each turn that is tried from an entry. Where the allocator refuses memory, nothing is kept
+    /// The meter rises by one for each turn that is tried from an entry. If the allocator refuses memory, nothing is kept
     /// and the meter stands where it stood. The meter is at most at 2^127 before.
     pub fn build(alloc: Global, step: Step, meter: &mut Meter) -> Result<Tables, OutOfMemory>
         requires { meter.old ≤ 2 ^ 127 }

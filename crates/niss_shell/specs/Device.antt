@@ -49,7 +49,7 @@ abbrev pub is_failure : TargetCall → Bool
 is_failure (Write piece result) = is_refused result piece
 is_failure (Flush result) = is_err result
 
--- What a source shows: the bytes that it will give, where they are known; whether a read failed; whether one found the end.
+-- What a source shows: the bytes that it will give, if they are known; whether a read failed; whether one found the end.
 pub record SourceState : Type 0 where
   pub left : Option (List ℕ)
   pub has_failed : Bool
@@ -58,7 +58,7 @@ pub record SourceState : Type 0 where
 abbrev pub source_state : Option (List ℕ) → Bool → Bool → SourceState
 source_state left failed ended = record { left = left; has_failed = failed; has_ended = ended }
 
--- What a target shows: the bytes that it holds, where they are known; whether a call failed.
+-- What a target shows: the bytes that it holds, if they are known; whether a call failed.
 pub record TargetState : Type 0 where
   pub held : Option (List ℕ)
   pub has_failed : Bool

@@ -7,7 +7,7 @@ line_feed = 10
 abbrev pub space : ℕ
 space = 32
 
--- the lines that a line feed ends, where `front` stands before the bytes
+-- the lines that a line feed ends, if `front` stands before the bytes
 unfoldable pub ended_lines : List ℕ → List ℕ → List (List ℕ)
 ended_lines front [] = []
 ended_lines front (b ∷ bs) =

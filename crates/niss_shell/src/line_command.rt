@@ -17,7 +17,7 @@ ghost use Rattle.niss_shell.specs.Engine.{Reports};
 use crate::command::Rewriting;
 use crate::device::{DeviceFault, Target};
 use crate::output::Output;
-use crate::text::{put_count, put_end, put_text};
+use crate::text::{put_text, set_count, set_end};
 use niss_cube::laws::steps_see_places;
 use niss_cube::{Cube, OutOfMemory, Step, facelets_after};
 use niss_moves::{LineText, Niss, put_inverted, put_niss_clean, put_unniss, to_faces, unniss};
@@ -177,13 +177,13 @@ impl Query {
             Query::Solutions(limit, slack) => {
                 let mut path = TurnPath::new(limit);
                 let outcome = search(tables, position, slack, &mut path, looks, output)?;
-                put_end(outcome.solutions, limit, &mut output.next);
+                set_end(outcome.solutions, limit, &mut output.next);
                 output.put()
             }
             Query::Counts(limit) => {
                 let before = looks.count();
                 let outcome = count_solutions(tables, position, limit, Limit::ZERO, looks);
-                put_count(outcome, looks.count() - before, &mut output.next);
+                set_count(outcome, looks.count() - before, &mut output.next);
                 output.put()
             }
         }

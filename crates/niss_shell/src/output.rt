@@ -5,7 +5,7 @@ ghost use Rattle.niss_shell.specs.Output.{solution_line};
 
 use crate::device::{DeviceFault, Target};
 use crate::stop::Stop;
-use crate::text::{put_solution, put_text};
+use crate::text::{put_text, set_solution};
 use crate::writing::write_all;
 use niss_moves::LineText;
 use niss_search::{Sink, TurnPath};
@@ -88,7 +88,7 @@ impl<'a, W: Target> Sink for Output<'a, W> {
     ghost refused = { λ old path new. TakesLine W.call true (solution_line path.turns) old new };
 
     fn take(&mut self, path: &TurnPath) -> Result<(), DeviceFault> {
-        put_solution(path, &mut self.next);
+        set_solution(path, &mut self.next);
         self.write()
     }
 }

@@ -45,7 +45,7 @@ fn draw_line(rng: &mut Lcg64Xsh32, turns: usize, line: &mut LineText)
 
 /// Sets the text to the first scramble of `turns` turns by the generator of a state and a stream, on a line.
 #[tactic(auto, using(crate::proofs::ScrambleLemmas::one_scramble))]
-pub fn put_scramble(state: u64, stream: u64, turns: usize, line: &mut LineText)
+pub fn set_scramble(state: u64, stream: u64, turns: usize, line: &mut LineText)
     requires { turns ≤ 256 }
     ensures { line.new.items ≡ turns_line (scramble turns (generator_of state stream) 0) }
 {

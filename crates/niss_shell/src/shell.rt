@@ -24,7 +24,7 @@ use rand_pcg::Lcg64Xsh32;
 use std::alloc::{Allocator, Global};
 
 /// Sets the text to the names of the steps, each on a line.
-pub fn put_steps(text: &mut LineText)
+pub fn set_steps(text: &mut LineText)
     ensures { text.new.items ≡ flat_map step_line steps }
 {
     text.clear();
@@ -41,7 +41,7 @@ fn write_steps<W: Target>(output: &mut Output<W>) -> Result<(), Stop>
         (output_state output.old looks) (output_state output.new looks) }
     ensures empty { output.new.pending.items ≡ [] }
 {
-    put_steps(&mut output.next);
+    set_steps(&mut output.next);
     Ok(output.write()?)
 }
 

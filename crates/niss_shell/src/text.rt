@@ -42,7 +42,7 @@ pub fn put_text(part: &[u8], text: &mut LineText)
 }
 
 /// Sets the text to a solution on a line: its turns, their number in brackets, and a line feed.
-pub fn put_solution(path: &TurnPath, text: &mut LineText)
+pub fn set_solution(path: &TurnPath, text: &mut LineText)
     ensures { text.new.items ≡ solution_line path.now.turns }
 {
     let turns = path.turns();
@@ -57,7 +57,7 @@ pub fn put_solution(path: &TurnPath, text: &mut LineText)
 }
 
 /// Sets the text to what stands after so many solutions: if they are none, a line that says so; and an empty line.
-pub fn put_end(solutions: u128, limit: Limit, text: &mut LineText)
+pub fn set_end(solutions: u128, limit: Limit, text: &mut LineText)
     ensures { text.new.items ≡ none_line limit solutions ++ line_feed ∷ [] }
 {
     text.clear();
@@ -82,7 +82,7 @@ fn put_length(least: Option<u8>, text: &mut LineText)
 }
 
 /// Sets the text to what a search found, how often it looked at a position, and a line feed.
-pub fn put_count(outcome: Outcome, looks: u128, text: &mut LineText)
+pub fn set_count(outcome: Outcome, looks: u128, text: &mut LineText)
     ensures { text.new.items ≡ count_text outcome.length outcome.solutions looks }
 {
     text.clear();

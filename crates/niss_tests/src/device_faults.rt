@@ -133,7 +133,7 @@ impl Writes<'_> {
         written
     }
 
-    /// Makes the run where the write after so many others fails: after all of them there is none.
+    /// Makes the run in which the write after so many others fails: after all of them there is none.
     fn check_write_after(self, rt: &impl Abort, alloc: Global, before: usize) {
         let written = self.written(rt, alloc, before);
         let all = self.pieces.len();
@@ -151,7 +151,7 @@ impl Writes<'_> {
         check_count(rt, "writes", calls.writes, number.min(all));
     }
 
-    /// Makes the run where each write of a byte fails in turn, where no byte is taken, and where the last flush fails.
+    /// Makes the run with each write of a byte failing in turn, with no byte taken, and with the last flush failing.
     fn check_output(self, rt: &impl Abort, alloc: Global) {
         let output = self.written(rt, alloc, self.pieces.len());
         let run = Good(self.given, output.as_slice());

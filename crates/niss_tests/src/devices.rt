@@ -17,9 +17,9 @@ pub struct Devices<'a> {
     pub flush_fails: bool,
     pub most_reported: usize,
     pub failed_report: Option<usize>,
-    /// The error of a failed call, where the run is given them as streams of `std::io`.
+    /// The error of a failed call, if the run is given them as streams of `std::io`.
     pub stream_error: Option<io::ErrorKind>,
-    /// What the run takes its memory of, where that isn't ample.
+    /// What the run takes its memory of, if that isn't ample.
     pub heap: Option<&'a LocalHeap>,
 }
 

@@ -16,7 +16,7 @@ fn words_at_the_limit_are_taken(rt: HostRuntime) -> Result<(), Fail> {
     Ok(())
 }
 
-// no growth is asked for where the words are too many
+// no growth is asked for if the words are too many
 #[test]
 fn words_above_the_limit_are_refused(rt: HostRuntime) -> Result<(), Fail> {
     let spaces = repeated(rt.alloc(), " ", LIMIT, "")?;

@@ -68,7 +68,7 @@ fn refuses_tables(heap: &LocalHeap) -> bool {
     TurnTables::build_in(heap).err() == Some(OutOfMemory)
 }
 
-/// Fills a heap with the tables, and does so again where they were dropped.
+/// Fills a heap with the tables, and does so again once they were dropped.
 fn check_room_for_one(rt: &impl Abort, heap: &LocalHeap) {
     let built = TurnTables::build_in(heap);
     check_tables(rt, &built);

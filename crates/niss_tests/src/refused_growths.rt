@@ -14,7 +14,7 @@ use std::test::Fail;
 /// The bytes of a heap with room for all.
 const AMPLE: usize = 1 << 22;
 
-/// By how many bytes rooms differ where the words ask for the only growth.
+/// By how many bytes rooms differ if the words ask for the only growth.
 const FOR_WORDS: u16 = 16;
 
 /// The same for an edge orientation: each of its tables has 2,048 bytes or more. In the least room that isn't 0 the words
@@ -27,7 +27,7 @@ const FOR_DOMINOES: u16 = 16_000;
 /// How many rooms are tried.
 const MOST_ROOMS: usize = 1000;
 
-/// What the source gives, where it is read.
+/// What the source gives, if it is read.
 const INPUT: &[u8] = b"F";
 
 /// What leaves room for this many bytes.
@@ -43,7 +43,7 @@ fn in_heap(heap: &LocalHeap) -> Devices<'_> {
     }
 }
 
-/// What a run has to write and to answer: this output where the room is enough.
+/// What a run has to write and to return: this output if the room is enough.
 fn outcome_of<'a>(fits: bool, output: &'a [u8]) -> Outcome<'a> {
     if fits {
         Outcome {
@@ -60,7 +60,7 @@ fn outcome_of<'a>(fits: bool, output: &'a [u8]) -> Outcome<'a> {
     }
 }
 
-/// Runs words that write this output in the room that a heap has, and answers whether that was enough. Where it wasn't,
+/// Runs words that write this output in the room that a heap has, and returns whether that was enough. If it wasn't,
 /// nothing is read, written or looked at.
 fn run_fits(
     rt: &impl Abort,
@@ -88,7 +88,7 @@ fn check_tables<A: Allocator>(rt: &impl Abort, tables: &Tables<A>, step: Step) {
     assert!(rt; tables.look(&position, &mut Meter::new()) == 0);
 }
 
-/// Builds the tables of a step in the room that a heap has, and answers whether that was enough. Where it wasn't, the meter
+/// Builds the tables of a step in the room that a heap has, and returns whether that was enough. If it wasn't, the meter
 /// hasn't risen.
 fn tables_fit(rt: &impl Abort, heap: &LocalHeap, step: Step) -> bool {
     let mut fill = Meter::new();
@@ -108,7 +108,7 @@ fn tables_fit(rt: &impl Abort, heap: &LocalHeap, step: Step) -> bool {
 /// What takes memory.
 #[derive(Clone, Copy)]
 enum Growing<'a> {
-    /// A run of these words, which writes this output where there is room.
+    /// A run of these words, which writes this output if there is room.
     Run(&'a [&'a str], &'a [u8]),
     /// The tables of a step.
     Tables(Step),

@@ -130,7 +130,7 @@ pub struct Calls {
     pub looks: u128,
 }
 
-/// What a run is given: its words, and its input, where that isn't empty.
+/// What a run is given: its words, and its input, if that isn't empty.
 #[derive(Clone, Copy)]
 pub enum Given<'a> {
     Words(&'a [&'a str]),
@@ -155,7 +155,7 @@ pub enum Run<'a> {
     Fault(Given<'a>, &'a [u8], &'a [u8]),
     /// Its words are refused.
     Usage(&'a [&'a str]),
-    /// It ends at the limit of input, or where memory or a device fails.
+    /// It ends at the limit of input, or if memory or a device fails.
     Failure(Given<'a>, &'a [u8], &'a [u8]),
 }
 
@@ -176,7 +176,7 @@ impl<'a> Run<'a> {
         (given, outcome)
     }
 
-    /// Makes it over such devices, and checks what it writes and answers.
+    /// Makes it over such devices, and checks what it writes and returns.
     pub fn check(self, rt: &impl Abort, alloc: Global, devices: Devices<'_>) -> Calls {
         let (given, outcome) = self.parts();
         let (words, input) = given.parts();

@@ -9,7 +9,7 @@ use niss_search::{Limit, Meter, Outcome, Position, Sink, Tables, TurnPath, searc
 use std::alloc::{Allocator, Global};
 use std::process::Abort;
 
-/// The tables of a step. Who has them ends with `drop(tables)`, which is proved once: where a scope ends without it, the
+/// The tables of a step. Who has them ends with `drop(tables)`, which is proved once: if a scope ends without it, the
 /// proof goes through all parts of the tables again.
 fn tables_of(rt: &impl Abort, alloc: Global, step: Step, meter: &mut Meter) -> Tables
     requires { meter.old ≤ 2 ^ 127 }
@@ -37,7 +37,7 @@ pub struct Search {
 }
 
 impl Search {
-    /// Searches, and answers with the looks at positions too. The path that the search goes along is left empty, with its
+    /// Searches, and returns the looks at positions too. The path that the search goes along is left empty, with its
     /// limit.
     pub fn run<K: Sink, A: Allocator>(
         self,

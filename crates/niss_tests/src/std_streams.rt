@@ -122,7 +122,7 @@ fn good_streams_are_written_and_flushed(rt: HostRuntime) {
 }
 
 /// Runs `unniss` over 700 empty lines and one that gives 256 words, of which the writer takes all at once, and flushes
-/// with this error, where there is one.
+/// with this error, if there is one.
 fn check_long_piece(rt: &impl Abort, alloc: Global, flush_error: Option<io::ErrorKind>) {
     let long = repeated(alloc, "Rw' ", 255, "Rw'\n").expect(rt, "memory for a line");
     let lines = repeated(alloc, "\n", 700, &long).expect(rt, "memory for lines");

@@ -40,7 +40,7 @@ impl Coordinate {
         }
     }
 
-    /// The rank of a cube on an axis, below `count`. It is 0 exactly where the cube keeps the coordinate's set of places.
+    /// The rank of a cube on an axis, below `count`. It is 0 exactly if the cube keeps the coordinate's set of places.
     pub fn rank(self, axis: Axis, cube: &Cube) -> u16
         ensures { IsRank self axis (map_of cube.now) result }
     {

@@ -14,7 +14,7 @@ use crate::scan::next_at;
 use std::marker::Model;
 use std::mem;
 
-/// A level of the fill, and what each byte of the table becomes where it is met from it: the lesser of the byte and the
+/// A level of the fill, and what each byte of the table becomes if it is met from it: the lesser of the byte and the
 /// next level. Compared anew at each turn it would cost a branch that is often guessed wrong, and the fill almost twice
 /// its time.
 #[derive(Drop)]
@@ -55,7 +55,7 @@ impl Level {
         self.number
     }
 
-    /// What a byte becomes where it is met. (That a level is below 20 is known to a proof by this call.)
+    /// What a byte becomes if it is met. (That a level is below 20 is known to a proof by this call.)
     fn meet(&self, byte: u8) -> u8
         ensures value { result ≡ min byte (self.now + 1) }
         ensures in_range { self.now < 20 }

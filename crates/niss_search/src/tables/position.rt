@@ -36,7 +36,7 @@ impl GoalCoordinates {
 }
 
 impl Default for GoalCoordinates {
-    /// A flip of 0: what a list of coordinates holds where it has none.
+    /// A flip of 0: what a list of coordinates holds in its unused cells.
     fn default() -> GoalCoordinates {
         GoalCoordinates::Flip {
             axis: Axis::Fb,

@@ -49,7 +49,7 @@ pub trait StateSpace {
         ensures { result ≡ distance_at (step self.now) (seen self.now state) };
 }
 
-/// The space of one goal more: the step is reached where it is by that goal, or by those of the other space.
+/// The space of one goal more: the step is reached if it is by that goal, or by those of the other space.
 #[derive(Drop)]
 pub struct GoalAndOthers<M: GoalMoves, A: Allocator, S: StateSpace> {
     first: PruningTable<M, A>,

@@ -21,7 +21,7 @@ returns-in_ok-outcome-in-Solutions-clause-reports g c =
     let limit_is : c.new-path.result.limit ≡ c.in-Solutions.limit = ap (λ p. p.limit) c.new-path.ensures in
     rw (c.in-Solutions.is, ← limit_is) (λ e at. solved g.W.Target.call _ _ _ _ _ _ c.args.output.now c.search.new.sink c.put.new.self
     (c.in_ok-outcome-in-Solutions.ensures.ok e at) (c.in_ok-outcome-in-Solutions.ensures.solutions e at) (c.in_ok-outcome-in-Solutions.ensures.looks e at)
-    (rw limit_is c.put_end.ensures) c.put.ensures.taken)
+    (rw limit_is c.set_end.ensures) c.put.ensures.taken)
 
 pub returns-in-Counts-clause-reports : goal.returns-in-Counts-clause-reports
 returns-in-Counts-clause-reports g c = λ e at.
@@ -30,5 +30,5 @@ returns-in-Counts-clause-reports g c = λ e at.
     let nodes_are : c.count.result - c.count-before.result ≡ near_looks_of c.args.tables.now e c.in-Counts.limit 0 =
     omega (arith, c.count.ensures, c.count-before.ensures, looked) in
     rw c.in-Counts.is (reported_after g.W.Target.call _ _ _ _ c.args.output.now c.put-in-Counts.new.self
-    (c.put_count.ensures ∙ same_count _ _ _ _ found.length_is found.solutions_are nodes_are)
+    (c.set_count.ensures ∙ same_count _ _ _ _ found.length_is found.solutions_are nodes_are)
     looked c.put-in-Counts.ensures.taken)

@@ -1,5 +1,5 @@
 use Rattle.niss_shell.proofs.Names.{◌≡◌, ◌*◌, ◌≤◌, take, length, flat_map, steps, step_line}
-use Rattle.niss_shell.proofs.shell.put_steps.Given as goal
+use Rattle.niss_shell.proofs.shell.set_steps.Given as goal
 
 abbrev pub invariant-loop-step : goal.invariant-loop-step
 invariant-loop-step l = record {

@@ -1,5 +1,5 @@
 use Rattle.niss_shell.proofs.Names.{◌≡◌, take, length, ap, ◌∙◌, arith, flat_map, take_all, steps, Step, step_line, ℕ}
-use Rattle.niss_shell.proofs.shell.put_steps.Goals as goal
+use Rattle.niss_shell.proofs.shell.set_steps.Goals as goal
 
 pub loop-step-init : goal.loop-step-init
 loop-step-init c = record { names = c.clear.ensures; room = omega (arith, ap (length {A = ℕ}) c.clear.ensures); items = c.all-step-items.ensures }
