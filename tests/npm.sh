@@ -41,6 +41,13 @@ answers "where there is no module" 1 '' 'there is no build/nissy.wasm: `make bui
 # installed
 in_folder() { (cd "$user" && "$@"); }
 holds "npm installs the package" in_folder npm install "$room/first/$name"
+by_readme() { # npm takes a path without a dot for a place on the network
+    local path
+    path=$(grep -oE 'npm install [^ `]*nissy-VERSION[.]tgz' web/module/README.md) && path=${path#npm install }
+    path=${path/FOLDER/first}
+    (mkdir "$room/other" && cd "$room" && npm install --prefix other "${path/VERSION/$(cd "$top" && tools/version)}")
+}
+holds "npm installs it by the path that README names" by_readme
 package=$user/node_modules/nissy
 if [ ! -e "$package" ]; then ended || exit 1; fi
 dead_links() { # of the pages of the package
