@@ -56,7 +56,15 @@ async function tryRefusals(nissy) {
   const { WebAssembly: whole } = globalThis;
   globalThis.WebAssembly = undefined;
   const [name, message] = await thrown(() => Nissy.load(module));
+  const unheard = [];
+  const hear = (reason) => unheard.push(reason.message);
+  process.on("unhandledRejection", hear);
+  const missing = new Promise((_, reject) => setTimeout(() => reject(new Error("no network")), 1));
+  same("nor is a module looked at", (await thrown(() => Nissy.load(missing)))[0], "NoWebAssembly");
   globalThis.WebAssembly = whole;
+  await new Promise((done) => setTimeout(done, 20));
+  process.off("unhandledRejection", hear);
+  same("one that can't be had isn't told too, which would end node", unheard, []);
   same("an engine without WebAssembly", [name, message], ["NoWebAssembly", new NoWebAssembly().message]);
   same("it says so in words", /no WebAssembly/.test(message), true);
   same("its name of before", NoWideMemory, NoWebAssembly);

@@ -25,7 +25,11 @@ function bodyOf(response) {
  * @returns {Promise<WebAssembly.Module>}
  */
 export async function compiled(source) {
-  if (!globalThis.WebAssembly) throw new NoWebAssembly();
+  if (!globalThis.WebAssembly) {
+    // nobody is left to hear that it can't be had either
+    Promise.resolve(source).catch(() => {});
+    throw new NoWebAssembly();
+  }
   const given = await source;
   if (isBytes(given)) return WebAssembly.compile(new Uint8Array(given));
   switch (tagOf(given)) {
