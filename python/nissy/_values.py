@@ -50,8 +50,9 @@ class LineFault(ValueError):
         return f"{_place(self.line, ', ')}column {self.column}: {self.text}"
 
     def __reduce__(self) -> Tuple[Any, ...]:
-        """What a copy is made of, as for another process: an exception is made again of its message, if nothing else is said."""
-        return type(self), (self.column, self.text, self.line)
+        """What a copy is made of, as for another process: an exception is made again of its message, if nothing else is said. With it go its
+        attributes, among which are notes of others."""
+        return type(self), (self.column, self.text, self.line), self.__dict__
 
 
 class StartFault(ValueError):
@@ -70,7 +71,7 @@ class StartFault(ValueError):
 
     def __reduce__(self) -> Tuple[Any, ...]:
         """What a copy is made of, as of a LineFault."""
-        return type(self), (self.step, self.start, self.text, self.line)
+        return type(self), (self.step, self.start, self.text, self.line), self.__dict__
 
 
 def _place(line: Optional[int], then: str) -> str:

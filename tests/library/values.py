@@ -249,12 +249,15 @@ def copies(tally: Tally) -> None:
     made: Any
     first = raised(nissy.LineFault, lambda: list(nissy.solve_all("eofb", ["R Q"])))
     second = raised(nissy.StartFault, lambda: list(nissy.solve_all("drfb-eorl", ["R"])))
+    # what `add_note` of Python 3.11 sets
+    first.__notes__, second.__notes__ = ["mine"], ["mine too"]
     for made in (copy.copy, copy.deepcopy, lambda it: pickle.loads(pickle.dumps(it))):
         fault, start = made(first), made(second)
         tally.equal("a fault", (type(fault), str(fault), fault.column, fault.text, fault.line),
                     (nissy.LineFault, "line 1, column 3: not a move", 3, "not a move", 1))
         tally.equal("a start", (type(start), str(start), start.step, start.start, start.text, start.line),
                     (nissy.StartFault, "line 1: eorl does not hold", "drfb-eorl", "eorl", "eorl does not hold", 1))
+        tally.equal("their notes", (getattr(fault, "__notes__", None), getattr(start, "__notes__", None)), (["mine"], ["mine too"]))
         solution = made(nissy.solve("eofb", "F B")[0])
         tally.equal("a solution", (type(solution), solution, solution.length), (nissy.Solution, "F B", 2))
         tally.equal("a count", made(nissy.count("eofb", "R U F")), nissy.Count(1, 2, 20))
