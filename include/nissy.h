@@ -8,6 +8,9 @@
  * Threads. The one state between calls is that of the tables which a caller has built (nissy_tables below). Any threads may call at the
  * same time, with written buffers of their own.
  *
+ * Stack and signals. nissy_run and nissy_build need 64 KiB of stack and take memory: neither is to be called from a signal handler, or in a
+ * forked child of a process with threads. All other calls need 16 KiB and take none, and may be called there too.
+ *
  * Link with -lnissy (pkg-config: nissy). EMBEDDING.md (docs/, or share/doc/nissy/) has examples. nissy.hpp is for C++17 and later. */
 #ifndef NISSY_H
 #define NISSY_H
@@ -85,8 +88,7 @@ typedef struct nissy_run_answer {
  * and `solve eofb 20` is "solve\0eofb\0" "20".
  *
  * It takes memory for the words, and for the tables of a step, from the program's malloc, realloc and free, and has given all of it
- * back when it returns. Where a program brings its own, they must align a block to each power of two up to 16 that divides its size. It
- * isn't to be called from a signal handler, or in a forked child of a process with threads. It needs 64 KiB of stack. */
+ * back when it returns. Where a program brings its own, they must align a block to each power of two up to 16 that divides its size. */
 nissy_run_answer nissy_run(const uint8_t *words, size_t words_length, const uint8_t *input, size_t input_length, uint8_t *out,
                            size_t out_room, uint8_t *err, size_t err_room);
 
@@ -107,7 +109,7 @@ typedef struct nissy_tables {
 #define NISSY_NO_TABLES {NULL, false}
 
 /* Builds the tables of the step of this name, such as "dr-eofb" (7 bytes; nissy_steps writes all names). It takes memory from the
- * program's malloc, as nissy_run does, and 64 KiB of stack.
+ * program's malloc, as nissy_run does.
  *
  * NISSY_DONE: the struct has them; if it had those of this step before, the call returned at once. NISSY_USAGE: no step has this name.
  * NISSY_STOPPED: memory was refused, and all that this call took is given back. After these two the struct has no tables. Those that it

@@ -58,7 +58,7 @@ if has_sanitizer -fsanitize=thread; then sees_races=yes; else skips "cc has no s
 missing valgrind && skips "valgrind isn't installed"
 valgrinds() { missing valgrind || add valgrind -q --error-exitcode=99 "$@"; } # WORD..
 
-for name in lines runs tables beside_run memory threads fuzz broken_rules; do
+for name in lines runs tables beside_run memory threads handlers fuzz broken_rules; do
     holds "$name.c compiles without a warning" compiled "$room/$name" "$name"
     add "$room/$name"
     if [ $is_sanitized = yes ]; then
@@ -70,8 +70,8 @@ for name in lines runs tables beside_run memory threads fuzz broken_rules; do
         add "$room/$name.raced"
     fi
     case $name in
-        # valgrind's own malloc takes no wraps, and helgrind tells the races that are meant
-        memory | fuzz | broken_rules) ;;
+        # valgrind's own malloc takes no wraps, helgrind tells the races that are meant, and a handler's small stack isn't for either
+        memory | fuzz | broken_rules | handlers) ;;
         # unlike the sanitizer it sees what the library itself reads and writes; searches alone, since a run takes it seconds
         threads) valgrinds --tool=helgrind "$room/$name" 0 20 ;;
         beside_run) valgrinds --leak-check=full "$room/$name" 2 1 ;;

@@ -1,0 +1,85 @@
+/* Calls from a signal's handler while the thread is within another call, on a stack of its own that is no larger than the header asks for:
+   each is answered as by itself. */
+#include "rows.h"
+#include "searches.h"
+
+#include <signal.h>
+#include <sys/auxv.h>
+#include <sys/time.h>
+
+/* how much a kernel itself lays on the stack; older ones don't say, and lay less than a page */
+#ifndef AT_MINSIGSTKSZ
+#define AT_MINSIGSTKSZ 51
+#endif
+
+enum { STACK = 16 * 1024, HANDLED = 400, MICROSECONDS = 300 };
+
+static nissy_tables asked[SEARCH_COUNT];
+static volatile sig_atomic_t handled, wrong;
+
+/* A stack for the handler. The sanitizers themselves take more. */
+static guarded stack_of_handler(void) {
+    size_t laid = getauxval(AT_MINSIGSTKSZ);
+#if defined __SANITIZE_ADDRESS__
+    return guard(16 * STACK + laid);
+#else
+    return guard(STACK + (laid ? laid : 4096));
+#endif
+}
+
+static int is_searched(const search_row *row, const nissy_tables *tables) {
+    uint8_t out[256];
+    const uint8_t *line = (const uint8_t *)row->line;
+    nissy_solve_answer got = nissy_solve(tables, line, strlen(row->line), row->limit, row->slack, UINT64_MAX, out, sizeof out);
+    nissy_count_answer told = nissy_count(tables, line, strlen(row->line), row->limit, row->slack);
+    return got.status == NISSY_DONE && got.out_length == strlen(row->text) && memcmp(out, row->text, got.out_length) == 0 &&
+           told.status == NISSY_DONE && told.solutions == got.solutions && told.least == row->least;
+}
+
+static int is_text(nissy_line_answer got, const uint8_t *out, const char *text) {
+    return got.status == NISSY_DONE && got.length == strlen(text) && memcmp(out, text, got.length) == 0;
+}
+
+/* Whether the other calls that take no memory are answered as they are to be. */
+static int are_lines(void) {
+    static const char cube[] = "UUFUUFUUFRRRRRRRRRFFDFFDFFDDDBDDBDDBLLLLLLLLLUBBUBBUBB";
+    static const uint8_t line[] = "R (U F') D";
+    uint8_t out[256];
+    return is_text(nissy_invert(line, 10, out, sizeof out), out, "U F' D' R'") &&
+           is_text(nissy_unniss(line, 10, out, sizeof out), out, "R D F U'") &&
+           is_text(nissy_cleanup((const uint8_t *)"Rw U", 4, out, sizeof out), out, "L F x") &&
+           is_text(nissy_print((const uint8_t *)"R", 1, out, sizeof out), out, cube) &&
+           is_text(nissy_scramble(42, 54, 6, out, sizeof out), out, "L' D' F' R2 F' L'") &&
+           is_text(nissy_start((const uint8_t *)"dr-eofb", 7, out, sizeof out), out, "eofb") &&
+           is_text(nissy_fault_text(NISSY_START, out, sizeof out), out, "does not hold") &&
+           nissy_steps(out, sizeof out).status == NISSY_DONE && nissy_version() > 0;
+}
+
+/* The next signal. */
+static void is_to_come(void) {
+    static const struct itimerval once = {{0, 0}, {0, MICROSECONDS}};
+    setitimer(ITIMER_REAL, &once, NULL);
+}
+
+static void handle(int number) {
+    size_t at = (size_t)handled % SEARCH_COUNT;
+    (void)number;
+    if (!is_searched(&SEARCHES[at], &asked[at]) || !are_lines()) wrong++;
+    if (++handled < HANDLED) is_to_come();
+}
+
+int main(void) {
+    size_t wrong_beside = 0, round = 0;
+    guarded stack = stack_of_handler();
+    stack_t own = {.ss_sp = stack.bytes, .ss_size = stack.size};
+    struct sigaction action = {.sa_handler = handle, .sa_flags = SA_ONSTACK | SA_RESTART};
+    for (size_t at = 0; at < SEARCH_COUNT; at++) asked[at] = built(SEARCHES[at].step);
+    if (sigaltstack(&own, NULL) || sigaction(SIGALRM, &action, NULL)) return 2;
+    for (is_to_come(); handled < HANDLED; round++) {
+        size_t at = round % SEARCH_COUNT;
+        if (!is_searched(&SEARCHES[at], &asked[at]) || !are_lines()) wrong_beside++;
+    }
+    holds(wrong == 0, "each answer is that of its call", "a handler");
+    holds(wrong_beside == 0, "each answer is that of its call", "what it interrupts");
+    return ended();
+}
