@@ -138,7 +138,7 @@ inline std::vector<std::string> lines_of(std::string_view text) {
 // The solutions of a text that has one a line, such as "R U' F2 (3)".
 inline std::vector<solution> solutions_of(std::string_view text, std::uint64_t count) {
     std::vector<solution> found;
-    found.reserve(static_cast<std::size_t>(count));
+    found.reserve(count);
     while (!text.empty()) {
         const std::string_view line = text.substr(0, text.find('\n'));
         const std::size_t open = line.rfind('(');
@@ -197,7 +197,7 @@ public:
         const std::uint8_t limit = detail::turns(which.limit, "limit"), slack = detail::turns(which.slack, "slack");
         // a search that a room stopped is made again with eight times as much
         for (std::uint64_t room = 64;; room *= 8) {
-            std::string out(static_cast<std::size_t>(std::min(which.most, room) * MOST_OF_ONE), '\0');
+            std::string out(std::min(which.most, room) * MOST_OF_ONE, '\0');
             const nissy_solve_answer answer =
                 nissy_solve(&kept_->second, detail::bytes(line), line.size(), limit, slack, which.most, detail::bytes(out), out.size());
             if (answer.status == NISSY_ROOM) continue;

@@ -92,10 +92,16 @@ compiled_by() { # COMPILER PROGRAM WORD..: compiles the test in C++, with these 
 tells_older() { # COMPILER
     "$1" -std=c++14 -Iinclude -fsyntax-only -x c++ include/nissy.hpp 2>&1 | head -n 1 | grep -q 'nissy.hpp:.*is for C++17'
 }
+read_strictly() { # COMPILER: callers have warnings of their own, and it is no header of the system
+    local more=(-Wconversion -Wsign-conversion -Wshadow -Wold-style-cast -Wcast-qual -Wundef)
+    [ "$1" = clang++ ] || more+=(-Wuseless-cast)
+    "$1" -std=c++17 "${strict[@]}" "${more[@]}" -x c++ -fsyntax-only include/nissy.hpp
+}
 for compiler in g++ clang++; do
     if missing $compiler; then skips "$compiler isn't installed" && continue; fi
     holds "nissy.h is C++98 too, by $compiler" $compiler -std=c++98 "${strict[@]}" -x c++ -fsyntax-only include/nissy.h
     holds "nissy.hpp tells C++14 that it is for C++17, by $compiler" tells_older $compiler
+    holds "nissy.hpp is read without further warnings, by $compiler" read_strictly $compiler
     for standard in c++17 c++20; do
         holds "nissy.cpp compiles as $standard by $compiler" compiled_by $compiler "$room/$compiler.$standard" -std=$standard
         add "$room/$compiler.$standard"
