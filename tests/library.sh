@@ -119,6 +119,24 @@ missing g++ || valgrinds --leak-check=full "$room/g++.c++17"
 printf '#include "nissy.h"\nint main(void) { return nissy_invert("R", 1, 0).status; }\n' > "$room/other.c"
 holds "a call with too few arguments doesn't compile" refuses cc -std=c11 "${strict[@]}" -o "$room/other" "$room/other.c" "$folder/libnissy.a"
 
+# The oldest processor that the library is for, which does some of its instructions otherwise, and one that is older. The positions of the
+# last answer are the model's.
+is_refused() { # COMMAND..: the older processor loads none of it
+    local said
+    said=$(qemu-x86_64 -cpu Penryn "$@" 2> /dev/null)
+    [ $? -eq 127 ] && [ -z "$said" ]
+}
+if missing qemu-x86_64; then
+    skips "qemu-user isn't installed, so no other processor is tried"
+else
+    add qemu-x86_64 -cpu Nehalem "$room/lines"
+    add qemu-x86_64 -cpu Nehalem "$room/runs" 7
+    add qemu-x86_64 -cpu Nehalem "$room/tables" 7
+    answers "the program on an old processor" 0 'length 7 solutions 4 nodes 107\n' '' \
+        qemu-x86_64 -cpu Nehalem "$program" count drud-eofb 20 "R U2 L' D R2 U' F2 L D' B2 R' U L2 D2 R U' F2 D L'"
+    holds "an older one doesn't load the library" is_refused "$room/shared_runs" 7
+fi
+
 if missing python3; then
     skips "there is no python3 here"
 else
