@@ -7,8 +7,9 @@ use crate::runs::{
     CANNOT_READ, CANNOT_WRITE, check_bytes, check_count, check_each_read, check_each_write,
     check_nothing_taken, repeated, words_of,
 };
-use niss_shell::{FromReader, Meter, Source, Target, ToWriter, run};
+use niss_shell::{DeviceFault, FromReader, Meter, Source, Target, ToWriter, run};
 use std::alloc::Global;
+use std::cell::Cell;
 use std::io;
 use std::io::Cursor;
 use std::process::Abort;
@@ -199,4 +200,78 @@ fn each_call_is_one_of_the_stream(rt: HostRuntime) {
 fn empty_calls_are_handed_on(rt: HostRuntime) {
     check_calls(&rt, rt.alloc(), &mut [], b"", false);
     check_calls(&rt, rt.alloc(), &mut [], b"", true);
+}
+
+/// A write and a flush after a write that failed are the stream's too.
+#[test]
+fn calls_after_a_failed_write_are_handed_on(rt: HostRuntime) {
+    let devices = Devices {
+        failed_write: Some(1),
+        ..good_streams()
+    };
+    let mut out = devices.target(rt.alloc());
+    let mut target = ToWriter::new(&mut out);
+    assert!(&rt;
+        target.write(b"R'\n") == Err(DeviceFault),
+        "a good first write"
+    );
+    assert!(&rt; target.write(b"U'\n") == Ok(3), "a failed second write");
+    assert!(&rt; target.flush() == Ok(()), "a failed flush");
+    check_bytes(&rt, out.bytes.as_slice(), b"U'\n");
+    check_count(&rt, "flushes", out.flushes, 1);
+}
+
+/// A stream that takes all, and notes its last call by a clock that it shares with another.
+#[derive(Drop)]
+struct Timed<'a> {
+    clock: &'a Cell<usize>,
+    last: usize,
+}
+
+impl<'a> Timed<'a> {
+    fn new(clock: &'a Cell<usize>) -> Timed<'a> {
+        Timed { clock, last: 0 }
+    }
+
+    fn tick(&mut self) {
+        self.last = self.clock.get().saturating_add(1);
+        self.clock.set(self.last);
+    }
+}
+
+impl io::Write for Timed<'_> {
+    fn write(&mut self, buf: &[u8]) -> io::Result<usize> {
+        self.tick();
+        Ok(buf.len())
+    }
+
+    fn flush(&mut self) -> io::Result<()> {
+        self.tick();
+        Ok(())
+    }
+}
+
+/// Runs `invert`, whose calls of the output end by this one, and whose fault is reported by the next.
+fn check_order(rt: &impl Abort, alloc: Global, input: &[u8], last: usize) {
+    let words = words_of(alloc, &["invert"]).expect(rt, "memory for words");
+    let clock = Cell::new(0);
+    let (mut out, mut err) = (Timed::new(&clock), Timed::new(&clock));
+    let status = run(
+        alloc,
+        &words,
+        &mut FromReader::new(Cursor::new(input)),
+        &mut ToWriter::new(&mut out),
+        &mut ToWriter::new(&mut err),
+        &mut Meter::new(),
+    );
+    check_count(rt, "status", usize::from(status), 1);
+    check_count(rt, "the last call of the output", out.last, last);
+    check_count(rt, "the report", err.last, last.saturating_add(1));
+}
+
+/// The output is flushed before a fault is reported: so it stands before the fault if both go to one place.
+#[test]
+fn a_fault_comes_after_the_flush(rt: HostRuntime) {
+    check_order(&rt, rt.alloc(), b"R\nq\n", 2);
+    check_order(&rt, rt.alloc(), b"q\n", 1);
 }
