@@ -7,7 +7,7 @@ from dataclasses import dataclass, field
 from kit import TOP
 
 FOLDER = f"{TOP}/tests/wrong-bodies"
-HEAD = re.compile(r'( *)(?:pub(?:\([a-z]+\))? )?(?:const )?(?:extern "C" )?fn (\w+)')
+HEAD = re.compile(r'( *)(?:pub(?:\([a-z]+\))? )?(?:const )?(?:unsafe )?(?:extern "C" )?fn (\w+)')
 # how a body begins, and a line of it that is no description
 NAMED = re.compile(r"(gate|further): (\w+)")
 OF_A_BODY = re.compile(r"(gate|further|refused|file):|[-+]")
