@@ -8,7 +8,7 @@ const UNSEEN = /[\u200B-\u200D\u2060\uFEFF]/;
 const COMMAS = /[,;]/;
 
 /** What stands before the moves of a line, such as `EO:` or `Final solution:`. */
-const LABEL = /^[^\S\n]*\p{L}[\p{L}\p{N}]+(?: \p{L}+){0,2}[^\S\n]*:/gmu;
+const LABEL = /^[^\S\n]*\p{L}[\p{L}\p{N}]+(?: \p{L}+){0,2}[^\S\n]*:(?=\s|$)/gmu;
 
 /** What is left out as a whole, and what it is called; the last name counts. */
 const LEFT_OUT = [
