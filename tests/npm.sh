@@ -57,7 +57,7 @@ dead_links() { # of the pages of the package
 }
 holds "each link of its pages leads to one of them" test -z "$(dead_links)"
 block() { sed -n "/^\`\`\`$1\$/,/^\`\`\`\$/p" "$package/README.md" | sed '1d;/^```$/,$d'; } # KIND: the first block of this kind on its page
-example() { block js > "$user/example.mjs" && cmp <(block text) <(in_folder node example.mjs); }
+example() { block js > "$user/example.mjs" && cmp <(block text) <(in_folder node example.mjs) && rm "$user/example.mjs"; }
 holds "the example of its page prints what the page says" example
 holds "it names no licence" refuses grep -q '"license"' "$package/package.json"
 
