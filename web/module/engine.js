@@ -181,13 +181,13 @@ export class Engine {
    * @returns {number[]}
    */
   #places(...sizes) {
-    const places = [];
     let end = this.#free;
-    for (const size of sizes) {
+    // unlike push, it asks no setter that some script gave to all arrays
+    const places = sizes.map((size) => {
       const place = aligned(end);
-      places.push(place);
       end = place + size;
-    }
+      return place;
+    });
     if (end > MOST_BYTES) throw new RangeError("no memory has so many bytes");
     const { memory } = this.#exports;
     const missing = Math.ceil((end - memory.buffer.byteLength) / PAGE);
@@ -294,7 +294,9 @@ export class Engine {
   #inWords(reply, step = "") {
     if (reply.status !== STATUS.fault) return reply;
     const { out: text } = this.#written("nissy_fault_text", null, [reply.fault]);
-    return reply.fault === START ? { ...reply, text, step, start: this.#written("nissy_start", step).out } : { ...reply, text };
+    // said of each fault: what isn't said is read of all objects, to which some script may have given it
+    const start = reply.fault === START ? this.#written("nissy_start", step).out : undefined;
+    return { ...reply, text, step, start };
   }
 
   /**

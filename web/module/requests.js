@@ -33,6 +33,12 @@ const MOST_SCRAMBLES = 10_000;
 const MOST_OF_TURN = 3;
 
 /**
+ * The options of a call that is given none: nothing that some script gave to all objects is one of them.
+ * @type {{[name: string]: any}}
+ */
+export const NO_OPTIONS = Object.freeze(Object.create(null));
+
+/**
  * @param {unknown} options
  * @returns {{[name: string]: unknown}}
  */
@@ -53,7 +59,7 @@ export function runRequest(words, input = "", room = undefined) {
 export const lineRequest = (call, line) => ({ call, line: takenLine(line, "the line") });
 
 /** @param {unknown} step @param {unknown} line @param {unknown} [options] @returns {CountRequest} */
-export function countRequest(step, line, options = {}) {
+export function countRequest(step, line, options = NO_OPTIONS) {
   const { limit = MOST_TURNS, slack = 0 } = optionsOf(options);
   return {
     call: "count",
@@ -65,7 +71,7 @@ export function countRequest(step, line, options = {}) {
 }
 
 /** @param {unknown} step @param {unknown} line @param {unknown} [options] @returns {SolveRequest} */
-export function solveRequest(step, line, options = {}) {
+export function solveRequest(step, line, options = NO_OPTIONS) {
   const { most = Infinity } = optionsOf(options);
   const counted = countRequest(step, line, options);
   return {

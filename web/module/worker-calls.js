@@ -3,7 +3,7 @@
 import { EngineMissing, Stopped } from "./faults.js";
 import { allOf, countIn, lineIn, linesIn, outputLinesIn, solutionsIn } from "./replies.js";
 import {
-  allRequest, countRequest, lineRequest, optionsOf, runRequest, scrambleRequest, scramblesRequest, solveRequest, stepsRequest,
+  NO_OPTIONS, allRequest, countRequest, lineRequest, optionsOf, runRequest, scrambleRequest, scramblesRequest, solveRequest, stepsRequest,
 } from "./requests.js";
 import { compiled } from "./source.js";
 
@@ -61,7 +61,7 @@ export function listenedTo(made) {
  * @param {unknown} [options]
  * @returns {AbortSignal | undefined}
  */
-function signalOf(options = {}) {
+function signalOf(options = NO_OPTIONS) {
   const { signal } = /** @type {{signal?: any}} */ (optionsOf(options));
   if (signal === undefined) return undefined;
   const listens = ["addEventListener", "removeEventListener"].every((name) => typeof signal?.[name] === "function");
@@ -179,7 +179,7 @@ export class WorkerCalls {
   }
 
   /** @param {readonly Text[]} words @param {Text} [input] @param {Stoppable & {room?: number}} [options] @returns {Promise<Answer>} */
-  async run(words, input, options = {}) {
+  async run(words, input, options = NO_OPTIONS) {
     return this.#answer(runRequest(words, input, optionsOf(options).room), options);
   }
 
