@@ -180,6 +180,12 @@ def offers_last(tally: Tally, browser: Browser) -> None:
         browser.script("localStorage.setItem('nissy-last', arguments[0])", broken)
         browser.open()
         tally.equal(f"{broken!r} isn't offered", browser.script(offered), False)
+    browser.script("localStorage.setItem('nissy-last', '#scramble=B_D')")
+    browser.open()
+    browser.press("i")
+    browser.until("return location.hash === '#side=inverse'")
+    browser.open()
+    tally.equal("a side alone doesn't take its place", browser.text("last-line"), "B D")
 
 
 def leaves_list(tally: Tally, browser: Browser) -> None:

@@ -5,11 +5,18 @@ import { bracketed } from "./steps.js";
 
 const LAST = "nissy-last";
 
-/** Keeps an address, if it says something.
+/** What an address says that can be gone on with: a state with a scramble, or null.
+ * @param {string} address */
+function readLast(address) {
+    const { state, fault } = readAddress(address);
+    return fault === "" && state.scramble.trim() !== "" ? state : null;
+}
+
+/** Keeps an address, if it can be gone on with: nothing else takes the place of what was done before.
  * @param {string} address */
 export function keepLast(address) {
     try {
-        if (address !== "#") localStorage.setItem(LAST, address);
+        if (readLast(address) !== null) localStorage.setItem(LAST, address);
     } catch {
         // then nothing is offered
     }
@@ -26,10 +33,10 @@ function last() {
 /** Offers what was done last, if it can be read. */
 export function offerLast() {
     const address = last();
-    const { state: { scramble, parts, kept }, fault } = readAddress(address);
-    const isOffered = fault === "" && scramble.trim() !== "";
-    part("last").hidden = !isOffered;
-    if (!isOffered) return;
+    const state = readLast(address);
+    part("last").hidden = state === null;
+    if (state === null) return;
+    const { scramble, parts, kept } = state;
     part("last-line").textContent = [scramble, bracketed(parts)].filter((each) => each !== "").join(" · ");
     part("last-kept").textContent = kept.length === 0 ? "" : `${counted(kept.length, "line")} kept`;
     part("last-back").addEventListener("click", () => {
