@@ -186,6 +186,12 @@ def offers_last(tally: Tally, browser: Browser) -> None:
     browser.until("return location.hash === '#side=inverse'")
     browser.open()
     tally.equal("a side alone doesn't take its place", browser.text("last-line"), "B D")
+    browser.script("document.getElementById('seeds').open = true; document.querySelector('[data-example=\"R U\"]').click()")
+    browser.until("return document.querySelectorAll('#steps-body .cell').length > 0")
+    browser.wait()
+    back(browser)
+    browser.until("return document.getElementById('welcome').checkVisibility()")
+    tally.equal("the browser's Back to the beginning offers what was done since", browser.text("last-line"), "R U")
 
 
 def leaves_list(tally: Tally, browser: Browser) -> None:

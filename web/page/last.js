@@ -39,7 +39,8 @@ export function offerLast() {
     const { scramble, parts, kept } = state;
     part("last-line").textContent = [scramble, bracketed(parts)].filter((each) => each !== "").join(" · ");
     part("last-kept").textContent = kept.length === 0 ? "" : `${counted(kept.length, "line")} kept`;
-    part("last-back").addEventListener("click", () => {
+    // in place of what was offered before
+    part("last-back").onclick = () => {
         location.hash = address;
-    });
+    };
 }

@@ -16,7 +16,7 @@ import { ScrambleField } from "./scramble.js";
 import { OpenList, SolutionList } from "./solutions.js";
 import { ORIENTATIONS, bracketed, isReduced, stateOf, stepNamed } from "./steps.js";
 import { StepTable } from "./table.js";
-import { isBare, keepInView, listenToKeys, setUsable, showStart, star, withoutMoving } from "./view.js";
+import { isBare, keepInView, listenToKeys, setUsable, showBeginning, showStart, star, withoutMoving } from "./view.js";
 import { NOT_IN_ADDRESS, NO_ROOM, titleOfPage, unanswered, whyNotListed, whyUnread } from "./words.js";
 
 /** @typedef {import("./address.js").State} State */
@@ -103,7 +103,7 @@ export class Page {
         dropAddress();
         setBusy("results", true);
         tell(part("alert"), fault);
-        part("welcome").hidden = !isBare(state);
+        showBeginning(state);
         try {
             state.parts = await readSteps(this.#calls, state.parts);
             state.kept = await readKept(this.#calls, state.kept);
@@ -227,7 +227,7 @@ export class Page {
         }
         if (turn !== this.#turn) return null;
         this.#scramble.judge(fault, read);
-        part("welcome").hidden = !isBare(this.#state);
+        showBeginning(this.#state);
         if (fault) setUsable(false);
         return read;
     }

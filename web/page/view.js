@@ -1,5 +1,6 @@
 // How the page is seen and used as a whole: what stays in view and what is dimmed, light and dark, help under its button, and single keys.
 import { announce, part } from "./element.js";
+import { offerLast } from "./last.js";
 
 const EDGE = 16;
 /** Where the columns stand beside each other. */
@@ -11,6 +12,15 @@ export const isNarrow = () => matchMedia("(max-width: 37.5rem)").matches;
 /** Whether nothing was done yet.
  * @param {import("./address.js").State} state */
 export const isBare = ({ scramble, parts }) => scramble.trim() === "" && parts.length === 0;
+
+/** Shows the beginning, and what was done last, where nothing was done yet.
+ * @param {import("./address.js").State} state */
+export function showBeginning(state) {
+    const isShown = isBare(state);
+    // it may have been done since the page was opened
+    if (isShown && part("welcome").hidden) offerLast();
+    part("welcome").hidden = !isShown;
+}
 
 /**
  * Scrolls to where a column that stays shows what has the focus. The browser scrolls to where that is, and the column goes along.
