@@ -192,6 +192,9 @@ def offers_last(tally: Tally, browser: Browser) -> None:
     back(browser)
     browser.until("return document.getElementById('welcome').checkVisibility()")
     tally.equal("the browser's Back to the beginning offers what was done since", browser.text("last-line"), "R U")
+    browser.script("document.getElementById('last-back').focus()")
+    browser.press(Keys.ENTER)
+    tally.holds("whoever goes on by keys is in the table", browser.until("return document.activeElement.matches('#steps-body .least')"))
 
 
 def leaves_list(tally: Tally, browser: Browser) -> None:

@@ -99,7 +99,7 @@ export class Page {
         const turn = ++this.#turn;
         const { state, fault } = readAddress(hash);
         this.#isReading = true;
-        this.#focusNext = null;
+        this.#focusNext = document.activeElement === part("last-back") ? { to: "table", from: document.activeElement } : null;
         dropAddress();
         setBusy("results", true);
         tell(part("alert"), fault);
