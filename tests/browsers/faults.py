@@ -171,6 +171,32 @@ def pasted(tally: Tally, browser: Browser) -> None:
     tally.equal("and so is what is kept", browser.texts("#kept-list .step .moves"), ["L2"])
 
 
+POST = "Hi all, my attempt today:\n\nR' U' F D2\nF R' B // EO\n"
+# as the browser does it: what the field has no room for is gone
+PASTED_LONG = """
+    const [field, clipboardData] = [document.getElementById('scramble'), new DataTransfer()];
+    clipboardData.setData('text/plain', arguments[0]);
+    field.dispatchEvent(new ClipboardEvent('paste', { clipboardData, bubbles: true, cancelable: true }));
+    field.value = arguments[0].slice(0, field.maxLength);
+    document.getElementById('results').setAttribute('aria-busy', 'true');
+    field.dispatchEvent(new InputEvent('input', { inputType: 'insertFromPaste' }))"""
+
+
+def posts(tally: Tally, browser: Browser) -> None:
+    """Prose before a scramble is left out, and so is what the field has no room for; both are said."""
+    browser.open()
+    browser.fill("scramble", POST)
+    browser.until("return document.querySelectorAll('#line-list li').length === 1")
+    browser.wait()
+    read = (browser.script("return document.getElementById('scramble').value"), browser.text("bracketed"), browser.text("scramble-read"))
+    tally.equal("a post", read, ("R' U' F D2", "F R' B", "Left out: 1 line before the scramble."))
+    browser.script(PASTED_LONG, "R U F // " + "n" * 5000)
+    browser.wait()
+    tally.equal("what is too long", browser.text("scramble-read"), "Left out: comments, what is beyond 4,096 signs.")
+    browser.fill("scramble", "R U F")
+    tally.equal("what is typed then is whole", browser.text("scramble-read"), "")
+
+
 def together(tally: Tally, browser: Browser) -> None:
     """A scramble and moves that are each short enough, and too long together."""
     browser.fill("scramble", LONG)
@@ -251,5 +277,5 @@ def unstarted(tally: Tally, browser: Browser) -> None:
 def try_all(tally: Tally, browser: Browser) -> None:
     """All of them."""
     browser.open()
-    for part in (scrambles, by_hand, lines_by_hand, pasted, together, stale, seeds, starts, without_engine, unstarted):
+    for part in (scrambles, by_hand, lines_by_hand, pasted, posts, together, stale, seeds, starts, without_engine, unstarted):
         part(tally, browser)

@@ -59,16 +59,27 @@ export function plainLine(text) {
  * @param {string[]} leftOut */
 export const wordsOfLeftOut = (leftOut) => (leftOut.length === 0 ? "" : `Left out: ${leftOut.join(", ")}.`);
 
+/** Whether a line says something else than moves: it has none, or a word.
+ * @param {string} line */
+function isProse(line) {
+    const moves = plainLine(line).line;
+    return moves.trim() === "" || /[\p{Ll}\p{Lo}]{3}/u.test(moves);
+}
+
+/** @typedef {{scramble: string, steps: string[], candidates: {steps: string[], note: string}[], before: number}} Fmc
+ * `before`: how many lines of prose stood before the scramble */
+
 /**
  * Text with moves on several lines, as solvers write a solution: the scramble, then a step a line with a comment or a label; blocks after a
- * blank line are candidates. The only one is the solution itself, if nothing stands between it and the scramble. Null if the text isn't of this
- * form.
- * @param {string} text
- * @returns {{scramble: string, steps: string[], candidates: {steps: string[], note: string}[]} | null}
+ * blank line are candidates. The only one is the solution itself, if nothing stands between it and the scramble. Prose before the scramble is
+ * left out. Null if the text isn't of this form.
+ * @param {string} text @returns {Fmc | null}
  */
 export function readFmc(text) {
     const linesOf = (block) => block.split("\n").filter((line) => line.trim() !== "");
-    const blocks = text.split(/\n[^\S\n]*\n/).map(linesOf).filter((block) => block.length > 0);
+    const all = text.split("\n");
+    const begin = Math.max(all.findIndex((line) => !isProse(line)), 0);
+    const blocks = all.slice(begin).join("\n").split(/\n[^\S\n]*\n/).map(linesOf).filter((block) => block.length > 0);
     const lines = blocks.flat();
     if (!lines.slice(1).some((line) => line.includes("//") || line.search(LABEL) >= 0)) return null;
     const isMoves = (line) => plainLine(line).line.trim() !== "";
@@ -78,5 +89,6 @@ export function readFmc(text) {
         note: block.filter((line) => !isMoves(line)).map((line) => line.replace(/^[^/]*\/\/\s*/, "").trim()).join(" "),
     })).filter((each) => each.steps.length > 0);
     const steps = first.filter(isMoves);
-    return { scramble, steps: steps.length === 0 && candidates.length === 1 ? candidates[0].steps : steps, candidates };
+    const before = linesOf(all.slice(0, begin).join("\n")).length;
+    return { scramble, steps: steps.length === 0 && candidates.length === 1 ? candidates[0].steps : steps, candidates, before };
 }

@@ -7,7 +7,7 @@ import { plainLine, readFmc, wordsOfLeftOut } from "./pasted.js";
 import { withoutMoving } from "./view.js";
 import { placeOfFault, showFault } from "./words.js";
 
-/** @typedef {{scramble: string, steps: string[], candidates: {steps: string[], note: string}[]}} Fmc */
+/** @typedef {import("./pasted.js").Fmc} Fmc */
 
 const PAUSE = 150;
 const SEEDS = "A seed is a whole number from 0 to 18,446,744,073,709,551,615.";
@@ -35,6 +35,8 @@ export class ScrambleField {
     /** the scramble that was read last, and whether what is pasted takes the place of all of it */
     #last = "";
     #isReplaced = false;
+    /** whether the field has no room for the end of what is pasted */
+    #isCut = false;
 
     /**
      * @param {import("./calls.js").Calls} calls
@@ -46,9 +48,12 @@ export class ScrambleField {
         this.#changed = changed;
         this.#field.maxLength = LONGEST_SCRAMBLE;
         this.#field.addEventListener("input", (event) => this.#typed(event));
-        this.#field.addEventListener("paste", () => {
+        this.#field.addEventListener("paste", ({ clipboardData }) => {
             const { value, selectionStart, selectionEnd } = this.#field;
             this.#isReplaced = selectionStart === 0 && selectionEnd === value.length;
+            // the browser takes as much of it as the field has room for, without a word
+            const pasted = clipboardData?.getData("text").replace(/\r\n/g, "\n").length ?? 0;
+            this.#isCut = value.length - (selectionEnd - selectionStart) + pasted > LONGEST_SCRAMBLE;
         });
         this.#field.addEventListener("scroll", () => {
             this.#backdrop.scrollTop = this.#field.scrollTop;
@@ -168,8 +173,9 @@ export class ScrambleField {
         const isReplaced = this.#isReplaced;
         this.#isReplaced = false;
         // what is pasted is whole
-        if (event.inputType === "insertFromPaste") this.#read(isReplaced);
-        else this.#timer = setTimeout(() => this.#read(false), PAUSE);
+        if (event.inputType === "insertFromPaste") return this.#read(isReplaced);
+        this.#isCut = false;
+        this.#timer = setTimeout(() => this.#read(false), PAUSE);
     }
 
     /** @param {boolean} isReplaced by a text that was pasted: by another scramble, if it isn't the same again */
@@ -177,7 +183,12 @@ export class ScrambleField {
         const text = this.#field.value;
         const fmc = readFmc(text);
         const plain = plainLine(fmc ? fmc.scramble : text);
-        this.#leftOut = plain.leftOut;
+        this.#leftOut = [
+            ...(fmc?.before ? [`${counted(fmc.before, "line")} before the scramble`] : []),
+            ...plain.leftOut,
+            ...(this.#isCut ? [`what is beyond ${LONGEST_SCRAMBLE.toLocaleString("en")} signs`] : []),
+        ];
+        this.#isCut = false;
         if (fmc) this.#field.value = plain.line.trim();
         const isOther = isReplaced && ![plain.line.trim(), ""].includes(this.#last.trim());
         this.#last = plain.line || this.#last;
