@@ -27,15 +27,6 @@ static guarded stack_of_handler(void) {
 #endif
 }
 
-static int is_searched(const search_row *row, const nissy_tables *tables) {
-    uint8_t out[256];
-    const uint8_t *line = (const uint8_t *)row->line;
-    nissy_solve_answer got = nissy_solve(tables, line, strlen(row->line), row->limit, row->slack, UINT64_MAX, out, sizeof out);
-    nissy_count_answer told = nissy_count(tables, line, strlen(row->line), row->limit, row->slack);
-    return got.status == NISSY_DONE && got.out_length == strlen(row->text) && memcmp(out, row->text, got.out_length) == 0 &&
-           told.status == NISSY_DONE && told.solutions == got.solutions && told.least == row->least;
-}
-
 static int is_text(nissy_line_answer got, const uint8_t *out, const char *text) {
     return got.status == NISSY_DONE && got.length == strlen(text) && memcmp(out, text, got.length) == 0;
 }
@@ -64,7 +55,7 @@ static void is_to_come(void) {
 static void handle(int number) {
     size_t at = (size_t)handled % SEARCH_COUNT;
     (void)number;
-    if (!is_searched(&SEARCHES[at], &asked[at]) || !are_lines()) wrong++;
+    if (!is_answered(&SEARCHES[at], &asked[at]) || !are_lines()) wrong++;
     if (++handled < HANDLED) is_to_come();
 }
 
@@ -77,7 +68,7 @@ int main(void) {
     if (sigaltstack(&own, NULL) || sigaction(SIGALRM, &action, NULL)) return 2;
     for (is_to_come(); handled < HANDLED; round++) {
         size_t at = round % SEARCH_COUNT;
-        if (!is_searched(&SEARCHES[at], &asked[at]) || !are_lines()) wrong_beside++;
+        if (!is_answered(&SEARCHES[at], &asked[at]) || !are_lines()) wrong_beside++;
     }
     holds(wrong == 0, "each answer is that of its call", "a handler");
     holds(wrong_beside == 0, "each answer is that of its call", "what it interrupts");

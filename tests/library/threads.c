@@ -45,16 +45,6 @@ static void *call_all(void *of) {
 /* the tables of each row's step, which all threads ask */
 static nissy_tables shared[SEARCH_COUNT];
 
-/* Whether a search and a count of a row are answered as it says. */
-static int is_answered(const search_row *row, const nissy_tables *tables) {
-    uint8_t out[256];
-    const uint8_t *line = (const uint8_t *)row->line;
-    nissy_solve_answer got = nissy_solve(tables, line, strlen(row->line), row->limit, row->slack, UINT64_MAX, out, sizeof out);
-    nissy_count_answer told = nissy_count(tables, line, strlen(row->line), row->limit, row->slack);
-    return got.status == NISSY_DONE && got.out_length == strlen(row->text) && memcmp(out, row->text, got.out_length) == 0 &&
-           got.least == row->least && told.status == NISSY_DONE && told.solutions == got.solutions && told.looks == got.looks;
-}
-
 /* How many answers by the shared tables, by a copy, and by tables of the thread's own, were other ones. */
 static void *search_all(void *of) {
     part *part = of;
