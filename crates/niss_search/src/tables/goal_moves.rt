@@ -36,7 +36,7 @@ pub trait GoalMoves {
     /// What is seen of a cube in a state: the coordinates of the goal.
     ghost seen: { Self → Self.State → GoalCoordinates };
 
-    /// How many turns the step has.
+    /// How many turns the step has: a number that the compiler knows, so that a fill doesn't loop over them.
     fn turn_count(&self) -> usize
         ensures value { result ≡ length (turns_of (alternative self.now).step) }
         ensures few { result ≤ 18 };
@@ -92,11 +92,13 @@ pub struct FlipState {
 pub struct EdgeMoves<A: Allocator> {
     flips: MoveTable<A>,
     ghost are_flips: { flips.coordinate ≡ coordinate.Flip },
+    ghost turns: { length (turns_of flips.step) ≡ 18 },
 }
 
 impl<A: Allocator> EdgeMoves<A> {
     /// Those of a step, on an axis.
     pub fn build_in(alloc: A, step: Step, axis: Axis) -> Result<EdgeMoves<A>, OutOfMemory>
+        requires { length (turns_of step) ≡ 18 }
         ensures { IfOk result (λ m. (m.flips.step ≡ step) × (m.flips.axis ≡ axis)) }
     {
         let flips = MoveTable::build_in(alloc, Coordinate::Flip, axis, step)?;
@@ -111,8 +113,9 @@ impl<A: Allocator> GoalMoves for EdgeMoves<A> {
 
     ghost seen = { λ m s. Flip m.flips.axis s.flip };
 
+    #[inline(always)]
     fn turn_count(&self) -> usize {
-        self.flips.turn_count()
+        18
     }
 
     fn entry_count(&self) -> usize {
@@ -179,6 +182,7 @@ pub struct DominoMoves<A: Allocator> {
     ghost are_slices: { slices.coordinate ≡ coordinate.Slice },
     ghost one_axis: { slices.axis ≡ twists.axis },
     ghost one_step: { slices.step ≡ twists.step },
+    ghost turns: { length (turns_of twists.step) ≡ 14 },
 }
 
 impl<A: Allocator + Copy> DominoMoves<A> {
@@ -189,6 +193,7 @@ impl<A: Allocator + Copy> DominoMoves<A> {
         edges: Axis,
         axis: Axis,
     ) -> Result<DominoMoves<A>, OutOfMemory>
+        requires { length (turns_of step) ≡ 14 }
         ensures { IfOk result (λ m. (m.twists.step ≡ step) × (m.twists.axis ≡ axis) × (m.edges ≡ edges)) }
     {
         let twists = MoveTable::build_in(alloc, Coordinate::Twist, axis, step)?;
@@ -208,8 +213,9 @@ impl<A: Allocator> GoalMoves for DominoMoves<A> {
 
     ghost seen = { λ m s. TwistAndSlice m.twists.axis s.twist s.slice };
 
+    #[inline(always)]
     fn turn_count(&self) -> usize {
-        self.twists.turn_count()
+        14
     }
 
     fn entry_count(&self) -> usize {

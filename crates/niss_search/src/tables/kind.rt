@@ -1,7 +1,7 @@
 //! The tables of a step, by what it looks at.
-ghost use Rattle.std.specs.Prelude.{◌≡◌, ◌≤◌, ◌^◌, Some, IfOk, slice_get};
+ghost use Rattle.std.specs.Prelude.{◌≡◌, ◌≤◌, ◌^◌, Some, IfOk, slice_get, length};
 ghost use Rattle.niss_cube.specs.declared.step.Goal.TheVariants as goals;
-ghost use Rattle.niss_cube.specs.Steps.{goals_of};
+ghost use Rattle.niss_cube.specs.Steps.{goals_of, turns_of};
 ghost use Rattle.niss_search.specs.KindOfStep.{IsOfStep};
 ghost use Rattle.niss_search.specs.StepSpace.{IsBuilt};
 
@@ -48,7 +48,7 @@ impl<A: Allocator + Copy> Kind<A> {
     }
 
     /// Those of a step that orients edges: on an axis alone, or first on it and then on two more.
-    #[tactic(auto, using(crate::proofs::FillLemmas::ticks_of_goals))]
+    #[tactic(auto, using(crate::proofs::FillLemmas::ticks_of_goals, crate::proofs::GoalLemmas::turns_to_edges))]
     fn of_edges_in(
         alloc: A,
         step: Step,
@@ -74,7 +74,7 @@ impl<A: Allocator + Copy> Kind<A> {
     }
 
     /// Those of a step that reduces to a domino: by a pair of axes alone, or first by it and then by another.
-    #[tactic(auto, using(crate::proofs::FillLemmas::ticks_of_goals))]
+    #[tactic(auto, using(crate::proofs::FillLemmas::ticks_of_goals, crate::proofs::GoalLemmas::turns_to_domino))]
     fn of_domino_in(
         alloc: A,
         step: Step,
@@ -105,6 +105,7 @@ fn edge_table<A: Allocator + Copy>(
     step: Step,
     axis: Axis,
 ) -> Result<EmptyTable<EdgeMoves<A>, A>, OutOfMemory>
+    requires { length (turns_of step) ≡ 18 }
     ensures { IfOk result (λ t.
         ⟦<EdgeMoves<A> as GoalMoves>⟧.alternative t.moves ≡ record { step = step; goal = goals.Edges axis }) }
 {
@@ -119,6 +120,7 @@ fn domino_table<A: Allocator + Copy>(
     edges: Axis,
     axis: Axis,
 ) -> Result<EmptyTable<DominoMoves<A>, A>, OutOfMemory>
+    requires { length (turns_of step) ≡ 14 }
     ensures { IfOk result (λ t.
         ⟦<DominoMoves<A> as GoalMoves>⟧.alternative t.moves
         ≡ record { step = step; goal = goals.Domino edges axis }) }
