@@ -96,10 +96,6 @@ abbrev pub IsExtended : Alternative → List ℕ → ℕ → Type 0
 IsExtended alt xs i =
     (t : Turn) → Contains (turns_of alt.step) t → slice_index xs (entry_after alt.goal i t) < 21
 
--- bytes by which an entry that is met from a level changes: the lesser of what it is and the next level
-abbrev pub AreLesser : ℕ → List ℕ → Type 0
-AreLesser level bytes = (byte : ℕ) → byte < 256 → slice_index bytes byte ≡ min byte (level + 1)
-
 -- no entry that was met is lost
 abbrev pub KeepsMet : List ℕ → List ℕ → Type 0
 KeepsMet old new = (i : ℕ) → slice_index old i < 21 → slice_index new i < 21

@@ -11,58 +11,7 @@ use super::pruning_table::GOAL_ENTRY;
 use crate::laws::entries_turn;
 use crate::path::Limit;
 use crate::scan::next_at;
-use std::marker::Model;
 use std::mem;
-
-/// A level of the fill, and what each byte of the table becomes if it is met from it: the lesser of the byte and the
-/// next level. Compared anew at each turn it would cost a branch that is often guessed wrong, and the fill almost twice
-/// its time.
-#[derive(Drop)]
-struct Level {
-    number: u8,
-    lesser: [u8; 256],
-}
-
-impl Model for Level {
-    ghost use Rattle.std.specs.Prelude.{ℕ, ◌<◌};
-    ghost use Rattle.niss_search.specs.Filling.{AreLesser};
-
-    ghost Value = { ℕ };
-
-    ghost view = { λ l. l.number };
-
-    ghost invariant = { λ l. (l.number < 20) × AreLesser l.number l.lesser };
-}
-
-impl Level {
-    /// A level that is extended: 0 to 19.
-    fn new(number: u8) -> Level
-        requires { number < 20 }
-        ensures { result ≡ number }
-    {
-        let mut lesser = [0; 256];
-        for byte in 0..256usize {
-            lesser[byte] = (byte as u8).min(number + 1);
-        }
-        Level { number, lesser }
-    }
-
-    /// Its number, 0 to 19.
-    fn number(&self) -> u8
-        ensures value { result ≡ self.now }
-        ensures in_range { result < 20 }
-    {
-        self.number
-    }
-
-    /// What a byte becomes if it is met. (That a level is below 20 is known to a proof by this call.)
-    fn meet(&self, byte: u8) -> u8
-        ensures value { result ≡ min byte (self.now + 1) }
-        ensures in_range { self.now < 20 }
-    {
-        self.lesser[byte as usize]
-    }
-}
 
 /// A row of a pruning table. Where the turns lead it is looked up once, for all its entries.
 #[derive(Drop)]
@@ -104,14 +53,15 @@ impl<'a, M: GoalMoves> EntryRow<'a, M> {
     }
 
     /// Tries each turn from an entry of the row at the level, and gives the next level to each entry that wasn't met before.
-    fn extend(&self, entry: usize, distances: &mut [u8], level: &Level, meter: &mut Meter)
+    fn extend(&self, entry: usize, distances: &mut [u8], level: u8, meter: &mut Meter)
+        requires small { level < 20 }
         requires from { self.now.start ≤ entry }
         requires to { entry < self.now.start + row_length (M.alternative self.now.moves.now).goal }
         requires in_range { entry < count_for (M.alternative self.now.moves.now).goal }
-        requires at_level { entry_distance (M.alternative self.now.moves.now) entry ≡ level.now }
-        requires filling { IsFilling (M.alternative self.now.moves.now) level.now distances.old }
+        requires at_level { entry_distance (M.alternative self.now.moves.now) entry ≡ level }
+        requires filling { IsFilling (M.alternative self.now.moves.now) level distances.old }
         requires meter { meter.old + length (turns_of (M.alternative self.now.moves.now).step) < 2 ^ 128 }
-        ensures filling { IsFilling (M.alternative self.now.moves.now) level.now distances.new }
+        ensures filling { IsFilling (M.alternative self.now.moves.now) level distances.new }
         ensures extended { IsExtended (M.alternative self.now.moves.now) distances.new entry }
         ensures kept { KeepsMet distances.old distances.new }
         ensures ticks { meter.new ≡ meter.old + length (turns_of (M.alternative self.now.moves.now).step) }
@@ -121,27 +71,27 @@ impl<'a, M: GoalMoves> EntryRow<'a, M> {
         for column in 0..self.moves.turn_count() {
             meter.tick();
             let next = self.starts[column] + places[column] as usize;
-            distances[next] = level.meet(distances[next]);
+            distances[next] = distances[next].min(level + 1);
         }
     }
 }
 
 /// Tries each turn from each entry of the level.
-fn extend_level<M: GoalMoves>(moves: &M, distances: &mut [u8], level: &Level, meter: &mut Meter)
-    requires filled { IsFilled (M.alternative moves.now) level.now distances.old }
+fn extend_level<M: GoalMoves>(moves: &M, distances: &mut [u8], level: u8, meter: &mut Meter)
+    requires small { level < 20 }
+    requires filled { IsFilled (M.alternative moves.now) level distances.old }
     requires meter { meter.old + 18 * count_for (M.alternative moves.now).goal < 2 ^ 128 }
-    ensures filled { IsFilled (M.alternative moves.now) (level.now + 1) distances.new }
+    ensures filled { IsFilled (M.alternative moves.now) (level + 1) distances.new }
     ensures ticks { meter.new
         ≡ meter.old
         + length (turns_of (M.alternative moves.now).step)
-        * count_by (λ i. entry_distance (M.alternative moves.now) i == level.now)
+        * count_by (λ i. entry_distance (M.alternative moves.now) i == level)
         (range_with_len 0 (count_for (M.alternative moves.now).goal)) }
 {
     entries_turn();
-    let number = level.number();
     let mut row = EntryRow::of(moves, GOAL_ENTRY);
     let mut from = 0;
-    while let Some(entry) = next_at(distances, from, number) {
+    while let Some(entry) = next_at(distances, from, level) {
         row.advance_to(entry);
         row.extend(entry, distances, level, meter);
         from = entry + 1;
@@ -158,7 +108,7 @@ pub(super) fn fill_table<M: GoalMoves>(moves: &M, distances: &mut [u8], meter: &
     // the meter is held by value meanwhile: through the borrow each tick would be written to memory
     let mut held = mem::replace(meter, Meter::new());
     for level in 0..Limit::MOST {
-        extend_level(moves, distances, &Level::new(level), &mut held);
+        extend_level(moves, distances, level, &mut held);
     }
     *meter = held;
 }

@@ -8,7 +8,7 @@ pub extend-requires-clause-meter : goal.extend-requires-clause-meter
 extend-requires-clause-meter g c =
     let inv = c.loop-entry.invariant in
     let alt = (g.M.GoalMoves.alternative c.args.moves.now) in
-    let p = λ (x : ℕ). entry_distance alt x == c.args.level.now in
+    let p = λ (x : ℕ). entry_distance alt x == c.args.level in
     let count = count_by p (range_with_len 0 c.loop-entry.from) in
     let few : count + 1 ≤ count_for alt.goal = omega (arith, count-range-le p c.loop-entry.from, inv.filling.size, c.in-Some.ensures.found) in
     let room : c.loop-entry.meter + length (turns_of alt.step) < 2 ^ 128 = omega (arith, inv.ticks, c.requires.meter, mul-le-mul (turns_of-length alt.step) few) in
@@ -18,15 +18,15 @@ pub loop-entry-preserved : goal.loop-entry-preserved
 loop-entry-preserved g c =
     let inv = c.loop-entry.invariant in
     let alt = (g.M.GoalMoves.alternative c.args.moves.now) in
-    let level = c.args.level.now in
+    let level = c.args.level in
     let xs = c.loop-entry.distances in
     let from = c.loop-entry.from in
     let entry = c.in-Some.entry in
     let found = c.in-Some.ensures.found in
-    let least = rw c.number-number.ensures.value at c.in-Some.ensures.least in
-    let small : level < 20 = omega (arith, c.number-number.ensures) in
+    let least = c.in-Some.ensures.least in
+    let small : level < 20 = c.requires.small in
     let in_range : entry < count_for alt.goal = omega (arith, inv.filling.size, found) in
-    let byte = found.2 ∙ c.number-number.ensures.value in
+    let byte = found.2 in
     let at : entry_distance alt entry ≡ level = sym ((inv.filling.bytes entry in_range).met (λ e. absurd (omega arith))) ∙ byte in
     let turns = length (turns_of alt.step) in
     let p = λ (x : ℕ). entry_distance alt x == level in
@@ -50,15 +50,15 @@ pub returns-clause-filled : goal.returns-clause-filled
 returns-clause-filled g c =
     let inv = c.loop-entry.invariant in
     let alt = (g.M.GoalMoves.alternative c.args.moves.now) in
-    let small : c.args.level.now < 20 = omega (arith, c.number-number.ensures) in
-    let none = rw c.number-number.ensures.value at c.in_default.ensures.none in
-    filled-next c.entries_turn.ensures alt c.args.level.now small c.loop-entry.distances inv.filling (extended-to alt c.args.level.now c.loop-entry.distances inv.filling c.loop-entry.from (count_for alt.goal) (omega arith) (λ k low high. none k low (omega (arith, inv.filling.size))) c.loop-entry.distances inv.extended)
+    let small : c.args.level < 20 = c.requires.small in
+    let none = c.in_default.ensures.none in
+    filled-next c.entries_turn.ensures alt c.args.level small c.loop-entry.distances inv.filling (extended-to alt c.args.level c.loop-entry.distances inv.filling c.loop-entry.from (count_for alt.goal) (omega arith) (λ k low high. none k low (omega (arith, inv.filling.size))) c.loop-entry.distances inv.extended)
 
 pub returns-clause-ticks : goal.returns-clause-ticks
 returns-clause-ticks g c =
     let inv = c.loop-entry.invariant in
     let alt = (g.M.GoalMoves.alternative c.args.moves.now) in
-    let none = rw c.number-number.ensures.value at c.in_default.ensures.none in
-    let skip = skipped alt c.args.level.now c.loop-entry.distances inv.filling c.loop-entry.from (count_for alt.goal) (omega arith) (λ k low high. none k low (omega (arith, inv.filling.size))) in
-    let same = count-to (λ x. entry_distance alt x == c.args.level.now) c.loop-entry.from (count_for alt.goal) (omega (arith, inv.filling.size)) skip in
+    let none = c.in_default.ensures.none in
+    let skip = skipped alt c.args.level c.loop-entry.distances inv.filling c.loop-entry.from (count_for alt.goal) (omega arith) (λ k low high. none k low (omega (arith, inv.filling.size))) in
+    let same = count-to (λ x. entry_distance alt x == c.args.level) c.loop-entry.from (count_for alt.goal) (omega (arith, inv.filling.size)) skip in
     inv.ticks ∙ ap (λ n. c.args.meter.now + length (turns_of alt.step) * n) (sym same)

@@ -25,8 +25,8 @@ loop-level-preserved g c =
     let turns = length (turns_of alt.step) in
     let more = ap (λ n. turns * n) (count-level (entry_distance alt) c.loop-level.level (range_with_len 0 (count_for alt.goal))) in
     record {
-      filled = rw c.new-in-loop-level.ensures at c.extend_level.ensures.filled;
-      ticks = omega (arith, more, rw c.new-in-loop-level.ensures at c.extend_level.ensures.ticks);
+      filled = c.extend_level.ensures.filled;
+      ticks = omega (arith, more, c.extend_level.ensures.ticks);
     }
 
 pub returns-clause-ticks : goal.returns-clause-ticks

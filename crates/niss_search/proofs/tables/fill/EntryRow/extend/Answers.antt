@@ -10,15 +10,15 @@ loop-column-preserved g c =
     let alt = g.M.GoalMoves.alternative c.args.self.now.moves.now in
     let xs = c.loop-column.distances in
     let entry = c.args.entry in
-    let level = c.args.level.now in
+    let level = c.args.level in
     let t = turn_at alt.step c.loop-column.column in
     let column : c.loop-column.column < length (turns_of alt.step) = omega (arith, inv.end, c.loop-column-test.true) in
     let m = Contains-get_or (turns_of alt.step) c.loop-column.column no_turn column in
     let law = c.entries_turn.ensures in
-    let small = c.meet.ensures.in_range in
+    let small = c.requires.small in
     let j = row-entry alt c.args.self.now.start entry c.args.self.now.starts c.places-places.result.now c.args.self.now.are_starts c.places-places.ensures c.requires.from c.requires.to c.loop-column.column column in
-    let written : c.meet.result ≡ min (slice_index xs (entry_after alt.goal entry t)) (level + 1) =
-    c.meet.ensures.value ∙ ap (λ i. min (slice_index xs i) (level + 1)) j in
+    let written : c.min.result ≡ min (slice_index xs (entry_after alt.goal entry t)) (level + 1) =
+    c.min.ensures ∙ ap (λ i. min (slice_index xs i) (level + 1)) j in
     let kept = least-kept law alt level small xs inv.filling entry t c.requires.at_level c.requires.in_range m in
     record {
       end = inv.end;
