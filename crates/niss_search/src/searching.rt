@@ -214,8 +214,9 @@ impl<K: Sink> Descent<'_, K> {
     }
 
     /// Goes on below the path with `left` turns more, once its state was looked at. So a turn is put on the path only
-    /// if the look after it allows.
+    /// if the look after it allows. It is inlined: where a path ends, no call is made.
     #[cycle(descent)]
+    #[inline(always)]
     fn extend<S: StateSpace>(
         &mut self,
         tables: &SearchTables<S>,
@@ -238,6 +239,29 @@ impl<K: Sink> Descent<'_, K> {
             self.count += 1;
             return (meter, self.sink.take(self.path));
         }
+        self.try_turns(tables, state, left, meter)
+    }
+
+    /// Tries the turns that may follow the path, with `left` turns more.
+    #[cycle(descent)]
+    fn try_turns<S: StateSpace>(
+        &mut self,
+        tables: &SearchTables<S>,
+        state: S::State,
+        left: u8,
+        meter: Meter,
+    ) -> (Meter, Result<(), K::Fault>)
+        requires some { 0 < left }
+        requires near { distance_at tables.now.step (S.seen tables.now.space state) ≤ left }
+        requires room { length (turns self.old) + left ≤ self.old.path.now.limit }
+        requires meter { meter
+            + (beyond_at tables.now.step (S.seen tables.now.space state) (turns self.old) left).looks < 2 ^ 128 }
+        requires count { self.old.count < meter }
+        ensures keeps { Keeps self.old self.new (meter - 1) result.0 }
+        ensures makes { Makes K.took K.refused
+            (beyond_at tables.now.step (S.seen tables.now.space state) (turns self.old) left)
+            meter result.0 self.old self.new result.1 }
+    {
         let mut meter = meter;
         let mut rest = tables.turns_after(self.path.last());
         while let Some(index) = next_near(tables, state, rest, left - 1, &mut meter) {

@@ -15,10 +15,10 @@ extend-returns-then-left-eq0-clause-makes g t c =
     (Descends-take (at_limit g.K.Sink.took path.limit) (at_limit g.K.Sink.refused path.limit) c.take.result c.args.meter
     c.args.self.now.count c.args.self.now.sink.now c.take.new.self path.turns c.take.ensures.ok c.take.ensures.err)
 
-pub extend-loop-index-init : goal.extend-loop-index-init
-extend-loop-index-init g t c =
+pub try_turns-loop-index-init : goal.try_turns-loop-index-init
+try_turns-loop-index-init g t c =
     let listed = rw c.last.ensures at c.turns_after-rest.ensures.turns in
-    let left : c.args.left ≡ suc (c.args.left - 1) = omega (arith, c.if-left-eq0.false) in
+    let left : c.args.left ≡ suc (c.args.left - 1) = omega (arith, c.requires.some) in
     record {
       columns = c.turns_after-rest.ensures.columns;
       few = c.turns_after-rest.type_inv.1;
@@ -26,12 +26,12 @@ extend-loop-index-init g t c =
       remains = Remains-all c.args.left (c.args.left - 1) c.turns_after-rest.result.now (progress_of c.args.meter c.args.self.now) left c.requires.near listed;
     }
 
-pub extend-next_near-requires-clause-meter : goal.extend-next_near-requires-clause-meter
-extend-next_near-requires-clause-meter g t c =
+pub try_turns-next_near-requires-clause-meter : goal.try_turns-next_near-requires-clause-meter
+try_turns-next_near-requires-clause-meter g t c =
     omega (arith, Remains-room c.loop-index.invariant.remains, c.requires.meter)
 
-pub extend-follow-counted-requires : goal.extend-follow-counted-requires
-extend-follow-counted-requires g t c κs within =
+pub try_turns-follow-counted-requires : goal.try_turns-follow-counted-requires
+try_turns-follow-counted-requires g t c κs within =
     let x = g.S.StateSpace.seen c.args.tables.now.space c.args.state in
     let inv = c.loop-index.invariant in
     let next = c.in-Some.ensures.near in
@@ -41,7 +41,7 @@ extend-follow-counted-requires g t c κs within =
     let beyond = λ (q : Path). (beyond_at c.args.tables.now.step (position_after x turn) (q.turns ++ turn ∷ []) (c.args.left - 1)).looks in
     let Metered : Path → Type 0 = λ q. c.next_near.new.meter + beyond q < 2 ^ 128 in
     let near = next.near no_follower in
-    let room = subst Room same (omega (arith, c.requires.room, c.if-left-eq0.false)) in
+    let room = subst Room same (omega (arith, c.requires.room, c.requires.some)) in
     let metered = subst Metered same (omega (arith, Remains-room_next inv.remains next, c.requires.meter)) in
     let counted = inv.keeps.counted in (
       omega arith,
@@ -63,13 +63,13 @@ extend-follow-counted-requires g t c κs within =
       ),
     )
 
-pub extend-returns-in-Err-clause-makes : goal.extend-returns-in-Err-clause-makes
-extend-returns-in-Err-clause-makes g t c =
+pub try_turns-returns-in-Err-clause-makes : goal.try_turns-returns-in-Err-clause-makes
+try_turns-returns-in-Err-clause-makes g t c =
     let inv = c.loop-index.invariant in
     Remains-stops inv.remains c.in-Some.ensures.near (rw (inv.keeps.path, c.after-after.ensures, c.in-Err.is) at c.follow-counted.ensures.makes)
 
-pub extend-loop-index-preserved : goal.extend-loop-index-preserved
-extend-loop-index-preserved g t c =
+pub try_turns-loop-index-preserved : goal.try_turns-loop-index-preserved
+try_turns-loop-index-preserved g t c =
     let inv = c.loop-index.invariant in
     let rest = c.loop-index.rest.now in
     let i = c.in-Some.index in
@@ -88,6 +88,6 @@ extend-loop-index-preserved g t c =
       remains = Remains-next inv.remains next went;
     }
 
-pub extend-returns-clause-makes : goal.extend-returns-clause-makes
-extend-returns-clause-makes g t c =
+pub try_turns-returns-clause-makes : goal.try_turns-returns-clause-makes
+try_turns-returns-clause-makes g t c =
     Remains-far c.loop-index.invariant.remains c.in_default.ensures.far

@@ -3,18 +3,21 @@ use Rattle.niss_search.proofs.DepthFirst.{Remains}
 use Rattle.niss_search.proofs.searching.Descent.+descent.Given as goal
 
 abbrev pub decreases-extend : goal.decreases-extend
-decreases-extend g l = 2 * l.left
+decreases-extend g l = 3 * l.left + 1
+
+abbrev pub decreases-try_turns : goal.decreases-try_turns
+decreases-try_turns g l = 3 * l.left
 
 abbrev pub decreases-follow : goal.decreases-follow
-decreases-follow g l = 2 * l.left + 1
+decreases-follow g l = 3 * l.left + 2
 
-abbrev pub decreases-extend-loop-index : goal.decreases-extend-loop-index
-decreases-extend-loop-index g l = length l.rest
+abbrev pub decreases-try_turns-loop-index : goal.decreases-try_turns-loop-index
+decreases-try_turns-loop-index g l = length l.rest
 
-abbrev pub invariant-extend-loop-index : goal.invariant-extend-loop-index
-invariant-extend-loop-index g l = record {
+abbrev pub invariant-try_turns-loop-index : goal.invariant-try_turns-loop-index
+invariant-try_turns-loop-index g l = record {
   columns : All (IsFollower l.tables.step) l.rest;
-  few : length l.rest * 3 < 9223372036854775808;
+  few : length l.rest * 4 < 9223372036854775808;
   keeps : Keeps l.fn.self l.self l.fn.meter l.meter;
   remains : Remains (at_limit g.K.Sink.took l.fn.self.path.now.limit) (at_limit g.K.Sink.refused l.fn.self.path.now.limit)
       l.tables.step (g.S.StateSpace.seen l.tables.space l.state) l.fn.self.path.now.turns l.left l.rest
