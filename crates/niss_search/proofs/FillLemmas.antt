@@ -9,7 +9,7 @@ use Rattle.niss_search.proofs.Words.{flat_map, count_by, goals_of, entry_at, mul
 use Rattle.niss_search.proofs.Words.{◌≡◌, length, sum_by, nat_le, Domino, mul_comm, start_of, IsFilled, byte_at, leb-true, MayBeAt, arith}
 use Rattle.niss_search.proofs.Words.{List, refl, Bool, cond, ◌++◌, zero, Step, None, Flip, Axis, Edges, false, subst, nat_lt, ne_eqb, ◌+◌}
 use Rattle.niss_search.proofs.Words.{◌<◌, ◌∙◌, sym, ◌≤◌, [], ◌*◌, ◌∷◌, suc, map, All, ◌/◌, ◌^◌, Goal, ◌%◌, lit≤, true, Turn, ◌≢◌, ◌==◌, ℕ}
-use Rattle.niss_search.proofs.Words.{inl, inr, min, set, ap₂}
+use Rattle.niss_search.proofs.Words.{inl, inr, min, set, ap₂, ◌-◌}
 use Rattle.niss_search.proofs.ListLemmas.{range_with_len-append, sum_by-same, sum_by-map, sum_by-flat_map, sum_by-none, sum_by-range_more}
 use Rattle.niss_search.proofs.EntryLemmas.{count_for-bound, entry_distance-zero, entry_distance-turn, entry_distance-back}
 use Rattle.niss_search.proofs.EntryLemmas.{entry_distance-nearer}
@@ -125,6 +125,39 @@ module _ (alt : Alternative) (level : ℕ) (xs : List ℕ) (f : IsFilling alt le
       | inl e ↦ absurd (away j (omega arith) (none j e.1 high) at)
       | inr e ↦ before j e.1 at
     ]
+
+-- No entry is further than a level that none has, so the table is whole, and the fill has tried all its turns.
+module _ (law : EntriesTurn) (alt : Alternative) (level : ℕ) (none : (i : ℕ) → i < count_for alt.goal → entry_distance alt i ≢ level) where
+  none-further : (k i : ℕ) → i < count_for alt.goal → level + k ≤ 20 → entry_distance alt i ≢ level + k
+  none-further zero i l h e = none i l (omega (arith, e))
+  none-further (suc k) i l h e =
+      let nearer = entry_distance-nearer law alt i (level + k) l (omega (arith, e)) (omega (arith, h)) in
+      let t = nearer.0 in
+      let at : entry_distance alt (entry_after alt.goal i t) ≡ level + k = omega (arith, e, nearer.1.1, entry_distance-turn law alt i t l nearer.1.0) in
+      none-further k (entry_after alt.goal i t) (law.below alt.goal i t l) (omega (arith, h)) at
+
+  pub filled-whole : (xs : List ℕ) → level < 20 → IsFilled alt (level + 1) xs → IsFilled alt 20 xs
+  filled-whole xs small f = record { size = f.size; bytes = λ i l. f.bytes i l ∙ same (entry_distance alt i) (λ k. none-further k i l) } where
+    same : (d : ℕ) → ((k : ℕ) → level + k ≤ 20 → d ≢ level + k) → byte_at (level + 1) d ≡ byte_at 20 d
+    same d away = elim (leb_tells level d) [
+      | inl e ↦ elim (leb_tells d 20) [
+        | inl w ↦ absurd (away (d - level) (omega arith) (omega arith))
+        | inr w ↦ grind (arith, nat_tests)
+      ]
+      | inr e ↦ grind (arith, nat_tests)
+    ]
+
+  abbrev below : ℕ → ℕ
+  below l = count_by (λ x. nat_lt (entry_distance alt x) l) (range_with_len 0 (count_for alt.goal))
+
+  pub count-whole : (k : ℕ) → level + k ≤ 20 → below (level + k) ≡ below level
+  count-whole zero h = ap below (omega arith)
+  count-whole (suc k) h =
+      let number : level + suc k ≡ level + k + 1 = omega arith in
+      let at = λ (x : ℕ). entry_distance alt x == level + k in
+      let nothing = count-to at 0 (count_for alt.goal) (omega arith) (λ j low high. ne_eqb _ _ (none-further k j high (omega (arith, h)))) in
+      let more = ap below number ∙ count-level (entry_distance alt) (level + k) (range_with_len 0 (count_for alt.goal)) in
+      omega (arith, more, nothing, count-whole k (omega (arith, h)))
 
 -- the table at the beginning: 21, but 0 at the goal
 pub filled-start : (alt : Alternative) (n : ℕ) → n ≡ count_for alt.goal → IsFilled alt 0 (set (replicate n 21) 0 0)

@@ -1,5 +1,5 @@
 //! The fill of a pruning table, breadth first.
-ghost use Rattle.std.specs.Prelude.{◌≡◌, ◌+◌, ◌*◌, ◌<◌, ◌≤◌, ◌^◌, ◌==◌, min, length, count_by};
+ghost use Rattle.std.specs.Prelude.{◌≡◌, ◌≢◌, ℕ, ◌+◌, ◌*◌, ◌<◌, ◌≤◌, ◌^◌, ◌==◌, false, length, count_by};
 ghost use Rattle.std.specs.List.{range_with_len};
 ghost use Rattle.niss_cube.specs.Steps.{turns_of};
 ghost use Rattle.niss_search.specs.Entries.{count_for};
@@ -76,8 +76,13 @@ impl<'a, M: GoalMoves> EntryRow<'a, M> {
     }
 }
 
-/// Tries each turn from each entry of the level.
-fn extend_level<M: GoalMoves>(moves: &M, distances: &mut [u8], level: u8, meter: &mut Meter)
+/// Tries each turn from each entry of the level, and returns whether there was one.
+fn extend_level<M: GoalMoves>(
+    moves: &M,
+    distances: &mut [u8],
+    level: u8,
+    meter: &mut Meter,
+) -> bool
     requires small { level < 20 }
     requires filled { IsFilled (M.alternative moves.now) level distances.old }
     requires meter { meter.old + 18 * count_for (M.alternative moves.now).goal < 2 ^ 128 }
@@ -87,6 +92,8 @@ fn extend_level<M: GoalMoves>(moves: &M, distances: &mut [u8], level: u8, meter:
         + length (turns_of (M.alternative moves.now).step)
         * count_by (λ i. entry_distance (M.alternative moves.now) i == level)
         (range_with_len 0 (count_for (M.alternative moves.now).goal)) }
+    ensures none { result ≡ false → (i : ℕ) → i < count_for (M.alternative moves.now).goal →
+        entry_distance (M.alternative moves.now) i ≢ level }
 {
     entries_turn();
     let mut row = EntryRow::of(moves, GOAL_ENTRY);
@@ -96,6 +103,7 @@ fn extend_level<M: GoalMoves>(moves: &M, distances: &mut [u8], level: u8, meter:
         row.extend(entry, distances, level, meter);
         from = entry + 1;
     }
+    from > 0
 }
 
 /// Fills a table that is 21 but at the goal, where it is 0, with the distances.
@@ -105,10 +113,14 @@ pub(super) fn fill_table<M: GoalMoves>(moves: &M, distances: &mut [u8], meter: &
     ensures filled { IsFilled (M.alternative moves.now) 20 distances.new }
     ensures ticks { meter.new ≡ meter.old + goal_ticks (M.alternative moves.now) }
 {
+    entries_turn();
     // the meter is held by value meanwhile: through the borrow each tick would be written to memory
     let mut held = mem::replace(meter, Meter::new());
     for level in 0..Limit::MOST {
-        extend_level(moves, distances, level, &mut held);
+        if !extend_level(moves, distances, level, &mut held) {
+            // no entry is further than a level that none has
+            break;
+        }
     }
     *meter = held;
 }
