@@ -13,12 +13,11 @@ use niss_cube::{Face, Step, Turn};
 use niss_moves::{Power, allowed};
 use std::marker::Model;
 
-/// A turn of a step that may follow, with its column in the step's move tables. It has four bytes, not three, so that a
-/// processor goes through a list of them by one number.
+/// A turn of a step that may follow, with its column in the step's move tables.
 #[derive(Clone, Copy, Default)]
 pub struct Follower {
     pub turn: Turn,
-    pub column: u16,
+    pub column: u8,
 }
 
 /// Some of a step's turns.
@@ -36,7 +35,7 @@ fn followers_after(step: Step, last: Option<Turn>) -> FollowerList
         if allowed(last, turn) {
             list.push(Follower {
                 turn,
-                column: column as u16,
+                column: column as u8,
             });
         }
     }

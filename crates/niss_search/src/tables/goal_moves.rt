@@ -13,6 +13,12 @@ use super::position::GoalCoordinates;
 use niss_cube::{Axis, Coordinate, OutOfMemory, Step};
 use std::alloc::Allocator;
 
+/// All turns: what a step may make that orients edges.
+const EDGE_TURNS: usize = 18;
+
+/// The turns that keep edges oriented: what a step may make that reduces to a domino.
+const DOMINO_TURNS: usize = 14;
+
 /// Where the rows of a pruning table begin after the turns of a step, in turn order.
 pub type Starts = [usize; MOST_STEP_TURNS];
 
@@ -36,7 +42,7 @@ pub trait GoalMoves {
     /// What is seen of a cube in a state: the coordinates of the goal.
     ghost seen: { Self → Self.State → GoalCoordinates };
 
-    /// How many turns the step has: a number that the compiler knows, so that a fill doesn't loop over them.
+    /// How many turns the step has. The compiler knows the number, and so a fill has no loop over them.
     fn turn_count(&self) -> usize
         ensures value { result ≡ length (turns_of (alternative self.now).step) }
         ensures few { result ≤ 18 };
@@ -115,7 +121,7 @@ impl<A: Allocator> GoalMoves for EdgeMoves<A> {
 
     #[inline(always)]
     fn turn_count(&self) -> usize {
-        18
+        EDGE_TURNS
     }
 
     fn entry_count(&self) -> usize {
@@ -215,7 +221,7 @@ impl<A: Allocator> GoalMoves for DominoMoves<A> {
 
     #[inline(always)]
     fn turn_count(&self) -> usize {
-        14
+        DOMINO_TURNS
     }
 
     fn entry_count(&self) -> usize {
@@ -229,7 +235,7 @@ impl<A: Allocator> GoalMoves for DominoMoves<A> {
     fn starts(&self, row: usize) -> Starts {
         let twists = self.twists.row(row as u16);
         let mut starts = [0; MOST_STEP_TURNS];
-        for column in 0..self.turn_count() {
+        for column in 0..DOMINO_TURNS {
             starts[column] = pair_number(twists[column], 0);
         }
         starts

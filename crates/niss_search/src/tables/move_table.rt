@@ -1,5 +1,5 @@
 //! The ranks of a coordinate after the turns of a step.
-ghost use Rattle.std.specs.Prelude.{◌≡◌, ◌<◌, ◌≤◌, length, IfOk};
+ghost use Rattle.std.specs.Prelude.{◌≡◌, ◌<◌, length, IfOk};
 ghost use Rattle.niss_cube.specs.AfterTurn.{IsMoveRow, rank_after};
 ghost use Rattle.niss_cube.specs.Coordinates.{count_of};
 ghost use Rattle.niss_cube.specs.Steps.{turns_of};
@@ -65,15 +65,6 @@ impl<A: Allocator> MoveTable<A> {
         ensures { result ≡ self.now.axis }
     {
         self.axis
-    }
-
-    /// How many turns the step has.
-    #[tactic(auto, using(crate::proofs::Bounds::few_turns))]
-    pub fn turn_count(&self) -> usize
-        ensures value { result ≡ length (turns_of self.now.step) }
-        ensures few { result ≤ 18 }
-    {
-        self.step.turns().len()
     }
 
     /// The ranks after the turns of the step, in turn order.

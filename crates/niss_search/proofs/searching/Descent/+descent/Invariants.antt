@@ -17,7 +17,7 @@ decreases-try_turns-loop-index g l = length l.rest
 abbrev pub invariant-try_turns-loop-index : goal.invariant-try_turns-loop-index
 invariant-try_turns-loop-index g l = record {
   columns : All (IsFollower l.tables.step) l.rest;
-  few : length l.rest * 4 < 9223372036854775808;
+  few : length l.rest * 3 < 9223372036854775808;
   keeps : Keeps l.fn.self l.self l.fn.meter l.meter;
   remains : Remains (at_limit g.K.Sink.took l.fn.self.path.now.limit) (at_limit g.K.Sink.refused l.fn.self.path.now.limit)
       l.tables.step (g.S.StateSpace.seen l.tables.space l.state) l.fn.self.path.now.turns l.left l.rest

@@ -7,4 +7,4 @@ returns g c =
     let m = c.args.self.now in
     let inv = c.loop-column.invariant in
     row-domino m.twists.step m.edges m.twists.axis c.args.row c.loop-column.starts
-    (λ k l. inv.written k (omega (arith, inv.end, c.loop-column-test.false)) ∙ ap (λ n. n * 495) (rw m.are_twists at c.row-twists.ensures.after k l))
+    (λ k l. inv.written k (omega (arith, m.turns)) ∙ ap (λ n. n * 495) (rw m.are_twists at c.row-twists.ensures.after k l))

@@ -3,7 +3,6 @@ use Rattle.niss_search.proofs.tables.goal_moves.DominoMovesGoalMoves.starts.Give
 
 abbrev pub invariant-loop-column : goal.invariant-loop-column
 invariant-loop-column g l = record {
-  end : l.column-end ≡ length (turns_of l.self.twists.step);
   size : length l.starts ≡ 18;
   written : (k : ℕ) → k < l.column → slice_index l.starts k ≡ slice_index l.twists k * 495;
 }
