@@ -16,14 +16,14 @@ from notation import word_of
 from trial import LOOKS, Trial, seed_and_scale
 
 
-def rewriting(trial, draw, count):
+def rewriting(trial: Trial, draw: Drawing, count: int) -> None:
     """Files of lines that are spelled."""
     for _ in range(count):
         lines = [draw.line() for _ in range(draw.randrange(0, 12))]
         trial.compare("rewriting, lines", [draw.choice(REWRITES)], draw.ended(lines), draw.random() < 0.5)
 
 
-def rewriting_words(trial, draw, count):
+def rewriting_words(trial: Trial, draw: Drawing, count: int) -> None:
     """A line as words of the command, with odd words among them."""
     odd = ["", " ", "\n", "R\nU", "\n\n", "-h", "--", "--help", "(", ")", "\u2019", "\u00e9"]
     for _ in range(count):
@@ -34,7 +34,7 @@ def rewriting_words(trial, draw, count):
         trial.compare("rewriting, words", [draw.choice(REWRITES)] + words, draw.choice([b"", b"R\n", b"q"]))
 
 
-def faults(trial, draw, count):
+def faults(trial: Trial, draw: Drawing, count: int) -> None:
     """Lines that are damaged at a few places."""
     for _ in range(count):
         data = draw.ended([draw.line(8) for _ in range(draw.randrange(1, 4))])
@@ -43,7 +43,7 @@ def faults(trial, draw, count):
         trial.compare("faults, drawn", [draw.choice(REWRITES)], data)
 
 
-def faults_everywhere(trial):
+def faults_everywhere(trial: Trial) -> None:
     """Each damage at each byte of one line of all kinds of items, and each byte value after each kind of beginning."""
     whole = "R2\u2019 (Uw) x'2' M(r\u2019)".encode()
     for at in range(len(whole) + 1):
@@ -56,7 +56,7 @@ def faults_everywhere(trial):
             trial.compare("faults, each byte value", ["invert"], before + bytes([byte]))
 
 
-def most_moves(trial, draw, count):
+def most_moves(trial: Trial, draw: Drawing, count: int) -> None:
     """Lines of about 256 moves, some of them in brackets."""
     kinds = [LETTERS, ["M", "E", "S"], FACES, ["Rw", "Uw", "Fw"], ["x", "y", "z"], ["U", "D"], ["R", "r", "M", "x"]]
     for at in range(count):
@@ -72,7 +72,7 @@ def most_moves(trial, draw, count):
             trial.compare("limit of 256 moves, steps", words + [" ".join(draw.moves(moves))])
 
 
-def usage(trial, draw, count):
+def usage(trial: Trial, draw: Drawing, count: int) -> None:
     """Words that are commands, or nearly."""
     for _ in range(count):
         kind = draw.random()
@@ -88,7 +88,7 @@ def usage(trial, draw, count):
         trial.compare("usage", words, b"F\n")
 
 
-def scrambles(trial, draw, count):
+def scrambles(trial: Trial, draw: Drawing, count: int) -> None:
     """Scrambles of drawn states and streams, the ends of their ranges among them."""
     most = (1 << 64) - 1
     for _ in range(count):
@@ -101,7 +101,7 @@ def scrambles(trial, draw, count):
     trial.compare("scramble", ["scramble", "7", "9", "256", "200"])
 
 
-def search_words(draw, name):
+def search_words(draw: Drawing, name: str) -> list[str]:
     """A command that searches a step, with its numbers."""
     command = draw.choice(["solve", "count", "near"])
     limit = draw.choice([20, 20, 12, 9, 8, 7, 6, 5, 4, 3, 2, 1, 0, draw.randrange(21)])
@@ -111,7 +111,7 @@ def search_words(draw, name):
     return [command, name, str(draw.randrange(5) if slack == 20 else limit), str(slack)]
 
 
-def searches(trial, draw, count, names, most_lines):
+def searches(trial: Trial, draw: Drawing, count: int, names: list[str], most_lines: int) -> None:
     """Searches of steps over lines on which these may start, with a fault or another start now and then."""
     faulty = ["R q", "(R", "F", "F R", "", "x", "U R F", "R)", "U" * 257, "r' F M"]
     for at in range(count):
@@ -128,12 +128,12 @@ def searches(trial, draw, count, names, most_lines):
         trial.compare(kind, words, draw.ended(lines), at % 2 == 0)
 
 
-def searchable(trial, words, lines):
+def searchable(trial: Trial, words: list[str], lines: list[str]) -> list[str]:
     """Those of the lines whose search isn't too much for the model."""
     return [text for text in lines if trial.is_searchable(words, text.encode())]
 
 
-def failing_starts(trial, draw, count):
+def failing_starts(trial: Trial, draw: Drawing, count: int) -> None:
     """Lines of which one is a start that the step doesn't allow, mostly."""
     for _ in range(count):
         name = draw.choice(solving.DOMINOES)
@@ -143,7 +143,7 @@ def failing_starts(trial, draw, count):
         trial.compare("failing starts", words, draw.ended(lines), draw.random() < 0.5)
 
 
-def near_numbers(trial):
+def near_numbers(trial: Trial) -> None:
     """near with most pairs of numbers on cubes near the goal, as far as the search is small."""
     solving.Bounds.looks = 8_000
     for limit, slack in [(limit, slack) for limit in range(21) for slack in range(21)]:
@@ -153,7 +153,7 @@ def near_numbers(trial):
     solving.Bounds.looks = LOOKS
 
 
-def distances(trial, draw, count, most_lines):
+def distances(trial: Trial, draw: Drawing, count: int, most_lines: int) -> None:
     """Positions of each step, each distance as likely as the others, the farthest among them."""
     for at in range(count):
         name = list(solving.STEPS)[at % len(solving.STEPS)]
@@ -163,7 +163,7 @@ def distances(trial, draw, count, most_lines):
         trial.compare("positions by distance", words, draw.ended(searchable(trial, words, lines[:10])))
 
 
-def lines_of_orientations(step):
+def lines_of_orientations(step: solving.Step) -> dict[int, str]:
     """A line at each of the 2,048 positions of an edge orientation, grown turn by turn."""
     lines, queue = {0: ""}, [0]
     for position in queue:
@@ -176,7 +176,7 @@ def lines_of_orientations(step):
     return lines
 
 
-def every_orientation(trial):
+def every_orientation(trial: Trial) -> None:
     """All positions of the edge orientations on one axis."""
     solving.Bounds.looks = None
     for name in solving.ORIENTATIONS[:3]:
@@ -186,9 +186,9 @@ def every_orientation(trial):
             trial.compare("every edge orientation", [command, name, "20"], data, True)
 
 
-def all_kinds(trial, draw, scale):
+def all_kinds(trial: Trial, draw: Drawing, scale: float) -> None:
     """Every kind of run, as often as the scale says."""
-    def scaled(count):
+    def scaled(count: int) -> int:
         return max(1, int(count * scale))
     whole = scale >= 0.5
     solving.Bounds.looks, solving.Bounds.depth = (LOOKS, solving.FARTHEST) if whole else (8_000, 6)
@@ -210,7 +210,7 @@ def all_kinds(trial, draw, scale):
         every_orientation(trial)
 
 
-def main():
+def main() -> None:
     """Runs all kinds and reports."""
     if len(sys.argv) < 2:
         sys.exit(__doc__)

@@ -1,8 +1,9 @@
 """Drawn lines, damaged lines, words and numbers, and lines that a step may start on."""
 import random
+from collections.abc import Iterable, Sequence
 
 import solving
-from cube import brought_home, effect_of, inverse_of
+from cube import Move, brought_home, effect_of, inverse_of
 from notation import read, to_faces, word_of, words_of
 
 LETTERS = "U D R L F B Uw Dw Rw Lw Fw Bw u d r l f b M E S x y z".split()
@@ -20,12 +21,12 @@ VOCABULARY = ["invert", "unniss", "cleanup", "print", "solve", "count", "near", 
               "htr", "R", "F", "(", ""] + NUMBERS
 
 
-def is_outside(words, at):
+def is_outside(words: list[str], at: int) -> bool:
     """Whether this place among words is outside brackets."""
     return words[:at].count("(") == words[:at].count(")")
 
 
-def letters_after(moves):
+def letters_after(moves: list[Move]) -> dict[str, str]:
     """For each face of the cube as it was held at first, the letter that turns it after these moves."""
     turned = {letter: to_faces(moves + [(letter, 1)])[0][-1][0] for letter in FACES}
     return {face: letter for letter, face in turned.items()}
@@ -34,15 +35,15 @@ def letters_after(moves):
 class Drawing(random.Random):
     """What a run is made of, drawn with a seed."""
 
-    def move(self, letters=None):
+    def move(self, letters: Sequence[str] | None = None) -> str:
         """A move as it may be spelled."""
         return self.choice(letters or LETTERS) + self.choice(SUFFIXES)
 
-    def moves(self, count, letters=None):
+    def moves(self, count: int, letters: Sequence[str] | None = None) -> list[str]:
         """Moves as words."""
         return [self.move(letters) for _ in range(count)]
 
-    def glued(self, words):
+    def glued(self, words: Sequence[str]) -> str:
         """Words and brackets with one blank between, none, or drawn ones."""
         taste = self.random()
         if taste < 0.6:
@@ -52,7 +53,7 @@ class Drawing(random.Random):
             text += word + self.choice(["", " ", "  ", "\t", "\r", " \t\r "])
         return text
 
-    def line(self, most=30):
+    def line(self, most: int = 30) -> str:
         """A line that is spelled, with brackets in some."""
         letters = self.choice([LETTERS, LETTERS, FACES, ["M", "E", "S", "x", "U"], ["R", "L"], ["U", "D", "y"]])
         words = self.moves(self.randrange(0, most + 1), letters)
@@ -62,11 +63,11 @@ class Drawing(random.Random):
                 words[at:at] = ["("] + inner + [")"]
         return self.glued(words)
 
-    def ended(self, lines):
+    def ended(self, lines: Iterable[str]) -> bytes:
         """Lines as input, the last one mostly with its line feed."""
         return "\n".join(lines).encode() + (b"\n" if self.random() < 0.8 else b"")
 
-    def damaged(self, data):
+    def damaged(self, data: bytes) -> bytes:
         """Input with a byte or a few put in, changed or taken away at one place."""
         at, kind = self.randrange(len(data) + 1), self.random()
         if kind < 0.35:
@@ -77,7 +78,7 @@ class Drawing(random.Random):
             return data[:at] + bytes([self.randrange(256)]) + data[at + 1:]
         return data[:at] + data[at + 1:] if kind < 0.9 else data[:at]
 
-    def started(self, name, most):
+    def started(self, name: str, most: int) -> str:
         """A line on which a step may start."""
         start, turns, _ = solving.STEPS[name]
         if start is None:
@@ -86,7 +87,7 @@ class Drawing(random.Random):
             return self.started_from_solved(solving.TURNS_OF[turns], most)
         return self.started_by_orientation("eo" + start, solving.TURNS_OF[turns], most)
 
-    def started_from_solved(self, turns, most):
+    def started_from_solved(self, turns: list[Move], most: int) -> str:
         """Turns of the step alone, some of them in brackets."""
         words = [word_of(self.choice(turns)) for _ in range(self.randrange(0, most + 1))]
         if words and self.random() < 0.4:
@@ -94,7 +95,7 @@ class Drawing(random.Random):
             words = words[:at] + ["("] + words[at:] + [")"]
         return self.glued(words)
 
-    def started_by_orientation(self, orientation, turns, most):
+    def started_by_orientation(self, orientation: str, turns: list[Move], most: int) -> str:
         """A drawn line, then a shortest orientation of its edges and turns of the step, spelled after its rotations."""
         text = self.line(min(most, 8))
         normal, bracketed = read(text.encode())
@@ -109,7 +110,7 @@ class Drawing(random.Random):
             return text + " " + words_of(tail)
         return "(" + words_of(inverse_of(tail)) + ")" + text
 
-    def line_by_distance(self, name):
+    def line_by_distance(self, name: str) -> str:
         """A line at a position of the step's first goal, each distance as likely as the others."""
         step = solving.step(name)
         distance, move = step.goals[0].distance, step.movers[0]

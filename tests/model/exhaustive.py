@@ -9,6 +9,7 @@ every 500th the whole answer of `count` is compared. The last line is `N passed,
 import subprocess
 import sys
 import time
+from collections.abc import Iterator
 
 import model
 import solving
@@ -20,14 +21,16 @@ WHOLLY = 500
 SHOWN = 3
 
 
-def line_of_each(step):
+def line_of_each(step: solving.Step) -> dict[int, bytes]:
     """A line at each position, in the order in which they are found."""
     words = [word_of(turn).encode() for turn in step.turns]
+    goal = step.goals[0]
+    assert isinstance(goal, solving.Domino)
     lines, queue = {0: b""}, [0]
     for position in queue:
         twist, middle = divmod(position, solving.SLICES)
         line = lines[position]
-        for word, (high, low) in zip(words, step.goals[0].tables):
+        for word, (high, low) in zip(words, goal.tables):
             turned = high[twist] + low[middle]
             if turned not in lines:
                 lines[turned] = line + word
@@ -36,7 +39,7 @@ def line_of_each(step):
     return lines
 
 
-def answers_of(program, name, lines):
+def answers_of(program: str, name: str, lines: list[bytes]) -> list[bytes]:
     """The program's answers to lines; none where it fails."""
     done = subprocess.run([program, "count", name, "20"], input=b"\n".join(lines) + b"\n", capture_output=True, check=False)
     answers = done.stdout.split(b"\n")[:-1]
@@ -46,14 +49,14 @@ def answers_of(program, name, lines):
     return answers
 
 
-def is_right(name, line, distance, answer, wholly):
+def is_right(name: str, line: bytes, distance: int, answer: bytes, wholly: bool) -> bool:
     """Whether the answer has the distance, and where asked for is the model's wholly."""
     if not answer.startswith(b"length %d " % distance):
         return False
     return not wholly or answer + b"\n" == model.run(["count", name, "20", line.decode()])[0]
 
 
-def wrong_answers(program, name):
+def wrong_answers(program: str, name: str) -> Iterator[tuple[bytes, bytes]]:
     """The lines of a step that are answered otherwise, with their answers."""
     step = solving.step(name)
     lines = list(line_of_each(step).items())
@@ -65,7 +68,7 @@ def wrong_answers(program, name):
                 yield line, answer
 
 
-def differences(program, name):
+def differences(program: str, name: str) -> int:
     """How many positions of a step are answered otherwise; the first ones are shown."""
     wrong = 0
     for line, answer in wrong_answers(program, name):
@@ -75,7 +78,7 @@ def differences(program, name):
     return wrong
 
 
-def main():
+def main() -> None:
     """All steps of one domino reduction, or those that are named."""
     if len(sys.argv) < 2:
         sys.exit(__doc__)

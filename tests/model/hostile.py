@@ -9,6 +9,7 @@ M failed`, by kinds of runs, and the status is 1 where M isn't 0.
 """
 import sys
 import time
+from collections.abc import Callable
 
 import hostile_calls
 import hostile_input
@@ -19,35 +20,35 @@ from drawing import Drawing
 from trial import LOOKS, Trial, seed_and_scale
 
 
-def devices(trial):
+def devices(trial: Trial) -> None:
     """Full, odd and closed streams."""
     hostile_streams.full_devices(trial)
     hostile_streams.odd_devices(trial)
     hostile_streams.closed_streams(trial)
 
 
-def waiting(trial):
+def waiting(trial: Trial) -> None:
     """Streams that aren't ready, users who wait, and odd starts."""
     hostile_streams.not_ready(trial)
     hostile_streams.line_by_line(trial)
     hostile_streams.odd_starts(trial)
 
 
-def endless(trial):
+def endless(trial: Trial) -> None:
     """Input and output without end."""
     hostile_streams.endless_input(trial)
     hostile_streams.endless_output(trial)
 
 
-def words(trial, draw, count):
+def words(trial: Trial, draw: Drawing, count: int) -> None:
     """Odd lists of words, and long ones."""
     hostile_input.word_lists(trial, draw, count)
     hostile_input.long_words(trial)
 
 
-def parts_of(trial, draw, scale):
+def parts_of(trial: Trial, draw: Drawing, scale: float) -> dict[str, Callable[[], None]]:
     """What each part does."""
-    def scaled(count):
+    def scaled(count: int) -> int:
         return max(1, int(count * scale))
     return {
         "devices": lambda: devices(trial), "calls": lambda: hostile_calls.calls(trial, draw),
@@ -60,7 +61,7 @@ def parts_of(trial, draw, scale):
     }
 
 
-def main():
+def main() -> None:
     """The parts that are named, or all."""
     if len(sys.argv) < 2:
         sys.exit(__doc__)

@@ -2,11 +2,13 @@
 import ctypes
 import re
 import shutil
+from collections.abc import Callable
 
 import model
+from drawing import Drawing
 from hostile_input import lines
-from model import CANNOT_WRITE, NO_MEMORY
-from trial import ran
+from model import CANNOT_WRITE, NO_MEMORY, Answer, Run
+from trial import Trial, ran
 
 CALL = re.compile(r"^(?:\[pid +\d+\] |\d+ +)?(\w+)\((.*)\) += (-?\d+|\?|0x[0-9a-f]+)(.*)$")
 LIBC = ctypes.CDLL(None)
@@ -17,7 +19,7 @@ NOT_HERE = ("read", "write", "execve", "exit", "exit_group", "brk")
 MOST_WRITES = 60
 
 
-def same_addresses():
+def same_addresses() -> None:
     """The same addresses in each run, so that a refused brk can answer the break that stood."""
     LIBC.personality(ADDRESSES_STAY)
 
@@ -25,34 +27,35 @@ def same_addresses():
 class Traced:
     """A run under strace, with calls refused: what it answered, and its calls as (name, how many of that name, arguments, answer)."""
 
-    def __init__(self, trial, words, data, *refusals):
+    def __init__(self, trial: Trial, words: list[str], data: bytes, *refusals: str) -> None:
         options = [option for refusal in refusals for option in ("-e", "inject=" + refusal)]
         self.words, self.data = words, data
         command = ["strace", "-f", "-a1", "-s0", "-o", trial.path("calls")] + options + [trial.program] + words
         with trial.input_file(data) as file:
             self.answer = ran(command, stdin=file, preexec_fn=same_addresses)
-        self.calls, seen = [], {}
+        self.calls: list[tuple[str, int, str, str]] = []
+        seen: dict[str, int] = {}
         with open(trial.path("calls"), encoding="utf-8", errors="replace") as file:
             for name, arguments, answer, _ in [found.groups() for found in map(CALL.match, file) if found]:
                 seen[name] = seen.get(name, 0) + 1
                 self.calls.append((name, seen[name], arguments, answer))
 
-    def on_stream(self, wanted, stream):
+    def on_stream(self, wanted: str, stream: int) -> list[tuple[int, int]]:
         """The calls of a name on a stream: how many of that name, and how many bytes."""
         return [(nth, -1 if answer == "?" else int(answer, 0)) for name, nth, arguments, answer in self.calls
                 if name == wanted and arguments.split(",")[0].strip() == str(stream)]
 
-    def own(self):
+    def own(self) -> int:
         """The index of the program's first own call: there it sets SIGPIPE aside."""
         return next(at for at, call in enumerate(self.calls) if call[0] == "rt_sigaction" and "SIGPIPE" in call[2])
 
 
-def is_there(trial):
+def is_there(trial: Trial) -> bool:
     """Whether strace is here and may trace."""
     return shutil.which("strace") is not None and Traced(trial, ["steps"], b"").answer[2] == 0
 
 
-def refused_reads(trial, words, data, errors):
+def refused_reads(trial: Trial, words: list[str], data: bytes, errors: list[str]) -> None:
     """Each read refused: the answers to the lines before, and that it cannot read."""
     given = 0
     for nth, size in Traced(trial, words, data).on_stream("read", 0):
@@ -63,7 +66,7 @@ def refused_reads(trial, words, data, errors):
     trial.check("reads counted", words, data, (given,), (len(data),))
 
 
-def refused_writes(trial, words, data, errors):
+def refused_writes(trial: Trial, words: list[str], data: bytes, errors: list[str]) -> None:
     """Each write refused, and each taking nothing: what was written before stays a beginning of the output."""
     whole, sent = model.run(words, data), 0
     writes = Traced(trial, words, data).on_stream("write", 1)
@@ -77,7 +80,7 @@ def refused_writes(trial, words, data, errors):
     trial.check("writes counted", words, data, (sent,), (len(whole[0]),))
 
 
-def short_writes(trial, words, data, write, sent):
+def short_writes(trial: Trial, words: list[str], data: bytes, write: tuple[int, int], sent: int) -> None:
     """A write that takes a part only: the rest is written by the next one. What strace says was taken is lost."""
     (nth, size), (output, fault, status) = write, model.run(words, data)
     for taken in {1, size // 2, size - 1} - {0, size, -1}:
@@ -86,7 +89,7 @@ def short_writes(trial, words, data, write, sent):
         trial.check("a short write", words + [str(nth), str(taken)], data, got, expected)
 
 
-def refused_faults(trial, words):
+def refused_faults(trial: Trial, words: list[str]) -> None:
     """Each write of the text of a fault refused: output and status stay, the text is a beginning."""
     whole = model.run(words)
     writes = Traced(trial, words, b"").on_stream("write", 2)
@@ -98,23 +101,23 @@ def refused_faults(trial, words):
             trial.check("a text of faults refused", words + [how, str(nth)], b"", got, (whole[0], True, whole[2]))
 
 
-def whole_answer(traced):
+def whole_answer(traced: Traced) -> Answer:
     """The answer of a run that no refusal touches."""
     return model.run(traced.words, traced.data)
 
 
-def whole_answer_or_no_memory(traced):
+def whole_answer_or_no_memory(traced: Traced) -> Answer:
     """That, or what the run answered, where it is out of memory with nothing read and nothing written."""
     has_no_memory = traced.answer == (b"", NO_MEMORY, 3) and not traced.on_stream("read", 0)
     return traced.answer if has_no_memory else whole_answer(traced)
 
 
-def judge(trial, kind, traced, how, expected):
+def judge(trial: Trial, kind: str, traced: Traced, how: str, expected: Callable[[Traced], Answer]) -> None:
     """The run answers as is expected of it."""
     trial.check(kind, traced.words + [how], traced.data, traced.answer, expected(traced))
 
 
-def refused_others(trial, words, data):
+def refused_others(trial: Trial, words: list[str], data: bytes) -> None:
     """Each other call of the program's own refused, once and from then on. What the system's loader does before isn't judged."""
     traced = Traced(trial, words, data)
     for name, nth, _, _ in traced.calls[traced.own():]:
@@ -127,7 +130,7 @@ def refused_others(trial, words, data):
                 judge(trial, "another call refused", Traced(trial, words, data, how), how, expected)
 
 
-def refused_growths(trial, words, data):
+def refused_growths(trial: Trial, words: list[str], data: bytes) -> None:
     """Each growth of memory refused, once and from then on: a refused brk answers the old break, as the system does."""
     traced = Traced(trial, words, data)
     own, old_break, seen = traced.own(), "0", {"brk": 0, "mmap": 0, "mremap": 0}
@@ -144,14 +147,15 @@ def refused_growths(trial, words, data):
             old_break = answer
 
 
-GROWTHS = [(["invert"], b"R U\nF2\n"), (["cleanup"], b"R U\nF2\n"), (["print"], b""), (["steps"], b""),
-           (["scramble", "42", "54", "6", "1"], b""), (["invert", "R U' F2"], b""), (["unniss", " " * 120_000], b""),
-           (["solve", "eofb", "7", "F"], b""), (["solve", "eo", "7"], b"F\n"),
-           (["count", "dr-eofb", "5"], b"R U\n"), (["count", "drud-eorl", "5", "D"], b""), (["near", "dr-eoud", "2", "1", "R"], b""),
-           ([], b""), (["unniss"] + ["R"] * 200, b"")]
+GROWTHS: list[Run] = [
+    (["invert"], b"R U\nF2\n"), (["cleanup"], b"R U\nF2\n"), (["print"], b""), (["steps"], b""),
+    (["scramble", "42", "54", "6", "1"], b""), (["invert", "R U' F2"], b""), (["unniss", " " * 120_000], b""),
+    (["solve", "eofb", "7", "F"], b""), (["solve", "eo", "7"], b"F\n"),
+    (["count", "dr-eofb", "5"], b"R U\n"), (["count", "drud-eorl", "5", "D"], b""), (["near", "dr-eoud", "2", "1", "R"], b""),
+    ([], b""), (["unniss"] + ["R"] * 200, b"")]
 
 
-def calls(trial, draw):
+def calls(trial: Trial, draw: Drawing) -> None:
     """All of these, over a few commands each."""
     if not is_there(trial):
         print("skipped: no strace traces here, so no system call is refused")

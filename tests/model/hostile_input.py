@@ -3,7 +3,9 @@ import resource
 
 import model
 import solving
+from drawing import Drawing
 from streams import run_with
+from trial import Trial
 
 ALPHABET = b"UDRLFBudrlfbMESxyzw2' \t\r\n()\xe2\x80\x99qQ3\0\xff"
 # What stands across the boundary of two blocks that are read.
@@ -11,7 +13,7 @@ ACROSS = ["R\u2019".encode(), "R2\u2019".encode(), b"Rw2'", b"(U)", b"R\nU\n", b
           b"))", b"(\n)", b"\0", b"U'2", b"R ' "]
 
 
-def line(draw, most):
+def line(draw: Drawing, most: int) -> bytes:
     """A line as bytes."""
     words = draw.moves(draw.randrange(0, most + 1))
     if draw.random() < 0.3:
@@ -20,29 +22,29 @@ def line(draw, most):
     return draw.choice(["", " ", " \t"]).join(words).encode()
 
 
-def lines(draw, count, most):
+def lines(draw: Drawing, count: int, most: int) -> bytes:
     """Lines as bytes, the last one without a line feed."""
     return b"\n".join(line(draw, most) for _ in range(count))
 
 
-def any_bytes(draw):
+def any_bytes(draw: Drawing) -> bytes:
     """Bytes of every value."""
     return draw.randbytes(draw.randrange(0, 200))
 
 
-def bytes_of_the_notation(draw):
+def bytes_of_the_notation(draw: Drawing) -> bytes:
     """Bytes that moves are spelled with, and a few more."""
     return bytes(draw.choice(ALPHABET) for _ in range(draw.randrange(0, 60)))
 
 
-def one_damaged_byte(draw):
+def one_damaged_byte(draw: Drawing) -> bytes:
     """Lines of which one byte is changed."""
     data = bytearray(lines(draw, draw.randrange(1, 12), 10) + b"\n")
     data[draw.randrange(len(data))] = draw.randrange(256)
     return bytes(data)
 
 
-def block_boundaries(draw):
+def block_boundaries(draw: Drawing) -> bytes:
     """A move, a bracket or a fault across the end of a block."""
     block = draw.choice([4096, 8192, 12288, 65536]) if draw.random() < 0.97 else 131072
     across = draw.choice(ACROSS) + draw.choice([b"", b"\n", b"U\n", b" "])
@@ -51,18 +53,18 @@ def block_boundaries(draw):
     return (unit * (size // len(unit) + 1))[:size] + across + draw.choice([b"", b"R\n", b"M x\n" * 2000, b" " * 5000])
 
 
-def no_final_line_feed(draw):
+def no_final_line_feed(draw: Drawing) -> bytes:
     """A last line that just ends."""
     return lines(draw, draw.randrange(1, 6), 12).rstrip(b"\n") + draw.choice([b"R", b"2", b" ", b"(", b"\xe2\x80", b"\xe2", b""])
 
 
-def most_moves(draw):
+def most_moves(draw: Drawing) -> bytes:
     """A line of 256 or 257 moves."""
     data = draw.choice(["", " ", "\t\r"]).join(draw.moves(draw.choice([256, 256, 257]))).encode()
     return draw.choice([b"", b"U\n"]) + data + draw.choice([b"", b"\n", b"\nR\n", b" q\n"])
 
 
-def blanks_and_brackets(draw):
+def blanks_and_brackets(draw: Drawing) -> bytes:
     """Hardly any moves."""
     return bytes(draw.choice(b" \t\r\n()R'") for _ in range(draw.randrange(0, 40)))
 
@@ -70,7 +72,7 @@ def blanks_and_brackets(draw):
 FILES = [any_bytes, bytes_of_the_notation, one_damaged_byte, block_boundaries, no_final_line_feed, most_moves, blanks_and_brackets]
 
 
-def files(trial, draw, count):
+def files(trial: Trial, draw: Drawing, count: int) -> None:
     """Files of each kind, for the commands that rewrite and now and then for a search."""
     searching = [["solve", "eofb", "2"], ["count", "eorl", "9"], ["near", "eo", "3", "1"], ["solve", "eoud", "20"]]
     for at in range(count):
@@ -79,7 +81,7 @@ def files(trial, draw, count):
         trial.compare("files, " + make.__name__.replace("_", " "), words, make(draw), at % 2 == 0)
 
 
-def large(trial):
+def large(trial: Trial) -> None:
     """Inputs of 16 MiB, a byte less and a byte more, with faults before and after the limit."""
     most = model.MOST_INPUT
     filled = (b"R" + b" " * 8190 + b"\n") * (most // 8192)
@@ -98,7 +100,7 @@ def large(trial):
         trial.compare("input of 16 MiB and about", words, data, True)
 
 
-def odd_word(draw):
+def odd_word(draw: Drawing) -> str:
     """A word of any characters, of those of the notation, a name, a number or a line."""
     kind = draw.randrange(6)
     if kind == 0:
@@ -115,7 +117,7 @@ def odd_word(draw):
     return line(draw, 5).decode()
 
 
-def word_lists(trial, draw, count):
+def word_lists(trial: Trial, draw: Drawing, count: int) -> None:
     """Lists of odd words, most of them after a command."""
     for _ in range(count):
         words = [odd_word(draw) for _ in range(draw.randrange(0, 6))]
@@ -126,7 +128,7 @@ def word_lists(trial, draw, count):
         trial.compare("word lists", words, b"R\nU\n")
 
 
-def long_words(trial):
+def long_words(trial: Trial) -> None:
     """Words and lists of words as long as the system lets them be."""
     zeros, most = "0" * 60_000, 18446744073709551615
     cases = [["invert"] + [""] * 20_000, ["solve", "eofb", "0" * 100_000 + "5", "F"], ["solve", "eofb", "9" * 100_000, "F"],

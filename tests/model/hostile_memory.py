@@ -5,23 +5,25 @@ import shutil
 import subprocess
 
 import model
-from model import NO_MEMORY
+from model import NO_MEMORY, Answer, Run
 from streams import run_with
-from trial import ran
+from trial import Trial, ran
 
 SOURCE = os.path.join(os.path.dirname(os.path.abspath(__file__)), "refuse.c")
-ALLOCATING = [(["invert"], b"R U\nF2\n"), (["unniss"], b"R\n(U"), (["cleanup"], b"R U\nF2\n"), (["print"], b"R"), (["steps"], b""),
-              (["scramble", "42", "54", "6", "1"], b""), (["invert", "R U' F2"], b""), (["unniss", "R", "(U)", ""], b""), ([], b""),
-              (["solve", "eofb", "7", "F"], b""), (["solve", "eo", "7"], b"F\nR\n"), (["count", "drud-eofb", "5", "R", "U"], b""),
-              (["count", "dr-eofb", "5"], b"R U\n"), (["near", "dr-eoud", "2", "1", "R"], b""), (["near", "eofb", "2", "1"], b"F\n"),
-              (["solve", "drfb-eorl", "3"], b"U\nR\n"), (["solve", "htr", "3", "F"], b"")]
+ALLOCATING: list[Run] = [
+    (["invert"], b"R U\nF2\n"), (["unniss"], b"R\n(U"), (["cleanup"], b"R U\nF2\n"), (["print"], b"R"), (["steps"], b""),
+    (["scramble", "42", "54", "6", "1"], b""), (["invert", "R U' F2"], b""), (["unniss", "R", "(U)", ""], b""), ([], b""),
+    (["solve", "eofb", "7", "F"], b""), (["solve", "eo", "7"], b"F\nR\n"), (["count", "drud-eofb", "5", "R", "U"], b""),
+    (["count", "dr-eofb", "5"], b"R U\n"), (["near", "dr-eoud", "2", "1", "R"], b""), (["near", "eofb", "2", "1"], b"F\n"),
+    (["solve", "drfb-eorl", "3"], b"U\nR\n"), (["solve", "htr", "3", "F"], b"")]
 # kilobytes in which no memory may be refused
 AMPLE = 60_000
-LIMITED = [(["solve", "eofb", "7"], b"F\n"), (["count", "drud-eofb", "5"], b"R U\n"), (["near", "dr-eofb", "3", "1"], b"\n"),
-           (["invert", "R" + " " * 100_000], b""), (["invert"], b"R\n"), (["scramble", "1", "2", "256", "20"], b"")]
+LIMITED: list[Run] = [
+    (["solve", "eofb", "7"], b"F\n"), (["count", "drud-eofb", "5"], b"R U\n"), (["near", "dr-eofb", "3", "1"], b"\n"),
+    (["invert", "R" + " " * 100_000], b""), (["invert"], b"R\n"), (["scramble", "1", "2", "256", "20"], b"")]
 
 
-def refusing_library(trial):
+def refusing_library(trial: Trial) -> str | None:
     """The library that refuses allocations, or None where no C compiler makes it."""
     library = trial.path("refuse.so")
     if shutil.which("cc") is None:
@@ -30,7 +32,7 @@ def refusing_library(trial):
     return library if made.returncode == 0 else None
 
 
-def allocating(trial, library, words, data, refused):
+def allocating(trial: Trial, library: str, words: list[str], data: bytes, refused: str) -> tuple[bytes, bytes, int, int, int, int]:
     """What the program answers, how many bytes it read, how many allocations it made, and how many blocks it hasn't given back."""
     with trial.input_file(data) as file, open(trial.path("count"), "wb") as count:
         environment = {"LD_PRELOAD": library, "REFUSE": refused, "REFUSE_COUNT": str(count.fileno())}
@@ -41,7 +43,7 @@ def allocating(trial, library, words, data, refused):
     return *answer, read, made, held
 
 
-def allocations(trial):
+def allocations(trial: Trial) -> None:
     """Each allocation of a run refused, once and from then on: out of memory, nothing read, nothing written and nothing kept."""
     library = refusing_library(trial)
     if library is None:
@@ -57,14 +59,15 @@ def allocations(trial):
                 trial.check("an allocation refused", words + [refused], data, (*got, held), (b"", NO_MEMORY, 3, 0, 0))
 
 
-def run_within(trial, kilobytes, words, data=b"", environment=None):
+def run_within(trial: Trial, kilobytes: int, words: list[str], data: bytes = b"",
+               environment: dict[str, str] | None = None) -> Answer:
     """What the program answers in so much address space."""
-    def cut():
+    def cut() -> None:
         resource.setrlimit(resource.RLIMIT_AS, (kilobytes * 1024, kilobytes * 1024))
     return run_with(trial, words, data, before=cut, env=environment)
 
 
-def is_loaded(trial, kilobytes, words):
+def is_loaded(trial: Trial, kilobytes: int, words: list[str]) -> bool:
     """Whether the program begins in so much address space where these words take their room, here as variables."""
     environment = dict(os.environ, **{"WORD%d" % at: word for at, word in enumerate(words)})
     try:
@@ -73,7 +76,7 @@ def is_loaded(trial, kilobytes, words):
         return False
 
 
-def address_space(trial):
+def address_space(trial: Trial) -> None:
     """Less and less address space: the whole answer, or out of memory with nothing written."""
     trial.awaits("address space limited")
     for words, data in LIMITED:

@@ -8,25 +8,31 @@ import signal
 import subprocess
 import termios
 import time
+from typing import Any
 
 import model
+from drawing import Drawing
 from hostile_input import lines
-from model import CANNOT_READ, CANNOT_WRITE, INPUT_TOO_LONG
-from streams import Trickle, close_quietly, ended, read_all, run_with, small_pipe, started
-from trial import TIMEOUT, ran
+from model import CANNOT_READ, CANNOT_WRITE, INPUT_TOO_LONG, Answer
+from streams import Process, Trickle, close_quietly, ended, read_all, run_with, small_pipe, started
+from trial import TIMEOUT, Trial, ran
 
-WRITING = [(["invert", "R U"], None), (["solve", "eofb", "5", "F B"], None), (["scramble", "1", "2", "20", "3"], None), (["steps"], None),
-           (["count", "eofb", "5", "F B"], None), (["near", "eofb", "3", "1", "F"], None), (["print", "R"], None),
-           (["cleanup", "R (x)"], None), (["invert"], b"R\nU\nF\n"), (["invert"], b"R\nU\nq\n"),
-           (["solve", "eofb", "3"], b"R\nF\nB\n" * 50)]
-WRITING_NOTHING = [(["invert"], b""), (["solve", "eofb", "3"], b""), (["scramble", "1", "2", "3", "0"], None)]
-FAULTY = [(["invert", "q"], None), ([], None), (["solve", "drud-eofb", "3", "F"], None), (["invert"], b" " * (model.MOST_INPUT + 1))]
-LONG = [(["near", "eofb", "3", "1", "F"], None), (["scramble", "1", "2", "256", "900"], None), (["invert"], b"R U F\n" * 40000),
-        (["solve", "eofb", "4"], b"F B\nR L\n" * 9000)]
+# the words of a command, and its input, None if it has none of its own
+Run = tuple[list[str], bytes | None]
+WRITING: list[Run] = [
+    (["invert", "R U"], None), (["solve", "eofb", "5", "F B"], None), (["scramble", "1", "2", "20", "3"], None), (["steps"], None),
+    (["count", "eofb", "5", "F B"], None), (["near", "eofb", "3", "1", "F"], None), (["print", "R"], None),
+    (["cleanup", "R (x)"], None), (["invert"], b"R\nU\nF\n"), (["invert"], b"R\nU\nq\n"), (["solve", "eofb", "3"], b"R\nF\nB\n" * 50)]
+WRITING_NOTHING: list[Run] = [(["invert"], b""), (["solve", "eofb", "3"], b""), (["scramble", "1", "2", "3", "0"], None)]
+FAULTY: list[Run] = [
+    (["invert", "q"], None), ([], None), (["solve", "drud-eofb", "3", "F"], None), (["invert"], b" " * (model.MOST_INPUT + 1))]
+LONG: list[Run] = [
+    (["near", "eofb", "3", "1", "F"], None), (["scramble", "1", "2", "256", "900"], None), (["invert"], b"R U F\n" * 40000),
+    (["solve", "eofb", "4"], b"F B\nR L\n" * 9000)]
 ENDLESS_MEMORY = 12_000
 
 
-def pipes(trial, draw, count):
+def pipes(trial: Trial, draw: Drawing, count: int) -> None:
     """A few bytes at a time."""
     for _ in range(count):
         give, take = draw.choice([1, 2, 3, 7, 100, 1000, 4095, 4096, 4097, 8192]), draw.choice([1, 3, 10, 100, 5000])
@@ -34,14 +40,14 @@ def pipes(trial, draw, count):
         words = [draw.choice(model.REWRITES)] if draw.random() < 0.8 else ["solve", draw.choice(["eofb", "eo"]), "4"]
         delay = draw.choice([0, 0, 0.001, 0.01])
 
-        def pause():
+        def pause() -> None:
             if delay and draw.random() < 0.2:
                 time.sleep(delay)
         got = Trickle(trial, words, data, give, take).run(pause)
         trial.check("pipes, a few bytes at a time", words, data, got, model.run(words, data))
 
 
-def full_devices(trial):
+def full_devices(trial: Trial) -> None:
     """Output and faults to a full device, to a pipe without a reader, and to nothing."""
     full = os.open("/dev/full", os.O_WRONLY)
     reading, unread = os.pipe()
@@ -58,18 +64,18 @@ def full_devices(trial):
         trial.check("no output to a full device", words, data, run_with(trial, words, data, stdout=full), (b"", b"", 0))
     for words, data in FAULTY:
         _, fault, status = model.run(words, data or b"")
-        for kind, streams, wanted in (("faults, all full", {"stdout": full, "stderr": full}, b""),
-                                      ("faults, output full", {"stdout": full}, fault),
-                                      ("faults, standard error full", {"stderr": full}, b""),
-                                      ("faults, standard error closed", {"closed": [2]}, b"")):
+        odd: list[tuple[str, dict[str, Any], bytes]] = [
+            ("faults, all full", {"stdout": full, "stderr": full}, b""), ("faults, output full", {"stdout": full}, fault),
+            ("faults, standard error full", {"stderr": full}, b""), ("faults, standard error closed", {"closed": [2]}, b"")]
+        for kind, streams, wanted in odd:
             trial.check(kind, words, data, run_with(trial, words, data, **streams), (b"", wanted, status))
     os.close(full)
     os.close(unread)
 
 
-def odd_devices(trial):
+def odd_devices(trial: Trial) -> None:
     """A folder and devices as the input."""
-    def with_input(kind, words, name, expected):
+    def with_input(kind: str, words: list[str], name: str, expected: Answer) -> None:
         stream = os.open(name, os.O_RDONLY)
         trial.check(kind, words, b"", run_with(trial, words, stdin=stream), expected)
         os.close(stream)
@@ -82,22 +88,24 @@ def odd_devices(trial):
     with_input("no input, from a device", ["invert"], "/dev/null", (b"", b"", 0))
 
 
-def closed_streams(trial):
+def closed_streams(trial: Trial) -> None:
     """Streams that are closed, or open the other way."""
     unreadable, unwritable = os.open("/dev/null", os.O_WRONLY), os.open("/dev/null", os.O_RDONLY)
-    for words, options, expected in (
-            (["invert"], {"closed": [0]}, (b"", CANNOT_READ, 3)), (["invert"], {"stdin": unreadable}, (b"", CANNOT_READ, 3)),
-            (["invert", "R"], {"closed": [1]}, (b"", CANNOT_WRITE, 3)), (["invert", "R"], {"stdout": unwritable}, (b"", CANNOT_WRITE, 3)),
-            (["solve", "eofb", "5", "F B"], {"closed": [1]}, (b"", CANNOT_WRITE, 3)),
-            (["steps"], {"closed": [0, 1]}, (b"", CANNOT_WRITE, 3)),
-            (["invert"], {"closed": [0, 1, 2]}, (b"", b"", 3)), (["invert", "q"], {"closed": [0, 1, 2]}, (b"", b"", 1))):
+    cases: list[tuple[list[str], dict[str, Any], Answer]] = [
+        (["invert"], {"closed": [0]}, (b"", CANNOT_READ, 3)), (["invert"], {"stdin": unreadable}, (b"", CANNOT_READ, 3)),
+        (["invert", "R"], {"closed": [1]}, (b"", CANNOT_WRITE, 3)), (["invert", "R"], {"stdout": unwritable}, (b"", CANNOT_WRITE, 3)),
+        (["solve", "eofb", "5", "F B"], {"closed": [1]}, (b"", CANNOT_WRITE, 3)),
+        (["steps"], {"closed": [0, 1]}, (b"", CANNOT_WRITE, 3)),
+        (["invert"], {"closed": [0, 1, 2]}, (b"", b"", 3)), (["invert", "q"], {"closed": [0, 1, 2]}, (b"", b"", 1))]
+    for words, options, expected in cases:
         trial.check("closed streams", words, b"", run_with(trial, words, **options), expected)
     os.close(unreadable)
     os.close(unwritable)
 
 
-def fill_quietly(process, data):
+def fill_quietly(process: Process, data: bytes) -> None:
     """Gives what a program takes at once."""
+    assert process.stdin is not None
     os.set_blocking(process.stdin.fileno(), False)
     try:
         os.write(process.stdin.fileno(), data)
@@ -105,7 +113,7 @@ def fill_quietly(process, data):
         pass
 
 
-def gone_readers(trial, draw, count):
+def gone_readers(trial: Trial, draw: Drawing, count: int) -> None:
     """A reader that goes away after some bytes: what came is a beginning, the status is 3 where writes were left, nothing hangs."""
     for _ in range(count):
         words, data = draw.choice(LONG)
@@ -130,7 +138,7 @@ def gone_readers(trial, draw, count):
         trial.check("a reader that goes away", words + [str(take)], data, got, expected)
 
 
-def file_limits(trial, draw, count):
+def file_limits(trial: Trial, draw: Drawing, count: int) -> None:
     """A file that may not grow further: a short write, then a refused one."""
     commands = [(["scramble", "1", "2", "50", "300"], None), (["invert"], b"R U F\n" * 3000), (["solve", "eofb", "5", "F B"], None),
                 (["print"], b"R U F\nM\n" * 100)]
@@ -139,18 +147,18 @@ def file_limits(trial, draw, count):
         whole = model.run(words, data or b"")[0]
         size = draw.randrange(0, len(whole) + 3)
 
-        def cut():
+        def cut() -> None:
             signal.signal(signal.SIGXFSZ, signal.SIG_IGN)
             resource.setrlimit(resource.RLIMIT_FSIZE, (size, size))
         with open(trial.path("output"), "wb") as file:
             _, fault, status = run_with(trial, words, data, before=cut, stdout=file)
-        with open(trial.path("output"), "rb") as file:
-            got = file.read(), fault, status
+        with open(trial.path("output"), "rb") as written:
+            got = written.read(), fault, status
         expected = (whole[:size], CANNOT_WRITE, 3) if size < len(whole) else (whole, b"", 0)
         trial.check("a file that may not grow", words + [str(size)], data, got, expected)
 
 
-def endless_output(trial):
+def endless_output(trial: Trial) -> None:
     """near without end: solutions come as they are found, memory stays, and a reader that goes away ends it."""
     for name, text in (("eofb", ""), ("drud-eofb", ""), ("eo", "F")):
         beginning = model.run(["near", name, "3", "3", text])[0][:-1]
@@ -163,16 +171,17 @@ def endless_output(trial):
             total += len(piece)
             output += piece if len(output) < len(beginning) else b""
         with open("/proc/%d/status" % process.pid, encoding="ascii", errors="replace") as file:
-            kilobytes = int(re.search(r"VmHWM:\s+(\d+)", file.read()).group(1))
+            peak = re.search(r"VmHWM:\s+(\d+)", file.read())
         os.close(reading)
-        got = (output[:len(beginning)],) + ended(process) + (kilobytes < ENDLESS_MEMORY,)
+        got = (output[:len(beginning)],) + ended(process) + (peak is not None and int(peak[1]) < ENDLESS_MEMORY,)
         trial.check("output without end", ["near", name, "20", "20", text], b"", got, (beginning, CANNOT_WRITE, 3, True))
 
 
-def endless_input(trial):
+def endless_input(trial: Trial) -> None:
     """A writer that never ends is stopped by the limit."""
     for text, words in ((b"y\n", ["invert"]), (b"R", ["invert"]), (b"\n", ["cleanup"]), (b"F\n", ["count", "eofb", "3"])):
         process = started(trial, words, stdin=subprocess.PIPE, stdout=subprocess.DEVNULL)
+        assert process.stdin is not None
         piece, sent = text * (65536 // len(text)), 0
         try:
             while sent < 4 * model.MOST_INPUT:
@@ -185,7 +194,7 @@ def endless_input(trial):
         trial.check("input without end", words, text, got, (INPUT_TOO_LONG, 3, True))
 
 
-def not_ready(trial):
+def not_ready(trial: Trial) -> None:
     """Streams that would block answer that they aren't ready, as a read or write that failed."""
     for words, data in ((["invert"], b"R\nU"), (["solve", "eofb", "3"], b"F\n"), (["print"], b"")):
         reading, writing = os.pipe()
@@ -206,7 +215,7 @@ def not_ready(trial):
         trial.check("output that isn't ready", words, b"", got, (whole[:len(output)], CANNOT_WRITE, 3, True))
 
 
-def silent_terminal():
+def silent_terminal() -> tuple[int, int]:
     """A terminal that doesn't echo: the end at the program and the end of the user."""
     user, terminal = pty.openpty()
     mode = termios.tcgetattr(terminal)
@@ -215,8 +224,9 @@ def silent_terminal():
     return terminal, user
 
 
-def asked(process, writing, text, size):
+def asked(process: Process, writing: int, text: bytes, size: int) -> bytes:
     """What comes for a line before the next one is given, up to the size that is waited for."""
+    assert process.stdout is not None
     os.write(writing, text)
     answer, end = b"", time.time() + 10
     while len(answer) < size and select.select([process.stdout], [], [], max(0, end - time.time()))[0]:
@@ -224,7 +234,7 @@ def asked(process, writing, text, size):
     return answer
 
 
-def line_by_line(trial):
+def line_by_line(trial: Trial) -> None:
     """A user who waits for the answer to each line, over a pipe and over a terminal."""
     for kind, make in (("pipe", os.pipe), ("terminal", silent_terminal)):
         for words in (["invert"], ["solve", "eofb", "4"], ["count", "drud-eofb", "9"]):
@@ -244,14 +254,14 @@ def line_by_line(trial):
                 os.close(writing)
 
 
-def odd_starts(trial):
+def odd_starts(trial: Trial) -> None:
     """An own name that is empty or alone, words that aren't UTF-8, and a small stack."""
     usage = (b"", model.USAGE, 2)
-    for words, expected in (([b"", b"invert", b"R"], (b"R'\n", b"", 0)), ([b"nissy"], usage), ([b"nissy", b"invert", b"R\xff"], usage),
+    for own_words, expected in (([b"", b"invert", b"R"], (b"R'\n", b"", 0)), ([b"nissy"], usage), ([b"nissy", b"invert", b"R\xff"], usage),
                             ([b"nissy", b"\xe2\x80"], usage), ([b"nissy", b"unniss", b"R\xe2\x80", b"U"], usage),
                             ([b"nissy", b"solve", b"eofb", b"\xb2", b"F"], usage)):
-        got = ran(words, executable=trial.program, stdin=subprocess.DEVNULL)
-        trial.check("odd starts", [str(word) for word in words], b"", got, expected)
+        got = ran(own_words, executable=trial.program, stdin=subprocess.DEVNULL)
+        trial.check("odd starts", [str(word) for word in own_words], b"", got, expected)
     words = ["near", "eofb", "20", "0", "F B R U F"]
     got = run_with(trial, words, before=lambda: resource.setrlimit(resource.RLIMIT_STACK, (65536, 65536)))
     trial.check("a stack of 64 KiB", words, b"", got, model.run(words))

@@ -1,7 +1,8 @@
 """Lines of moves for the independent model: how they are read, expanded, cleaned and written."""
 import re
+from collections.abc import Iterable
 
-from cube import effect_of, inverse_effect, rotation_of, then
+from cube import Effect, Move, effect_of, inverse_effect, rotation_of, then
 
 MOST_MOVES = 256
 
@@ -16,31 +17,32 @@ TURNS = [(face, quarters) for face in "UDRLFB" for quarters in (1, 2, 3)]
 SUFFIX_OF_QUARTERS = {1: "", 2: "2", 3: "'"}
 
 
-def word_of(move):
+def word_of(move: Move) -> str:
     """A move as it is written."""
     return move[0] + SUFFIX_OF_QUARTERS[move[1]]
 
 
-def words_of(moves):
+def words_of(moves: Iterable[Move]) -> str:
     """Moves as they are written, with single spaces."""
     return " ".join(word_of(move) for move in moves)
 
 
-def power_of_word(word, power):
+def power_of_word(word: str, power: int) -> Move:
     """The move that a word made `power` times is: x' made twice is x2."""
     letters, quarters = (word[:-1], 3) if word.endswith("'") else (word, 1)
     return letters, quarters * power % 4
 
 
-def expanded(move):
+def expanded(move: Move) -> list[Move]:
     """A wide turn or slice turn as face turns and a rotation; other moves as they are."""
     letters, quarters = move
     return [power_of_word(word, quarters) for word in EXPANSION[letters]] if letters in EXPANSION else [move]
 
 
-def to_faces(moves):
+def to_faces(moves: list[Move]) -> tuple[list[Move], list[Move]]:
     """Face turns with all rotations pushed to the end, and the rotation that is left."""
-    faces, name = [], {face: face for face in "UFDBRL"}
+    faces: list[Move] = []
+    name = {face: face for face in "UFDBRL"}
     for letters, quarters in [part for move in moves for part in expanded(move)]:
         if letters in RENAMED:
             for _ in range(quarters):
@@ -50,12 +52,12 @@ def to_faces(moves):
     return faces, rotation_of(effect_of(moves))
 
 
-def allowed(last, turn):
+def allowed(last: Move | None, turn: Move) -> bool:
     """Whether a turn may follow the last one, None where there is none, in a canonical sequence."""
     return last is None or not (last[0] == turn[0] or (OPPOSITE[last[0]] == turn[0] and last[0] in "DLB"))
 
 
-def clean(faces):
+def clean(faces: list[Move]) -> list[Move]:
     """Face turns rewritten, each time at the leftmost pair that isn't canonical, until none is left."""
     faces, at = list(faces), 0
     while at + 1 < len(faces):
@@ -86,12 +88,12 @@ QUARTERS_OF_SUFFIX = {None: 1, b"2": 2, b"'": 3, b"2'": 2, b"\xe2\x80\x99": 3, b
 class ReadFault(Exception):
     """What is wrong with a line, and the column of the byte where it is."""
 
-    def __init__(self, kind, column):
+    def __init__(self, kind: str, column: int) -> None:
         super().__init__(kind, column)
         self.kind, self.column = kind, column
 
 
-def bracket(opened, item, at):
+def bracket(opened: int | None, item: bytes, at: int) -> int | None:
     """Where the bracket that is open after this one began, or None."""
     if item == b"(" and opened is not None:
         raise ReadFault(NESTED, at + 1)
@@ -100,9 +102,12 @@ def bracket(opened, item, at):
     return at if item == b"(" else None
 
 
-def read(line):
+def read(line: bytes) -> tuple[list[Move], list[Move]]:
     """The normal moves of a line and those in brackets; a ReadFault where it isn't spelled."""
-    normal, bracketed, opened, at = [], [], None, 0
+    normal: list[Move] = []
+    bracketed: list[Move] = []
+    opened: int | None = None
+    at = 0
     while at < len(line):
         item = ITEM.match(line, at)
         if item is None:
@@ -121,18 +126,18 @@ def read(line):
     return normal, bracketed
 
 
-def meaning(normal, bracketed):
+def meaning(normal: list[Move], bracketed: list[Move]) -> Effect:
     """The effect of a line: its normal moves, and then the inverse of the bracketed ones."""
     return then(effect_of(normal), inverse_effect(effect_of(bracketed)))
 
 
-def cleaned_words(moves):
+def cleaned_words(moves: list[Move]) -> list[str]:
     """Moves as cleaned face turns and one rotation, written."""
     faces, rotation = to_faces(moves)
     return [word_of(move) for move in clean(faces) + rotation]
 
 
-def cleaned_line(normal, bracketed):
+def cleaned_line(normal: list[Move], bracketed: list[Move]) -> str:
     """A line with its two parts cleaned, each by itself; empty brackets are left out."""
     words, inner = cleaned_words(normal), cleaned_words(bracketed)
     return " ".join(words + (["(" + " ".join(inner) + ")"] if inner else []))

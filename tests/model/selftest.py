@@ -9,35 +9,40 @@ import itertools
 import random
 import re
 import sys
+from collections.abc import Callable
 
 import model
 import solving
-from cube import EFFECTS, LAYERS, PLACES, brought_home, effect_of, inverse_of, then
+from cube import EFFECTS, LAYERS, PLACES, Effect, Move, brought_home, effect_of, inverse_of, then
 from notation import (EXPANSION, MOST_MOVES, NESTED, NOT_A_MOVE, RENAMED, TOO_LONG, TURNS, UNCLOSED, UNOPENED, ReadFault, allowed, clean,
                       meaning, power_of_word, read, to_faces)
 from selftest_numbers import EXAMPLES, number_by_stickers
-from selftest_rows import FAULTS, INPUTS, ROWS
+from selftest_rows import FAULTS, INPUTS, ROWS, Case
 
 SEED = 20261123
+Sequence = tuple[Move, ...]
+# the sets of places that a goal keeps
+SetsOfGoal = list[frozenset[int]]
 MOVES = [(letters, quarters) for letters in LAYERS for quarters in (1, 2, 3)]
 
 
-def worked_rows():
+def worked_rows() -> None:
     """Rows of words with their answers."""
-    cases = [(words, b"", output, "", 0) for words, output in ROWS]
-    cases += [(words, b"", output, fault, status) for words, output, fault, status in FAULTS] + INPUTS
+    cases: list[Case] = [(words, b"", output, "", 0) for words, output in ROWS]
+    cases += [(words, b"", output, fault, status) for words, output, fault, status in FAULTS]
+    cases += INPUTS
     for words, data, output, fault, status in cases:
         got = model.run(words.split() if isinstance(words, str) else words, data)
         assert got == (output.encode(), fault.encode(), status), (words, got)
 
 
-def generator_words():
+def generator_words() -> None:
     """The first words of PCG's reference at state 42 and stream 54."""
     generator = model.Generator(42, 54)
     assert [generator.word() for _ in range(6)] == [0xa15c02b7, 0x7b47f409, 0xba1d3330, 0x83d2f293, 0xbfa4784b, 0xcbed606e]
 
 
-def expansions():
+def expansions() -> None:
     """That expansions and renamings are what the geometry says."""
     for letters, words in EXPANSION.items():
         for power in (1, 2, 3):
@@ -47,15 +52,15 @@ def expansions():
             assert effect_of([(rotation, 1), (letter, power)]) == effect_of([(face, power), (rotation, 1)]), (rotation, letter)
 
 
-def canonical(turns, length):
+def canonical(turns: list[Move], length: int) -> list[Sequence]:
     """All canonical sequences of a length, in turn order."""
-    sequences = [()]
+    sequences: list[Sequence] = [()]
     for _ in range(length):
         sequences = [sequence + (turn,) for sequence in sequences for turn in turns if allowed(sequence[-1] if sequence else None, turn)]
     return sequences
 
 
-def counts_of_sequences():
+def counts_of_sequences() -> None:
     """How many canonical sequences there are, and how many entries of tables are filled."""
     for turns, counts in (("all", [1, 18, 243, 3240, 43254]), ("fb", [1, 14, 139, 1368])):
         assert [len(canonical(solving.TURNS_OF[turns], length)) for length in range(len(counts))] == counts
@@ -64,11 +69,13 @@ def counts_of_sequences():
         assert sum(len(step.turns) * sum(distance <= 19 for distance in goal.distance) for goal in step.goals) == ticks
 
 
-def coordinates(draw, count):
+def coordinates(draw: random.Random, count: int) -> None:
     """That the number of a set's image and the number by stickers determine each other, and are 0 together."""
     for text, kind, axis, number in EXAMPLES:
         assert number_by_stickers(kind, axis, effect_of([power_of_word(text, 1)])) == number, (text, kind, axis)
-    kinds, theirs_of, mine_of = list(itertools.product(solving.COORDINATE_SETS, solving.AXIS)), {}, {}
+    kinds = list(itertools.product(solving.COORDINATE_SETS, solving.AXIS))
+    theirs_of: dict[tuple[str, str, int], int] = {}
+    mine_of: dict[tuple[str, str, int], int] = {}
     for _ in range(count):
         effect = effect_of([draw.choice(TURNS) for _ in range(draw.randrange(30))])
         for kind, axis in kinds:
@@ -84,27 +91,27 @@ LETTER_BYTES = frozenset(b"UDRLFBudrlfbMESxyz")
 ENDINGS = [b"", b")", b"\x99", b"\x80\x99", b"\x99)", b"\x80\x99)"]
 
 
-def letters_in(data):
+def letters_in(data: bytes) -> int:
     """How many moves begin in these bytes."""
     return sum(byte in LETTER_BYTES for byte in data)
 
 
-def is_spelled(data):
+def is_spelled(data: bytes) -> bool:
     """Whether bytes are a line, by the grammar as one expression."""
     return LINE.fullmatch(data) is not None and letters_in(data) <= MOST_MOVES
 
 
-def can_go_on(data):
+def can_go_on(data: bytes) -> bool:
     """Whether some ending makes a line of the bytes."""
     return any(is_spelled(data + ending) for ending in ENDINGS)
 
 
-def ends_in_apostrophe(data):
+def ends_in_apostrophe(data: bytes) -> bool:
     """Whether the bytes end within a typographic apostrophe."""
     return can_go_on(data) and not any(is_spelled(data + ending) for ending in (b"", b")"))
 
 
-def fault_by_endings(line):
+def fault_by_endings(line: bytes) -> tuple[str, int] | None:
     """The fault of a line: the leftmost byte after which no ending makes a line, or what the end lacks."""
     for at in range(len(line)):
         before, byte = line[:at], line[at:at + 1]
@@ -128,7 +135,7 @@ PIECES = [b"U", b"R", b"f", b"w", b"2", b"'", b"\xe2", b"\x80", b"\x99", b"\xe2\
           b"\x00", b"\xff", b"Fw", b"2'", b"L", b"y2"]
 
 
-def faults(draw, count):
+def faults(draw: random.Random, count: int) -> None:
     """That a line is read, and its fault found, as the endings say."""
     for _ in range(count):
         line = b"".join(draw.choice(PIECES) for _ in range(draw.randrange(0, 12)))
@@ -142,7 +149,7 @@ def faults(draw, count):
         assert got == fault_by_endings(line), (line, got, fault_by_endings(line))
 
 
-def clean_from_the_left(faces):
+def clean_from_the_left(faces: list[Move]) -> list[Move]:
     """Rewriting that begins anew at the left each time."""
     while True:
         at = next((at for at in range(len(faces) - 1) if not allowed(faces[at], faces[at + 1])), None)
@@ -154,7 +161,7 @@ def clean_from_the_left(faces):
         faces = faces[:at] + (merged if last[0] == turn[0] else [turn, last]) + faces[at + 2:]
 
 
-def notation(draw, count):
+def notation(draw: random.Random, count: int) -> None:
     """That face turns and cleaning keep the effect."""
     for _ in range(count):
         normal = [draw.choice(MOVES) for _ in range(draw.randrange(0, 30))]
@@ -166,7 +173,7 @@ def notation(draw, count):
         assert brought_home(meaning(normal, bracketed)) == effect_of(to_faces(normal + inverse_of(bracketed))[0])
 
 
-def sets_of_goals(name):
+def sets_of_goals(name: str) -> list[SetsOfGoal]:
     """The sets of places that each goal of a step keeps."""
     start, _, goals = solving.STEPS[name]
     kept = [solving.flip_set(solving.AXIS[start])] if start else []
@@ -174,7 +181,7 @@ def sets_of_goals(name):
             kept + [solving.twist_set(solving.AXIS[axis]), solving.slice_set(solving.AXIS[axis])] for kind, axis in goals]
 
 
-def is_reached(effect, goals):
+def is_reached(effect: Effect, goals: list[SetsOfGoal]) -> bool:
     """Whether the sets of one goal are kept."""
     return any(all({effect[place] for place in places} == places for places in sets) for sets in goals)
 
@@ -182,15 +189,15 @@ def is_reached(effect, goals):
 class BySequences:
     """Searches by trying all sequences on the 54 stickers."""
 
-    def __init__(self, name, effect, limit):
+    def __init__(self, name: str, effect: Effect, limit: int) -> None:
         self.goals, self.turns, self.effect, self.limit = sets_of_goals(name), solving.step(name).turns, effect, limit
-        self.distances = {}
+        self.distances: dict[Sequence, int] = {}
 
-    def is_solution(self, sequence):
+    def is_solution(self, sequence: Sequence) -> bool:
         """Whether the sequence reaches the step."""
         return is_reached(then(self.effect, effect_of(sequence)), self.goals)
 
-    def distance(self, sequence):
+    def distance(self, sequence: Sequence) -> int:
         """The least number of further turns of any kind after a sequence, or one more than the limit lets be."""
         if sequence not in self.distances:
             left = self.limit - len(sequence)
@@ -199,7 +206,7 @@ class BySequences:
             self.distances[sequence] = next(reaching, left + 1)
         return self.distances[sequence]
 
-    def search(self, slack):
+    def search(self, slack: int) -> tuple[int | None, list[Sequence], int]:
         """The least length, the solutions in order, and the positions that a deepening search must look at."""
         solutions = {length: [each for each in canonical(self.turns, length) if self.is_solution(each)] for length in range(self.limit + 1)}
         least = next((length for length in solutions if solutions[length]), None)
@@ -212,7 +219,7 @@ class BySequences:
         return least, found, looks
 
 
-def searches(draw, count):
+def searches(draw: random.Random, count: int) -> None:
     """Short searches by the filter of all sequences."""
     for _ in range(count):
         name = draw.choice(list(solving.STEPS))
@@ -227,13 +234,14 @@ def searches(draw, count):
         assert got == BySequences(name, effect, limit).search(slack), (name, moves, limit, slack)
 
 
-def main():
+def main() -> None:
     """All parts."""
     scale = float(sys.argv[1]) if len(sys.argv) > 1 else 1.0
     draw = random.Random(SEED)
     assert len(PLACES) == 54
-    parts = [worked_rows, generator_words, expansions, counts_of_sequences, lambda: coordinates(draw, int(600 * scale)),
-             lambda: faults(draw, int(3000 * scale)), lambda: notation(draw, int(1000 * scale)), lambda: searches(draw, int(40 * scale))]
+    parts: list[Callable[[], None]] = [
+        worked_rows, generator_words, expansions, counts_of_sequences, lambda: coordinates(draw, int(600 * scale)),
+        lambda: faults(draw, int(3000 * scale)), lambda: notation(draw, int(1000 * scale)), lambda: searches(draw, int(40 * scale))]
     for part in parts:
         part()
     print("%d passed, 0 failed" % len(parts))

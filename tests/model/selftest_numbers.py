@@ -1,7 +1,7 @@
 """Numbers of coordinates by the stickers of each cubie, a second definition beside the images of sets of places."""
 import math
 
-from cube import COLOURS, FACELETS, effect_of, inverse_effect
+from cube import COLOURS, FACELETS, Effect, effect_of, inverse_effect
 from notation import power_of_word
 
 # The facelets of each corner and edge, by the face and its number row by row; the first one decides how the cubie is turned.
@@ -16,7 +16,7 @@ EXAMPLES = [("F", "flip", "fb", 550), ("F", "slice", "ud", 33), ("F", "slice", "
             ("D", "slice", "fb", 33)]
 
 
-def place_of(facelet):
+def place_of(facelet: str) -> int:
     """The place of a facelet such as U9."""
     return FACELETS["URFDLB".index(facelet[0]) * 9 + int(facelet[1]) - 1]
 
@@ -25,7 +25,7 @@ CORNER_PLACES = [[place_of(text[at:at + 2]) for at in (0, 2, 4)] for text in COR
 EDGE_PLACES = [[place_of(text[at:at + 2]) for at in (0, 2)] for text in EDGES]
 
 
-def turned_to_axis(kind, axis, effect):
+def turned_to_axis(kind: str, axis: str, effect: Effect) -> Effect:
     """The cube as it is seen after the rotation to the axis."""
     word = ROTATION_TO_AXIS.get((kind, axis))
     if word is None:
@@ -36,7 +36,7 @@ def turned_to_axis(kind, axis, effect):
     return seen
 
 
-def number_by_stickers(kind, axis, effect):
+def number_by_stickers(kind: str, axis: str, effect: Effect) -> int:
     """The number of a cube's coordinate."""
     origin = inverse_effect(turned_to_axis(kind, axis, effect))
     if kind == "flip":
@@ -49,7 +49,7 @@ def number_by_stickers(kind, axis, effect):
     return number_of_slice([origin[place[0]] in middle for place in EDGE_PLACES])
 
 
-def number_of_slice(occupied):
+def number_of_slice(occupied: list[bool]) -> int:
     """The number of four places among twelve, with the last four as 0."""
     left, total = 3, 0
     for at in range(11, -1, -1):

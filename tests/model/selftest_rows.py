@@ -1,10 +1,13 @@
 """Worked rows: words, what they answer, and faults with their status."""
 import model
 
+Words = str | list[str]
+# words, standard input, output, text of the fault, status
+Case = tuple[Words, bytes, str, str, int]
 QUARTERS_OF_F = "F (1)\nF' (1)\n\n"
 LONGER = [(turn, after) for turn in ("F", "F'") for after in "U U2 U' D D2 D' R R2 R' L L2 L' B2".split()]
 # words, and the output; status 0
-ROWS = [
+ROWS: list[tuple[Words, str]] = [
     ("solve eofb 7 F", QUARTERS_OF_F), ("solve eofb 0 F", "no solution within 0 moves\n\n"),
     ("solve eofb 5 F B", "F B (2)\nF B' (2)\nF' B (2)\nF' B' (2)\n\n"),
     ("count eofb 5 F B", "length 2 solutions 4 nodes 75\n"), (["unniss", "R (U F') D"], "R D F U'\n"),
@@ -39,7 +42,7 @@ ROWS = [
     (["invert", "R (U F') D"], "U F' D' R'\n"),
 ]
 # words, output, text of the fault, status
-FAULTS = [
+FAULTS: list[tuple[Words, str, str, int]] = [
     ("solve drud-eofb 5 F", "", "nissy: line 1: eofb does not hold\n", 1),
     (["invert", "R '"], "", "nissy: line 1, column 3: not a move\n", 1),
     (["cleanup", "U" * 257], "", "nissy: line 1, column 257: more than 256 moves\n", 1),
@@ -49,8 +52,7 @@ FAULTS = [
 ]
 for words in ("solve eofb 21 F", "solve htr 3 F", "solve eofb", "scramble 1 2 3", "", "near eofb 5", "near eofb 5 21 F", "near eofb 5 F"):
     FAULTS.append((words, "", "usage: nissy COMMAND [ARGUMENTS]\n", 2))
-# words, standard input, output, text of the fault, status
-INPUTS = [
+INPUTS: list[Case] = [
     ("unniss", b"R\n(U", "R\n", "nissy: line 2, column 1: bracket not closed\n", 1), ("solve eofb 3", b"", "", "", 0),
     ("invert", b"R\xe2\x80\x99\n", "R\n", "", 0), ("invert", b"R\xe2\x80U\n", "", "nissy: line 1, column 2: not a move\n", 1),
     ("solve eofb 2", b"R\nF\nq\nF", "(0)\n\nF (1)\nF' (1)\n\n", "nissy: line 3, column 1: not a move\n", 1),

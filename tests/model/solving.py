@@ -4,8 +4,9 @@ A step is reached where sets of sticker places are kept. The images of such a se
 found; a position is such numbers, and its distance is found level by level from the goal.
 """
 import os
+from collections.abc import Callable, Iterator, Sequence
 
-from cube import EFFECTS, PLACES
+from cube import EFFECTS, PLACES, Effect, Move, Vector
 from notation import TURNS, allowed
 
 AXIS = {"rl": 0, "ud": 1, "fb": 2}
@@ -22,26 +23,36 @@ class TooMuch(Exception):
 class Bounds:
     """What a search may take: positions looked at in one deepening, and the depth to which dominoes' distances are filled."""
 
-    looks = None
+    looks: int | None = None
     depth = FARTHEST
 
 
-def kind_of(cell):
+Places = frozenset[int]
+# what a turn makes of the high part of a position, and of the low one if there is one
+Table = tuple[list[int], list[int] | None]
+Mover = Callable[[int, int], int]
+Position = tuple[int, ...]
+Path = tuple[int, ...]
+# the least length, the solutions in order, and the positions looked at
+Searched = tuple[int | None, list[Path], int]
+
+
+def kind_of(cell: Vector) -> int:
     """3 for a corner, 2 for an edge, 1 for a centre."""
-    return sum(map(abs, cell))
+    return sum(abs(part) for part in cell)
 
 
-def twist_set(axis):
+def twist_set(axis: int) -> Places:
     """The corner stickers on the two faces of an axis."""
     return frozenset(number for number, (cell, direction) in enumerate(PLACES) if kind_of(cell) == 3 and direction[axis])
 
 
-def slice_set(axis):
+def slice_set(axis: int) -> Places:
     """The edges in the layer between these faces."""
     return frozenset(number for number, (cell, _) in enumerate(PLACES) if kind_of(cell) == 2 and cell[axis] == 0)
 
 
-def flip_set(axis):
+def flip_set(axis: int) -> Places:
     """One sticker of each edge, such that turns other than quarter turns on the axis keep the set."""
     other = 0 if axis == 1 else 1
     return frozenset(number for number, (cell, direction) in enumerate(PLACES)
@@ -56,8 +67,9 @@ for _axis, _faces in (("fb", "FB"), ("rl", "RL"), ("ud", "UD")):
 class Coordinate:
     """The images of a set of places under all cubes, numbered from 0 for the set itself, and the number after each turn."""
 
-    def __init__(self, kept, size):
-        self.kept, self.number, self.after = kept, {kept: 0}, [[] for _ in TURNS]
+    def __init__(self, kept: Places, size: int) -> None:
+        self.kept, self.number = kept, {kept: 0}
+        self.after: list[list[int]] = [[] for _ in TURNS]
         queue = [kept]
         for image in queue:
             for index, turn in enumerate(TURNS):
@@ -68,17 +80,17 @@ class Coordinate:
                 self.after[index].append(self.number[turned])
         assert len(queue) == size, (len(queue), size)
 
-    def of(self, effect):
+    def of(self, effect: Effect) -> int:
         """The number of the image under an effect."""
         return self.number[frozenset(effect[place] for place in self.kept)]
 
 
 COORDINATE_SETS = {"flip": (flip_set, 2048), "twist": (twist_set, 2187), "slice": (slice_set, 495)}
 SLICES = 495
-_coordinates = {}
+_coordinates: dict[tuple[str, str], Coordinate] = {}
 
 
-def coordinate(kind, axis):
+def coordinate(kind: str, axis: str) -> Coordinate:
     """A coordinate by its kind and the name of its axis, made once."""
     if (kind, axis) not in _coordinates:
         places, size = COORDINATE_SETS[kind]
@@ -86,7 +98,7 @@ def coordinate(kind, axis):
     return _coordinates[kind, axis]
 
 
-def levels(size, tables, deepest):
+def levels(size: int, tables: Sequence[Table], deepest: int) -> bytes:
     """The distance of each position from position 0, by tables of what each turn makes of its high and low part."""
     distance = bytearray([BEYOND]) * size
     distance[0] = 0
@@ -97,7 +109,7 @@ def levels(size, tables, deepest):
     return bytes(distance)
 
 
-def next_level(distance, level, depth, tables):
+def next_level(distance: bytearray, level: list[int], depth: int, tables: Sequence[Table]) -> list[int]:
     """The positions one turn beyond a level that were not met before."""
     found = []
     for position in level:
@@ -113,16 +125,16 @@ def next_level(distance, level, depth, tables):
 class Orientation:
     """Edges oriented on an axis: positions are flips."""
 
-    def __init__(self, axis, turns):
+    def __init__(self, axis: str, turns: str) -> None:
         self.turns, self.flip = [TURNS.index(turn) for turn in TURNS_OF[turns]], coordinate("flip", axis)
         self.distance = levels(2048, [(self.flip.after[index], None) for index in self.turns], FARTHEST)
         self.deepest = FARTHEST
 
-    def position(self, effect):
+    def position(self, effect: Effect) -> int:
         """The number of a cube's position."""
         return self.flip.of(effect)
 
-    def mover(self):
+    def mover(self) -> Mover:
         """What the step's turn with an index makes of a position."""
         tables = [self.flip.after[index] for index in self.turns]
         return lambda position, index: tables[index][position]
@@ -131,14 +143,14 @@ class Orientation:
 class Domino:
     """A domino reduction on an axis: positions are twists and slices."""
 
-    def __init__(self, axis, turns):
+    def __init__(self, axis: str, turns: str) -> None:
         self.turns = [TURNS.index(turn) for turn in TURNS_OF[turns]]
         self.twist, self.slice = coordinate("twist", axis), coordinate("slice", axis)
         self.tables = [([twist * SLICES for twist in self.twist.after[index]], self.slice.after[index]) for index in self.turns]
         self.deepest = Bounds.depth
         self.distance = self.cached("domino-%s-%s-%d" % (axis, turns, self.deepest))
 
-    def cached(self, name):
+    def cached(self, name: str) -> bytes:
         """The distances, read from the cache where they are there."""
         path = CACHE and os.path.join(CACHE, name)
         if path and os.path.exists(path):
@@ -146,24 +158,26 @@ class Domino:
                 return file.read()
         distance = levels(2187 * SLICES, self.tables, self.deepest)
         if path:
-            os.makedirs(CACHE, exist_ok=True)
+            os.makedirs(os.path.dirname(path), exist_ok=True)
             with open(path + ".part", "wb") as file:
                 file.write(distance)
             os.replace(path + ".part", path)
         return distance
 
-    def position(self, effect):
+    def position(self, effect: Effect) -> int:
         """The number of a cube's position."""
         return self.twist.of(effect) * SLICES + self.slice.of(effect)
 
-    def mover(self):
+    def mover(self) -> Mover:
         """What the step's turn with an index makes of a position."""
         tables = self.tables
         return lambda position, index: tables[index][0][position // SLICES] + tables[index][1][position % SLICES]
 
 
 # name: the axis whose edges must be oriented at the start, the turns, and the goals, of which one is to be reached
-STEPS = {}
+Goal = Orientation | Domino
+KindOfGoal = type[Orientation] | type[Domino]
+STEPS: dict[str, tuple[str | None, str, list[tuple[KindOfGoal, str]]]] = {}
 for _axis in ("fb", "rl", "ud"):
     STEPS["eo" + _axis] = (None, "all", [(Orientation, _axis)])
 for _domino, _axis in (("ud", "fb"), ("rl", "fb"), ("ud", "rl"), ("fb", "rl"), ("rl", "ud"), ("fb", "ud")):
@@ -174,10 +188,10 @@ STEPS["dr-eorl"] = ("rl", "rl", [(Domino, "ud"), (Domino, "fb")])
 STEPS["dr-eoud"] = ("ud", "ud", [(Domino, "rl"), (Domino, "fb")])
 ORIENTATIONS = [name for name, (start, _, _) in STEPS.items() if start is None]
 DOMINOES = [name for name in STEPS if name not in ORIENTATIONS]
-_goals, _steps, _solutions = {}, {}, {}
+_goals: dict[tuple[KindOfGoal, str, str], Goal] = {}
 
 
-def goal(kind, axis, turns):
+def goal(kind: KindOfGoal, axis: str, turns: str) -> Goal:
     """One goal of a step, made once."""
     key = kind, axis, turns
     if key not in _goals:
@@ -188,36 +202,38 @@ def goal(kind, axis, turns):
 class Step:
     """A step with its goals, turns and searches. A position has a number for each goal, a path is a list of turn indices."""
 
-    def __init__(self, name):
+    def __init__(self, name: str) -> None:
         self.name = name
         self.start, turns, goals = STEPS[name]
         self.turns = TURNS_OF[turns]
         self.goals = [goal(kind, axis, turns) for kind, axis in goals]
         self.deepest = min(each.deepest for each in self.goals)
         self.movers = [each.mover() for each in self.goals]
-        self.follow = {None: list(range(len(self.turns)))}
+        self.follow: dict[int | None, list[int]] = {None: list(range(len(self.turns)))}
         for index, last in enumerate(self.turns):
             self.follow[index] = [after for after, turn in enumerate(self.turns) if allowed(last, turn)]
 
-    def may_start(self, effect):
+    def may_start(self, effect: Effect) -> bool:
         """Whether the edges are oriented as the step asks for."""
         return self.start is None or coordinate("flip", self.start).of(effect) == 0
 
-    def position(self, effect):
+    def position(self, effect: Effect) -> Position:
         """The position of a cube."""
         return tuple(each.position(effect) for each in self.goals)
 
-    def look(self, position):
+    def look(self, position: Position) -> int:
         """The distance of a position: the least over the goals."""
         return min(each.distance[number] for each, number in zip(self.goals, position))
 
-    def after(self, position, index):
+    def after(self, position: Position, index: int) -> Position:
         """The position after a turn."""
         return tuple(move(number, index) for move, number in zip(self.movers, position))
 
-    def search(self, start, limit, slack):
+    def search(self, start: Position, limit: int, slack: int) -> Searched:
         """The least length or None, the solutions in order, and the positions looked at, by deepening turn by turn."""
-        least, found, looks, depth, last = None, [], 0, 0, limit
+        least: int | None = None
+        found: list[Path] = []
+        looks, depth, last = 0, 0, limit
         while depth <= last:
             if depth > self.deepest:
                 raise TooMuch
@@ -229,14 +245,16 @@ class Step:
             depth += 1
         return least, found, looks
 
-    def deepen(self, start, depth):
+    def deepen(self, start: Position, depth: int) -> tuple[list[Path], int]:
         """All solutions of exactly this length, and the positions looked at."""
-        found, looks, path = [], 1, []
+        found: list[Path] = []
+        path: list[int] = []
+        looks = 1
         if self.look(start) > depth:
             return found, looks
         if depth == 0:
             return [()], looks
-        waiting = [(start, iter(self.follow[None]))]
+        waiting: list[tuple[Position, Iterator[int]]] = [(start, iter(self.follow[None]))]
         while waiting:
             position, choices = waiting[-1]
             index = next(choices, None)
@@ -259,14 +277,18 @@ class Step:
         return found, looks
 
 
-def step(name):
+_steps: dict[str, Step] = {}
+_solutions: dict[tuple[str, Position, int, int], Searched] = {}
+
+
+def step(name: str) -> Step:
     """A step by its name, made once."""
     if name not in _steps:
         _steps[name] = Step(name)
     return _steps[name]
 
 
-def solutions_of(name, position, limit, slack):
+def solutions_of(name: str, position: Position, limit: int, slack: int) -> Searched:
     """What the search answers, kept for the same question again."""
     key = name, position, limit, slack
     if key not in _solutions:

@@ -5,8 +5,11 @@ import subprocess
 import sys
 import tempfile
 import time
+from collections.abc import Sequence
+from typing import Any, BinaryIO
 
 import model
+from model import Answer
 from solving import TooMuch
 
 TIMEOUT = 120
@@ -19,19 +22,19 @@ SHRUNK = 3
 SHRINKING = 8
 
 
-def seed_and_scale(arguments):
+def seed_and_scale(arguments: list[str]) -> tuple[int, float]:
     """The seed of what is drawn and how much is drawn, 1 where the arguments don't say."""
     seed, scale = (arguments + ["1", "1"])[:2]
     return int(seed), float(scale)
 
 
-def ran(command, **how):
+def ran(command: Sequence[str | bytes], **how: Any) -> Answer:
     """Output, standard error and status of a command, run with these words of subprocess."""
     done = subprocess.run(command, capture_output=True, timeout=TIMEOUT, check=False, **how)
     return done.stdout, done.stderr, done.returncode
 
 
-def short(value, most=300):
+def short(value: object, most: int = 300) -> str:
     """Bytes or another value as they are shown."""
     text = repr(value)
     if isinstance(value, bytes) and len(value) > most:
@@ -39,7 +42,7 @@ def short(value, most=300):
     return text if len(text) <= most else text[:most] + "..."
 
 
-def apart(mine, wanted):
+def apart(mine: object, wanted: object) -> tuple[str, str]:
     """Two values as they are shown, texts from shortly before the place where they part."""
     if not (isinstance(mine, bytes) and isinstance(wanted, bytes)):
         return short(mine), short(wanted)
@@ -51,23 +54,25 @@ def apart(mine, wanted):
 class Trial:
     """Runs of one program, counted by kind, and the differences from the model."""
 
-    def __init__(self, program):
+    def __init__(self, program: str) -> None:
         self.program = os.path.abspath(program)
-        self.counts, self.differences, self.skipped = collections.Counter(), collections.Counter(), 0
+        self.counts: collections.Counter[str] = collections.Counter()
+        self.differences: collections.Counter[str] = collections.Counter()
+        self.skipped = 0
         self.room = tempfile.TemporaryDirectory()
         self.began = time.time()
 
-    def path(self, name):
+    def path(self, name: str) -> str:
         """A file of this trial's own."""
         return os.path.join(self.room.name, name)
 
-    def input_file(self, data):
+    def input_file(self, data: bytes) -> BinaryIO:
         """A file with this input, open for reading."""
         with open(self.path("input"), "wb") as file:
             file.write(data)
         return open(self.path("input"), "rb")
 
-    def run(self, words, data=b"", by_file=False):
+    def run(self, words: list[str], data: bytes = b"", by_file: bool = False) -> Answer:
         """What the program answers to words and input, which comes by a pipe or from a file."""
         try:
             if by_file:
@@ -77,7 +82,7 @@ class Trial:
         except subprocess.TimeoutExpired:
             return b"", HANGS, -1000
 
-    def is_searchable(self, words, line):
+    def is_searchable(self, words: list[str], line: bytes) -> bool:
         """Whether the model answers this line; one that it doesn't is counted."""
         try:
             model.run(words, line + b"\n")
@@ -86,7 +91,7 @@ class Trial:
             return False
         return True
 
-    def compare(self, kind, words, data=b"", by_file=False):
+    def compare(self, kind: str, words: list[str], data: bytes = b"", by_file: bool = False) -> None:
         """One run against the model; it is left out where the model's search would take too long."""
         try:
             expected = model.run(words, data)
@@ -103,18 +108,18 @@ class Trial:
             got, expected = self.run(words, data), model.run(words, data)
         self.differs(kind, words, data, got, expected)
 
-    def awaits(self, *kinds):
+    def awaits(self, *kinds: str) -> None:
         """Kinds of which some run must come: one that has none is left out wholly, and fails."""
         for kind in kinds:
             self.counts[kind] += 0
 
-    def check(self, kind, words, data, got, expected):
+    def check(self, kind: str, words: list[str], data: bytes | None, got: object, expected: object) -> None:
         """What was seen of one run against what was to be seen."""
         self.counts[kind] += 1
         if got != expected:
             self.differs(kind, words, data, got, expected)
 
-    def differs(self, kind, words, data, got, expected):
+    def differs(self, kind: str, words: list[str], data: bytes | None, got: Any, expected: Any) -> None:
         """Counts a difference, and shows it where it is one of the first."""
         self.differences[kind] += 1
         if sum(self.differences.values()) > SHOWN:
@@ -125,14 +130,14 @@ class Trial:
                 print("  {0} of the program: {1}\n  {0} of the model:   {2}".format(name, *apart(mine, wanted)))
         sys.stdout.flush()
 
-    def is_different(self, words, data):
+    def is_different(self, words: list[str], data: bytes) -> bool:
         """Whether program and model differ here too."""
         try:
             return self.run(words, data) != model.run(words, data)
         except TooMuch:
             return False
 
-    def shrunk(self, words, data):
+    def shrunk(self, words: list[str], data: bytes) -> tuple[list[str], bytes]:
         """A smaller run that still differs, found in a few seconds."""
         end, before = time.time() + SHRINKING, None
         while before != (words, data) and time.time() < end:
@@ -141,7 +146,7 @@ class Trial:
             words = self.shrunk_words(words, data, end)
         return words, data
 
-    def shrunk_data(self, words, data, end):
+    def shrunk_data(self, words: list[str], data: bytes, end: float) -> bytes:
         """The input with pieces left out, of half its size at first."""
         size = max(len(data) // 2, 1)
         while size and data:
@@ -155,7 +160,7 @@ class Trial:
             size //= 2
         return data
 
-    def shrunk_words(self, words, data, end):
+    def shrunk_words(self, words: list[str], data: bytes, end: float) -> list[str]:
         """The words with one word or one of its first characters left out."""
         for at in range(len(words) - 1, 0, -1):
             word = words[at]
@@ -166,7 +171,7 @@ class Trial:
                     return less
         return words
 
-    def report(self):
+    def report(self) -> int:
         """Shows the counts and, as the last line, how many kinds passed and failed, as one does that was left out wholly; the status."""
         failed = [kind for kind in self.counts if self.differences[kind] or not self.counts[kind]]
         for kind in sorted(self.counts):
