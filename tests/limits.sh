@@ -14,9 +14,10 @@ many_blocks() { yes "R U'" | head -n 30000 | "$nissy" invert; }
 blanks() { head -c "$1" /dev/zero | tr '\0' ' ' | "$nissy" invert; }
 endless() { yes R | tr -d '\n' | "$nissy" invert; }
 closed_input() { "$nissy" invert <&-; }
-gone_reader() {
-    { sleep 0.2 && "$nissy" solve eofb 20 "R U F"; } | true
-    return "${PIPESTATUS[0]}"
+# shellcheck disable=SC2094
+gone_reader() { # opened to be read and to be written, and then no more to be read
+    mkfifo gone
+    "$nissy" solve eofb 20 "R U F" 8<> gone > gone 8>&-
 }
 answers "many blocks of input" 0 "$(yes "U R'" | head -n 30000)\n" "" many_blocks
 answers "input at the limit" 0 "\n" "" blanks 16777216
@@ -41,9 +42,9 @@ limited_file() {
     return "$status"
 }
 "$nissy" scramble 1 1 25 40 > "$room/unlimited"
-# COMMAND..: waits until it succeeds, ten seconds at most
+# COMMAND..: waits until it succeeds, a minute at most
 comes_true() {
-    local tries=200
+    local tries=1200
     until "$@"; do
         [ $((tries -= 1)) -gt 0 ] || return 1
         sleep 0.05

@@ -49,7 +49,7 @@ line_by_line() {
     local give=${COPROC[1]} take=${COPROC[0]} process=$COPROC_PID
     for line in R '' "U F2"; do
         echo "$line" >&"$give"
-        read -r -t 10 answer <&"$take" || return 100
+        read -r -t 60 answer <&"$take" || return 100
         echo "$answer"
     done
     exec {give}>&-

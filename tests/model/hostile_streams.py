@@ -228,7 +228,7 @@ def asked(process: Process, writing: int, text: bytes, size: int) -> bytes:
     """What comes for a line before the next one is given, up to the size that is waited for."""
     assert process.stdout is not None
     os.write(writing, text)
-    answer, end = b"", time.time() + 10
+    answer, end = b"", time.time() + TIMEOUT
     while len(answer) < size and select.select([process.stdout], [], [], max(0, end - time.time()))[0]:
         answer += os.read(process.stdout.fileno(), 65536)
     return answer

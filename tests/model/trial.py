@@ -12,7 +12,8 @@ import model
 from model import Answer
 from solving import TooMuch
 
-TIMEOUT = 120
+# seconds, of which a busy machine takes many
+TIMEOUT = 300
 # what stands for the standard error of a program that doesn't end
 HANGS = b"(hangs)"
 # the most positions that the model's search may look at in one deepening
