@@ -31,17 +31,17 @@ const LEAST_ROOMS = [
   ...inPages(576, "dr-eofb", "dr-eorl", "dr-eoud"),
 ];
 
-/** Runs: where each number of an answer stands, and what becomes of a room. */
-async function tryRuns() {
+/** An instance whose runs return each number of their answer, what became of the room, and whether nothing else was written. */
+async function runner() {
   const { instance } = await WebAssembly.instantiate(module, {});
   const { memory, nissy_run: run, __heap_base: heap } = instance.exports;
   same("its memory has addresses of 32 bits", typeof memory.grow(64), "number");
   const base = Math.ceil(Number(heap.value) / 16) * 16;
   const [answerAt, roomAt, inputAt, outAt, errAt, wordsAt, lentAt] = [0, 64, 128, 192, 512, 1024, 8192].map((at) => base + at);
-  const call = (words, input, outRoom, errRoom, lent) => {
+  return (words, input, outRoom, errRoom, lent) => {
     const bytes = new Uint8Array(memory.buffer);
-    bytes.fill(0x23, base, lentAt);
-    bytes.fill(0x23, lentAt + lent, lentAt + lent + 64);
+    bytes.fill(FILLED, base, lentAt);
+    bytes.fill(FILLED, lentAt + lent, lentAt + lent + 64);
     bytes.set(new TextEncoder().encode(words), wordsAt);
     bytes.set(new TextEncoder().encode(input), inputAt);
     const view = new DataView(memory.buffer);
@@ -49,7 +49,7 @@ async function tryRuns() {
     view.setBigUint64(roomAt + 8, BigInt(lent), true);
     run(...[answerAt, roomAt, wordsAt, words.length, inputAt, input.length, outAt, outRoom, errAt, errRoom].map(BigInt));
     const number = (at) => Number(view.getBigUint64(at, true));
-    const is = (from, to) => bytes.subarray(from, to).every((byte) => byte === 0x23);
+    const is = (from, to) => bytes.subarray(from, to).every((byte) => byte === FILLED);
     return {
       status: bytes[answerAt],
       out: text(bytes.slice(outAt, outAt + number(answerAt + 8))),
@@ -61,6 +61,10 @@ async function tryRuns() {
         is(errAt + number(answerAt + 16), wordsAt) && is(lentAt + lent, lentAt + lent + 64),
     };
   };
+}
+
+/** Runs: where each number of an answer stands, and too little room for output and error text. */
+function tryRuns(call) {
   const lent = 3_145_728;
   const rest = { room: [0, lent], kept: true };
   same("an answer where all fits", call("invert\0", "R\n", 3, 0, lent), { status: 0, out: "R'\n", err: "", small: [0, 0], ...rest });
@@ -69,6 +73,10 @@ async function tryRuns() {
   same("a byte of error room too few", call("nosuch\0", "", 0, 32, lent), { ...cut, small: [0, 1], ...rest });
   same("error room to the byte", call("nosuch\0", "", 0, 33, lent), { status: 2, out: "", err: USAGE, small: [0, 0], ...rest });
   same("no room for either", call("invert\0", "R\n", 0, 0, lent), { status: 3, out: "", err: "", small: [1, 1], ...rest });
+}
+
+/** What becomes of a room that is lent, and the least of each call. */
+function tryRooms(call) {
   for (const size of [0, 16, 32, 256, 480, 496, 512, 1024, 4096, 4160, 4176, 8192, 65536]) {
     const { status, room, kept } = call("solve\0eofb\0" + "7\0F", "", 256, 128, size);
     same(`a room of ${size} bytes comes back`, [room, kept, status === 0 || status === 3], [[0, size], true, true]);
@@ -104,11 +112,9 @@ function built({ exports, base, bytes, view, number }, tables, name, blocks, sma
   return { status, rooms: [number(rooms + 8), number(rooms + 24)], isBuilt: bytes[tables + 8] === 1 };
 }
 
-/** The calls by tables: where each number of an answer stands, and each status. */
-async function trySearches() {
-  const place = await placed();
-  const { exports, base, bytes, view, number } = place;
-  const [answer, tables, other, line, out, blocks] = [256, 320, 336, 512, 1024, 4096].map((at) => base + at);
+/** The searches of an instance, which return each number of their answer, and with a solution's whether nothing else was written. */
+function searching({ exports, base, bytes, view, number }) {
+  const [answer, line, out] = [256, 512, 1024].map((at) => base + at);
   const put = (moves) => {
     bytes.set(new TextEncoder().encode(moves), line);
     return BigInt(moves.length);
@@ -128,6 +134,15 @@ async function trySearches() {
     const [status, fault, least] = bytes.subarray(answer, answer + 3);
     return [status, fault, least, view.getUint32(answer + 4, true), number(answer + 8), number(answer + 16)];
   };
+  return { solve, count };
+}
+
+/** The calls by tables: where each number of an answer stands, and each status. */
+async function trySearches() {
+  const place = await placed();
+  const { base, bytes } = place;
+  const { solve, count } = searching(place);
+  const [tables, other, blocks] = [320, 336, 4096].map((at) => base + at);
   bytes.fill(0, tables, tables + 32);
   same("a search without tables", solve(tables, "F", 20, 0, NO_BOUND, 1024), [2, 0, 0, 0, 0, "", 0, true]);
   same("a count without tables", count(tables, "F", 20, 0), [2, 0, 0, 0, 0, 0]);
@@ -180,7 +195,9 @@ async function tryLines() {
   same("no fault's name", [0, 7, 255].map((fault) => call("fault_text", null, [fault], 2048)[0]), [2, 2, 2]);
 }
 
-await tryRuns();
+const call = await runner();
+tryRuns(call);
+tryRooms(call);
 await trySearches();
 await tryLines();
 ended();

@@ -6,12 +6,12 @@
 // The last line is `N passed, M failed`, and the status is 1 where M isn't 0.
 import { createContext, runInContext } from "node:vm";
 import { Nissy } from "../../web/module/nissy.js";
+import { tryCutOff, tryDeepCalls } from "./broken_off.mjs";
 import { ended, fingerprint, loaded, moduleBytes, same, text, thrown } from "./tally.mjs";
 import { DETACHED, WRONG, elsewhere } from "./values.mjs";
 
 const SECRET = "R2 U2 F2 D2 L2 B2 R' U' F'\n";
 const INVERTED = "F U R B2 L2 D2 F2 U2 R2\n";
-const DEEP_CALLS = 300;
 const CUT_RUNS = 10;
 /** Where the module has its texts, behind its stack. */
 const MODULE_TEXTS = 1_048_576;
@@ -88,53 +88,11 @@ async function tryGreatSizes(nissy) {
   same("a call after these", isRight(nissy), true);
 }
 
-/** Makes a call from so many frames above the end of the stack. */
-function callFromDeep(above, call) {
-  const dive = () => {
-    let up = 0;
-    try {
-      up = dive() + 1;
-    } catch {
-      // the end
-    }
-    if (up === above) call();
-    return up;
-  };
-  dive();
-}
-
-/** Calls from all depths near the end of the stack, where the module runs out of it: the next one is answered. */
-function tryDeepCalls(nissy) {
-  let brokenOff = 0;
-  let returned = 0;
-  let right = 0;
-  const call = () => {
-    try {
-      nissy.run(["count", "eofb", "20"], SECRET);
-      returned += 1;
-    } catch {
-      brokenOff += 1;
-    }
-  };
-  for (let above = 1; above <= DEEP_CALLS; above += 1) {
-    callFromDeep(above, call);
-    right += isRight(nissy) ? 1 : 0;
-  }
-  console.log(`${brokenOff} of ${DEEP_CALLS} deep calls broke off, ${returned} returned`);
-  same("deep calls break off", brokenOff > 0, true);
-  same("and some return", returned > 0, true);
-  same("each call after one from the deep", right, DEEP_CALLS);
-}
-
-/** Runs that the host cuts off, at times from at once to well within a search: no handler of nissy.js runs then. */
-async function tryCutOffRuns(nissy) {
-  const host = createContext({ nissy });
-  const long = 'nissy.run(["near", "eo", "20", "6"], "R U F2 L D R B\\n")';
-  for (let at = 0; at < CUT_RUNS; at += 1) {
-    const [, message] = await thrown(() => runInContext(long, host, { timeout: 1 + 3 * at }));
-    same(`a run that is cut off after ${1 + 3 * at} ms`, message, `Script execution timed out after ${1 + 3 * at}ms`);
-    same("a call after it", isRight(nissy), true);
-  }
+/** Runs that break off: from all depths near the end of the stack, and at times from at once to well within a search. */
+async function tryBrokenOff(nissy) {
+  tryDeepCalls(() => nissy.run(["count", "eofb", "20"], SECRET), () => isRight(nissy));
+  const times = Array.from({ length: CUT_RUNS }, (_, at) => 1 + 3 * at);
+  await tryCutOff("a run", nissy, 'nissy.run(["near", "eo", "20", "6"], "R U F2 L D R B\\n")', times, () => isRight(nissy));
 }
 
 /** Cuts a search off within the module, and returns what the next call throws. */
@@ -206,7 +164,6 @@ tryTaken(nissy);
 tryGivenToAll(nissy);
 await tryPlacesOfAll();
 await tryGreatSizes(nissy);
-tryDeepCalls(nissy);
-await tryCutOffRuns(nissy);
+await tryBrokenOff(nissy);
 await tryNoOtherInstance(nissy);
 ended();
