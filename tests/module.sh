@@ -17,7 +17,7 @@ if [ ! -e "$module" ] || missing node; then
     skips_all "there is no module that make build/nissy.wasm built, or no node"
 fi
 add node tests/module/rows.mjs "$module"
-for trial in plain wrong typed in_worker; do add node "tests/module/$trial.mjs" "$module"; done
+for trial in plain wrong overridden typed in_worker; do add node "tests/module/$trial.mjs" "$module"; done
 add node tests/module/cases.mjs "$module"
 if missing python3; then
     skips "there is no python3 here"

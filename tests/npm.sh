@@ -69,7 +69,8 @@ answers "its exports" 0 "F2 U R'
 true
 ERR_PACKAGE_PATH_NOT_EXPORTED
 ERR_PACKAGE_PATH_NOT_EXPORTED\n" '' in_folder node user.mjs
-sed -e 's|"./node.js"|"nissy/node"|' -e 's|"./browser.js"|"nissy/worker"|' tests/module/types.ts > "$user/user.mts"
+sed -e 's|"./node.js"|"nissy/node"|' -e 's|"./browser.js"|"nissy/worker"|' -e 's|"./replies.js"|"./node_modules/nissy/replies.js"|' \
+    tests/module/types.ts > "$user/user.mts"
 echo 'import { Nissy } from "nissy"; export const wrong = (nissy: Nissy): string => nissy.invert(1);' > "$user/wrong.mts"
 strict=(tsc --strict --noEmit --target es2022 --module nodenext --moduleResolution nodenext)
 holds "tsc reads its types" in_folder "${strict[@]}" user.mts

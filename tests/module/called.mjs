@@ -98,6 +98,63 @@ export async function tryMany(nissy) {
   same("options are read once for all lines", read, 1);
 }
 
+/** Options as the fields of an object, and as what it gets of its class. */
+class Fields {
+  most = 1;
+}
+
+class OfItsClass {
+  get most() {
+    return 1;
+  }
+  get limit() {
+    return 0;
+  }
+  get slack() {
+    return 1;
+  }
+}
+
+// options that are an object's own, or that it inherits, and how many of two solutions are found with them
+const OWN_OR_NOT = [
+  ["its own", { most: 1 }, 1],
+  ["fields of a class", new Fields(), 1],
+  ["those of an object that inherits nothing", Object.assign(Object.create(null), { most: 1 }), 1],
+  ["those that aren't listed", Object.defineProperty({}, "most", { value: 1 }), 1],
+  ["what it inherits", Object.create({ most: 1, limit: 0, slack: 1 }), 2],
+  ["what a class gets", new OfItsClass(), 2],
+  ["what a list inherits", Object.setPrototypeOf([], { most: 1, limit: 0 }), 2],
+];
+
+/** Options are an object's own properties, each of which is read once, before the module is asked: by `Nissy`, or by a worker. */
+export async function tryOptions(nissy, memory = undefined) {
+  for (const [what, options, count] of OWN_OR_NOT) {
+    same(`options: ${what}`, (await nissy.solve("eofb", "F", options)).length, count);
+    same(`options of many lines: ${what}`, (await nissy.solveAll("eofb", ["F"], options))[0].length, count);
+  }
+  same("a count by what an object inherits", (await nissy.count("eofb", "F", new OfItsClass())).solutions, 2);
+  let read = [];
+  const noting = (name, value) => ({ enumerable: true, get: () => (read = [...read, name]) && value() });
+  const options = (values) => Object.defineProperties({}, Object.fromEntries(Object.entries(values).map(([name, value]) => [name, noting(name, value)])));
+  const all = { limit: () => 20, slack: () => 0, most: () => 1 };
+  for (const [call, line, names] of [["solve", "F", "limit most slack"], ["solveAll", ["F", "F"], "limit most slack"], ["count", "F", "limit slack"]]) {
+    read = [];
+    await nissy[call]("eofb", line, options(all));
+    same(`${call}: each option is read once`, read.sort().join(" "), names);
+  }
+  const asking = options({ ...all, limit: () => (nissy.invert("R U F D L B"), 20) });
+  same("an option that asks something itself", await nissy.solve("eofb", "F", asking), F_OR_ITS_INVERSE.slice(0, 1));
+  const before = memory && fingerprint(memory);
+  const throwing = () => {
+    throw new RangeError("not to be read");
+  };
+  for (const name of Object.keys(all)) {
+    const refused = await thrown(() => nissy.solve("eofb", "D F", options({ ...all, [name]: throwing })));
+    same(`what the ${name} throws`, refused, ["RangeError", "not to be read"]);
+  }
+  if (memory) same("the memory after what they throw", fingerprint(memory) === before, true);
+}
+
 const NO_TEXT = "is neither a string nor a Uint8Array";
 const NO_WIDE = "is neither a number nor a bigint";
 const NO_OPTIONS = [["null", null], ["a number", 20], ["a text", "20"], ["a function", () => 1]];

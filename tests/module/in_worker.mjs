@@ -7,12 +7,12 @@ import { getEventListeners } from "node:events";
 import { performance } from "node:perf_hooks";
 import { NissyWorker, loadNissy } from "../../web/module/node.js";
 import { WorkerCalls } from "../../web/module/worker-calls.js";
-import { tryMany as tryManyLines, tryRows, tryWrongValues } from "./called.mjs";
+import { tryMany as tryManyLines, tryOptions, tryRows, tryWrongValues } from "./called.mjs";
 import { ended, moduleBytes, same, text, thrown } from "./tally.mjs";
 
 const LONG = ["count", "eo", "R U F2 L D R B", { slack: 14 }];
 // what a worker needs to start again, with the tables of a reduction, on a busy machine
-const SOON = 5_000;
+const SOON = 30_000;
 const CALLS = 2_000;
 
 const after = (milliseconds) => new Promise((done) => setTimeout(done, milliseconds));
@@ -78,6 +78,26 @@ async function tryNoOptions(worker) {
       same(`${call}: no options: ${String(wrong)}`, refused, ["TypeError", "the options are no object"]);
     }
   }
+}
+
+/** Options that a worker's calls have beside those of `Nissy`: an object's own ones alone, each of which is read once. */
+async function tryOwnOptions(worker) {
+  const inherited = Object.create({ signal: AbortSignal.abort(), room: 0 });
+  same("no signal is inherited", await worker.invert("R", inherited), "R'");
+  same("nor a room", text((await worker.run(["invert", "R"], "", inherited)).out), "R'\n");
+  const read = [];
+  const options = {
+    get room() {
+      read.push("room");
+      return 1;
+    },
+    get signal() {
+      read.push("signal");
+      return new AbortController().signal;
+    },
+  };
+  same("a room and a signal", text((await worker.run(["invert", "R"], "", options)).out), "R");
+  same("both are read once", read, ["room", "signal"]);
 }
 
 /** Calls given up all at once. */
@@ -147,7 +167,7 @@ function puppets() {
 async function tryPuppets() {
   const { all, started } = puppets();
   const calls = new WorkerCalls(moduleBytes, started);
-  const inverse = (moves) => ({ status: 0, fault: 0, column: 0, out: moves });
+  const inverse = (moves) => ({ status: 0, out: moves });
   same("no worker before a call", all.length, 0);
   const [first, second] = [thrown(() => calls.invert("R")), thrown(() => calls.invert("U"))];
   same("the module goes first, and one call after it", all[0].sent.map(Object.keys), [["module"], ["id", "request"]]);
@@ -181,6 +201,8 @@ const worker = await NissyWorker.start(WebAssembly.compile(moduleBytes));
 await tryRows(worker);
 await tryWrongValues(worker);
 await tryManyLines(worker);
+await tryOptions(worker);
+await tryOwnOptions(worker);
 await tryNoOptions(worker);
 await tryMany(worker);
 await tryStopped(worker);

@@ -3,18 +3,18 @@
 //     node tests/module/typed.mjs MODULE
 //
 // The last line is `N passed, M failed`, and the status is 1 where M isn't 0.
-import { createContext, runInContext } from "node:vm";
+import { runInContext } from "node:vm";
 import { readFileSync } from "node:fs";
 import { Nissy, VERSION } from "../../web/module/nissy.js";
-import { F_OR_ITS_INVERSE, STEPS, tryMany, tryRows, tryWrongValues } from "./called.mjs";
+import { tryCutOff, tryDeepCalls } from "./broken_off.mjs";
+import { F_OR_ITS_INVERSE, STEPS, tryMany, tryOptions, tryRows, tryWrongValues } from "./called.mjs";
 import { elsewhere } from "./values.mjs";
 import { ended, loaded, moduleBytes, same, text, thrown } from "./tally.mjs";
 
 const LONGEST_LINE = 16_777_216;
-const DEEP_CALLS = 200;
 
-/** Numbers out of range, names that are no step's, and lines of the greatest length and beyond it. */
-async function tryRanges(nissy, memory) {
+/** Numbers out of range, of a search. */
+async function tryRanges(nissy) {
   const wrong = [-1, 21, 0.5, Number.NaN, Infinity, -Infinity, 256, 2 ** 32, 2 ** 53];
   for (const number of wrong) {
     for (const options of [{ limit: number }, { slack: number }]) {
@@ -25,6 +25,10 @@ async function tryRanges(nissy, memory) {
   for (const most of [-1, 0.5, Number.NaN, -Infinity, 2 ** 53]) {
     same(`${most} solutions at most`, (await thrown(() => nissy.solve("eofb", "F", { most })))[0], "RangeError");
   }
+}
+
+/** Numbers out of range, of scrambles, and the most of them. */
+async function tryScrambles(nissy) {
   for (const seed of [-1, 0.5, Number.NaN, Infinity, 2 ** 53, -1n, 2n ** 64n]) {
     same(`a state of ${seed}`, (await thrown(() => nissy.scramble(seed, 1, 20)))[0], "RangeError");
     same(`a stream of ${seed}`, (await thrown(() => nissy.scramble(1, seed, 20)))[0], "RangeError");
@@ -41,6 +45,10 @@ async function tryRanges(nissy, memory) {
   const most = nissy.scrambles(2n ** 64n - 1n, 2n ** 64n - 1n, 256, 10_000);
   same("the most scrambles", [most.length, ...new Set(most.map((line) => line.split(" ").length))], [10_000, 256]);
   same("scramble gives the first of them", nissy.scramble(2n ** 64n - 1n, 2n ** 64n - 1n, 256), most[0]);
+}
+
+/** Names that are no step's. */
+async function tryNames(nissy, memory) {
   const sizes = [];
   for (let round = 0; round < 3; round += 1) {
     for (const step of ["", "EOFB", "eofb ", " eofb", "eofb\0", "eo\0fb", "eox", "dr", "e".repeat(1_000_000), "\u0435ofb"]) {
@@ -50,6 +58,10 @@ async function tryRanges(nissy, memory) {
     sizes.push(memory.buffer.byteLength);
   }
   same("no memory stays for what is no step", sizes.slice(1), [sizes[0], sizes[0]]);
+}
+
+/** Lines of the greatest length and beyond it. */
+async function tryLongLines(nissy, memory) {
   const longest = " ".repeat(LONGEST_LINE - 1) + "R";
   same("the longest line", nissy.invert(longest), "R'");
   same("the longest line of a search", nissy.solve("eofb", longest), [{ moves: "", length: 0 }]);
@@ -102,44 +114,17 @@ function tryAllSteps(nissy, memory) {
   same("the first thousand of them", nissy.solve("eo", "R U F2 L D R B", { slack: 4, most: 1000 }), many.slice(0, 1000));
 }
 
-/** Calls that break off in a search and while tables are built: the next one is answered. */
+/** Whether a call is answered as it should be. */
+const isRight = (nissy) => JSON.stringify(nissy.solve("eofb", "F")) === JSON.stringify(F_OR_ITS_INVERSE);
+
+/** Calls that break off in a search and while tables are built. */
 async function tryTraps(nissy) {
-  const isRight = () => JSON.stringify(nissy.solve("eofb", "F")) === JSON.stringify(F_OR_ITS_INVERSE);
-  let brokenOff = 0;
-  let right = 0;
-  const dive = (above) => {
-    let up = 0;
-    try {
-      up = dive(above) + 1;
-    } catch {
-      // the end
-    }
-    if (up === above) {
-      try {
-        nissy.count("eofb", "R U F");
-      } catch {
-        brokenOff += 1;
-      }
-    }
-    return up;
-  };
-  for (let above = 1; above <= DEEP_CALLS; above += 1) {
-    dive(above);
-    right += isRight() ? 1 : 0;
-  }
-  console.log(`${brokenOff} of ${DEEP_CALLS} deep calls broke off`);
-  same("deep calls break off", brokenOff > 0, true);
-  same("each call after one from the deep", right, DEEP_CALLS);
-  const host = createContext({ nissy });
+  tryDeepCalls(() => nissy.count("eofb", "R U F"), () => isRight(nissy));
   for (const [what, code] of [
     ["a search", 'nissy.count("eo", "R U F2 L D R B", { slack: 12 })'],
     ["tables", "for (;;) { nissy.count('dr-eoud', 'U'); nissy.count('dr-eorl', 'U'); nissy.count('dr-eofb', 'U') }"],
   ]) {
-    for (const timeout of [1, 5, 20, 60]) {
-      const [, message] = await thrown(() => runInContext(code, host, { timeout }));
-      same(`${what} cut off after ${timeout} ms`, message, `Script execution timed out after ${timeout}ms`);
-      same(`a call after ${what} of ${timeout} ms`, isRight(), true);
-    }
+    await tryCutOff(what, nissy, code, [1, 5, 20, 60], () => isRight(nissy));
   }
 }
 
@@ -179,8 +164,12 @@ async function trySources() {
 const { nissy, memory } = await loaded(Nissy);
 await tryRows(nissy);
 await tryWrongValues(nissy, memory);
+await tryOptions(nissy, memory);
 await tryMany(nissy);
-await tryRanges(nissy, memory);
+await tryRanges(nissy);
+await tryScrambles(nissy);
+await tryNames(nissy, memory);
+await tryLongLines(nissy, memory);
 same("the version is the package's", VERSION, JSON.parse(readFileSync(new URL("../../web/module/package.json", import.meta.url), "utf8")).version);
 tryAllSteps(nissy, memory);
 await tryTraps(nissy);

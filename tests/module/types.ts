@@ -1,6 +1,7 @@
 // A caller in TypeScript, who is told of what is wrong: tests/module.sh has tsc read this beside the types of the module.
 import { loadNissy, Nissy, NissyFault, NissyWorker, VERSION, type Count, type Solution } from "./node.js";
 import { NissyWorker as NissyWorkerOfBrowsers } from "./browser.js";
+import type { CountReply, LineFault, LineReply, StartFault } from "./replies.js";
 
 export async function calls(bytes: Uint8Array, compiled: WebAssembly.Module, request: Promise<Response>): Promise<string> {
   const nissy: Nissy = await Nissy.load(request);
@@ -34,6 +35,24 @@ export async function callsInWorker(bytes: Uint8Array, signal: AbortSignal): Pro
 export function place(fault: unknown): number | null {
   const isStart: boolean = fault instanceof NissyFault && fault.step !== null && fault.start !== null;
   return fault instanceof NissyFault && !isStart ? fault.column : null;
+}
+
+// what a worker sends for a line: a value, a fault of the line, or of its cube, which alone has a step that must hold before
+export function said(reply: LineReply | CountReply): string | number {
+  if (reply.status === 0) return "out" in reply ? reply.out : reply.looks;
+  if (reply.status !== 1) return reply.status;
+  return reply.fault === 6 ? `${reply.start} ${reply.text}` : reply.column;
+}
+
+export function wrongReplies(ofLine: LineFault, ofCube: StartFault, reply: LineReply): void {
+  // @ts-expect-error a line's own fault has no step that must hold before
+  void ofLine.start;
+  // @ts-expect-error that of a cube is at no place
+  void ofCube.column;
+  // @ts-expect-error not each reply has a fault
+  void reply.fault;
+  // @ts-expect-error nor a line
+  void reply.out;
 }
 
 export function wrong(nissy: Nissy, worker: NissyWorker): void {

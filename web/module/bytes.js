@@ -1,27 +1,19 @@
 // What callers hand over, checked: nothing of another type reaches the module, and nobody can change it later.
+import { Bytes, encoded, kindOf, lengthOf, putBytes, wide } from "./natives.js";
 
 /** @typedef {string | Uint8Array} Text */
 
 /** The most bytes of a line or of an input. */
 export const MOST_INPUT = 16_777_216;
 
+/** The greatest number of 64 bits. */
+export const MOST_WIDE = 0xffff_ffff_ffff_ffffn;
+
 /** A zero byte ends each word. */
 const END = 0;
 
-/** A string of so many units isn't worth an array of its own: each is three bytes at most. */
+/** A string of so many units isn't worth an array of its own. */
 const SHORT = 4_096;
-const UNIT = 3;
-
-const encoder = new TextEncoder();
-const decoder = new TextDecoder();
-
-const ofTypedArrays = /** @type {any} */ (Object.getOwnPropertyDescriptor(Object.getPrototypeOf(Uint8Array.prototype), Symbol.toStringTag));
-
-/**
- * The name of a typed array's kind by the engine itself: no other object has one, and it is the same in each realm.
- * @type {(value: unknown) => string | undefined}
- */
-const kindOf = Function.prototype.call.bind(ofTypedArrays.get);
 
 /**
  * @param {unknown} value
@@ -37,9 +29,11 @@ export const isBytes = (value) => kindOf(value) === "Uint8Array";
  * @returns {Uint8Array}
  */
 export function bytesOf(text, what) {
-  if (typeof text === "string") return encoder.encode(text);
+  if (typeof text === "string") return encoded(text);
   if (!isBytes(text)) throw new TypeError(`${what} is neither a string nor a Uint8Array`);
-  return new Uint8Array(text);
+  const bytes = new Bytes(lengthOf(text));
+  putBytes(bytes, text);
+  return bytes;
 }
 
 /**
@@ -54,34 +48,18 @@ export function takenLine(line, what) {
   if (isString && line.length <= SHORT) return line;
   // a unit of a string takes a byte at least
   const bytes = isString && line.length > MOST_INPUT ? null : bytesOf(line, what);
-  if (bytes === null || bytes.length > MOST_INPUT) throw new RangeError(`${what} has more bytes than the engine reads`);
+  if (bytes === null || lengthOf(bytes) > MOST_INPUT) throw new RangeError(`${what} has more bytes than the engine reads`);
   return bytes;
 }
 
 /**
- * @param {Text} line
- * @returns {number} how many bytes it takes at most
+ * What is made of each value of an array, by their places: how arrays are gone through may be some script's own.
+ * @template Value, Made
+ * @param {readonly Value[]} values
+ * @param {(value: Value, index: number) => Made} make
+ * @returns {Made[]}
  */
-export const roomFor = (line) => (typeof line === "string" ? UNIT * line.length : line.length);
-
-/**
- * Writes a line into bytes that have room for it.
- * @param {Text} line
- * @param {Uint8Array} bytes
- * @param {number} at
- * @returns {number} how many bytes it took
- */
-export function writeLine(line, bytes, at) {
-  if (typeof line === "string") return encoder.encodeInto(line, bytes.subarray(at, at + roomFor(line))).written ?? 0;
-  bytes.set(line, at);
-  return line.length;
-}
-
-/**
- * @param {Uint8Array} bytes
- * @returns {string} the text that they are in UTF-8
- */
-export const textIn = (bytes) => decoder.decode(bytes);
+export const eachOf = (values, make) => Array.from({ length: values.length }, (_, index) => make(values[index], index));
 
 /**
  * @param {unknown} words
@@ -89,14 +67,14 @@ export const textIn = (bytes) => decoder.decode(bytes);
  */
 export function joinedWords(words) {
   if (!Array.isArray(words)) throw new TypeError("the words are no array");
-  const listed = Array.from(words, (word, index) => bytesOf(word, `word ${index + 1}`));
-  const bytes = new Uint8Array(listed.reduce((sum, word) => sum + word.length + 1, 0));
+  const listed = eachOf(words, (word, index) => bytesOf(word, `word ${index + 1}`));
+  const bytes = new Bytes(listed.reduce((sum, word) => sum + lengthOf(word) + 1, 0));
   let at = 0;
-  for (const word of listed) {
+  listed.forEach((word) => {
     if (word.includes(END)) throw new RangeError("a word holds a zero byte");
-    bytes.set(word, at);
-    at += word.length + 1;
-  }
+    putBytes(bytes, word, at);
+    at += lengthOf(word) + 1;
+  });
   return bytes;
 }
 
@@ -128,8 +106,8 @@ export function wholeNumber(value, what, most) {
  * @returns {bigint} a whole number of 64 bits
  */
 export function wideNumber(value, what) {
-  if (typeof value === "number") return BigInt(wholeNumber(value, what, Number.MAX_SAFE_INTEGER));
+  if (typeof value === "number") return wide(wholeNumber(value, what, Number.MAX_SAFE_INTEGER));
   if (typeof value !== "bigint") throw new TypeError(`${what} is neither a number nor a bigint`);
-  if (BigInt.asUintN(64, value) !== value) throw new RangeError(`${what} is no whole number of 64 bits`);
+  if (value < 0n || value > MOST_WIDE) throw new RangeError(`${what} is no whole number of 64 bits`);
   return value;
 }

@@ -1,10 +1,10 @@
 // The command `nissy` in node: what the program does with its words, its streams and its status, by the module.
 import { readFileSync } from "node:fs";
 import process from "node:process";
-import { textIn } from "./bytes.js";
 import { Engine } from "./engine.js";
 import { NoWebAssembly } from "./faults.js";
 import { InputLines, split } from "./input-lines.js";
+import { textIn } from "./natives.js";
 import { linesIn, STATUS } from "./replies.js";
 import { countRequest, runRequest, solveRequest, stepsRequest } from "./requests.js";
 import { Stop } from "./stop.js";
@@ -13,6 +13,7 @@ import { readSome, writeAll } from "./streams.js";
 /** @typedef {import("./replies.js").CountReply} CountReply */
 /** @typedef {import("./replies.js").LineReply} LineReply */
 /** @typedef {import("./replies.js").Answer} Answer */
+/** @typedef {Extract<LineReply | CountReply, {status: 0}>} Found */
 
 /**
  * A search that is asked for each line.
@@ -87,7 +88,7 @@ function requestOf({ command, step, limit, slack }, line) {
 /**
  * The answer to a line as the program writes it, or nothing if there are more solutions than were asked for.
  * @param {Search} search
- * @param {LineReply | CountReply} reply
+ * @param {Found} reply
  * @returns {string | undefined}
  */
 function answerOf({ limit }, reply) {

@@ -10,7 +10,9 @@ export class NissyFault extends Error {
    * @param {number | null} line of many, from 1; null if there was one
    */
   constructor(text, column, step = null, start = null, line = null) {
-    const places = [line === null ? [] : `line ${line}`, column === null ? [] : `column ${column}`].flat();
+    const places = [];
+    if (line !== null) places.push(`line ${line}`);
+    if (column !== null) places.push(`column ${column}`);
     super(places.length === 0 ? text : `${places.join(", ")}: ${text}`);
     this.name = "NissyFault";
     this.text = text;

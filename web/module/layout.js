@@ -12,10 +12,14 @@ export const SOLUTION = 65;
 export const LINE_ROOM = 2_048;
 export const ERROR_ROOM = 128;
 
-/** The room for the module's answer of a call, and where the fields are of each of its structs. */
+/** The room for the module's answer of a call, and how many bytes a column has, and an address, a length or a count. */
 export const ANSWER = 32;
-export const RUN_ANSWER = { status: 0, outLength: 8, errLength: 16, outTooSmall: 24 };
-export const LINE_ANSWER = { status: 0, fault: 2, column: 4, length: 8 };
-export const SOLVE_ANSWER = { status: 0, fault: 1, column: 4, length: 8 };
-export const COUNT_ANSWER = { status: 0, fault: 1, least: 2, column: 4, solutions: 8, looks: 16 };
+export const COLUMN = 4;
+export const LONG = 8;
+
+/** Where the fields of each struct are; `size`: how many bytes its small ones have, such as a status. */
+export const RUN_ANSWER = { size: 1, status: 0, outLength: 8, errLength: 16, outTooSmall: 24 };
+export const LINE_ANSWER = { size: 2, status: 0, fault: 2, column: 4, length: 8 };
+export const SOLVE_ANSWER = { size: 1, status: 0, fault: 1, column: 4, length: 8 };
+export const COUNT_ANSWER = { size: 1, status: 0, fault: 1, least: 2, column: 4, solutions: 8, looks: 16 };
 export const ROOM = { bytes: 16, block: 0, size: 8 };

@@ -1,6 +1,7 @@
 // Reads what the engine writes as values, or throws what is wrong.
-import { textIn } from "./bytes.js";
+import { eachOf } from "./bytes.js";
 import { NissyFault } from "./faults.js";
+import { textIn } from "./natives.js";
 
 /**
  * What a run returns.
@@ -22,13 +23,23 @@ import { NissyFault } from "./faults.js";
  */
 
 /**
- * How a call on a line ended. If it has a fault: its number, its column if it is at one place, else 0, and the program's words for it; and if
- * a step can't begin at its cube, that step, and the one that must hold before.
- * @typedef {{status: number, fault: number, column: number, text?: string, step?: string, start?: string}} Outcome
+ * A line that can't be read: the number of its fault, the column where that is, and the program's words for it.
+ * @typedef {{status: 1, fault: 1 | 2 | 3 | 4 | 5, column: number, text: string}} LineFault
  */
 
-/** @typedef {Outcome & {out: string}} LineReply of a call that writes */
-/** @typedef {Outcome & {least: number, solutions: number, looks: number}} CountReply */
+/**
+ * A cube at which a step can't begin: the step, the one that must hold before, and what the program says of that one.
+ * @typedef {{status: 1, fault: 6, step: string, start: string, text: string}} StartFault
+ */
+
+/**
+ * A call that the module refused: a number out of its range, a line that is too long, or too little room.
+ * @typedef {{status: 2 | 3 | 4}} Refused
+ */
+
+/** @typedef {LineFault | StartFault | Refused} NoValue how a call on a line ended that has no value */
+/** @typedef {{status: 0, out: string} | NoValue} LineReply of a call that writes */
+/** @typedef {{status: 0, least: number, solutions: number, looks: number} | NoValue} CountReply */
 /** @typedef {Answer | LineReply | CountReply} OneReply */
 /** @typedef {OneReply | OneReply[]} Reply */
 
@@ -36,24 +47,40 @@ const BRACKET = "(".charCodeAt(0);
 const ZERO = "0".charCodeAt(0);
 
 /** The statuses of the module's calls on a line. */
-export const STATUS = { done: 0, fault: 1, usage: 2, stopped: 3, room: 4 };
+export const STATUS = /** @type {const} */ ({ done: 0, fault: 1, usage: 2, stopped: 3, room: 4 });
+
+/** The number of the fault that a step can't begin at a cube. */
+export const START = 6;
 
 /**
- * Throws what is wrong, if something is.
- * @param {Outcome} outcome
+ * @param {LineFault | StartFault} reply
+ * @returns {NissyFault}
  */
-function refuse({ status, column, text = "", step, start }) {
-  if (status === STATUS.done) return;
-  if (status === STATUS.stopped) throw new RangeError("the line has more bytes than the engine reads");
-  if (status === STATUS.room) throw new RangeError("there are more solutions than there is room for: ask for fewer");
-  if (status !== STATUS.fault) throw new Error(`the engine refused the call with status ${status}`);
-  if (start === undefined) throw new NissyFault(text, column);
-  throw new NissyFault(`${start} ${text}`, null, step, start);
+function faultIn(reply) {
+  if (reply.fault !== START) return new NissyFault(reply.text, reply.column);
+  return new NissyFault(`${reply.start} ${reply.text}`, null, reply.step, reply.start);
+}
+
+/**
+ * @param {NoValue} reply
+ * @returns {Error} what is wrong
+ */
+function errorIn(reply) {
+  switch (reply.status) {
+    case STATUS.fault:
+      return faultIn(reply);
+    case STATUS.stopped:
+      return new RangeError("the line has more bytes than the engine reads");
+    case STATUS.room:
+      return new RangeError("there are more solutions than there is room for: ask for fewer");
+    default:
+      return new Error(`the engine refused the call with status ${reply.status}`);
+  }
 }
 
 /** @param {LineReply} reply @returns {string} */
 export function lineIn(reply) {
-  refuse(reply);
+  if (reply.status !== STATUS.done) throw errorIn(reply);
   return reply.out;
 }
 
@@ -76,8 +103,7 @@ export function outputLinesIn({ status, out, err }) {
  * @returns {Solution[]}
  */
 export function solutionsIn(reply) {
-  refuse(reply);
-  const { out } = reply;
+  const out = lineIn(reply);
   const digit = (/** @type {number} */ at) => out.charCodeAt(at) - ZERO;
   const solutions = [];
   for (let begin = 0, end = out.indexOf("\n"); end >= 0; begin = end + 1, end = out.indexOf("\n", begin)) {
@@ -93,7 +119,7 @@ export function solutionsIn(reply) {
 
 /** @param {CountReply} reply @returns {Count} */
 export function countIn(reply) {
-  refuse(reply);
+  if (reply.status !== STATUS.done) throw errorIn(reply);
   const { least, solutions, looks } = reply;
   return { length: solutions === 0 ? null : least, solutions, nodes: looks };
 }
@@ -106,7 +132,7 @@ export function countIn(reply) {
  * @returns {Value[]}
  */
 export const allOf = (replies, one) =>
-  replies.map((reply, index) => {
+  eachOf(replies, (reply, index) => {
     try {
       return one(reply);
     } catch (fault) {

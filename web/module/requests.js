@@ -1,5 +1,6 @@
 // What is asked of the engine, in plain values that a worker can be sent, each checked if it comes from a caller.
-import { bytesOf, joinedWords, stringOf, takenLine, wholeNumber, wideNumber } from "./bytes.js";
+import { bytesOf, eachOf, joinedWords, stringOf, takenLine, wholeNumber, wideNumber } from "./bytes.js";
+import { hasOwn } from "./natives.js";
 
 /** @typedef {import("./bytes.js").Text} Text */
 /** @typedef {"invert" | "unniss" | "cleanup" | "facelets"} Rewriting what is made of a line */
@@ -33,23 +34,22 @@ const MOST_SCRAMBLES = 10_000;
 const MOST_OF_TURN = 3;
 
 /**
- * The options of a call that is given none: nothing that some script gave to all objects is one of them.
- * @type {{[name: string]: any}}
- */
-export const NO_OPTIONS = Object.freeze(Object.create(null));
-
-/**
+ * An option, read once. It is one only if it is the object's own: what objects inherit may be what some script gave to all of them.
  * @param {unknown} options
- * @returns {{[name: string]: unknown}}
+ * @param {string} name
+ * @param {unknown} [otherwise] what it is if it isn't given
+ * @returns {unknown}
  */
-export function optionsOf(options) {
+export function optionOf(options, name, otherwise = undefined) {
   if (typeof options !== "object" || options === null) throw new TypeError("the options are no object");
-  return /** @type {any} */ (options);
+  const given = hasOwn(options, name) ? /** @type {any} */ (options)[name] : undefined;
+  return given === undefined ? otherwise : given;
 }
 
 /** @param {unknown} words @param {unknown} [input] @param {unknown} [room] @returns {RunRequest} */
 export function runRequest(words, input = "", room = undefined) {
-  const [listed, given] = [joinedWords(words), bytesOf(input, "the input")];
+  const listed = joinedWords(words);
+  const given = bytesOf(input, "the input");
   // the module would take a negative one as 2^64 less so much, and write behind the memory
   const size = room === undefined ? room : wholeNumber(room, "the room", Number.MAX_SAFE_INTEGER);
   return { call: "run", words: listed, input: given, room: size };
@@ -59,20 +59,19 @@ export function runRequest(words, input = "", room = undefined) {
 export const lineRequest = (call, line) => ({ call, line: takenLine(line, "the line") });
 
 /** @param {unknown} step @param {unknown} line @param {unknown} [options] @returns {CountRequest} */
-export function countRequest(step, line, options = NO_OPTIONS) {
-  const { limit = MOST_TURNS, slack = 0 } = optionsOf(options);
+export function countRequest(step, line, options = {}) {
   return {
     call: "count",
+    limit: wholeNumber(optionOf(options, "limit", MOST_TURNS), "the limit", MOST_TURNS),
+    slack: wholeNumber(optionOf(options, "slack", 0), "the slack", MOST_TURNS),
     step: stringOf(step, "the step"),
     line: takenLine(line, "the line"),
-    limit: wholeNumber(limit, "the limit", MOST_TURNS),
-    slack: wholeNumber(slack, "the slack", MOST_TURNS),
   };
 }
 
 /** @param {unknown} step @param {unknown} line @param {unknown} [options] @returns {SolveRequest} */
-export function solveRequest(step, line, options = NO_OPTIONS) {
-  const { most = Infinity } = optionsOf(options);
+export function solveRequest(step, line, options = {}) {
+  const most = optionOf(options, "most", Infinity);
   const counted = countRequest(step, line, options);
   return {
     call: "solve",
@@ -95,7 +94,7 @@ export function solveRequest(step, line, options = NO_OPTIONS) {
 export function allRequest(one, step, lines, options) {
   if (!Array.isArray(lines)) throw new TypeError("the lines are no array");
   const search = one(step, "", options);
-  return { call: "all", search, lines: Array.from(lines, (line, index) => takenLine(line, `line ${index + 1}`)) };
+  return { call: "all", search, lines: eachOf(lines, (line, index) => takenLine(line, `line ${index + 1}`)) };
 }
 
 /** @param {unknown} state @param {unknown} stream @param {unknown} length @returns {ScrambleRequest} */

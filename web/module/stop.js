@@ -1,8 +1,9 @@
 // What ends the command before its time: a status, and what is said of it.
 import { MOST_INPUT } from "./bytes.js";
-import { STATUS } from "./replies.js";
+import { START, STATUS } from "./replies.js";
 
-/** @typedef {import("./replies.js").Outcome} Outcome */
+/** @typedef {import("./replies.js").LineFault} LineFault */
+/** @typedef {import("./replies.js").StartFault} StartFault */
 
 export class Stop extends Error {
   /**
@@ -34,11 +35,11 @@ export class Stop extends Error {
   /**
    * A fault of a line.
    * @param {number} number the line's
-   * @param {Outcome} outcome
+   * @param {LineFault | StartFault} fault
    */
-  static ofLine(number, { column, text, start }) {
-    const [place, words] = start === undefined ? [`line ${number}, column ${column}`, text] : [`line ${number}`, `${start} ${text}`];
-    return new Stop(STATUS.fault, `nissy: ${place}: ${words}\n`);
+  static ofLine(number, fault) {
+    const said = fault.fault === START ? `: ${fault.start} ${fault.text}` : `, column ${fault.column}: ${fault.text}`;
+    return new Stop(STATUS.fault, `nissy: line ${number}${said}\n`);
   }
 
   /**

@@ -3,7 +3,7 @@
 import { EngineMissing, Stopped } from "./faults.js";
 import { allOf, countIn, lineIn, linesIn, outputLinesIn, solutionsIn } from "./replies.js";
 import {
-  NO_OPTIONS, allRequest, countRequest, lineRequest, optionsOf, runRequest, scrambleRequest, scramblesRequest, solveRequest, stepsRequest,
+  allRequest, countRequest, lineRequest, optionOf, runRequest, scrambleRequest, scramblesRequest, solveRequest, stepsRequest,
 } from "./requests.js";
 import { compiled } from "./source.js";
 
@@ -61,8 +61,8 @@ export function listenedTo(made) {
  * @param {unknown} [options]
  * @returns {AbortSignal | undefined}
  */
-function signalOf(options = NO_OPTIONS) {
-  const { signal } = /** @type {{signal?: any}} */ (optionsOf(options));
+function signalOf(options = {}) {
+  const signal = /** @type {any} */ (optionOf(options, "signal"));
   if (signal === undefined) return undefined;
   const listens = ["addEventListener", "removeEventListener"].every((name) => typeof signal?.[name] === "function");
   if (typeof signal?.aborted !== "boolean" || !listens) throw new TypeError("the signal is no AbortSignal");
@@ -179,8 +179,8 @@ export class WorkerCalls {
   }
 
   /** @param {readonly Text[]} words @param {Text} [input] @param {Stoppable & {room?: number}} [options] @returns {Promise<Answer>} */
-  async run(words, input, options = NO_OPTIONS) {
-    return this.#answer(runRequest(words, input, optionsOf(options).room), options);
+  async run(words, input, options = {}) {
+    return this.#answer(runRequest(words, input, optionOf(options, "room")), options);
   }
 
   /** Gives up the calls that wait for their turn; one that runs goes on. */

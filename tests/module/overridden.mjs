@@ -1,0 +1,106 @@
+// Scripts that put something of their own in the place of what JavaScript has, or say how arrays are copied and gone through: each call
+// answers as without them, and so shows nothing that an earlier one left in the memory.
+//
+//     node tests/module/overridden.mjs MODULE
+//
+// The last line is `N passed, M failed`, and the status is 1 where M isn't 0.
+import { Nissy } from "../../web/module/nissy.js";
+import { ended, moduleBytes, same, text } from "./tally.mjs";
+
+const SECRET = "R2 U2 F2 D2 L2 B2 R' U' F' ".repeat(20);
+const BYTES = new TextEncoder().encode("D (F)");
+const WORD = new TextEncoder().encode("unniss");
+const MANY = 4_096;
+
+const ofTypedArrays = Object.getPrototypeOf(Uint8Array.prototype);
+const ofIterators = Object.getPrototypeOf([][Symbol.iterator]());
+const whole = new Uint8Array(65_536).fill(0x52);
+const endedAtOnce = { next: () => ({ done: true, value: undefined }) };
+
+/** What makes copies of its own: a whole memory in place of a few bytes. */
+function Another() {
+  return new Uint8Array(whole);
+}
+
+const nothing = { value() {} };
+const itself = {
+  value() {
+    return this;
+  },
+};
+
+// what stands in the place of what: an object, one of its properties, and what it is then
+const OVERRIDDEN = [
+  ["set writes nothing", ofTypedArrays, "set", nothing],
+  ["set of bytes writes nothing", Uint8Array.prototype, "set", nothing],
+  ["slice is all of it", ofTypedArrays, "slice", itself],
+  ["subarray is all of it", ofTypedArrays, "subarray", itself],
+  ["fill writes nothing", ofTypedArrays, "fill", itself],
+  ["bytes are more than they are", ofTypedArrays, "length", { get: () => MANY }],
+  ["strings have no bytes", TextEncoder.prototype, "encode", { value: () => new Uint8Array(0) }],
+  ["strings aren't written", TextEncoder.prototype, "encodeInto", { value: () => ({ read: MANY, written: MANY }) }],
+  ["bytes are another string", TextDecoder.prototype, "decode", { value: () => "another" }],
+  ["arrays have nothing in them", Array.prototype, Symbol.iterator, { value: () => endedAtOnce }],
+  ["arrays end at once", ofIterators, "next", { value: endedAtOnce.next }],
+  ["buffers are copied otherwise", ArrayBuffer.prototype, "slice", { value: () => whole.buffer }],
+  ["copies of bytes are others", Uint8Array, Symbol.species, { value: Another }],
+  ["copies of buffers are others", ArrayBuffer, Symbol.species, { value: Another }],
+  ["copies of arrays are others", Array, Symbol.species, { value: Another }],
+  ["bytes are made by another", Uint8Array.prototype, "constructor", { value: Another }],
+  ...["getUint8", "getUint16", "getUint32"].map((name) => [`${name} reads another number`, DataView.prototype, name, { value: () => MANY }]),
+  ["setBigUint64 writes nothing", DataView.prototype, "setBigUint64", nothing],
+  ["maps have another value", Map.prototype, "get", { value: () => 16 }],
+  ["the memory is another one", WebAssembly.Memory.prototype, "buffer", { get: () => whole.buffer }],
+  ["a number of 64 bits is 0", globalThis, "BigInt", { value: () => 0n }],
+  ["no number is too large", Number, "isSafeInteger", { value: () => true }],
+  ["numbers are rounded to 0", Math, "ceil", { value: () => 0 }],
+  ...["call", "apply", "bind"].map((name) => [`${name} calls nothing`, Function.prototype, name, nothing]),
+];
+
+// a call, and what is wanted of it
+const CALLS = [
+  [(nissy) => nissy.invert("D"), "D'"],
+  [(nissy) => nissy.unniss(BYTES), "D F'"],
+  [(nissy) => nissy.cleanup(""), ""],
+  [(nissy) => nissy.solve("eofb", "F"), [{ moves: "F", length: 1 }, { moves: "F'", length: 1 }]],
+  [(nissy) => nissy.count("eofb", BYTES), { length: 1, solutions: 2, nodes: 20 }],
+  [(nissy) => nissy.solveAll("eofb", ["", "D"], { most: 1 }), [[{ moves: "", length: 0 }], [{ moves: "", length: 0 }]]],
+  [(nissy) => nissy.scramble(42, 54n, 3), "L' D' F'"],
+  [(nissy) => nissy.run(["invert", "D"]), [0, "D'\n", "", false]],
+  [(nissy) => nissy.run([WORD], BYTES), [0, "D F'\n", "", false]],
+  [(nissy) => nissy.run(["invert"], "R\nq", 100), [1, "R'\n", "nissy: line 2, column 1: not a move\n", false]],
+  [(nissy) => nissy.invert("R q"), "NissyFault: column 3: not a move"],
+  [(nissy) => nissy.count("drud-eofb", "F"), "NissyFault: eofb does not hold"],
+];
+
+/** What a call returns or throws while something stands in the place of what is there. */
+function during([object, name, descriptor], call) {
+  const before = Object.getOwnPropertyDescriptor(object, name);
+  Object.defineProperty(object, name, { configurable: true, ...descriptor });
+  try {
+    return call();
+  } catch (error) {
+    return error;
+  } finally {
+    if (before) Object.defineProperty(object, name, before);
+    else delete object[name];
+  }
+}
+
+/** What was returned or thrown, as it is compared. */
+function shown(value) {
+  if (value instanceof Error) return `${value.name}: ${value.message}`;
+  return value?.out === undefined ? value : [value.status, text(value.out), text(value.err), value.full];
+}
+
+const nissy = await Nissy.load(moduleBytes);
+for (const [what, ...overridden] of OVERRIDDEN) {
+  CALLS.forEach(([call, wanted], at) => {
+    // what another caller leaves behind
+    nissy.run(["cleanup", SECRET], SECRET);
+    nissy.solve("eofb", SECRET);
+    nissy.invert(SECRET);
+    same(`${what}: call ${at + 1}`, shown(during(overridden, () => call(nissy))), wanted);
+  });
+}
+ended();

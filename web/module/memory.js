@@ -1,0 +1,127 @@
+// The memory of an instance of the module: where parts of it stand, and what is written and read there.
+import { LONG, ROOM } from "./layout.js";
+import { Bytes, bufferOf, encodedInto, growMemory, lengthOf, putBytes, textIn } from "./natives.js";
+
+/** @typedef {import("./bytes.js").Text} Text */
+
+const PAGE = 65_536;
+
+/** A memory of 32-bit addresses has no more. The module cuts an address to 32 bits, so a greater one would be another place. */
+const MOST_BYTES = 65_536 * PAGE;
+
+/** Structs, and the memory for tables, stand at multiples of it. */
+const ALIGNMENT = 16;
+
+/** How many bytes a unit of a string takes at most. */
+const UNIT = 3;
+
+/** How many values a byte has. */
+const VALUES = 256;
+
+/**
+ * @param {number} place
+ * @returns {number} the first place from this one on at which a part may stand
+ */
+export const aligned = (place) => place + ((ALIGNMENT - (place % ALIGNMENT)) % ALIGNMENT);
+
+/**
+ * @param {Text} line
+ * @returns {number} how many bytes it takes at most
+ */
+export const roomFor = (line) => (typeof line === "string" ? UNIT * line.length : lengthOf(line));
+
+export class InstanceMemory {
+  /** @type {WebAssembly.Memory} */ #memory;
+  /** @type {ArrayBuffer} */ #buffer;
+  /** @type {Uint8Array} */ #bytes;
+
+  /** @param {WebAssembly.Memory} memory */
+  constructor(memory) {
+    this.#memory = memory;
+    this.#buffer = bufferOf(memory);
+    this.#bytes = new Bytes(this.#buffer);
+  }
+
+  /**
+   * Has the memory reach up to a place. It grows if it doesn't.
+   * @param {number} end
+   */
+  reach(end) {
+    if (end > MOST_BYTES) throw new RangeError("no memory has so many bytes");
+    const missing = Math.ceil((end - lengthOf(this.#bytes)) / PAGE);
+    if (missing > 0) growMemory(this.#memory, missing);
+    const buffer = bufferOf(this.#memory);
+    if (buffer === this.#buffer) return;
+    // one that grew is another one for JavaScript
+    this.#buffer = buffer;
+    this.#bytes = new Bytes(buffer);
+  }
+
+  /**
+   * @param {number} at
+   * @param {number} size
+   * @returns {number} the number in so many bytes, above 2^53 the nearest one that JavaScript has
+   */
+  number(at, size) {
+    let number = 0;
+    for (let place = at + size - 1; place >= at; place -= 1) number = number * VALUES + this.#bytes[place];
+    return number;
+  }
+
+  /**
+   * Writes a number in so many bytes.
+   * @param {number} at
+   * @param {number} size
+   * @param {number} number
+   */
+  putNumber(at, size, number) {
+    let rest = number;
+    for (let place = at; place < at + size; place += 1) {
+      this.#bytes[place] = rest % VALUES;
+      rest = (rest - (rest % VALUES)) / VALUES;
+    }
+  }
+
+  /**
+   * Writes a room: where lent memory is, and its size.
+   * @param {number} at
+   * @param {number} block
+   * @param {number} size
+   */
+  putRoom(at, block, size) {
+    this.putNumber(at + ROOM.block, LONG, block);
+    this.putNumber(at + ROOM.size, LONG, size);
+  }
+
+  /**
+   * Writes a line, for which there is room.
+   * @param {number} at
+   * @param {Text} line
+   * @returns {number} how many bytes it took
+   */
+  putLine(at, line) {
+    if (typeof line === "string") return encodedInto(line, new Bytes(this.#buffer, at, roomFor(line))).written ?? 0;
+    putBytes(this.#bytes, line, at);
+    return lengthOf(line);
+  }
+
+  /**
+   * @param {number} at
+   * @param {number} length
+   * @returns {string} the text that these bytes are in UTF-8
+   */
+  text(at, length) {
+    return textIn(new Bytes(this.#buffer, at, length));
+  }
+
+  /**
+   * @param {number} at
+   * @param {number} length
+   * @returns {Uint8Array} these bytes, of which nobody else has any
+   */
+  copy(at, length) {
+    const copied = new Bytes(length);
+    putBytes(copied, new Bytes(this.#buffer, at, length));
+    return copied;
+  }
+}

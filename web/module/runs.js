@@ -1,0 +1,94 @@
+// A run of the program by an instance of the module, made again with more as long as it had too little.
+import { ERROR_ROOM, LONG, ROOM, RUN_ANSWER } from "./layout.js";
+import { aligned } from "./memory.js";
+import { lengthOf, textIn, wide } from "./natives.js";
+import { STATUS } from "./replies.js";
+
+/** @typedef {import("./instance.js").Instance} Instance */
+/** @typedef {import("./replies.js").Answer} Answer */
+/** @typedef {import("./requests.js").RunRequest} RunRequest */
+
+/**
+ * How many bytes are lent for the tables of a run at first: those of any step fit, so that a page takes the same memory from call to call.
+ * Longer words take more.
+ */
+const FIRST_LENT = 3 * 1_048_576;
+const MOST_LENT = 1_024 * 1_048_576;
+
+/** The room for the output of a run at first, beside eight bytes for each byte of the input, and the greatest. */
+const FIRST_ROOM = 65_536;
+const MOST_ROOM = 512 * 1_048_576;
+
+/** By how much either grows if it was too small. */
+const GROWTH = 8;
+
+const OUT_OF_MEMORY = "nissy: out of memory\n";
+
+/**
+ * Makes a run, and makes it again with more as long as it had too little, up to the most.
+ * @param {number} first
+ * @param {number} most
+ * @param {(amount: number) => Answer} run
+ * @param {(answer: Answer) => boolean} hadTooLittle
+ * @returns {Answer}
+ */
+function withEnough(first, most, run, hadTooLittle) {
+  let amount = first;
+  let answer = run(amount);
+  while (hadTooLittle(answer) && amount < most) {
+    amount = Math.min(amount * GROWTH, most);
+    answer = run(amount);
+  }
+  return answer;
+}
+
+/** @param {Answer} answer */
+const isRefusedMemory = (answer) => answer.status === STATUS.stopped && textIn(answer.err) === OUT_OF_MEMORY;
+
+/**
+ * @param {Instance} instance
+ * @param {RunRequest} request
+ * @param {number} room how many bytes the output may take
+ * @param {number} lent how many the tables may take
+ * @returns {Answer}
+ */
+function runOnce(instance, { words, input }, room, lent) {
+  const { memory, answer } = instance;
+  const lending = instance.free;
+  const err = aligned(lending + ROOM.bytes);
+  const block = aligned(err + ERROR_ROOM);
+  const wordsAt = aligned(block + lent);
+  const inputAt = aligned(wordsAt + lengthOf(words));
+  const out = aligned(inputAt + lengthOf(input));
+  memory.reach(out + room);
+  const wordsLength = memory.putLine(wordsAt, words);
+  const inputLength = memory.putLine(inputAt, input);
+  memory.putRoom(lending, block, lent);
+  instance.call(({ nissy_run: run }) =>
+    run(
+      wide(answer), wide(lending), wide(wordsAt), wide(wordsLength), wide(inputAt), wide(inputLength), wide(out), wide(room),
+      wide(err), wide(ERROR_ROOM),
+    ));
+  if (memory.number(lending + ROOM.size, LONG) !== lent) {
+    instance.break();
+    throw new Error("the module kept memory that it was lent");
+  }
+  return {
+    status: memory.number(answer + RUN_ANSWER.status, RUN_ANSWER.size),
+    out: memory.copy(out, instance.answered(RUN_ANSWER.outLength)),
+    err: memory.copy(err, instance.answered(RUN_ANSWER.errLength)),
+    full: memory.number(answer + RUN_ANSWER.outTooSmall, RUN_ANSWER.size) !== 0,
+  };
+}
+
+/**
+ * @param {Instance} instance
+ * @param {RunRequest} request
+ * @returns {Answer}
+ */
+export function runIn(instance, request) {
+  const withRoom = (/** @type {number} */ size) =>
+    withEnough(FIRST_LENT, MOST_LENT, (lent) => runOnce(instance, request, size, lent), isRefusedMemory);
+  if (request.room !== undefined) return withRoom(request.room);
+  return withEnough(FIRST_ROOM + 8 * lengthOf(request.input), MOST_ROOM, withRoom, (answer) => answer.full);
+}
