@@ -14,6 +14,7 @@ const LONG = ["count", "eo", "R U F2 L D R B", { slack: 14 }];
 // what a worker needs to start again, with the tables of a reduction, on a busy machine
 const SOON = 30_000;
 const CALLS = 2_000;
+const AT_ONCE = 50;
 
 const after = (milliseconds) => new Promise((done) => setTimeout(done, milliseconds));
 
@@ -98,6 +99,33 @@ async function tryOwnOptions(worker) {
   };
   same("a room and a signal", text((await worker.run(["invert", "R"], "", options)).out), "R");
   same("both are read once", read, ["room", "signal"]);
+}
+
+/** Many calls at once on one signal: it is listened to once, so node warns of nothing, and it gives up all of them. */
+async function tryOneSignal(worker) {
+  const warnings = [];
+  const warned = ({ name }) => warnings.push(name);
+  process.on("warning", warned);
+  const kept = new AbortController();
+  const lines = await Promise.all(Array.from({ length: AT_ONCE }, () => worker.invert("R U", { signal: kept.signal })));
+  same("calls on one signal", lines.filter((line) => line === "U' R'").length, AT_ONCE);
+  same("nothing listens to it after them", getEventListeners(kept.signal, "abort").length, 0);
+  const stop = new AbortController();
+  const running = thrown(() => long(worker, { signal: stop.signal }));
+  const waiting = Array.from({ length: AT_ONCE }, () => thrown(() => worker.invert("R", { signal: stop.signal })));
+  const other = worker.invert("R U");
+  same("one listens for all of them", getEventListeners(stop.signal, "abort").length, 1);
+  await after(20);
+  stop.abort(new Error("no more"));
+  same("the one that ran", await running, ["Error", "no more"]);
+  const given = await Promise.all(waiting);
+  same("those that waited", given.filter(([, message]) => message === "no more").length, AT_ONCE);
+  same("a call without that signal", await other, "U' R'");
+  same("nothing listens to a signal that was given", getEventListeners(stop.signal, "abort").length, 0);
+  // node warns in a later turn
+  await after(20);
+  process.off("warning", warned);
+  same("node warns of nothing", warnings, []);
 }
 
 /** Calls given up all at once. */
@@ -197,6 +225,20 @@ async function tryPuppets() {
   same("no worker can be made", await thrown(() => unstarted.invert("R")), ["EngineMissing", "no workers here"]);
 }
 
+/** A signal gives up all of its calls before another one runs: no worker is started for one of them. */
+async function tryGivenUpAtOnce() {
+  const { all, started } = puppets();
+  const calls = new WorkerCalls(moduleBytes, started);
+  const stop = new AbortController();
+  const given = ["R", "U", "F"].map((line) => thrown(() => calls.invert(line, { signal: stop.signal })));
+  const kept = calls.invert("D");
+  stop.abort();
+  same("each call of the signal", (await Promise.all(given)).map(([name]) => name), ["AbortError", "AbortError", "AbortError"]);
+  same("one more worker, for the call that is left", [all.length, all[0].isEnded, all[1].sent[1].request.line], [2, true, "D"]);
+  all[1].took({ id: all[1].sent[1].id, reply: { status: 0, out: "D'" } });
+  same("which is answered", await kept, "D'");
+}
+
 const worker = await NissyWorker.start(WebAssembly.compile(moduleBytes));
 await tryRows(worker);
 await tryWrongValues(worker);
@@ -207,8 +249,10 @@ await tryNoOptions(worker);
 await tryMany(worker);
 await tryStopped(worker);
 await trySignals(worker);
+await tryOneSignal(worker);
 await tryAllAtOnce(worker);
 await tryUnstarted();
 await tryPuppets();
+await tryGivenUpAtOnce();
 // the process ends though the worker lives
 ended();

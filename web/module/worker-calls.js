@@ -5,6 +5,7 @@ import { allOf, countIn, lineIn, linesIn, outputLinesIn, solutionsIn } from "./r
 import {
   allRequest, countRequest, lineRequest, optionOf, runRequest, scrambleRequest, scramblesRequest, solveRequest, stepsRequest,
 } from "./requests.js";
+import { Signals, signalOf } from "./signals.js";
 import { compiled } from "./source.js";
 
 /** @typedef {import("./bytes.js").Text} Text */
@@ -14,14 +15,10 @@ import { compiled } from "./source.js";
 /** @typedef {import("./requests.js").Request} Request */
 /** @typedef {import("./requests.js").Wanted} Wanted */
 /** @typedef {import("./requests.js").Within} Within */
+/** @typedef {import("./signals.js").Stoppable} Stoppable */
 /** @typedef {import("./serve.js").Answered} Answered */
 /** @typedef {import("./serve.js").Unanswered} Unanswered */
 /** @typedef {import("./source.js").ModuleSource} ModuleSource */
-
-/**
- * What gives a call up: it rejects with the signal's reason.
- * @typedef {{signal?: AbortSignal}} Stoppable
- */
 
 /**
  * What a worker can be sent: the module compiled, or its bytes, which it compiles then.
@@ -58,16 +55,10 @@ export function listenedTo(made) {
 }
 
 /**
- * @param {unknown} [options]
- * @returns {AbortSignal | undefined}
+ * @param {AbortSignal} signal
+ * @returns {unknown} why it gives calls up
  */
-function signalOf(options = {}) {
-  const signal = /** @type {any} */ (optionOf(options, "signal"));
-  if (signal === undefined) return undefined;
-  const listens = ["addEventListener", "removeEventListener"].every((name) => typeof signal?.[name] === "function");
-  if (typeof signal?.aborted !== "boolean" || !listens) throw new TypeError("the signal is no AbortSignal");
-  return signal;
-}
+const reasonOf = (signal) => signal.reason ?? new Stopped();
 
 /**
  * @param {{name: string, message: string}} error of the worker
@@ -85,6 +76,7 @@ export class WorkerCalls {
   /** @type {Sent | null} */ #worker = null;
   /** @type {Call | null} */ #running = null;
   /** @type {Call[]} */ #waiting = [];
+  /** @type {Signals<Call>} */ #signals = new Signals((calls, signal) => this.#giveUp(calls, reasonOf(signal)));
   #next = 0;
 
   /**
@@ -193,7 +185,7 @@ export class WorkerCalls {
   /** Gives up all calls. */
   stop() {
     this.drop();
-    if (this.#running) this.#giveUp(this.#running, new Stopped());
+    if (this.#running) this.#giveUp(new Set([this.#running]), new Stopped());
   }
 
   /** Gives up all calls, and ends the worker. A later call starts another one. */
@@ -210,19 +202,17 @@ export class WorkerCalls {
   #answer(request, options) {
     const signal = signalOf(options);
     return new Promise((resolve, reject) => {
-      const reason = () => signal?.reason ?? new Stopped();
       if (signal?.aborted) {
-        reject(reason());
+        reject(reasonOf(signal));
         return;
       }
-      const abort = () => this.#giveUp(call, reason());
       /** @type {<Value>(settle: (value: Value) => void) => (value: Value) => void} */
       const settled = (settle) => (value) => {
-        signal?.removeEventListener("abort", abort);
+        if (signal) this.#signals.remove(signal, call);
         settle(value);
       };
       const call = { id: this.#next++, request, answered: settled(resolve), refused: settled(reject) };
-      signal?.addEventListener("abort", abort);
+      if (signal) this.#signals.add(signal, call);
       this.#waiting.push(call);
       this.#sendNext();
     });
@@ -260,15 +250,15 @@ export class WorkerCalls {
     this.#sendNext();
   }
 
-  /** @param {Call} call @param {unknown} reason */
-  #giveUp(call, reason) {
-    if (call === this.#running) {
+  /** @param {Set<Call>} calls @param {unknown} reason */
+  #giveUp(calls, reason) {
+    if (this.#running && calls.has(this.#running)) {
       this.#worker?.terminate();
       this.#worker = null;
       this.#running = null;
     }
-    this.#waiting = this.#waiting.filter((other) => other !== call);
-    call.refused(reason);
+    this.#waiting = this.#waiting.filter((call) => !calls.has(call));
+    for (const call of calls) call.refused(reason);
     this.#sendNext();
   }
 

@@ -1,0 +1,62 @@
+// The signals by which callers give calls up. However many calls have the same one, a worker listens to it once.
+import { optionOf } from "./requests.js";
+
+/**
+ * What gives a call up: it rejects with the signal's reason.
+ * @typedef {{signal?: AbortSignal}} Stoppable
+ */
+
+/**
+ * @param {unknown} [options]
+ * @returns {AbortSignal | undefined}
+ */
+export function signalOf(options = {}) {
+  const signal = /** @type {any} */ (optionOf(options, "signal"));
+  if (signal === undefined) return undefined;
+  const listens = ["addEventListener", "removeEventListener"].every((name) => typeof signal?.[name] === "function");
+  if (typeof signal?.aborted !== "boolean" || !listens) throw new TypeError("the signal is no AbortSignal");
+  return signal;
+}
+
+/**
+ * The calls that each signal gives up.
+ * @template Call
+ */
+export class Signals {
+  /** @type {(calls: Set<Call>, signal: AbortSignal) => void} */ #giveUp;
+  /** @type {Map<AbortSignal, {calls: Set<Call>, heard: () => void}>} */ #listened = new Map();
+
+  /** @param {(calls: Set<Call>, signal: AbortSignal) => void} giveUp gives the calls of a signal up */
+  constructor(giveUp) {
+    this.#giveUp = giveUp;
+  }
+
+  /**
+   * Has a signal give up a call, until that has ended.
+   * @param {AbortSignal} signal
+   * @param {Call} call
+   */
+  add(signal, call) {
+    const listened = this.#listened.get(signal);
+    if (listened !== undefined) {
+      listened.calls.add(call);
+      return;
+    }
+    const calls = new Set([call]);
+    const heard = () => this.#giveUp(new Set(calls), signal);
+    this.#listened.set(signal, { calls, heard });
+    signal.addEventListener("abort", heard);
+  }
+
+  /**
+   * A call has ended.
+   * @param {AbortSignal} signal
+   * @param {Call} call
+   */
+  remove(signal, call) {
+    const listened = this.#listened.get(signal);
+    if (listened === undefined || !listened.calls.delete(call) || listened.calls.size > 0) return;
+    signal.removeEventListener("abort", listened.heard);
+    this.#listened.delete(signal);
+  }
+}
