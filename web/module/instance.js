@@ -13,6 +13,9 @@ export class Instance {
   /** @type {Exports} */ #exports;
   /** @type {{[step: string]: number}} where the tables of each step are: no step has what some script gave to all objects */ #tables;
   /** whether a call began that didn't return: what the module has in its memory is then in no order */ #isBroken = false;
+  /** @type {InstanceMemory} */ memory;
+  /** where answers are written */ answer;
+  /** where memory begins in which nothing stays after a call */ free;
 
   /** @param {WebAssembly.Instance} instance */
   constructor({ exports }) {
@@ -20,9 +23,7 @@ export class Instance {
     this.#exports = exports;
     this.#tables = /** @type {any} */ ({ __proto__: null });
     this.memory = new InstanceMemory(this.#exports.memory);
-    /** where answers are written */
     this.answer = aligned(Number(this.#exports.__heap_base.value));
-    /** where memory begins in which nothing stays after a call */
     this.free = aligned(this.answer + ANSWER);
   }
 
