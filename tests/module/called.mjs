@@ -126,30 +126,54 @@ const OWN_OR_NOT = [
   ["what a list inherits", Object.setPrototypeOf([], { most: 1, limit: 0 }), 2],
 ];
 
-/** Options are an object's own properties, each of which is read once, before the module is asked: by `Nissy`, or by a worker. */
-export async function tryOptions(nissy, memory = undefined) {
+/** Options are an object's own properties: by `Nissy`, or by what has the same calls as promises. */
+export async function tryOptions(nissy) {
   for (const [what, options, count] of OWN_OR_NOT) {
     same(`options: ${what}`, (await nissy.solve("eofb", "F", options)).length, count);
     same(`options of many lines: ${what}`, (await nissy.solveAll("eofb", ["F"], options))[0].length, count);
   }
   same("a count by what an object inherits", (await nissy.count("eofb", "F", new OfItsClass())).solutions, 2);
-  let read = [];
-  const noting = (name, value) => ({ enumerable: true, get: () => (read = [...read, name]) && value() });
-  const options = (values) => Object.defineProperties({}, Object.fromEntries(Object.entries(values).map(([name, value]) => [name, noting(name, value)])));
-  const all = { limit: () => 20, slack: () => 0, most: () => 1 };
-  for (const [call, line, names] of [["solve", "F", "limit most slack"], ["solveAll", ["F", "F"], "limit most slack"], ["count", "F", "limit slack"]]) {
-    read = [];
-    await nissy[call]("eofb", line, options(all));
-    same(`${call}: each option is read once`, read.sort().join(" "), names);
+}
+
+/** Options that are functions' values, each of whose names is noted as it is read. */
+function noting(read, functions) {
+  const options = {};
+  for (const [name, value] of Object.entries(functions)) {
+    const get = () => {
+      read.push(name);
+      return value();
+    };
+    Object.defineProperty(options, name, { get });
   }
-  const asking = options({ ...all, limit: () => (nissy.invert("R U F D L B"), 20) });
-  same("an option that asks something itself", await nissy.solve("eofb", "F", asking), F_OR_ITS_INVERSE.slice(0, 1));
+  return options;
+}
+
+const GIVEN = { limit: () => 20, slack: () => 0, most: () => 1 };
+const READ_BY = [
+  ["solve", "F", ["limit", "most", "slack"]],
+  ["solveAll", ["F", "F"], ["limit", "most", "slack"]],
+  ["count", "F", ["limit", "slack"]],
+];
+
+/** Each option is read once, before the module is asked, and what reading it throws the call throws. */
+export async function tryReadOptions(nissy, memory = undefined) {
+  for (const [call, given, names] of READ_BY) {
+    const read = [];
+    await nissy[call]("eofb", given, noting(read, GIVEN));
+    same(`${call}: each option is read once`, read.sort(), names);
+  }
+  const asking = () => {
+    nissy.invert("R U F D L B");
+    return 20;
+  };
+  const found = await nissy.solve("eofb", "F", noting([], { ...GIVEN, limit: asking }));
+  same("an option that asks something itself", found, F_OR_ITS_INVERSE.slice(0, 1));
   const before = memory && fingerprint(memory);
   const throwing = () => {
     throw new RangeError("not to be read");
   };
-  for (const name of Object.keys(all)) {
-    const refused = await thrown(() => nissy.solve("eofb", "D F", options({ ...all, [name]: throwing })));
+  for (const name of Object.keys(GIVEN)) {
+    const refused = await thrown(() => nissy.solve("eofb", "D F", noting([], { ...GIVEN, [name]: throwing })));
     same(`what the ${name} throws`, refused, ["RangeError", "not to be read"]);
   }
   if (memory) same("the memory after what they throw", fingerprint(memory) === before, true);

@@ -7,7 +7,7 @@ import { getEventListeners } from "node:events";
 import { performance } from "node:perf_hooks";
 import { NissyWorker, loadNissy } from "../../web/module/node.js";
 import { WorkerCalls } from "../../web/module/worker-calls.js";
-import { tryMany as tryManyLines, tryOptions, tryRows, tryWrongValues } from "./called.mjs";
+import { tryMany as tryManyLines, tryOptions, tryReadOptions, tryRows, tryWrongValues } from "./called.mjs";
 import { ended, moduleBytes, same, text, thrown } from "./tally.mjs";
 
 const LONG = ["count", "eo", "R U F2 L D R B", { slack: 14 }];
@@ -244,6 +244,7 @@ await tryRows(worker);
 await tryWrongValues(worker);
 await tryManyLines(worker);
 await tryOptions(worker);
+await tryReadOptions(worker);
 await tryOwnOptions(worker);
 await tryNoOptions(worker);
 await tryMany(worker);

@@ -7,7 +7,7 @@ import { runInContext } from "node:vm";
 import { readFileSync } from "node:fs";
 import { Nissy, VERSION } from "../../web/module/nissy.js";
 import { tryCutOff, tryDeepCalls } from "./broken_off.mjs";
-import { F_OR_ITS_INVERSE, STEPS, tryMany, tryOptions, tryRows, tryWrongValues } from "./called.mjs";
+import { F_OR_ITS_INVERSE, STEPS, tryMany, tryOptions, tryReadOptions, tryRows, tryWrongValues } from "./called.mjs";
 import { elsewhere } from "./values.mjs";
 import { ended, loaded, moduleBytes, same, text, thrown } from "./tally.mjs";
 
@@ -164,7 +164,8 @@ async function trySources() {
 const { nissy, memory } = await loaded(Nissy);
 await tryRows(nissy);
 await tryWrongValues(nissy, memory);
-await tryOptions(nissy, memory);
+await tryOptions(nissy);
+await tryReadOptions(nissy, memory);
 await tryMany(nissy);
 await tryRanges(nissy);
 await tryScrambles(nissy);
