@@ -6,6 +6,9 @@ use crate::token::{Base, Token};
 use crate::turn::Power;
 use std::marker::Model;
 
+/// The most moves of a line.
+const MOST_MOVES: usize = 256;
+
 /// The last move of what is read, as far as it goes.
 #[derive(Clone, Copy)]
 pub enum LastMove {
@@ -166,7 +169,7 @@ impl PartialLine {
             return 0;
         };
         let mut taken = 0;
-        while self.niss.len() < 256 {
+        while self.niss.len() < MOST_MOVES {
             let Some((token, length)) = whole_move(&bytes[taken..]) else {
                 break;
             };
@@ -269,7 +272,7 @@ impl PartialLine {
     {
         self.settle();
         // here alone: blanks and brackets may follow 256 moves, and any other byte is no move
-        if self.niss.len() >= 256 {
+        if self.niss.len() >= MOST_MOVES {
             let column = self.column();
             return Err(ReadFault::TooLong { column });
         }
