@@ -78,7 +78,7 @@ if [ $library = yes ]; then
         by_pkg_config() { PKG_CONFIG_PATH="$usr/lib/pkgconfig" pkg-config "$@" nissy; }
         holds "pkg-config knows the library's version" test "$(by_pkg_config --modversion)" = "$version"
         compiled_by_pkg_config() {
-            printf '#include <nissy.h>\nint main(void) { return nissy_invert((const uint8_t *)"R", 1, (uint8_t *)"", 0).status; }\n' > "$room/one.c"
+            write_caller "$room/one.c"
             eval "cc -o '$room/one' '$room/one.c' $(by_pkg_config --cflags --libs)" && LD_LIBRARY_PATH=$usr/lib "$room/one"
             [ $? -eq 4 ]
         }
@@ -90,8 +90,7 @@ if [ $library = yes ]; then
         cmake_project() { # FOLDER: a project of two files, which is built by what is installed
             mkdir -p "$1" && printf '%s\n' 'cmake_minimum_required(VERSION 3.13)' 'project(one C)' "find_package(nissy $version REQUIRED)" \
                 'add_executable(one one.c)' 'target_link_libraries(one nissy::nissy)' 'add_executable(static one.c)' \
-                'target_link_libraries(static nissy::static)' > "$1/CMakeLists.txt" &&
-                printf '#include <nissy.h>\nint main(void) { return nissy_invert((const uint8_t *)"R", 1, (uint8_t *)"", 0).status; }\n' > "$1/one.c"
+                'target_link_libraries(static nissy::static)' > "$1/CMakeLists.txt" && write_caller "$1/one.c"
         }
         built_by_cmake() { # FOLDER PREFIX
             cmake_project "$1" && cmake -S "$1" -B "$1/made" -DCMAKE_PREFIX_PATH="$2" && cmake --build "$1/made" || return
@@ -184,13 +183,7 @@ all_named() { # each step is named in the file
         named_in "$1" "$name" || { echo "$name isn't named"; return 1; }
     done
 }
-dead_links() { # of the pages that are installed
-    local page
-    (cd "$share/doc/nissy" && grep -ohE '\]\([^)# ]+' ./*.md | cut -c 3- | sort -u) | while read -r page; do
-        [[ $page == http* || -e $share/doc/nissy/$page ]] || echo "$page"
-    done
-}
-holds "each link of the installed pages leads to one of them" test -z "$(dead_links)"
+holds "each link of the installed pages leads to one of them" test -z "$(dead_links "$share/doc/nissy")"
 for page in zsh/site-functions/_nissy fish/vendor_completions.d/nissy.fish doc/nissy/MANUAL.md man/man1/nissy.1; do
     holds "$page lists the commands" test "$(listed_in "$share/$page" | LC_ALL=C sort)" = "$commands"
     holds "$page names each step" all_named "$share/$page"

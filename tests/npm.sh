@@ -50,12 +50,7 @@ by_readme() { # npm takes a path without a dot for a place on the network
 holds "npm installs it by the path that README names" by_readme
 package=$user/node_modules/nissy
 if [ ! -e "$package" ]; then ended || exit 1; fi
-dead_links() { # of the pages of the package
-    (cd "$package" && grep -ohE '\]\([^)# ]+' ./*.md | cut -c 3- | sort -u) | while read -r page; do
-        [[ $page == http* || -e $package/$page ]] || echo "$page"
-    done
-}
-holds "each link of its pages leads to one of them" test -z "$(dead_links)"
+holds "each link of its pages leads to one of them" test -z "$(dead_links "$package")"
 block() { sed -n "/^\`\`\`$1\$/,/^\`\`\`\$/p" "$package/README.md" | sed '1d;/^```$/,$d'; } # KIND: the first block of this kind on its page
 example() { block js > "$user/example.mjs" && cmp <(block text) <(in_folder node example.mjs) && rm "$user/example.mjs"; }
 holds "the example of its page prints what the page says" example

@@ -107,18 +107,18 @@ if ! ls "$made"/*.deb > /dev/null 2>&1; then skips "the Debian packages, which w
         done
     }
     holds "each speaks of the other program of the name" says_names
-    dead_links() { # from page to page of a folder, or of two beside each other
+    dead_pages() { # from page to page of a folder, or of two beside each other
         (cd "$root/usr/share/doc" && grep -oHE '\]\([^)# ]+\.md' ./*/*.md) | sed 's|/[^/]*:\](|/|' | sort -u | while read -r page; do
             [[ $page == *http* || -e $root/usr/share/doc/$page ]] || echo "$page"
         done
     }
-    holds "each link of their pages leads to one of them" test -z "$(dead_links)"
+    holds "each link of their pages leads to one of them" test -z "$(dead_pages)"
     holds "their program runs" test "$("$root/usr/bin/nissy" invert "R U' F2")" = "F2 U R'"
     holds "their library is stripped" refuses grep -q '\.symtab' <(readelf -SW "$libraries/libnissy.so.1")
     holds "their module is found" test "$(cd / && LD_LIBRARY_PATH=$libraries PYTHONPATH=$root/usr/lib/python3/dist-packages \
         /usr/bin/python3 -B -c 'import nissy; print(nissy.invert("R U"))')" = "U' R'"
     compiled() {
-        printf '#include <nissy.h>\nint main(void) { return nissy_invert((const uint8_t *)"R", 1, (uint8_t *)"", 0).status; }\n' > "$room/one.c" &&
+        write_caller "$room/one.c" &&
             cc -I "$root/usr/include" -o "$room/one" "$room/one.c" -L "$libraries" -lnissy && LD_LIBRARY_PATH=$libraries "$room/one"
         [ $? -eq 4 ]
     }
