@@ -143,6 +143,12 @@ else
     add python3 tests/library/module.py
     add python3 tests/library/values.py
     add python3 tests/library/processes.py
-    add python3 tests/library/beside_program.py "$program" 1 0.4
+    caller=() further=()
+    if [ $is_sanitized = yes ]; then further=("${sanitized[@]}"); fi
+    if ! missing g++; then
+        holds "caller.cpp compiles" g++ -std=c++17 "${strict[@]}" "${further[@]}" -o "$room/caller" tests/library/caller.cpp "$folder/libnissy.a"
+        caller=("$room/caller")
+    fi
+    add python3 tests/library/beside_program.py "$program" 1 0.4 "${caller[@]}"
 fi
 ended

@@ -1,13 +1,18 @@
 #!/usr/bin/env python3
 """Drawn calls of every command, through the Python module and by the built program: both answer the same.
 
-    tests/library/beside_program.py PROGRAM [SEED] [SCALE]
+    tests/library/beside_program.py PROGRAM SEED SCALE [CALLER]
 
-The draws are those by which the program is compared with the independent model (tests/model/against.py), some 3,500 at scale 0.4. A run is
-called with room that grows and with room of a drawn size; a run of one line without a search by the call on a line, too, and searches and
-scrambles by the calls that return values. The last line is `N passed, M failed`, by kinds of calls, and the status is 1 where M isn't 0.
+The draws are those by which the program is compared with the independent model (tests/model/against.py), some 3,500 at scale 0.4, and files
+of many lines. A run is called with room that grows and with room of a drawn size, and then by a call for each line of its input, which is a
+string, bytes or another buffer; searches and scrambles go by the calls that return values. CALLER is a program made of caller.cpp: it makes
+the calls on lines, searches and scrambles of nissy.hpp too. The last line is `N passed, M failed`, by kinds of calls, and the status is 1
+where M isn't 0.
 """
+import array
 import os
+import re
+import subprocess
 import sys
 
 TOP = os.path.dirname(os.path.dirname(os.path.dirname(os.path.abspath(__file__))))
@@ -15,21 +20,30 @@ sys.path[:0] = [os.path.join(TOP, "python"), os.path.join(TOP, "tests", "model")
 
 import against
 import nissy
-from beside import Beside
+from beside import Beside, many_lines
 from drawing import Drawing
-from trial import seed_and_scale
 
 LINE_CALLS = {"invert": nissy.invert, "unniss": nissy.unniss, "cleanup": nissy.cleanup, "print": nissy.facelets}
 # how many words a search has whose lines come by the input
 SEARCHES = {"solve": 3, "count": 3, "near": 4}
 USAGE = 2
+FILES = 100
 VALUES = ("count_all", "solve_all", "a beginning of the solutions", "count with a slack", "scrambles", "scramble")
+CALLED = ("invert", "unniss", "cleanup", "facelets", "solve", "count", "a beginning of the solutions", "count with a slack", "scrambles")
+# the same bytes as what a line may be given as
+FORMS = (bytes, bytearray, memoryview, lambda line: line.decode("utf-8", "surrogateescape"), lambda line: memoryview(line[::-1])[::-1],
+         lambda line: memoryview(b"R U" + line + b"F q")[3:len(line) + 3], lambda line: array.array("b", line))
+FAULT = re.compile(r"nissy: (?:column (\d+): )?(.*)")
 
 
-def written_solutions(solutions, limit):
-    """Solutions as the program writes them."""
-    lines = ["%s (%d)" % (it, it.length) if it else "(%d)" % it.length for it in solutions]
-    return "".join(line + "\n" for line in lines or ["no solution within %s moves" % limit]) + "\n"
+def lines_of(solutions):
+    """Solutions as the program writes them, if there are any."""
+    return "".join("%s (%d)\n" % (it, it.length) if it else "(%d)\n" % it.length for it in solutions)
+
+
+def paragraph_of(solutions, limit):
+    """A text of solutions as the program writes it for a line."""
+    return (solutions or "no solution within %d moves\n" % limit) + "\n"
 
 
 def written_count(count):
@@ -44,14 +58,49 @@ def answered(answers, written):
         for answer in answers:
             out.append(written(answer))
     except nissy.LineFault as fault:
-        return "".join(out).encode(), ("nissy: line %d, column %d: %s\n" % (fault.line, fault.column, fault.text)).encode(), 1
+        line = fault.line or len(out) + 1
+        return "".join(out).encode(), ("nissy: line %d, column %d: %s\n" % (line, fault.column, fault.text)).encode(), 1
     except nissy.StartFault as fault:
-        return "".join(out).encode(), ("nissy: line %d: %s\n" % (fault.line, fault.text)).encode(), 1
+        return "".join(out).encode(), ("nissy: line %d: %s\n" % (fault.line or len(out) + 1, fault.text)).encode(), 1
     return "".join(out).encode(), b"", 0
+
+
+def lines_in(data):
+    """The lines of an input, whose last one may have no line feed."""
+    lines = data.split(b"\n")
+    return lines if lines[-1] else lines[:-1]
+
+
+class Caller:
+    """The program that makes the calls of nissy.hpp."""
+
+    def __init__(self, path):
+        self.process = subprocess.Popen([path], stdin=subprocess.PIPE, stdout=subprocess.PIPE, text=True)
+
+    def ask(self, *asked):
+        """What a call answers: its text, or what Python raises for the same."""
+        print(*("=" + it.hex() if isinstance(it, bytes) else it for it in asked), file=self.process.stdin, flush=True)
+        answer = self.process.stdout.readline().split()
+        text = bytes.fromhex(answer[-1][1:]).decode("utf-8", "replace")
+        if len(answer) == 1:
+            return text
+        column, words = FAULT.fullmatch(text).groups()
+        if answer[2] != (column or "0"):
+            raise ValueError("the column isn't that of the text: %s" % answer)
+        raise nissy.LineFault(int(column), words) if column else nissy.StartFault("", "", words)
+
+    def end(self):
+        """The status with which it ends."""
+        self.process.stdin.close()
+        return self.process.wait()
 
 
 class BesideLibrary(Beside):
     """Calls of the library, compared with the program's answers."""
+
+    def __init__(self, program, seed, caller):
+        super().__init__(program, seed)
+        self.caller = Caller(caller) if caller else None
 
     def call(self, words, data, room=None):
         answer = nissy.run(words, data, room)
@@ -59,46 +108,70 @@ class BesideLibrary(Beside):
 
     def compare_further(self, words, data, expected):
         """The same by the calls on lines and by those that return values."""
-        if len(words) == 1 and words[0] in LINE_CALLS and data and b"\n" not in data[:-1]:
-            self.compare_line(words, data, expected)
+        if len(words) == 1 and words[0] in LINE_CALLS:
+            self.compare_lines(words, data, expected)
         elif words and len(words) == SEARCHES.get(words[0]) and expected[2] != USAGE:
             self.compare_search(words, data, expected)
         elif words and words[0] == "scramble" and expected[2] != USAGE:
             self.compare_scrambles(words, data, expected)
 
-    def compare_line(self, words, data, expected):
-        """A run on one line, by the call on a line."""
-        call = LINE_CALLS[words[0]]
-        try:
-            got = call(data[:-1] if data.endswith(b"\n") else data).encode() + b"\n", b"", 0
-        except nissy.LineFault as fault:
-            got = b"", ("nissy: line 1, column %d: %s\n" % (fault.column, fault.text)).encode(), 1
-        self.check("calls on a line: " + words[0], words, data, got, expected)
+    def formed(self, line):
+        """A line in a drawn form."""
+        return self.rooms.choice(FORMS)(line)
+
+    def compare_lines(self, words, data, expected):
+        """A run on lines, by a call for each."""
+        name, lines = words[0], lines_in(data)
+        got = answered((LINE_CALLS[name](self.formed(line)) for line in lines), lambda it: it + "\n")
+        self.check("calls on a line: " + name, words, data, got, expected)
+        if self.caller:
+            call = LINE_CALLS[name].__name__
+            got = answered((self.caller.ask(call, line) for line in lines), lambda it: it + "\n")
+            self.check("nissy.hpp: " + call, words, data, got, expected)
 
     def compare_search(self, words, data, expected):
-        """A search of lines, by the calls that return values: all solutions or their number, and a beginning of the solutions."""
-        command, step, limit, slack = words[0], words[1], int(words[2]), int((words + ["0"])[3])
-        lines = data.split(b"\n")
-        if not lines[-1]:
-            del lines[-1]
-        if command == "count":
-            got = answered(nissy.count_all(step, iter(lines), limit), written_count)
+        """A search of lines, by the calls that return values."""
+        step, limit, slack = words[1], int(words[2]), int((words + ["0"])[3])
+        formed = map(self.formed, lines_in(data))
+        if words[0] == "count":
+            got = answered(nissy.count_all(step, formed, limit), written_count)
             self.check("values: count_all", words, data, got, expected)
+            self.compare_caller("count", words, data, expected, lambda text: "length %s solutions %s nodes %s\n" % tuple(text.split()))
             return
         found = []
 
         def written(solutions):
             found.append(solutions)
-            return written_solutions(solutions, limit)
+            return paragraph_of(lines_of(solutions), limit)
 
-        got = answered(nissy.solve_all(step, iter(lines), limit, slack), written)
+        got = answered(nissy.solve_all(step, formed, limit, slack), written)
         self.check("values: solve_all", words, data, got, expected)
-        most = self.rooms.choice([0, 1, 2, 10, 100, 2**64 - 1])
-        few = [nissy.near(step, line, limit, slack, most) for line in lines[:len(found)]]
-        self.check("values: a beginning of the solutions", words, data, few, [all_of_it[:most] for all_of_it in found])
-        numbers = [(it.length, it.solutions) for it in (nissy.count(step, line, limit, slack) for line in lines[:len(found)])]
+        self.compare_caller("solve", words, data, expected, lambda text: paragraph_of(text, limit))
+        self.compare_parts(words, data, found, self.rooms.choice([0, 1, 2, 10, 100, 2**64 - 1]))
+
+    def compare_caller(self, call, words, data, expected, written):
+        """A search of lines by nissy.hpp."""
+        if self.caller:
+            search = [words[1].encode(), *words[2:4], *["0"] * (4 - len(words)), 2**64 - 1]
+            got = answered((self.caller.ask(call, *search, line) for line in lines_in(data)), written)
+            self.check("nissy.hpp: " + call, words, data, got, expected)
+
+    def compare_parts(self, words, data, found, most):
+        """How many solutions each line has, and at most so many of them."""
+        step, limit, slack = words[1], int(words[2]), int((words + ["0"])[3])
+        lines, first = lines_in(data)[:len(found)], [solutions[:most] for solutions in found]
+        few = [nissy.near(step, line, limit, slack, most) for line in lines]
+        self.check("values: a beginning of the solutions", words, data, few, first)
+        numbers = [(it.length, it.solutions) for it in (nissy.count(step, line, limit, slack) for line in lines)]
         wanted = [(it[0].length if it else None, len(it)) for it in found]
         self.check("values: count with a slack", words, data, numbers, wanted)
+        if self.caller:
+            search = [step.encode(), limit, slack, most]
+            few = [self.caller.ask("solve", *search, line) for line in lines]
+            self.check("nissy.hpp: a beginning of the solutions", words, data, few, list(map(lines_of, first)))
+            numbers = [self.caller.ask("count", *search, line).split()[:2] for line in lines]
+            wanted = [["none" if length is None else str(length), str(count)] for length, count in wanted]
+            self.check("nissy.hpp: count with a slack", words, data, numbers, wanted)
 
     def compare_scrambles(self, words, data, expected):
         """Scrambles, all of a run and the first one."""
@@ -107,17 +180,24 @@ class BesideLibrary(Beside):
         self.check("values: scrambles", words, data, ("".join(it + "\n" for it in made).encode(), b"", 0), expected)
         first = [nissy.scramble(*numbers[:3])]
         self.check("values: scramble", words, data, first[:len(made)], made[:1])
+        if self.caller:
+            text = self.caller.ask("scrambles", *numbers)
+            self.check("nissy.hpp: scrambles", words, data, text.splitlines(), first + made)
 
 
 def main():
     """Draws all kinds and reports."""
-    if len(sys.argv) < 2:
+    if len(sys.argv) not in (4, 5):
         sys.exit(__doc__)
-    seed, scale = seed_and_scale(sys.argv[2:])
-    trial = BesideLibrary(sys.argv[1], seed)
+    program, seed, scale, *caller = sys.argv[1:]
+    trial = BesideLibrary(program, int(seed), *caller or [None])
     trial.awaits(*("calls on a line: " + name for name in LINE_CALLS), *("values: " + name for name in VALUES))
-    print("drawn calls, seed %d, scale %g" % (seed, scale))
-    against.all_kinds(trial, Drawing(seed), scale)
+    print("drawn calls, seed %s, scale %s" % (seed, scale))
+    against.all_kinds(trial, Drawing(int(seed)), float(scale))
+    many_lines(trial, Drawing(int(seed) + 1), int(FILES * float(scale)))
+    if caller:
+        trial.awaits(*("nissy.hpp: " + name for name in CALLED))
+        trial.check("the caller of nissy.hpp ends", [], b"", trial.caller.end(), 0)
     sys.exit(trial.report())
 
 

@@ -1,11 +1,36 @@
 """Calls of the engine in another form, compared with what the built program answers."""
 import random
 
-from model import Answer
+import solving
+from model import Answer, REWRITES
 from trial import Trial
 
 CANNOT_WRITE = b"nissy: cannot write\n"
 STOPPED = 3
+# how many lines a file has that is rewritten, and one that is searched
+REWRITTEN, SEARCHED = 200, 60
+# limit and slack of a search that ends soon on any line
+NUMBERS = [(0, 0), (3, 0), (20, 0), (2, 1), (3, 2), (3, 20)]
+
+
+def many_lines(trial, draw, files):
+    """Files of many lines, rewritten and searched, of which the last line is damaged in half of the files. A run of the program is the longest
+    part of most comparisons, and here one serves for all the lines."""
+    for at in range(files):
+        lines = [draw.line(draw.choice([2, 20, 20, 230])) for _ in range(REWRITTEN)]
+        trial.compare("many lines, rewritten", [REWRITES[at % len(REWRITES)]], with_damage(draw, lines))
+        name = list(solving.STEPS)[at % len(solving.STEPS)]
+        limit, slack = draw.choice(NUMBERS)
+        _, turns, _ = solving.STEPS[name]
+        lines = [draw.started_from_solved(solving.TURNS_OF[turns], draw.choice([1, 3, 6])) for _ in range(SEARCHED)]
+        words = draw.choice([["near", name, str(limit), str(slack)], ["count", name, str(limit)]])
+        trial.compare("many lines, searched", words, with_damage(draw, lines))
+
+
+def with_damage(draw, lines):
+    """Lines as input, the last one damaged in half of the cases."""
+    *whole, last = (line.encode() for line in lines)
+    return b"\n".join([*whole, draw.damaged(last) if draw.random() < 0.5 else last])
 
 
 class Beside(Trial):

@@ -1,0 +1,93 @@
+/* Makes the calls of nissy.hpp that standard input asks for, one on each line, and answers each on a line: beside_program.py compares
+   them. Texts come and go as hexadecimal digits behind an `=`. */
+#include "nissy.hpp"
+
+#include <iostream>
+#include <memory>
+#include <sstream>
+
+namespace {
+
+std::string to_hex(std::string_view text) {
+    static constexpr char DIGITS[] = "0123456789abcdef";
+    std::string hex = "=";
+    for (const char byte : text) {
+        const auto number = static_cast<unsigned char>(byte);
+        hex += {DIGITS[number / 16], DIGITS[number % 16]};
+    }
+    return hex;
+}
+
+// A text in memory of its own, of which nothing stands behind it, and none of it if it is empty.
+class exact {
+public:
+    explicit exact(const std::string &hex) : size_(hex.size() / 2), bytes_(size_ ? new char[size_] : nullptr) {
+        for (std::size_t at = 0; at < size_; at++) bytes_[at] = static_cast<char>(std::stoi(hex.substr(1 + 2 * at, 2), nullptr, 16));
+    }
+    std::string_view view() const { return {bytes_.get(), size_}; }
+
+private:
+    std::size_t size_;
+    std::unique_ptr<char[]> bytes_;
+};
+
+std::string lines(const std::vector<std::string> &all) {
+    std::string text;
+    for (const std::string &line : all) text += line + "\n";
+    return text;
+}
+
+std::string solved(const nissy::tables &tables, std::string_view line, const nissy::search &which) {
+    std::string text;
+    for (const auto &[moves, length] : tables.solve(line, which)) text += moves + (moves.empty() ? "(" : " (") + std::to_string(length) + ")\n";
+    return text;
+}
+
+std::string counted(const nissy::tables &tables, std::string_view line, int limit, int slack) {
+    const auto [length, solutions, nodes] = tables.count(line, limit, slack);
+    return (length ? std::to_string(*length) : "none") + " " + std::to_string(solutions) + " " + std::to_string(nodes);
+}
+
+std::string searched(const std::string &call, std::istream &asked) {
+    std::string step, hex;
+    nissy::search which;
+    asked >> step >> which.limit >> which.slack >> which.most >> hex;
+    const exact line(hex), name(step);
+    const nissy::tables tables(name.view());
+    return call == "solve" ? solved(tables, line.view(), which) : counted(tables, line.view(), which.limit, which.slack);
+}
+
+std::string drawn(std::istream &asked) {
+    std::uint64_t state = 0, stream = 0;
+    std::uint32_t length = 0, count = 0;
+    asked >> state >> stream >> length >> count;
+    return nissy::scramble(state, stream, length) + "\n" + lines(nissy::scrambles(state, stream, length, count));
+}
+
+std::string called(const std::string &call, std::istream &asked) {
+    if (call == "solve" || call == "count") return searched(call, asked);
+    if (call == "scrambles") return drawn(asked);
+    std::string hex;
+    asked >> hex;
+    const exact line(hex);
+    if (call == "invert") return nissy::invert(line.view());
+    if (call == "unniss") return nissy::unniss(line.view());
+    if (call == "cleanup") return nissy::cleanup(line.view());
+    return nissy::facelets(line.view());
+}
+
+} // namespace
+
+int main() {
+    for (std::string line; std::getline(std::cin, line);) {
+        std::istringstream asked(line);
+        std::string call;
+        asked >> call;
+        try {
+            std::cout << to_hex(called(call, asked)) << std::endl;
+        } catch (const nissy::fault &fault) {
+            std::cout << "fault " << fault.code() << " " << fault.column() << " " << to_hex(fault.what()) << std::endl;
+        }
+    }
+    return 0;
+}
