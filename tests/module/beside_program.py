@@ -5,7 +5,7 @@
 
 The draws are those by which the program is compared with the independent model
 (tests/model/against.py), some 4,000 at scale 0.25, each called with room that grows and with room of a drawn size, and then by a call for
-each line of its input, a quarter of them in a worker. The last line is `N passed, M failed`, by kinds of calls, and the status is 1 if M
+each line of its input, which is a string or bytes of a drawn form, a quarter of them in a worker. The last line is `N passed, M failed`, by kinds of calls, and the status is 1 if M
 isn't 0.
 """
 import base64
@@ -20,7 +20,7 @@ HERE = os.path.dirname(os.path.abspath(__file__))
 sys.path.insert(0, os.path.join(os.path.dirname(HERE), "model"))
 
 import against
-from beside import Beside
+from beside import Beside, many_lines
 from drawing import Drawing
 
 
@@ -30,6 +30,9 @@ WORDS_OF_SEARCHES = {"solve": 3, "count": 3, "near": 4}
 FAULT = re.compile(rb"nissy: line (\d+)(?:, column (\d+))?: (.*)\n")
 START = " does not hold"
 SCRAMBLES = 4_000
+FILES = 100
+# what calls.mjs makes of the bytes of a line
+FORMS = ("string", "array", "part", "buffer", "shared")
 CALLS = (*REWRITINGS.values(), "solve", "count", "scramble", "scrambles", "steps")
 
 
@@ -119,7 +122,7 @@ class BesideModule(Beside):
         values = values_of(words, out)
         for number, line in enumerate(lines_in(data)[: faulty or None], 1):
             wanted = {"fault": fault} if number == faulty else {"value": values[number - 1]}
-            given = {"bytes": to_base64(line)}
+            given = {"bytes": to_base64(line), "form": self.draws.choice(FORMS)}
             if words[0] in REWRITINGS:
                 self.compare_call(words, line, REWRITINGS[words[0]], [given], wanted)
             else:
@@ -156,6 +159,7 @@ def main():
     print("drawn calls, seed %s, scale %s" % (seed, scale))
     against.all_kinds(trial, Drawing(int(seed)), float(scale))
     against.scrambles(trial, Drawing(int(seed) + 1), int(SCRAMBLES * float(scale)))
+    many_lines(trial, Drawing(int(seed) + 2), int(FILES * float(scale)))
     trial.node.stdin.close()
     trial.awaits("node ends", *("call: " + call for call in CALLS))
     trial.check("node ends", [], b"", trial.node.wait(), 0)
