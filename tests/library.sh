@@ -143,6 +143,11 @@ else
     add python3 tests/library/module.py
     add python3 tests/library/values.py
     add python3 tests/library/processes.py
+    if python3.7 -c "import ctypes" 2> /dev/null; then
+        for trial in module values processes; do add python3.7 "tests/library/$trial.py"; done
+    else
+        skips "Python 3.7, the oldest that the package is for, isn't installed"
+    fi
     caller=() further=()
     if [ $is_sanitized = yes ]; then further=("${sanitized[@]}"); fi
     if ! missing g++; then

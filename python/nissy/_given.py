@@ -37,7 +37,8 @@ def bytes_of(text: Text, what: str) -> bytes:
         view = memoryview(text)
     except TypeError:
         raise TypeError(f"{what} is a str or bytes, not {_kind(text)}") from None
-    if view.itemsize != 1:
+    # before Python 3.10 an empty array of ctypes has items of no bytes
+    if view.itemsize > 1:
         raise TypeError(f"{what} is a str or bytes, not items of {view.itemsize} bytes each")
     return bytes(view)
 

@@ -10,6 +10,7 @@ the calls on lines, searches and scrambles of nissy.hpp too. The last line is `N
 where M isn't 0.
 """
 import array
+import ctypes
 import os
 import re
 import subprocess
@@ -32,7 +33,8 @@ VALUES = ("count_all", "solve_all", "a beginning of the solutions", "count with 
 CALLED = ("invert", "unniss", "cleanup", "facelets", "solve", "count", "a beginning of the solutions", "count with a slack", "scrambles")
 # the same bytes as what a line may be given as
 FORMS = (bytes, bytearray, memoryview, lambda line: line.decode("utf-8", "surrogateescape"), lambda line: memoryview(line[::-1])[::-1],
-         lambda line: memoryview(b"R U" + line + b"F q")[3:len(line) + 3], lambda line: array.array("b", line))
+         lambda line: memoryview(b"R U" + line + b"F q")[3:len(line) + 3], lambda line: array.array("b", line),
+         lambda line: (ctypes.c_char * len(line)).from_buffer_copy(line))
 FAULT = re.compile(r"nissy: (?:column (\d+): )?(.*)")
 
 

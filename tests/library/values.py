@@ -8,6 +8,7 @@ status is 1 where M isn't 0.
 """
 import array
 import copy
+import ctypes
 import itertools
 import pickle
 import sys
@@ -60,7 +61,8 @@ def solutions(tally: Tally) -> None:
     rows: List[Any] = [(("eofb", "F B", 5), ["F B", "F B'", "F' B", "F' B'"]), (("drud-eofb", "R U", 5), ["U' R", "U' R'"]),
             (("dr-eofb", "R U", 5), ["U", "U'"]), (("eofb", "F", 0), []), (("drud-eofb", "", 1, 1), NEAR_SOLVED),
             (("eofb", ""), [""]), (("eofb", b"(F)"), ["F", "F'"]),
-            (("eofb", bytearray(b"F")), ["F", "F'"]), (("eofb", memoryview(b"F F")[::2]), [""]), (("eofb", "F\u2019"), ["F", "F'"])]
+            (("eofb", bytearray(b"F")), ["F", "F'"]), (("eofb", memoryview(b"F F")[::2]), [""]), (("eofb", "F\u2019"), ["F", "F'"]),
+            (("eofb", (ctypes.c_ubyte * 1)(70)), ["F", "F'"]), (("eofb", (ctypes.c_ubyte * 0)()), [""])]
     for given, wanted in rows:
         found = nissy.solve(*given)
         tally.equal(f"solve{given}", found, wanted)
