@@ -6,7 +6,7 @@ from typing import Iterable, List, Optional
 
 from . import _library, _rooms
 from ._given import Text, bytes_of, each_of, number_of
-from ._library import ERROR_ROOM
+from ._library import DONE, ERROR_ROOM
 from ._lines import drawing
 from ._rooms import Room
 from ._values import Answer
@@ -76,4 +76,8 @@ def scrambles(state: int, stream: int, length: int, count: int) -> List[str]:
     """`count` scrambles of `length` turns each, at most 10,000, all by the generator that begins with this state and stream, as the program
     makes them. These are random moves, not random states."""
     numbers = (*drawing(state, stream, length), number_of(count, "the count", _MOST_SCRAMBLES))
-    return run(["scramble", *map(str, numbers)]).out.decode("ascii").splitlines()
+    answer = run(["scramble", *map(str, numbers)])
+    if answer.status != DONE:
+        # by numbers in their ranges nothing else can go wrong
+        raise MemoryError("no memory for the scrambles")
+    return answer.out.decode("ascii").splitlines()

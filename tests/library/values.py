@@ -102,6 +102,10 @@ def without_lines(tally: Tally) -> None:
     tally.equal("no scramble", nissy.scrambles(1, 2, 3, 0), [])
     tally.equal("the longest scramble", len(nissy.scramble(2**64 - 1, 2**64 - 1, 256).split()), 256)
     tally.equal("the most scrambles", len(nissy.scrambles(7, 9, 1, 10_000)), 10_000)
+    run = untyped._library.nissy_run
+    untyped._library.nissy_run = lambda *given: untyped._library.RunAnswer(nissy.STOPPED)
+    says(tally, MemoryError, "no memory for the scrambles", lambda: nissy.scrambles(1, 2, 3, 2))
+    untyped._library.nissy_run = run
     header = (TOP / "include/nissy.h").read_text("utf-8")
     tally.holds("the version is that of the header", f'#define NISSY_VERSION "{nissy.__version__}"' in header)
 
