@@ -2,7 +2,7 @@
 import re
 
 from browser import Browser
-from searches import LONGER, ROWS, STEPS, address_of, program_answers
+from best import LONGER, ROWS, STEPS, address_of, program_answers
 from steps import back
 from tally import Tally
 from wanted import SIDES, TITLES, Position

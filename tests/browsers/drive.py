@@ -3,8 +3,8 @@
 
     tests/browsers/drive.py PAGE PROGRAM [PART..]
 
-PAGE is the joined file, PROGRAM the built nissy, and a PART one of keyboard, faults, addresses, searches, at_once, turned, steps, line,
-focus, phone and looks; all where none is named. The last line is `N passed, M failed`, and the status is 1 where M isn't 0.
+PAGE is the joined file, PROGRAM the built nissy, and a PART one of those in PARTS below; all where none is named. The last line is
+`N passed, M failed`, and the status is 1 where M isn't 0.
 """
 import shutil
 import subprocess
@@ -16,20 +16,24 @@ sys.path.insert(0, str(Path(__file__).resolve().parent.parent))
 
 import addresses
 import at_once
+import best
 import faults
 import focus
+import kept
 import keyboard
 import line
 import looks
+import narrow
 import phone
 import searches
 import steps
+import stops
 import turned
 from browser import Browser
 from selenium.common.exceptions import WebDriverException
 from tally import Tally
 
-PARTS = (keyboard, faults, addresses, searches, at_once, turned, steps, line, focus, phone, looks)
+PARTS = (keyboard, faults, addresses, best, searches, at_once, turned, steps, line, kept, focus, stops, phone, narrow, looks)
 
 TOP = Path(__file__).resolve().parent.parent.parent
 NO_ENGINE = "globalThis.WebAssembly = undefined;\n"

@@ -144,6 +144,11 @@ def pasted(tally: Tally, browser: Browser) -> None:
         (browser.texts("#scramble-fault p"), browser.texts("#scramble-marks mark")),
         ([NO_MOVE.format("q'")], ["q\u2032"]),
     )
+
+
+def pasted_steps(tally: Tally, browser: Browser) -> None:
+    """Text with the steps of a solution is read as far as it can be, and what it has besides is kept."""
+    browser.open()
     browser.fill("scramble", FMC)
     browser.until("return document.querySelectorAll('#kept-list li').length === 2")
     browser.wait()
@@ -277,5 +282,5 @@ def unstarted(tally: Tally, browser: Browser) -> None:
 def try_all(tally: Tally, browser: Browser) -> None:
     """All of them."""
     browser.open()
-    for part in (scrambles, by_hand, lines_by_hand, pasted, posts, together, stale, seeds, starts, without_engine, unstarted):
+    for part in (scrambles, by_hand, lines_by_hand, pasted, pasted_steps, posts, together, stale, seeds, starts, without_engine, unstarted):
         part(tally, browser)

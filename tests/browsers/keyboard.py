@@ -24,7 +24,7 @@ def shows_skeleton(tally: Tally, browser: Browser, what: str, line: str) -> None
 
 
 def orient(tally: Tally, browser: Browser) -> None:
-    """Types the scramble, and takes an orientation on the inverse side from a filtered list."""
+    """Types the scramble, and opens the list of an orientation on the inverse side."""
     tally.holds("the Tab key leads to the scramble", browser.tab_to("scramble", 7))
     browser.press(SCRAMBLE)
     tally.holds("the scramble is answered", browser.until("return location.hash.endsWith('_R-_U-_F')"))
@@ -39,6 +39,12 @@ def orient(tally: Tally, browser: Browser) -> None:
     tally.equal("the list of a cell", browser.listed(), listed)
     tally.equal("on the inverse side with brackets", browser.texts("#solutions-groups .take"), [f"({moves})" for moves in listed])
     tally.equal("its first solution has the focus", browser.focused(), f"({listed[0]})")
+    longer = lengthen(tally, browser, position, len(listed))
+    take_filtered(tally, browser, longer)
+
+
+def lengthen(tally: Tally, browser: Browser, position: Position, shortest: int) -> list[str]:
+    """Has the list one move longer, with and without all twins, and returns its rows."""
     tally.holds("the Tab key leads back to the slack", browser.tab_to("slack", back=True))
     browser.press("1")
     browser.wait()
@@ -53,7 +59,7 @@ def orient(tally: Tally, browser: Browser) -> None:
     tally.equal(
         "by length",
         browser.texts("#solutions-groups h3"),
-        [f"5 moves: {len(listed)} rows", f"6 moves: {len(longer) - len(listed)} rows"],
+        [f"5 moves: {shortest} rows", f"6 moves: {len(longer) - shortest} rows"],
     )
     tally.holds("the Tab key leads to the switch", browser.tab_to("twins"))
     browser.press(Keys.SPACE)
@@ -62,6 +68,11 @@ def orient(tally: Tally, browser: Browser) -> None:
     browser.press(Keys.SPACE)
     browser.wait()
     tally.equal("and no longer", browser.listed(), longer[:200])
+    return longer
+
+
+def take_filtered(tally: Tally, browser: Browser, longer: list[str]) -> None:
+    """Takes an orientation from the filtered list."""
     tally.holds("the Tab key leads to the filter", browser.tab_to("filter", back=True))
     browser.press("b d r f2 b")
     filtered = [moves for moves in longer if " B D R F2 B " in f" {moves} "]

@@ -1,4 +1,4 @@
-"""How the page looks and what it is called: contrast in light and dark, 360 points of width, names, the focus, help."""
+"""How the page looks and what it is called: contrast in light and dark, names, themes, print, help."""
 import re
 
 from browser import Browser
@@ -8,47 +8,6 @@ from tally import Tally
 SCRAMBLE = "#scramble=R-_U-_F_D2_L2_F_R2_U2_R2_B_D2_L_B2_D-_B2_L-_R-_B-_D2_B2_R-_U-_F"
 KEPT = "&kept=inverse.B_D_R_F2_B_D;a_note,normal.R-_U_F-_R_L"
 ADDRESS = SCRAMBLE + "&steps=inverse.B_D_R_F2_B_D~normal.R_B-&side=inverse&list=drfb-eoud.inverse.1" + KEPT
-STOPS = ("skip", "scramble-edit", "undo-move", "own", "switch", "copy-joined", "eofb.normal", "slack", "filter", "best-more", "copy-fmc",
-    "copy-kept",
-    "marks", "play", "view-y", "keep-line", "copy-link", "theme", "solutions-close", "twins", "last-turn")
-# what a finger presses is at least so high and wide where the page is narrow
-TARGET = 44
-# a star beside a row that is pressed as a whole is at least so high and wide
-LEAST_TARGET = 24
-# how high a row of the best may be there, and how small its signs
-MOST_OF_ROW = 56
-LEAST_SIGN = 10
-# how wide and high what a selector finds is for a finger, each: the points around its middle that reach it
-REACHED = """
-    const far = (each, x, y, [right, down]) => {
-        let steps = 0;
-        while (steps < 99 && document.elementFromPoint(x + (steps + 1) * right, y + (steps + 1) * down) === each) steps++;
-        return steps;
-    };
-    return [...document.querySelectorAll(arguments[0])].map((each) => {
-        each.scrollIntoView({ block: 'center', behavior: 'instant' });
-        const { left, top, width, height } = each.getBoundingClientRect();
-        const [back, right, up, down] = [[-1, 0], [1, 0], [0, -1], [0, 1]].map((way) => far(each, left + width / 2, top + height / 2, way));
-        return [back + 1 + right, up + 1 + down];
-    })"""
-HEIGHTS = "return [...document.querySelectorAll(arguments[0])].map((each) => each.getBoundingClientRect().height)"
-ROWS_OF_BEST = """
-    const areOn = (one, other) => one.left < other.right - 0.5 && other.left < one.right - 0.5
-        && one.top < other.bottom - 0.5 && other.top < one.bottom - 0.5;
-    const textOf = (node) => {
-        const range = document.createRange();
-        range.selectNodeContents(node);
-        return range.getBoundingClientRect();
-    };
-    return [...document.querySelectorAll('#best-body tr')].map((row) => {
-        const [take, twins, star] = ['.take', '.twins', '.star'].map((name) => row.querySelector(name));
-        const parts = [take, twins, star, ...row.querySelectorAll('th, .axis, .number')].filter((each) => each?.checkVisibility())
-            .map((each) => each === star ? star.getBoundingClientRect() : textOf(each));
-        const box = row.getBoundingClientRect(), { width, height } = star.getBoundingClientRect(), own = getComputedStyle(take);
-        return { moves: take.textContent, hasTwins: twins !== null, height: box.height, star: [width, height],
-            size: parseFloat(own.fontSize), lines: Math.round(textOf(take).height / (1.5 * parseFloat(own.fontSize))),
-            on: parts.some((one, at) => parts.some((other, next) => next > at && areOn(one, other))) };
-    })"""
 # the least contrast of all text that is seen, with the text; what can't be used meanwhile doesn't count
 CONTRAST = """
     const channels = (text) => text.match(/[\\d.]+/g).map(Number);
@@ -73,12 +32,6 @@ CONTRAST = """
     return [found.length, ...found.sort((one, other) => one[0] - other[0])[0]]"""
 # the buttons and fields without a name, and how many there are
 NAMELESS = ("button", "textbox", "combobox", "img", "progressbar", "searchbox", "checkbox", "table", "region")
-IN_VIEW = """
-    const { top, bottom, height } = document.getElementById(arguments[0]).getBoundingClientRect();
-    return height > 0 && top >= 0 && bottom <= innerHeight"""
-BROKEN = """
-    return [...document.querySelectorAll("#solutions-groups .take")].filter((each) => each.textContent.split(" ").length <= 8
-        && each.clientHeight >= 2 * parseFloat(getComputedStyle(each).lineHeight)).map((each) => each.textContent)"""
 WIDE = """
     const far = [...document.querySelectorAll("body *")].filter((node) => node.checkVisibility() && !node.closest(".unseen, .scrolled, pre")
         && node.getBoundingClientRect().right > document.documentElement.clientWidth + 0.5);
@@ -139,51 +92,6 @@ def is_bordered(tally: Tally, browser: Browser, what: str) -> None:
         })""")
     tally.holds(f"{what}: there are borders", len(found) > 30)
     tally.equal(f"{what}: borders of less than 3", [each for each in found if each[0] < 3], [])
-
-
-def presses(tally: Tally, browser: Browser) -> None:
-    """On a phone what is pressed is large enough for a finger: a row of the best by its whole row."""
-    browser.open(ADDRESS)
-    browser.wait_best()
-    small = browser.script("""return [...document.querySelectorAll("button, select, summary, input:not([type=checkbox]), textarea")]
-        .filter((each) => each.checkVisibility() && !each.closest(".skip, #best-body, .popover, .note-field"))
-        .map((each) => [each.id || each.className || each.textContent, each.getBoundingClientRect()])
-        .map(([name, { width, height }]) => [name, width, height])
-        .filter(([, width, height]) => Math.min(width, height) < arguments[0])""", TARGET)
-    tally.equal("what is too small", small, [])
-    chips = browser.script(HEIGHTS, "#best-body .take")
-    tally.holds(f"the moves of the best: {chips}", chips and min(chips) >= LEAST_TARGET)
-    notes = browser.script(HEIGHTS, ".note-field")
-    tally.holds(f"notes are one line high: {notes}", notes and LEAST_TARGET <= min(notes) and max(notes) < TARGET)
-    browser.script("document.querySelector('.note-field').focus()")
-    tally.equal("until one is typed in", browser.script(HEIGHTS, ".note-field:focus"), [TARGET])
-    rows = browser.script(HEIGHTS, "#best-body tr")
-    tally.holds(f"rows of the best: {rows}", rows and min(rows) >= TARGET)
-    hit = """const row = document.querySelector('#best-body tr'); row.scrollIntoView({ block: 'center' });
-        const { left, right, bottom } = row.getBoundingClientRect();
-        return document.elementFromPoint((left + right) / 2, bottom - 4).className"""
-    tally.holds("and their whole row is pressed", "take" in browser.script(hit))
-
-
-def has_two_lines(tally: Tally, browser: Browser) -> None:
-    """On a phone a row of the best has two lines at most, however long its moves are; nothing in it stands on something else."""
-    for after in ("", "&steps=inverse.B_D_R_F2_B_D"):
-        browser.open(SCRAMBLE + after)
-        browser.choose("best-slack", "2")
-        browser.wait_best()
-        browser.choose("best-sort", "case")
-        for _ in range(3):
-            browser.script("document.getElementById('best-more').click()")
-        rows = browser.script(ROWS_OF_BEST)
-        longest = max(len(row["moves"]) for row in rows)
-        tally.holds(f"{after}: there are long rows and twins: {longest}", longest > 15 and any(row["hasTwins"] for row in rows))
-        tally.equal(f"{after}: rows of more than two lines", [row for row in rows if row["lines"] > 1 or row["height"] > MOST_OF_ROW], [])
-        tally.equal(f"{after}: parts of a row on each other", [row for row in rows if row["on"]], [])
-        tally.equal(f"{after}: signs that are too small", [row for row in rows if row["size"] < LEAST_SIGN], [])
-        tally.equal(f"{after}: stars that are too small", [row for row in rows if min(row["star"]) < LEAST_TARGET], [])
-        least = min(min(each) for each in browser.script(REACHED, "#best-body .star"))
-        tally.holds(f"{after}: stars that a finger misses: {least}", least >= TARGET)
-    browser.choose("best-sort", "total")
 
 
 def begins(tally: Tally, browser: Browser) -> None:
@@ -267,75 +175,6 @@ def is_told_apart(tally: Tally, browser: Browser) -> None:
     browser.command("Emulation.setEmulatedMedia", features=[{"name": "prefers-color-scheme", "value": "light"}])
 
 
-def shows_focus(tally: Tally, browser: Browser) -> None:
-    """Each stop of the Tab key has a line around it, none is missed, and the key isn't caught."""
-    browser.open(ADDRESS)
-    browser.script("document.getElementById('list-filters').open = true")
-    outline = "const own = getComputedStyle(document.activeElement); return [own.outlineStyle, parseFloat(own.outlineWidth)]"
-    stops = []
-    for _ in range(80):
-        browser.press(Keys.TAB)
-        if browser.script("return document.activeElement === document.body"):
-            break
-        stops.append(browser.focused())
-        style, width = browser.script(outline)
-        tally.holds(f"the focus is seen at {stops[-1]!r}", style == "solid" and width >= 2)
-    tally.holds("the Tab key leaves the page at its end", browser.script("return document.activeElement === document.body"))
-    for wanted in STOPS:
-        tally.holds(f"the Tab key comes to {wanted}", wanted in stops)
-
-
-def shows_focus_below(tally: Tally, browser: Browser) -> None:
-    """In a low window that is scrolled to its end the Tab key brings the focus into view, in the column that stays there too."""
-    browser.command("Emulation.setDeviceMetricsOverride", width=1280, height=560, deviceScaleFactor=1, mobile=False)
-    browser.open(ADDRESS)
-    # the window has the focus again, which the key took out of it
-    browser.click("h1")
-    browser.script("scrollTo(0, document.documentElement.scrollHeight)")
-    is_higher = "return document.getElementById('side-column').offsetHeight > innerHeight && scrollY > innerHeight"
-    tally.holds("the column is higher than the window", browser.script(is_higher))
-    seen = """const [done] = arguments;
-        const end = performance.now() + 1000;
-        const look = () => {
-            const { top, bottom } = document.activeElement.getBoundingClientRect();
-            const isSeen = top >= -1 && bottom <= innerHeight + 1;
-            if (isSeen || performance.now() > end) done(isSeen);
-            else setTimeout(look, 20);
-        };
-        look()"""
-    for begin, press in (("marks", lambda: browser.press(Keys.TAB)), ("switch", browser.press_back)):
-        browser.script("document.getElementById(arguments[0]).focus()", begin)
-        while browser.script("return document.activeElement.closest('#side-column') !== null"):
-            tally.holds(f"the focus is in view at {browser.focused()!r}, from {begin}", browser.driver.execute_async_script(seen))
-            browser.script("scrollTo(0, document.documentElement.scrollHeight)")
-            press()
-    browser.command("Emulation.setDeviceMetricsOverride", width=360, height=800, deviceScaleFactor=1, mobile=False)
-
-
-def has_no_more_stops(tally: Tally, browser: Browser) -> None:
-    """What assistive technology isn't told of is no stop of the Tab key: a long line at fault, which may be scrolled, is none."""
-    browser.fill("scramble", "R U F " * 8 + "q " + "F2 " * 20)
-    tally.holds(
-        "the line may be scrolled",
-        browser.script("const it = document.querySelector('.fault pre'); return it.scrollWidth > it.clientWidth"),
-    )
-    browser.script("document.getElementById('scramble').focus()")
-    browser.press(Keys.TAB)
-    tally.equal("after the field", browser.focused(), "random")
-    browser.open(SCRAMBLE)
-    browser.wait_best()
-    browser.command("Emulation.setDeviceMetricsOverride", width=1280, height=900, deviceScaleFactor=1, mobile=False)
-    browser.script("document.getElementById('scramble').focus()")
-    count = 0
-    while browser.focused() != "eofb.normal" and count < 20:
-        browser.press(Keys.TAB)
-        count += 1
-    tally.holds(f"stops from the scramble to the first cell: {count}", count <= 8)
-    browser.script("document.getElementById('skip').focus()")
-    browser.press(Keys.ENTER)
-    tally.equal("the skip button leads to the shortest", browser.focused(), "eofb.normal")
-
-
 def helps(tally: Tally, browser: Browser) -> None:
     """Each help opens by the keyboard, fits, and closes."""
     seen = "[...document.querySelectorAll('[popovertarget]')].filter((each) => each.checkVisibility())"
@@ -350,39 +189,6 @@ def helps(tally: Tally, browser: Browser) -> None:
         tally.equal(f"{name} is said", browser.texts("#status"), [said])
         browser.press(Keys.ESCAPE)
         tally.holds(f"{name} closes", browser.until("return document.querySelector('.popover:popover-open') === null"))
-
-
-def places(tally: Tally, browser: Browser, width: int, height: int) -> None:
-    """After a step what follows is in view, and the line; after the last one the line and how it ends are."""
-    browser.command("Emulation.setDeviceMetricsOverride", width=width, height=height, deviceScaleFactor=1, mobile=False)
-    browser.open(SCRAMBLE + "&list=eoud.inverse.0")
-    browser.script("document.querySelector('#solutions-groups').scrollIntoView()")
-    tally.equal(
-        f"{width}: the scramble is folded",
-        browser.script("return !document.getElementById('scramble').checkVisibility()"),
-        width < 960,
-    )
-    browser.act("#solutions-groups .take")
-    browser.wait_best()
-    for name in ("bar-line", "bar-undo") if width < 960 else ("line-list", "whole", "net-normal"):
-        tally.holds(f"{width}: after a step {name} is in view", browser.script(IN_VIEW, name))
-    top = browser.script("return document.getElementById('steps-table').getBoundingClientRect().top")
-    tally.holds(f"{width}: after a step the table begins at {top}", 0 <= top < (500 if width < 960 else 600))
-    browser.act("#steps-body .least")
-    tally.holds(f"{width}: there are long solutions", any(len(moves.split()) == 8 for moves in browser.listed()))
-    tally.equal(f"{width}: solutions of more than one line", browser.script(BROKEN), [])
-    browser.act("#solutions-groups .take")
-    beside = () if width < 960 else ("net-normal", "net-inverse")
-    for name in ("line-list", "finished", "bracketed", "joined", "copy-bracketed", "copy-fmc", *beside):
-        tally.holds(f"{width}: after the last step {name} is in view", browser.script(IN_VIEW, name))
-    inner = """return [...document.querySelectorAll('main *')]
-        .filter((each) => each.checkVisibility() && ['auto', 'scroll'].includes(getComputedStyle(each).overflowY)
-        && !each.matches('pre, textarea')).length"""
-    tally.equal(f"{width}: parts with a scroll area", browser.script(inner), 0)
-    browser.open(SCRAMBLE)
-    browser.wait_best()
-    top = browser.script("return document.getElementById('steps-table').getBoundingClientRect().top")
-    tally.holds(f"{width}: the table begins at {top}", 0 <= top < 500 if width < 960 else top < 700)
 
 
 def copies(tally: Tally, browser: Browser) -> None:
@@ -411,13 +217,8 @@ def try_all(tally: Tally, browser: Browser) -> None:
         has_its_words(tally, browser, colours)
         fits(tally, browser, colours)
     is_told_apart(tally, browser)
-    for part in (presses, has_two_lines, begins, prints, themes, hovers, helps, copies):
+    for part in (begins, prints, themes, hovers, helps, copies):
         part(tally, browser)
-    shows_focus(tally, browser)
-    shows_focus_below(tally, browser)
-    for width, height in ((1200, 900), (360, 800)):
-        places(tally, browser, width, height)
     browser.fill("scramble", "R U q " + "F" * 300)
     is_legible(tally, browser, "with a fault")
     fits(tally, browser, "with a fault")
-    has_no_more_stops(tally, browser)

@@ -8,6 +8,15 @@ from tally import Tally
 MIDDLE = """const { left, top, width, height } = document.querySelector(arguments[0]).getBoundingClientRect();
     return [left + width / 2, top + height / 2]"""
 IS_OPEN = "return document.getElementById('scramble').checkVisibility()"
+LEFT = "return document.getElementById('left').checkVisibility()"
+TWO_KEPT = "&kept=inverse.B_D_R_F2_B_D,normal.R-_U_F-_R_L;a_note"
+# how another scramble comes
+WAYS = {
+    "a random one": "document.getElementById('random').click()",
+    "an example": "document.querySelector('[data-example]').click()",
+    "a text that is pasted": """const field = document.getElementById('scramble'); field.value = arguments[0];
+        field.dispatchEvent(new InputEvent('input', { inputType: 'insertFromPaste' }))""",
+}
 ROWS_OF_LINE = "return document.querySelectorAll('#line-list li').length"
 
 
@@ -57,19 +66,10 @@ def reaches_rows(tally: Tally, browser: Browser) -> None:
 
 def leads_back(tally: Tally, browser: Browser) -> None:
     """Where another scramble leaves lines that are kept the page says so, beside a button that leads back to them."""
-    left = "return document.getElementById('left').checkVisibility()"
     value = "return document.getElementById('scramble').value"
-    kept = "&kept=inverse.B_D_R_F2_B_D,normal.R-_U_F-_R_L;a_note"
-    paste = """const field = document.getElementById('scramble'); field.value = arguments[0];
-        field.dispatchEvent(new InputEvent('input', { inputType: 'insertFromPaste' }))"""
-    ways = {
-        "a random one": "document.getElementById('random').click()",
-        "an example": "document.querySelector('[data-example]').click()",
-        "a text that is pasted": paste,
-    }
-    for way, act in ways.items():
-        browser.open(ADDRESS + kept)
-        tally.equal(f"{way}: nothing is said before", browser.script(left), False)
+    for way, act in WAYS.items():
+        browser.open(ADDRESS + TWO_KEPT)
+        tally.equal(f"{way}: nothing is said before", browser.script(LEFT), False)
         before = browser.script("return location.hash")
         browser.script(act, "R U F\nR // EO")
         browser.until("return location.hash !== arguments[0] && !document.getElementById('left').hidden", before)
@@ -81,23 +81,27 @@ def leads_back(tally: Tally, browser: Browser) -> None:
         browser.until("return location.hash === arguments[0]", before)
         browser.wait()
         tally.equal(f"{way}: they are there again", (browser.script(value), len(browser.texts("#kept-list li"))), (SCRAMBLE, 2))
-        tally.equal(f"{way}: then nothing is said", browser.script(left), False)
+        tally.equal(f"{way}: then nothing is said", browser.script(LEFT), False)
         tally.equal(f"{way}: the focus isn't lost", browser.focused(), "scramble-edit")
-    browser.script(ways["an example"])
+    browser.script(WAYS["an example"])
     browser.wait()
-    tally.equal("it is said once more", browser.script(left), True)
+    tally.equal("it is said once more", browser.script(LEFT), True)
     browser.script("document.querySelector('#steps-body .least').click()")
     browser.wait()
-    tally.equal("until the next change", browser.script(left), False)
-    for way, act in ways.items():
+    tally.equal("until the next change", browser.script(LEFT), False)
+
+
+def leaves_nothing(tally: Tally, browser: Browser) -> None:
+    """Where nothing was kept, or stays, nothing is said to be left."""
+    for way, act in WAYS.items():
         browser.open(ADDRESS)
         browser.script(act, "R U F\nR // EO")
         browser.until("return document.getElementById('scramble').value !== arguments[0]", SCRAMBLE)
         browser.wait()
-        tally.equal(f"{way}: nothing is said where nothing was kept", browser.script(left), False)
-    browser.open(ADDRESS + kept)
+        tally.equal(f"{way}: nothing is said where nothing was kept", browser.script(LEFT), False)
+    browser.open(ADDRESS + TWO_KEPT)
     browser.fill("scramble", "R U F")
-    tally.equal("what is typed keeps them", (browser.script(left), len(browser.texts("#kept-list li"))), (False, 2))
+    tally.equal("what is typed keeps them", (browser.script(LEFT), len(browser.texts("#kept-list li"))), (False, 2))
 
 
 def undoes(tally: Tally, browser: Browser) -> None:
@@ -206,5 +210,5 @@ def try_all(tally: Tally, browser: Browser) -> None:
     """All of them, in a window of 360 by 740 points that is touched."""
     browser.command("Emulation.setDeviceMetricsOverride", width=360, height=740, deviceScaleFactor=1, mobile=True)
     browser.command("Emulation.setTouchEmulationEnabled", enabled=True)
-    for part in (reaches_rows, leads_back, undoes, stays, is_whole, lies):
+    for part in (reaches_rows, leads_back, leaves_nothing, undoes, stays, is_whole, lies):
         part(tally, browser)

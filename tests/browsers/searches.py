@@ -1,195 +1,15 @@
-"""Best continuations and long lists: their answers, their progress, and a stop in mid-search."""
+"""Cases and marks, long lists with a stop in mid-search, what is asked for in haste, and scrambles by a seed."""
 import re
-import subprocess
 import time
 
+from best import CHOOSE, LONGER, SCRAMBLE, TYPE, address_of, program_answers
 from browser import Browser
 from tally import Tally
-from wanted import SIDES, TITLES, Position, twin_key
+from wanted import SIDES, Position
 from wanted import run as model_run
 
-SCRAMBLE = "F2 U2 L2 D2 R2 L2 U2 L B R2 B2 L2 D F B2 R2 U' F R L U R2 F' D2 R2"
-LONGER = "R' U' F D2 L2 F R2 U2 R2 B D2 L B2 D' B2 L' R' B' D2 B2 R' U' F"
 # every edge is flipped here, so the orientations are as long as any, and there are millions of longer ones
 FLIPPED = "U R2 F B R B2 R U2 L B2 R U' D' R2 F R' L B2 U2 F2"
-STEPS = ("eofb", "eorl", "eoud")
-CHOOSE = "const slack = document.getElementById('slack'); slack.value = arguments[0]; slack.dispatchEvent(new Event('change'));"
-TYPE = "const it = document.getElementById('filter'); it.value = arguments[1]; it.dispatchEvent(new Event('input'));"
-ROWS = """return [...document.querySelectorAll('#best-body tr')].map((row) => {
-    const [total, moves, state, next, normal, inverse] = [...row.children].map((each) => each.textContent);
-    return [total, row.querySelector('.take').textContent, state, next.split(' ').slice(0, 2).join(' '), normal, inverse];
-})"""
-MORE = "const more = document.getElementById('best-more'); if (more.hidden) return true; more.click(); return false"
-
-
-def program_answers(program: str, words: list[str], lines: list[str]) -> list[str]:
-    """What the built program answers to each line."""
-    text = "".join(line + "\n" for line in lines)
-    return subprocess.run([program, *words], input=text, capture_output=True, text=True, check=True).stdout.splitlines()
-
-
-def wanted_rows(program: str, position: Position) -> dict[tuple[str, ...], str]:
-    """
-    Each orientation with each reduction that may follow it on both sides, as the cookbook goes about it, by the built program; and its
-    twins' key.
-    """
-    rows: dict[tuple[str, ...], str] = {}
-    for step in STEPS:
-        for side in SIDES:
-            other = SIDES[side == "normal"]
-            lists = program_answers(program, ["solve", step, "20"], [position.lines[side]])
-            moves = [line.rsplit("(", 1)[0].strip() for line in lists if line]
-            inverted = program_answers(program, ["invert"], moves)
-            for reduction in (name for name in TITLES if name.endswith(f"-{step}")):
-                same = program_answers(program, ["count", reduction, "20"], [f"{position.lines[side]} {each}" for each in moves])
-                across = program_answers(program, ["count", reduction, "20"], [f"{each} {position.lines[other]}" for each in inverted])
-                for each, *counts in zip(moves, same, across):
-                    lengths = dict(zip((side, other), (count.split()[1] for count in counts)))
-                    total = str(len(each.split()) + min(map(int, lengths.values())))
-                    shown = each if side == "normal" else f"({each})"
-                    row = (total, shown, TITLES[step], TITLES[reduction].split(" after")[0], lengths["normal"], lengths["inverse"])
-                    rows[row] = f"{side} {twin_key(each, step)} {reduction}"
-    return rows
-
-
-def address_of(scramble: str) -> str:
-    """The address of a scramble."""
-    return "#scramble=" + scramble.replace(" ", "_").replace("'", "-")
-
-
-def best(tally: Tally, browser: Browser) -> None:
-    """All continuations of the shortest orientations, and the way on from the best."""
-    browser.open(address_of(SCRAMBLE))
-    browser.wait_best()
-    wanted = wanted_rows(browser.program, Position(SCRAMBLE))
-    tally.holds("there are some", len(wanted) > 20)
-    note = browser.text("best-note")
-    tally.equal("how many were tried", note.split(" tried")[0], f"{len(wanted) // 2} of {len(wanted) // 2} EOs")
-    tally.equal("the first of them are shown", len(browser.script(ROWS)), 8)
-    tally.holds("and more when they are asked for", browser.until(MORE))
-    rows = [tuple(row) for row in browser.script(ROWS)]
-    tally.equal("each of them is right", [row for row in rows if row not in wanted], [])
-    least: dict[str, int] = {}
-    for row, key in wanted.items():
-        least[key] = min(int(row[0]), least.get(key, 99))
-    tally.equal("twins are one row, the better of them", sorted((wanted[row], int(row[0])) for row in rows), sorted(least.items()))
-    tally.equal("they are sorted by all moves", [int(row[0]) for row in rows], sorted(least.values()))
-    marks = browser.script(
-        "return [...document.querySelectorAll('#best-body tr')].map((row) => [...row.querySelectorAll('td.best')].length)",
-    )
-    tally.equal("both sides are marked where they are as short", marks, [1 + (row[4] == row[5]) for row in rows])
-    tally.holds("which is seen", {1, 2} <= set(marks))
-    filters_orientations(tally, browser, rows)
-    browser.script("const all = document.getElementById('best-all'); all.checked = true; all.dispatchEvent(new Event('change'))")
-    browser.wait_best()
-    tally.holds("all of them", browser.until(MORE))
-    tally.equal("are shown by the switch", sorted(tuple(row) for row in browser.script(ROWS)), sorted(wanted))
-    line, total, reached = rows[0][1], int(rows[0][0]), rows[0][3]
-    browser.open(address_of(SCRAMBLE))
-    browser.wait_best()
-    browser.act("#best-body .take")
-    browser.until("return document.activeElement.closest('#solutions-groups') !== null")
-    tally.equal("the best is taken", browser.text("bracketed"), line)
-    shown = browser.listed()
-    tally.holds("and its shortest reductions are listed", shown and len(shown[0].split()) == min(int(rows[0][4]), int(rows[0][5])))
-    tally.holds("of its axis", browser.text("solutions-heading").startswith(f"{reached} after"))
-    browser.act("#solutions-groups .take")
-    tally.equal("one of them finishes", browser.text("finished").split(".")[0], f"{reached} is reached: {total} moves")
-
-
-def filters_orientations(tally: Tally, browser: Browser, rows: list[tuple[str, ...]]) -> None:
-    """The best orientations are filtered by their axis, by their side and by the reduction that follows, each alone and all together."""
-    sides = {"inverse": True, "normal": False}
-    filters = [("best-axis", TITLES[step]) for step in STEPS] + [("best-side", side) for side in sides]
-    filters += [("best-next", state) for state in ("DR U/D", "DR R/L", "DR F/B")]
-
-    def left(name: str, value: str, some: list[tuple[str, ...]]) -> list[tuple[str, ...]]:
-        if name == "best-side":
-            return [row for row in some if row[1].startswith("(") == sides[value]]
-        return [row for row in some if row[2 if name == "best-axis" else 3] == value]
-
-    for name, value in filters:
-        browser.choose(name, value)
-        wanted = left(name, value, rows)
-        tally.holds(f"{value} leaves some, and not all", 0 < len(wanted) < len(rows) and browser.until(MORE))
-        tally.equal(f"what {value} leaves", [tuple(row) for row in browser.script(ROWS)], wanted)
-        browser.choose(name, "")
-    some = rows
-    for name, value in (("best-axis", rows[0][2]), ("best-side", "normal"), ("best-next", rows[0][3])):
-        browser.choose(name, value)
-        some = left(name, value, some)
-    tally.holds("all together", browser.until(MORE))
-    tally.equal("leave what each leaves", [tuple(row) for row in browser.script(ROWS)], some)
-    for name, _ in filters:
-        browser.choose(name, "")
-
-
-def filters_reductions(tally: Tally, browser: Browser, rows: list[tuple[int, str, str]]) -> None:
-    """The best reductions are filtered by their axis, by turns and by the last turn; those of another cube aren't."""
-    seen = "return ['best-filters', 'best-turns'].map((name) => !document.getElementById(name).hidden)"
-    tally.equal("cases aren't filtered by, turns are", browser.script(seen), [False, True])
-    moves = "return [...document.querySelectorAll('#best-body .take')].map((each) => each.textContent)"
-    choices = "return [...document.getElementById(arguments[0]).options].map((each) => each.value).slice(1)"
-    tally.equal("the axes", sorted(browser.script(choices, "best-reduction")), sorted({state for _, _, state in rows}))
-    plain = [line.strip("()") for _, line, _ in rows]
-    tally.equal("the last turns", browser.script(choices, "best-last"), sorted({line.split()[-1] for line in plain}))
-    for state in sorted({state for _, _, state in rows}):
-        browser.choose("best-reduction", state)
-        tally.equal(f"those of {state}", (browser.until(MORE), browser.script(moves)), (True, [row[1] for row in rows if row[2] == state]))
-    browser.choose("best-reduction", "")
-    for side, begin in (("inverse", "("), ("normal", "")):
-        browser.choose("best-reduction-side", side)
-        wanted = [row[1] for row in rows if row[1].startswith("(") == bool(begin)]
-        tally.equal(f"those on the {side} side", (browser.until(MORE), browser.script(moves)), (True, wanted))
-        tally.holds("are some, and not all", 0 < len(wanted) < len(rows))
-    browser.choose("best-reduction-side", "")
-    first, last = " ".join(plain[0].split()[:2]), plain[-1].split()[-1]
-    browser.script(TYPE.replace("'filter'", "'best-filter'"), "", first)
-    typed = [row[1] for row, line in zip(rows, plain) if f" {first} " in f" {line} "]
-    tally.equal(f"those with {first}", (browser.until(MORE), browser.script(moves)), (True, typed))
-    tally.holds("are some, and not all", 0 < len(typed) < len(rows))
-    tally.equal("which the note says", browser.text("best-note"), f"{len(typed)} of {len(rows)} rows.")
-    browser.script(TYPE.replace("'filter'", "'best-filter'"), "", "x")
-    tally.equal("no moves", (browser.script(moves), "not moves" in browser.text("best-note")), ([], True))
-    browser.script(TYPE.replace("'filter'", "'best-filter'"), "", "")
-    browser.choose("best-last", last)
-    tally.holds(f"those that end with {last}", browser.until(MORE))
-    ended = browser.script(moves)
-    wanted = [row[1] for row, line in zip(rows, plain) if line.split()[-1] == last]
-    tally.holds("are all of them, and twins", set(wanted) <= set(ended) and len(ended) < len(rows))
-    browser.act("#undo-step")
-    browser.wait_best()
-    tally.equal("before an orientation cases are filtered by", browser.script(seen), [True, False])
-    browser.script("history.back()")
-    browser.until("return document.getElementById('best-table').classList.contains('of-reductions')")
-    browser.wait_best()
-    tally.equal("a filter of another cube is gone", browser.script("return document.getElementById('best-last').value"), "")
-    tally.equal("so all are there again", browser.text("best-note"), f"{len(rows)} rows.")
-
-
-def after_orientation(tally: Tally, browser: Browser) -> None:
-    """After an orientation the best are its reductions on both axes and sides, by all moves; after a reduction there are none."""
-    browser.open(address_of(LONGER) + "&steps=inverse.B_D_R_F2_B_D")
-    browser.wait_best()
-    position = Position(LONGER, "", "B D R F2 B D")
-    wanted = []
-    for step in ("drrl-eoud", "drfb-eoud"):
-        for side in SIDES:
-            moves = position.rows(step, side)
-            reached = TITLES[step].split(" after")[0]
-            wanted += [(6 + len(each.split()), each if side == "normal" else f"({each})", reached) for each in moves]
-    tally.holds("more of them", browser.until(MORE))
-    cells = (
-        "return [...document.querySelectorAll('#best-body tr')].map((row) => [row.children[0].textContent, "
-        "row.querySelector('.take').textContent, row.children[2].textContent])"
-    )
-    rows = [(int(total), moves, state) for total, moves, state in browser.script(cells)]
-    tally.equal("its reductions", sorted(rows), sorted(wanted))
-    tally.equal("by all moves", [row[0] for row in rows], sorted(row[0] for row in rows))
-    filters_reductions(tally, browser, rows)
-    browser.act("#best-body .take")
-    tally.equal("the first finishes", browser.text("finished"), f"{rows[0][2]} is reached: {rows[0][0]} moves. nissy has no step after a DR.")
-    tally.equal("then there is no best", browser.script("return document.getElementById('best').checkVisibility()"), False)
 
 
 def cases(tally: Tally, browser: Browser) -> None:
@@ -267,57 +87,6 @@ def marked(tally: Tally, browser: Browser) -> None:
     browser.act('[data-cell="eorl.normal"]')
     browser.script("document.activeElement.blur()")
     tally.holds("the open list", browser.text("marked-normal").endswith("EO R/L: 6 bad"))
-
-
-def stopped(tally: Tally, browser: Browser) -> None:
-    """A stop in mid-search, while the page stays at hand."""
-    browser.open(address_of(LONGER))
-    browser.choose("best-slack", "2")
-    moving = "const bar = document.getElementById('best-progress'); return !bar.hidden && bar.value > 0 && bar.value < bar.max"
-    tally.holds("the progress is shown", browser.until(moving))
-    browser.click('[data-cell="eofb.normal"]')
-    tally.holds("meanwhile a list is answered", browser.until("return document.querySelector('#solutions-groups button') !== null"))
-    tally.holds("and the search goes on", browser.script("return !document.getElementById('best-stop').hidden"))
-    workers = browser.workers()
-    browser.act("#best-stop")
-    browser.wait_best()
-    end = time.monotonic() + 10
-    while browser.workers() >= workers and time.monotonic() < end:
-        time.sleep(0.1)
-    tally.holds("a stop ends its workers", browser.workers() < workers)
-    note = browser.text("best-note")
-    done, all_of_them = (int(number.replace(",", "")) for number in re.findall("[0-9,]+", note))
-    tally.equal("what it says", note, f"Stopped. {done:,} of {all_of_them:,} EOs tried.")
-    tally.holds("it stops before the end", done < all_of_them)
-    tally.holds("what was found stays", len(browser.script(ROWS)) > 0)
-    browser.choose("best-slack", "0")
-    browser.wait_best()
-    tally.holds("and it can be asked again", "tried" in browser.text("best-note") and "Stopped" not in browser.text("best-note"))
-    before = browser.script(ROWS)
-    other = CHOOSE.replace("'slack'", "'best-slack'") + "return document.querySelectorAll('#best-body tr').length"
-    tally.equal("rows of another choice go at once", browser.script(other, "1"), 0)
-    browser.choose("best-slack", "0")
-    tally.equal("and are kept", browser.script(ROWS), before)
-    browser.choose("best-slack", "2")
-    browser.fill("scramble", "R U F")
-    browser.wait_best()
-    tally.holds("another scramble ends a search", "Stopped" not in browser.text("best-note"))
-
-
-def narrowed(tally: Tally, browser: Browser) -> None:
-    """Where fewer are asked for, neither a row nor a word of the longer search stays, whether the shorter one was made before or not."""
-    shown = []
-    for slacks in (("0",), ("1", "0"), ("0", "1", "0")):
-        browser.open(address_of(SCRAMBLE))
-        for slack in slacks:
-            longer = browser.text("best-note")
-            browser.choose("best-slack", slack)
-            browser.wait_best()
-        tally.holds(f"all rows of {slacks}", browser.until(MORE))
-        shown.append((sorted(browser.script(ROWS)), browser.text("best-note")))
-        tally.holds("a longer search says other words", longer != shown[-1][1])
-    tally.equal("after a longer search", shown[1], shown[0])
-    tally.equal("and again after it", shown[2], shown[0])
 
 
 def long_list(tally: Tally, browser: Browser) -> None:
@@ -413,5 +182,5 @@ def random(tally: Tally, browser: Browser) -> None:
 
 def try_all(tally: Tally, browser: Browser) -> None:
     """All of them."""
-    for part in (best, after_orientation, cases, marked, stopped, narrowed, long_list, unknown, hasty, impatient, random):
+    for part in (cases, marked, long_list, unknown, hasty, impatient, random):
         part(tally, browser)

@@ -18,6 +18,7 @@ TYPED: tuple[tuple[str, list[str]], ...] = (
 )
 # turns of opposite faces change nothing by their order; of these the lists have U, R or F first
 OPPOSITE = (("D2 U", ["U", "D2"]), ("B2F2", ["F2", "B2"]), ("R' L2", ["R'", "L2"]), ("L2 R' U", ["R'", "L2", "U"]))
+OFFERED = "return document.getElementById('last-back').checkVisibility()"
 VALUE = "return document.getElementById('scramble').value"
 
 
@@ -156,13 +157,12 @@ def returns(tally: Tally, browser: Browser) -> None:
 
 def offers_last(tally: Tally, browser: Browser) -> None:
     """Whoever opens the page anew, without an address, is offered what was done last: the scramble, the line and what is kept."""
-    offered = "return document.getElementById('last-back').checkVisibility()"
     browser.script("localStorage.removeItem('nissy-last')")
     browser.open()
-    tally.equal("nothing was done", browser.script(offered), False)
+    tally.equal("nothing was done", browser.script(OFFERED), False)
     browser.open(f"{ADDRESS}&steps=inverse.R")
     browser.open()
-    tally.equal("an address alone was done by another", browser.script(offered), False)
+    tally.equal("an address alone was done by another", browser.script(OFFERED), False)
     browser.open(f"{ADDRESS}&steps=inverse.R")
     browser.submit("own", "U F")
     browser.until("return document.querySelectorAll('#line-list li').length === 2")
@@ -170,16 +170,20 @@ def offers_last(tally: Tally, browser: Browser) -> None:
     browser.act("#keep-line")
     address = browser.script("return location.hash")
     browser.open()
-    tally.equal("a step is offered", browser.script(offered), True)
+    tally.equal("a step is offered", browser.script(OFFERED), True)
     tally.equal("with its scramble and line", browser.text("last-line"), f"{SCRAMBLE} \u00b7 (R) U F")
     tally.equal("and what is kept", browser.text("last-kept"), "1 line kept")
     browser.script("document.getElementById('results').setAttribute('aria-busy', 'true')")
     browser.act("#last-back")
     tally.equal("it is gone on with", (browser.script("return location.hash"), browser.text("bracketed")), (address, "(R) U F"))
+
+
+def offers_what_is_read(tally: Tally, browser: Browser) -> None:
+    """What can't be gone on with isn't offered, and takes the place of nothing; the way back to the beginning offers it too."""
     for broken in ("#scramble=%", "#steps=normal.R", "<b>", "#scramble=R&x=1"):
         browser.script("localStorage.setItem('nissy-last', arguments[0])", broken)
         browser.open()
-        tally.equal(f"{broken!r} isn't offered", browser.script(offered), False)
+        tally.equal(f"{broken!r} isn't offered", browser.script(OFFERED), False)
     browser.script("localStorage.setItem('nissy-last', '#scramble=B_D')")
     browser.open()
     browser.press("i")
@@ -251,5 +255,5 @@ def filters(tally: Tally, browser: Browser) -> None:
 
 def try_all(tally: Tally, browser: Browser) -> None:
     """All of them."""
-    for part in (history, refused, undo, kept, returns, leaves_list, offers_last, filters):
+    for part in (history, refused, undo, kept, returns, leaves_list, offers_last, offers_what_is_read, filters):
         part(tally, browser)

@@ -1,0 +1,250 @@
+"""What is kept: candidates with their stars and notes, in the address, copied and read again, and the way to them on a phone."""
+import re
+from itertools import combinations
+
+from best import ROWS
+from browser import Browser
+from steps import ADDRESS, EXAMPLE, SCRAMBLE
+from tally import Tally
+
+KEPT_SAID = "return [...document.querySelectorAll('#kept-list .total')].every((each) => each.textContent !== '')"
+KEPT_WORDS = """return [...document.querySelectorAll('#kept-list li')]
+    .map((each) => [...each.querySelectorAll('.moves, .chip, .case')].map((one) => one.textContent))"""
+
+
+def keeps_moves_alone(tally: Tally, browser: Browser) -> None:
+    """Of a text that is pasted a block without moves is no candidate, so that the address has the others."""
+    browser.open()
+    browser.fill("scramble", "R U F // scramble\n\n() // nothing\n\nU R // good\n")
+    browser.until("return document.querySelectorAll('#kept-list li').length > 0")
+    tally.equal("what has moves is kept", browser.texts("#kept-list .moves"), ["U R"])
+    browser.driver.refresh()
+    browser.until("return document.querySelectorAll('#kept-list li').length > 0")
+    tally.equal("and is in the address", browser.texts("#kept-list .moves"), ["U R"])
+
+
+def keeps(tally: Tally, browser: Browser) -> None:
+    """Candidates are kept by their stars."""
+    browser.open(ADDRESS)
+    browser.wait_best()
+    browser.press("s")
+    tally.holds("a line without moves has no star", browser.script("return document.getElementById('keep-line').hidden"))
+    tally.holds("and no key keeps it", "kept=" not in browser.script("return location.hash"))
+    star = "document.querySelector(arguments[0]).click()"
+    browser.script(star, "#best-body tr:nth-child(2) .star")
+    browser.act('[data-cell="eorl.normal"]')
+    browser.script(star, "#solutions-groups li:nth-child(3) .star")
+    third = browser.texts("#solutions-groups .take")[2]
+    browser.act("#solutions-groups .take")
+    browser.act("#keep-line")
+    browser.until(KEPT_SAID)
+    second = browser.script("return decodeURIComponent(location.hash.split('kept=')[1].split(',')[0])")
+    tally.equal("three are kept", (len(browser.texts("#kept-list li")), browser.text("kept-count")), (3, "3 lines"))
+    tally.holds(f"one of the best, {second}", second.startswith(("normal.", "inverse.")))
+    tally.holds("one of the list", third in browser.texts("#kept-list .moves"))
+    chips = browser.script(KEPT_WORDS.replace(".moves, .chip, .case", ".chip"))
+    tally.equal("each with what it reaches", [any(word.startswith("EO ") for word in words) for words in chips], [True] * 3)
+    cases = [len(each) for each in browser.script(KEPT_WORDS.replace(".moves, .chip, .case", ".case"))]
+    tally.equal("and its cases, a row of the best with its own alone", cases, [1, 2, 2])
+
+
+def keeps_in_address(tally: Tally, browser: Browser) -> None:
+    """Those of before have notes, and come back from the address; they are gone on with and taken away."""
+    browser.script(
+        "const note = document.querySelector('#kept-list .note-field'); note.value = 'a \u00e9 ~ , ; note'; note.dispatchEvent(new "
+        "Event('change'))",
+    )
+    before = browser.texts("#kept-list .moves")
+    browser.open(browser.script("return location.hash"))
+    browser.until(KEPT_SAID)
+    notes = "return [...document.querySelectorAll('#kept-list .note-field')].map((each) => each.value)"
+    tally.equal(
+        "they come back from the address",
+        (browser.texts("#kept-list .moves"), browser.script(notes)),
+        (before, ["a \u00e9 ~ , ; note", "", ""]),
+    )
+    browser.act("#kept-list li:nth-child(2) button")
+    tally.equal("one is gone on with", browser.text("bracketed"), before[1])
+    tally.equal("and the others stay", browser.texts("#kept-list .moves"), before)
+    browser.click("#kept-list li:nth-child(3) button:nth-of-type(2)")
+    tally.equal("one is taken away", browser.texts("#kept-list .moves"), before[:2])
+    tally.equal("its stars are the page's", browser.script("return document.getElementById('keep-line').ariaPressed"), "true")
+
+
+def copies_kept(tally: Tally, browser: Browser) -> None:
+    """Those that are left are copied, with their notes; and no more are kept than the address has room for."""
+    copied = "Copied: " + "\n\n".join([SCRAMBLE, *browser.script(
+        "return [...document.querySelectorAll('#kept-list li')].map((each) => each.querySelector('.moves').textContent)")])
+    browser.click("#copy-kept")
+    browser.until("return document.getElementById('status').textContent.startsWith('Copied')")
+    said = browser.texts("#status")[0]
+    blocks = said.split("\n\n")
+    tally.equal("all are copied", [blocks[0], *(block.split(" //")[0] for block in blocks[1:])], copied.split("\n\n"))
+    tally.holds(f"with their notes: {blocks[1]}", blocks[1].endswith("// a \u00e9 ~ , ; note"))
+    full = "#scramble=R&kept=" + ",".join(f"normal.{'_'.join(['R', 'U'] * at)}" for at in range(1, 25))
+    browser.open(full)
+    browser.submit("own", "F")
+    browser.until("return document.querySelectorAll('#line-list li').length === 1")
+    browser.wait()
+    browser.click("#keep-line")
+    tally.holds(
+        "no more than fit",
+        browser.text("alert").startswith("No more lines can be kept") and len(browser.texts("#kept-list li")) == 24,
+    )
+
+
+def keeps_reductions(tally: Tally, browser: Browser) -> None:
+    """A row of the best is kept with its reduction: the star is of that row, and what is kept says what the row says, sorted by it."""
+    browser.open(ADDRESS)
+    browser.wait_best()
+    rows = browser.script(ROWS)
+    one, other = next(pair for pair in combinations(range(len(rows)), 2) if rows[pair[0]][1] == rows[pair[1]][1])
+    stars = "return [...document.querySelectorAll('#best-body .star')].map((each) => each.ariaPressed === 'true')"
+    case = browser.texts(f"#best-body tr:nth-child({one + 1}) .case")[0]
+    total, line, state, reduction, normal, inverse = rows[one]
+    said = f"{reduction} {case}: N {normal} I {inverse}, {total} in all"
+    browser.act('[data-cell="eorl.normal"]')
+    shortest = browser.script("const row = document.querySelector('#solutions-groups li'); row.querySelector('.star').click();"
+        "return row.querySelector('.take').textContent")
+    browser.script("document.querySelectorAll('#best-body .star')[arguments[0]].click()", one)
+    browser.until(KEPT_SAID)
+    tally.equal("the star is of the row alone", browser.script(stars), [at == one for at in range(len(rows))])
+    named = browser.script("return document.querySelectorAll('#best-body .star')[arguments[0]].ariaLabel", one)
+    tally.holds(f"and says so: {named}", named.endswith(f", {reduction} {case}"))
+    tally.equal("it says what the row said, and comes before an orientation alone", browser.script(KEPT_WORDS)[0], [line, state, said])
+    tally.equal("which stays as it was", browser.script(KEPT_WORDS)[1][:2], [shortest, "EO R/L"])
+    browser.script("document.querySelectorAll('#best-body .star')[arguments[0]].click()", other)
+    browser.until(KEPT_SAID)
+    both = [at in (one, other) for at in range(len(rows))]
+    tally.equal("the other row of this orientation is kept by itself", browser.script(stars), both)
+    totals = re.findall(r"(\d+) in all", " ".join(browser.texts("#kept-list .case")))
+    tally.equal("they are sorted by all moves", totals, [rows[one][0], rows[other][0]])
+    names = browser.script("return [...document.querySelectorAll('#kept-list button')].map((each) => each.ariaLabel)")
+    tally.equal("no two buttons have one name", len(set(names)), len(names))
+    reads_reductions(tally, browser, said)
+
+
+def reads_reductions(tally: Tally, browser: Browser, said: str) -> None:
+    """What is kept with its reduction comes back from the address and from the copy, by what is said of it."""
+    note = "const it = document.querySelector('#kept-list .note-field'); it.value = 'a'; it.dispatchEvent(new Event('change'))"
+    browser.script(note)
+    browser.until(KEPT_SAID)
+    before = browser.script(KEPT_WORDS)
+    browser.open(browser.script("return location.hash"))
+    browser.until(KEPT_SAID)
+    tally.equal("they come back from the address", browser.script(KEPT_WORDS), before)
+    browser.click("#copy-kept")
+    browser.until("return document.getElementById('status').textContent.startsWith('Copied')")
+    tally.holds("the copy says it too", f"\n// {said}\n// a\n" in browser.texts("#status")[0])
+    text = browser.texts("#status")[0].removeprefix("Copied: ")
+    browser.open()
+    browser.fill("scramble", text)
+    browser.until("return document.querySelectorAll('#kept-list li').length > 0")
+    notes = browser.script("return [...document.querySelectorAll('#kept-list .note-field')].map((each) => each.value)")
+    tally.holds("and is read again as a note", f"{said} a" in notes)
+    browser.open(f"{ADDRESS}&kept=normal.R;;drud-eofb,normal.R;a;drud-eofb")
+    browser.until(KEPT_SAID)
+    tally.equal("a reduction that may not follow is not said", browser.script(KEPT_WORDS), [["R"], ["R"]])
+
+
+def keeps_a_note(tally: Tally, browser: Browser) -> None:
+    """The press that ends a note is heard: the row of its button stays where it is."""
+    browser.open(f"{ADDRESS}&kept=normal.R,normal.U")
+    browser.until(KEPT_SAID)
+    field = browser.driver.find_element("css selector", "#kept-list li:nth-child(1) .note-field")
+    field.click()
+    field.send_keys("a note ")
+    second = browser.texts("#kept-list .moves")[1]
+    browser.driver.find_element("css selector", "#kept-list li:nth-child(2) button").click()
+    browser.wait()
+    tally.equal("the press after a note is heard", browser.text("bracketed"), second)
+    notes = "return [...document.querySelectorAll('#kept-list .note-field')].map((each) => each.value)"
+    tally.equal("and the note is kept", browser.script(notes), ["a note", ""])
+    browser.script("history.back()")
+    tally.holds("the way back has it too", browser.until("return document.getElementById('bracketed').textContent !== arguments[0]", second))
+    tally.equal("as it was", browser.script(notes), ["a note", ""])
+
+
+def leaves_kept(tally: Tally, browser: Browser) -> None:
+    """A scramble that is pasted in place of the whole leaves what is kept and taken, with a way back; the same one again doesn't."""
+    paste = """const field = document.getElementById('scramble'); field.select(); field.dispatchEvent(new ClipboardEvent('paste'));
+        field.value = arguments[0]; field.dispatchEvent(new InputEvent('input', { inputType: 'insertFromPaste' }))"""
+    said = "return document.getElementById('left').hidden ? '' : document.getElementById('left-words').textContent"
+    browser.open(f"{ADDRESS}&kept=normal.R,normal.U")
+    browser.until(KEPT_SAID)
+    browser.script(paste, f"{SCRAMBLE} // again")
+    browser.wait()
+    tally.equal("the same scramble keeps them", (browser.texts("#kept-list .moves"), browser.script(said)), (["R", "U"], ""))
+    browser.script(paste, EXAMPLE)
+    browser.wait()
+    tally.equal("another one leaves them", (browser.texts("#kept-list .moves"), browser.script(said)), ([], "2 kept lines were left."))
+    browser.click("#left-back")
+    tally.holds("they come back", browser.until("return document.querySelectorAll('#kept-list li').length === 2"))
+
+
+def keeps_stages(tally: Tally, browser: Browser) -> None:
+    """What is kept with a reduction is seen in its stages: an orientation with its side, and then the case that was solved."""
+
+    def shown(scramble: str, *lines: str) -> list[list[str]]:
+        browser.open(f"{scramble}&kept=" + ",".join(lines))
+        browser.choose("kept-sort", "kept")
+        browser.until(KEPT_SAID)
+        return browser.script(KEPT_WORDS.replace(".moves", ".moves, .total"))
+
+    example = "#scramble=" + EXAMPLE.replace(" ", "_").replace("'", "-")
+    steps = "inverse.B_D_R_F2_B_D", "normal.R_B-", "normal.D2_R"
+    browser.open(f"{example}&steps={steps[0]}")
+    [case] = [head.split()[2] for head in browser.texts("#steps-body th") if head.startswith("DR F/B")]
+    whole, further = "~".join(steps), "~".join((*steps, "inverse.F2"))
+    apart = "inverse.B_D_R~normal.R2~inverse.F2_B_D~normal.R2_R_B-_D2_R"
+    oriented, reduced = ["(B D R F2 B D)", "EO U/D, inverse"], ["R B' D2 R", "10 in all", f"DR F/B {case}"]
+    after = [*reduced[::2], "(F2)", "11 in all"]
+    wanted = [[*oriented, *reduced], [*oriented, *after], ["(B D)", "2 moves"], [*oriented, *reduced]]
+    tally.equal("each stage with what it reaches", shown(example, whole, further, "inverse.B_D", f"{whole};;drrl-eoud"), wanted)
+    tally.equal("an orientation on both sides", shown(example, apart)[0][:2], ["(B D R) R2 (F2 B D)", "EO U/D, both sides"])
+    tally.equal("one that held before", shown("#scramble=U_R", "normal.R-"), [["R'", "1 move", "DR U/D 4c2e"]])
+    every = ["DR U/D", "DR R/L", "DR F/B"]
+    tally.equal("a reduction that held before", shown("#scramble=U2", "normal.U_R2~inverse.U"), [["U R2 (U)", "3 moves", *every]])
+    tally.equal("one that is reached with its orientation", shown("#scramble=F", "normal.F-"), [["F'", "1 move", *every]])
+
+
+def leads_to_kept(tally: Tally, browser: Browser) -> None:
+    """Where the page is narrow a button that stays in view leads to what is kept and back; a star moves nothing under a finger."""
+    browser.command("Emulation.setDeviceMetricsOverride", width=360, height=740, deviceScaleFactor=1, mobile=False)
+    seen = "return ['bar', 'bar-undo', 'bar-kept'].map((name) => document.getElementById(name).checkVisibility())"
+    star = """const star = document.querySelector('#best-body .star'); if (arguments[0]) star.scrollIntoView({ block: 'center' });
+        const { top } = star.getBoundingClientRect(); star.click();
+        return document.querySelector('#best-body .star').getBoundingClientRect().top - top"""
+    for is_scrolled in (True, False):
+        browser.open(ADDRESS)
+        browser.wait_best()
+        tally.equal("there is no bar without a step or a line that is kept", browser.script(seen), [False, False, False])
+        moved = browser.script(star, is_scrolled)
+        tally.holds(f"a star stays where it is: {moved}", abs(moved) < 2)
+        tally.equal("what is kept is led to", (browser.script(seen), browser.text("bar-kept")), ([True, False, True], "★ 1"))
+    browser.script("document.querySelectorAll('#best-body .star')[1].click(); scrollTo({ top: 150, behavior: 'instant' })")
+    tally.equal("the button counts", browser.text("bar-kept"), "★ 2")
+    leaves = "return document.getElementById('bar-kept').textContent === '★ 2'"
+    is_seen = "const { top, bottom } = document.getElementById('kept').getBoundingClientRect(); return top >= 0 && top < innerHeight"
+    tally.equal("they are far below", browser.script(is_seen), False)
+    browser.click("#bar-kept")
+    tally.equal("it leads there", (browser.script(is_seen), browser.focused(), browser.text("bar-kept")), (True, "kept-heading", "Back"))
+    browser.click("#bar-kept")
+    tally.equal("and back", (browser.script("return scrollY"), browser.text("bar-kept")), (150, "★ 2"))
+    browser.click("#bar-kept")
+    browser.script("scrollTo({ top: 0, behavior: 'instant' })")
+    tally.holds("whoever leaves isn't led back", browser.until(leaves))
+    browser.click("#bar-kept")
+    browser.act("#kept-list li:nth-child(1) button")
+    tally.equal("whoever goes on comes to what follows", (browser.script(seen), browser.until(leaves)), ([True, True, True], True))
+    tally.equal("and has the focus there", browser.script("return document.activeElement.classList.contains('least')"), True)
+    fits = "return document.documentElement.scrollWidth <= innerWidth"
+    tally.holds("the bar has room for all", browser.script(fits))
+    browser.command("Emulation.setDeviceMetricsOverride", width=1280, height=1000, deviceScaleFactor=1, mobile=False)
+    tally.equal("where the page is wide there is no bar", browser.script(seen), [False, False, False])
+
+
+def try_all(tally: Tally, browser: Browser) -> None:
+    """All of them."""
+    for part in (keeps, keeps_in_address, copies_kept, keeps_a_note, leaves_kept, keeps_moves_alone, keeps_reductions, keeps_stages, leads_to_kept):
+        part(tally, browser)

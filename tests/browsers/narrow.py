@@ -1,0 +1,136 @@
+"""Where the page is narrow: what a finger presses, rows on two lines, and what is in view after a step, there and beside a mouse."""
+from browser import Browser
+from looks import ADDRESS, SCRAMBLE
+from tally import Tally
+
+# what a finger presses is at least so high and wide where the page is narrow
+TARGET = 44
+# a star beside a row that is pressed as a whole is at least so high and wide
+LEAST_TARGET = 24
+# how high a row of the best may be there, and how small its signs
+MOST_OF_ROW = 56
+LEAST_SIGN = 10
+# how wide and high what a selector finds is for a finger, each: the points around its middle that reach it
+REACHED = """
+    const far = (each, x, y, [right, down]) => {
+        let steps = 0;
+        while (steps < 99 && document.elementFromPoint(x + (steps + 1) * right, y + (steps + 1) * down) === each) steps++;
+        return steps;
+    };
+    return [...document.querySelectorAll(arguments[0])].map((each) => {
+        each.scrollIntoView({ block: 'center', behavior: 'instant' });
+        const { left, top, width, height } = each.getBoundingClientRect();
+        const [back, right, up, down] = [[-1, 0], [1, 0], [0, -1], [0, 1]].map((way) => far(each, left + width / 2, top + height / 2, way));
+        return [back + 1 + right, up + 1 + down];
+    })"""
+HEIGHTS = "return [...document.querySelectorAll(arguments[0])].map((each) => each.getBoundingClientRect().height)"
+ROWS_OF_BEST = """
+    const areOn = (one, other) => one.left < other.right - 0.5 && other.left < one.right - 0.5
+        && one.top < other.bottom - 0.5 && other.top < one.bottom - 0.5;
+    const textOf = (node) => {
+        const range = document.createRange();
+        range.selectNodeContents(node);
+        return range.getBoundingClientRect();
+    };
+    return [...document.querySelectorAll('#best-body tr')].map((row) => {
+        const [take, twins, star] = ['.take', '.twins', '.star'].map((name) => row.querySelector(name));
+        const parts = [take, twins, star, ...row.querySelectorAll('th, .axis, .number')].filter((each) => each?.checkVisibility())
+            .map((each) => each === star ? star.getBoundingClientRect() : textOf(each));
+        const box = row.getBoundingClientRect(), { width, height } = star.getBoundingClientRect(), own = getComputedStyle(take);
+        return { moves: take.textContent, hasTwins: twins !== null, height: box.height, star: [width, height],
+            size: parseFloat(own.fontSize), lines: Math.round(textOf(take).height / (1.5 * parseFloat(own.fontSize))),
+            on: parts.some((one, at) => parts.some((other, next) => next > at && areOn(one, other))) };
+    })"""
+IN_VIEW = """
+    const { top, bottom, height } = document.getElementById(arguments[0]).getBoundingClientRect();
+    return height > 0 && top >= 0 && bottom <= innerHeight"""
+BROKEN = """
+    return [...document.querySelectorAll("#solutions-groups .take")].filter((each) => each.textContent.split(" ").length <= 8
+        && each.clientHeight >= 2 * parseFloat(getComputedStyle(each).lineHeight)).map((each) => each.textContent)"""
+
+
+def presses(tally: Tally, browser: Browser) -> None:
+    """On a phone what is pressed is large enough for a finger: a row of the best by its whole row."""
+    browser.open(ADDRESS)
+    browser.wait_best()
+    small = browser.script("""return [...document.querySelectorAll("button, select, summary, input:not([type=checkbox]), textarea")]
+        .filter((each) => each.checkVisibility() && !each.closest(".skip, #best-body, .popover, .note-field"))
+        .map((each) => [each.id || each.className || each.textContent, each.getBoundingClientRect()])
+        .map(([name, { width, height }]) => [name, width, height])
+        .filter(([, width, height]) => Math.min(width, height) < arguments[0])""", TARGET)
+    tally.equal("what is too small", small, [])
+    chips = browser.script(HEIGHTS, "#best-body .take")
+    tally.holds(f"the moves of the best: {chips}", chips and min(chips) >= LEAST_TARGET)
+    notes = browser.script(HEIGHTS, ".note-field")
+    tally.holds(f"notes are one line high: {notes}", notes and LEAST_TARGET <= min(notes) and max(notes) < TARGET)
+    browser.script("document.querySelector('.note-field').focus()")
+    tally.equal("until one is typed in", browser.script(HEIGHTS, ".note-field:focus"), [TARGET])
+    rows = browser.script(HEIGHTS, "#best-body tr")
+    tally.holds(f"rows of the best: {rows}", rows and min(rows) >= TARGET)
+    hit = """const row = document.querySelector('#best-body tr'); row.scrollIntoView({ block: 'center' });
+        const { left, right, bottom } = row.getBoundingClientRect();
+        return document.elementFromPoint((left + right) / 2, bottom - 4).className"""
+    tally.holds("and their whole row is pressed", "take" in browser.script(hit))
+
+
+def has_two_lines(tally: Tally, browser: Browser) -> None:
+    """On a phone a row of the best has two lines at most, however long its moves are; nothing in it stands on something else."""
+    for after in ("", "&steps=inverse.B_D_R_F2_B_D"):
+        browser.open(SCRAMBLE + after)
+        browser.choose("best-slack", "2")
+        browser.wait_best()
+        browser.choose("best-sort", "case")
+        for _ in range(3):
+            browser.script("document.getElementById('best-more').click()")
+        rows = browser.script(ROWS_OF_BEST)
+        longest = max(len(row["moves"]) for row in rows)
+        tally.holds(f"{after}: there are long rows and twins: {longest}", longest > 15 and any(row["hasTwins"] for row in rows))
+        tally.equal(f"{after}: rows of more than two lines", [row for row in rows if row["lines"] > 1 or row["height"] > MOST_OF_ROW], [])
+        tally.equal(f"{after}: parts of a row on each other", [row for row in rows if row["on"]], [])
+        tally.equal(f"{after}: signs that are too small", [row for row in rows if row["size"] < LEAST_SIGN], [])
+        tally.equal(f"{after}: stars that are too small", [row for row in rows if min(row["star"]) < LEAST_TARGET], [])
+        least = min(min(each) for each in browser.script(REACHED, "#best-body .star"))
+        tally.holds(f"{after}: stars that a finger misses: {least}", least >= TARGET)
+    browser.choose("best-sort", "total")
+
+
+def places(tally: Tally, browser: Browser, width: int, height: int) -> None:
+    """After a step what follows is in view, and the line; after the last one the line and how it ends are."""
+    browser.command("Emulation.setDeviceMetricsOverride", width=width, height=height, deviceScaleFactor=1, mobile=False)
+    browser.open(SCRAMBLE + "&list=eoud.inverse.0")
+    browser.script("document.querySelector('#solutions-groups').scrollIntoView()")
+    tally.equal(
+        f"{width}: the scramble is folded",
+        browser.script("return !document.getElementById('scramble').checkVisibility()"),
+        width < 960,
+    )
+    browser.act("#solutions-groups .take")
+    browser.wait_best()
+    for name in ("bar-line", "bar-undo") if width < 960 else ("line-list", "whole", "net-normal"):
+        tally.holds(f"{width}: after a step {name} is in view", browser.script(IN_VIEW, name))
+    top = browser.script("return document.getElementById('steps-table').getBoundingClientRect().top")
+    tally.holds(f"{width}: after a step the table begins at {top}", 0 <= top < (500 if width < 960 else 600))
+    browser.act("#steps-body .least")
+    tally.holds(f"{width}: there are long solutions", any(len(moves.split()) == 8 for moves in browser.listed()))
+    tally.equal(f"{width}: solutions of more than one line", browser.script(BROKEN), [])
+    browser.act("#solutions-groups .take")
+    beside = () if width < 960 else ("net-normal", "net-inverse")
+    for name in ("line-list", "finished", "bracketed", "joined", "copy-bracketed", "copy-fmc", *beside):
+        tally.holds(f"{width}: after the last step {name} is in view", browser.script(IN_VIEW, name))
+    inner = """return [...document.querySelectorAll('main *')]
+        .filter((each) => each.checkVisibility() && ['auto', 'scroll'].includes(getComputedStyle(each).overflowY)
+        && !each.matches('pre, textarea')).length"""
+    tally.equal(f"{width}: parts with a scroll area", browser.script(inner), 0)
+    browser.open(SCRAMBLE)
+    browser.wait_best()
+    top = browser.script("return document.getElementById('steps-table').getBoundingClientRect().top")
+    tally.holds(f"{width}: the table begins at {top}", 0 <= top < 500 if width < 960 else top < 700)
+
+
+def try_all(tally: Tally, browser: Browser) -> None:
+    """At 360 points of width, and what is in view at 1200 too."""
+    browser.command("Emulation.setDeviceMetricsOverride", width=360, height=800, deviceScaleFactor=1, mobile=False)
+    presses(tally, browser)
+    has_two_lines(tally, browser)
+    for width, height in ((1200, 900), (360, 800)):
+        places(tally, browser, width, height)
