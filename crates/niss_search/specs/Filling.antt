@@ -1,5 +1,5 @@
 -- The pruning table of a goal while it is filled, level by level. (For the functions of the tables.)
-use Rattle.std.specs.Prelude.{◌≡◌, ◌≢◌, ℕ, ◌+◌, ◌*◌, ◌/◌, ◌%◌, ◌<◌, ◌≤◌, min, nat_le, ⊤, if◌then◌else◌}
+use Rattle.std.specs.Prelude.{◌≡◌, ◌≢◌, ℕ, ◌+◌, ◌*◌, ◌/◌, ◌%◌, ◌<◌, ◌≤◌, nat_le, ⊤, if◌then◌else◌}
 use Rattle.std.specs.Prelude.{List, [], ◌∷◌, length, slice_index, Contains, count_by}
 use Rattle.niss_moves.specs.Effects.{inverse_turn}
 use Rattle.niss_search.specs.Names.{Turn, Goal, Edges, Domino, Step, GoalCoordinates, Flip, TwistAndSlice}

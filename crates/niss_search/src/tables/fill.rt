@@ -71,18 +71,14 @@ impl<'a, M: GoalMoves> EntryRow<'a, M> {
         for column in 0..self.moves.turn_count() {
             meter.tick();
             let next = self.starts[column] + places[column] as usize;
+            // no branch, since the compiler makes no loop of the turns: in a loop it makes one that is often guessed wrong
             distances[next] = distances[next].min(level + 1);
         }
     }
 }
 
 /// Tries each turn from each entry of the level, and returns whether there was one.
-fn extend_level<M: GoalMoves>(
-    moves: &M,
-    distances: &mut [u8],
-    level: u8,
-    meter: &mut Meter,
-) -> bool
+fn extend_level<M: GoalMoves>(moves: &M, distances: &mut [u8], level: u8, meter: &mut Meter) -> bool
     requires small { level < 20 }
     requires filled { IsFilled (M.alternative moves.now) level distances.old }
     requires meter { meter.old + 18 * count_for (M.alternative moves.now).goal < 2 ^ 128 }

@@ -1,4 +1,4 @@
-use Rattle.niss_search.proofs.Words.{◌≡◌, length, ◌<◌, ℕ, turns_of, ◌*◌, slice_index}
+use Rattle.niss_search.proofs.Words.{◌≡◌, length, ◌<◌, ℕ, ◌*◌, slice_index}
 use Rattle.niss_search.proofs.tables.goal_moves.DominoMovesGoalMoves.starts.Given as goal
 
 abbrev pub invariant-loop-column : goal.invariant-loop-column
