@@ -26,6 +26,8 @@ import looks
 import narrow
 import phone
 import searches
+import settings
+import sizes
 import steps
 import stops
 import turned
@@ -33,7 +35,8 @@ from browser import Browser
 from selenium.common.exceptions import WebDriverException
 from tally import Tally
 
-PARTS = (keyboard, faults, addresses, best, searches, at_once, turned, steps, line, kept, focus, stops, phone, narrow, looks)
+PARTS = (keyboard, faults, addresses, best, searches, at_once, turned, steps, line, kept, focus, stops, phone, narrow, sizes, settings,
+    looks)
 
 TOP = Path(__file__).resolve().parent.parent.parent
 NO_ENGINE = "globalThis.WebAssembly = undefined;\n"

@@ -32,6 +32,8 @@ REFUSED = (
     ("main.js", 'const text = "</script>";\n', "an end of its element"),
     ("main.js", 'const text = "<!--";\n', "a comment of the page"),
     ("style.css", "</style>", "an end of the style"),
+    ("print.css", "</style>", "an end of the style in a part of it"),
+    ("style.css", '@import url("./print.css");', "an import of another form in the style"),
     ("main.js", "// " + "x" * MOST_BYTES, "a page that is too large"),
 )
 

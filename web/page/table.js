@@ -8,11 +8,13 @@ import { SIDES, isReduced, stateOf, statesOf, titleOf } from "./steps.js";
 /** @typedef {import("./steps.js").Side} Side */
 /** @typedef {{letters: string, made: number, reached: string[]}} Cube */
 
-/** @param {import("./engine.js").Count} count @param {number} made moves before it @returns {[string, string]} */
+/**
+ * The least length, what that makes in all, if moves were made before, and how many solutions there are.
+ * @param {import("./engine.js").Count} count @param {number} made moves before it @returns {[string, string, string]}
+ */
 function wordsOf({ length, solutions }, made) {
-    if (length === null) return ["–", "none within 20 moves"];
-    const all = made > 0 ? `${made + length} in all, ` : "";
-    return [counted(length, "move"), `${all}${counted(solutions, "solution")}`];
+    if (length === null) return ["–", "", "none within 20 moves"];
+    return [counted(length, "move"), made > 0 ? `${made + length} in all, ` : "", counted(solutions, "solution")];
 }
 
 /** Whether offers are reductions.
@@ -147,16 +149,16 @@ export class StepTable {
 
     #cell({ step, ...counts }, side, { least, made, list }) {
         const count = counts[side];
-        const [length, rest] = wordsOf(count, made);
+        const [length, all, solutions] = wordsOf(count, made);
         const name = `${step.name}.${side}`;
         const isLeast = least !== null && count.length === least;
-        return element("td", {}, element("button", {
+        return element("td", { "data-side": side === "normal" ? "Normal" : "Inverse" }, element("button", {
             type: "button",
             class: isLeast ? "cell least" : "cell",
             "data-cell": name,
             "aria-pressed": String(list !== null && name === `${list.step}.${list.side}`),
-            "aria-label": `${titleOf(step)}, ${side} side: ${length}, ${rest}${isLeast ? ", shortest" : ""}`,
+            "aria-label": `${titleOf(step)}, ${side} side: ${length}, ${all}${solutions}${isLeast ? ", shortest" : ""}`,
             click: () => this.#chosen(step.name, side),
-        }, element("strong", {}, length), element("small", {}, rest.replace(/ (?=solution)/, "\u00A0"))));
+        }, element("strong", {}, length), element("small", {}, all, element("span", { class: "together" }, solutions))));
     }
 }
