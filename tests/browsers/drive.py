@@ -31,11 +31,12 @@ import sizes
 import steps
 import stops
 import turned
+import workers
 from browser import Browser
 from selenium.common.exceptions import WebDriverException
 from tally import Tally
 
-PARTS = (keyboard, faults, addresses, best, searches, at_once, turned, steps, line, kept, focus, stops, phone, narrow, sizes, settings,
+PARTS = (keyboard, faults, workers, addresses, best, searches, at_once, turned, steps, line, kept, focus, stops, phone, narrow, sizes, settings,
     looks)
 
 TOP = Path(__file__).resolve().parent.parent.parent

@@ -255,9 +255,10 @@ def without_engine(tally: Tally, browser: Browser) -> None:
     for address, steps in (("", []), ("#scramble=R_U-_q", []), ("#scramble=R_U-_q&steps=normal.F~inverse.B2", ["F", "(B2)"])):
         browser.driver.get("about:blank")
         browser.driver.get(browser.page_without_engine + address)
-        tally.holds(f"{address}: a missing engine is said", browser.until("return !document.getElementById('alert').hidden"))
-        said = browser.text("alert")
+        tally.holds(f"{address}: a missing engine is said", browser.until("return !document.getElementById('failed').hidden"))
+        said = browser.text("failed")
         tally.holds("and why it may be", all(word in said for word in ("no WebAssembly", "switched off", "Lockdown Mode")))
+        tally.holds("and nothing offers to try again", "Try again" not in said)
         wanted = "R U' q" if address else ""
         tally.equal("what was sent is shown", browser.script("return document.getElementById('scramble').value"), wanted)
         tally.equal("with its steps", browser.texts("#line-list .moves"), steps)

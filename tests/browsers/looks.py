@@ -105,7 +105,7 @@ def begins(tally: Tally, browser: Browser) -> None:
     tally.equal("stickers without a colour that are seen", browser.script(raw), 0)
     browser.driver.get("about:blank")
     browser.driver.get(browser.page_without_engine + "#scramble=R")
-    browser.until("return !document.getElementById('alert').hidden")
+    browser.until("return !document.getElementById('failed').hidden")
     tally.equal("before an answer, and without an engine", browser.script(seen)[:2], [False, False])
 
 

@@ -97,6 +97,11 @@ export class BestContinuations {
         this.#ask();
     }
 
+    /** Ends the workers; a later search starts others. */
+    end() {
+        for (const finder of this.#finders) finder.end();
+    }
+
     /** Whether the best are looked for. */
     isWorking() {
         return !part("best-stop").hidden;

@@ -1,7 +1,8 @@
 // Calls of the engine as promises. The engine runs in a worker, whose script stands in the page, so that the page never waits; workers
 // start and build the tables that may be needed next while nothing else is asked.
-import { WorkerCalls, listenedTo } from "../module/worker-calls.js";
+import { WorkerCalls } from "../module/worker-calls.js";
 import { ORIENTATIONS, REDUCTIONS, openSteps, reductionsAfter } from "./steps.js";
+import { watched } from "./watch.js";
 
 export { EngineMissing, Stopped } from "../module/faults.js";
 
@@ -10,6 +11,7 @@ export { EngineMissing, Stopped } from "../module/faults.js";
 /** How many bytes an answer may have, at first and at most: the page holds it as a text, and as a list. */
 const SHORT_ANSWER = 1_048_576;
 const LONGEST_ANSWER = 33_554_432;
+const UNREADABLE = "An answer of it can't be read.";
 
 /**
  * What starts workers of the page, by the text of their script. One is started before it is asked for, since that takes a while.
@@ -21,11 +23,19 @@ export function workersOf(script) {
         const worker = new Worker(address, { name });
         // not before it was read
         worker.addEventListener("message", () => URL.revokeObjectURL(address), { once: true });
+        // an answer that can't be read would be waited for
+        worker.addEventListener("messageerror", () => worker.dispatchEvent(new ErrorEvent("error", { message: UNREADABLE })));
         return worker;
     };
     let early = null;
     try {
         early = start();
+        // nobody is there yet to be told that it failed: another one takes its place
+        early.addEventListener("error", (event) => {
+            if (early !== event.target) return;
+            event.preventDefault();
+            early = null;
+        });
     } catch {
         // whoever asks for one is told why it can't be started
     }
@@ -45,7 +55,7 @@ export class Calls extends WorkerCalls {
 
     /** @param {(name?: string) => Worker} newWorker @param {import("../module/worker-calls.js").SentModule} module */
     constructor(newWorker, module) {
-        super(module, listenedTo(() => newWorker()));
+        super(module, watched(() => newWorker()));
     }
 
     /** What the program answers to words and input.

@@ -1,8 +1,8 @@
 // Finds the best continuations: on each axis by a worker of its own with the engine in it, which the first search starts and a stop ends.
 // What they find is one list, sorted by all moves, those made counted too.
 import { EngineMissing, Stopped } from "../module/faults.js";
-import { listenedTo } from "../module/worker-calls.js";
 import { ORIENTATIONS } from "./steps.js";
+import { watched } from "./watch.js";
 
 /** @typedef {import("./steps.js").Part} Part */
 /** @typedef {import("./steps.js").Side} Side */
@@ -22,8 +22,9 @@ import { ORIENTATIONS } from "./steps.js";
 /** How many rows are kept. */
 export const MOST_KEPT = 10000;
 
-/** @param {Row} one @param {Row} other */
-export const byTotal = (one, other) => one.total - other.total || one.length - other.length || byCase(one, other);
+/** The same order each time, whichever worker tells of its rows first.
+ * @param {Row} one @param {Row} other */
+export const byTotal = (one, other) => one.total - other.total || one.length - other.length || byCase(one, other) || byState(one, other);
 
 /** How far the case of a row is.
  * @param {Row} row */
@@ -31,6 +32,9 @@ const farness = ({ next }) => (next === null ? 0 : next.far);
 
 /** @param {Row} one @param {Row} other */
 export const byCase = (one, other) => farness(one) - farness(other);
+
+/** @param {Row} one @param {Row} other */
+const byState = (one, other) => Number(one.state > other.state) - Number(one.state < other.state);
 
 /** Puts new rows among sorted ones.
  * @param {Row[]} rows @param {Row[]} added @returns {Row[]} */
@@ -77,7 +81,7 @@ export class Finder {
 
     /** @param {(name: string) => Worker} newWorker @param {import("../module/worker-calls.js").SentModule} module */
     constructor(newWorker, module) {
-        this.#newWorker = listenedTo(() => newWorker("finder"));
+        this.#newWorker = watched(() => newWorker("finder"));
         this.#module = module;
     }
 
@@ -103,6 +107,11 @@ export class Finder {
     /** Gives a search up. */
     stop() {
         if (this.#running !== null) this.#end(new Stopped());
+    }
+
+    /** Ends the worker, also one that has nothing to do. */
+    end() {
+        this.#end(new Stopped());
     }
 
     #send(message) {

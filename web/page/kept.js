@@ -1,9 +1,11 @@
 // The card of the candidates that are kept: each with its moves, what it reaches, its case and a note; gone on with, taken away, or copied.
 import { LONGEST_NOTE } from "./address.js";
+import { Stopped } from "./calls.js";
 import { caseName } from "./cases.js";
 import { copy, fmcOfAll } from "./copying.js";
 import { counted, element, part, spoken, tell } from "./element.js";
 import { WayTo } from "./places.js";
+import { walkKept } from "./position.js";
 import { ORIENTATIONS, REDUCTIONS, SIDES, bracketed, isReduced, reductionsAfter, stateOf, statesOf, stepNamed } from "./steps.js";
 
 /** @typedef {import("./address.js").Candidate} Candidate */
@@ -114,6 +116,7 @@ function stepOf(parts, walk) {
 }
 
 export class KeptCandidates {
+    #calls;
     #acts;
     #candidates = [];
     #walks = [];
@@ -123,8 +126,12 @@ export class KeptCandidates {
     #list = part("kept-list");
     #way = new WayTo(part("bar-kept"), part("kept"), part("kept-heading"));
 
-    /** @param {{goOn: (parts: Part[]) => void, change: (kept: Candidate[]) => void}} acts */
-    constructor(acts) {
+    /**
+     * @param {import("./calls.js").Calls} calls of its own
+     * @param {{goOn: (parts: Part[]) => void, change: (kept: Candidate[]) => void}} acts
+     */
+    constructor(calls, acts) {
+        this.#calls = calls;
         this.#acts = acts;
         part("copy-kept").addEventListener("click", (event) => copy(this.#text(), event.currentTarget));
         part("kept-sort").addEventListener("change", () => this.#draw());
@@ -153,17 +160,21 @@ export class KeptCandidates {
         return this.#candidates.map(nameOfCandidate).join("\n");
     }
 
-    /** Whether it is shown what the engine says of the candidates after a scramble.
-     * @param {string} scramble */
-    isDescribed(scramble) {
-        return this.#scramble === scramble && this.#walks.length === this.#candidates.length;
-    }
-
-    /** @param {KeptWalk[]} walks in the order of the candidates @param {string} scramble */
-    describe(walks, scramble) {
-        this.#walks = walks;
-        this.#scramble = scramble;
-        this.#draw();
+    /** Shows what the engine says of the candidates after a scramble, unless it is shown already.
+     * @param {string} scramble by its face turns @param {string} written as it is copied */
+    async describe(scramble, written) {
+        const candidates = this.#candidates;
+        if (this.#scramble === written && this.#walks.length === candidates.length) return;
+        try {
+            const walks = await walkKept(this.#calls, scramble, candidates);
+            if (candidates !== this.#candidates) return;
+            this.#walks = walks;
+            this.#scramble = written;
+            this.#draw();
+        } catch (fault) {
+            if (candidates !== this.#candidates || fault instanceof Stopped) return;
+            tell(part("alert"), `The lines that are kept can't be read: ${fault.words ?? fault.message}.`);
+        }
     }
 
     /** Whether a line is kept, by itself or with a reduction.

@@ -1,5 +1,6 @@
 // The card of the line so far: the steps that were taken, each of which may be edited or taken away, undo, moves by hand, the switch of
 // sides, and the whole to copy.
+import { Stopped } from "./calls.js";
 import { isSolved } from "./cases.js";
 import { copy, fmcOf } from "./copying.js";
 import { announce, counted, element, part, spoken, tell } from "./element.js";
@@ -297,7 +298,7 @@ export class LineSoFar {
             use(added);
             tell(part("own-read"), wordsOfLeftOut(plain.leftOut));
         } catch (fault) {
-            if (isStill()) showFault(where, field, plain, fault, text);
+            if (isStill() && !(fault instanceof Stopped)) showFault(where, field, plain, fault, text);
         }
     }
 }

@@ -1,23 +1,25 @@
 // The page's state, and what each change of it makes the parts of the page show.
-import { MOST_CANDIDATES, addressOf, emptyState, fitsAddress, readAddress } from "./address.js";
+import { MOST_CANDIDATES, emptyState, fitsAddress, readAddress } from "./address.js";
 import { BestContinuations } from "./best.js";
-import { EngineMissing, Readiness, Stopped } from "./calls.js";
+import { Readiness, Stopped } from "./calls.js";
 import { copy } from "./copying.js";
 import { Cube } from "./cube.js";
 import { announce, announceLater, part, setBusy, spoken, tell } from "./element.js";
 import { EngineFault } from "./engine.js";
+import { NextFocus } from "./focus.js";
 import { KeptCandidates, withStar } from "./kept.js";
 import { LineSoFar } from "./line.js";
 import { readKept, readScramble, readSteps, readWritten } from "./lines.js";
 import { plainLine } from "./pasted.js";
-import { Seen, WayBack, dropAddress, keepPlace, placeIn, writeAddress } from "./places.js";
-import { examine, framesOf, inPortions, offersOf, walkKept } from "./position.js";
+import { Seen, WayBack, dropAddress, keepPlace, placeIn, writeState } from "./places.js";
+import { examine, framesOf, inPortions, offersOf } from "./position.js";
 import { ScrambleField } from "./scramble.js";
 import { OpenList, SolutionList } from "./solutions.js";
 import { ORIENTATIONS, bracketed, isReduced, stateOf, stepNamed } from "./steps.js";
 import { StepTable } from "./table.js";
 import { isBare, keepInView, listenToKeys, setUsable, showBeginning, showStart, star, withoutMoving } from "./view.js";
-import { NOT_IN_ADDRESS, NO_ROOM, titleOfPage, unanswered, whyNotListed, whyUnread } from "./words.js";
+import { tellFailed } from "./watch.js";
+import { NO_ROOM, titleOfPage, unanswered, whyNotListed, whyUnread } from "./words.js";
 
 /** @typedef {import("./address.js").State} State */
 /** @typedef {import("./steps.js").Part} Part */
@@ -29,8 +31,7 @@ export class Page {
     #cube = null;
     #openList;
     #isReading = false;
-    /** @type {{to: "list" | "table", from: Element} | null} where the focus is to go, and from where */
-    #focusNext = null;
+    #nextFocus = new NextFocus();
     #wayBack = new WayBack();
     #calls;
     #keptCalls;
@@ -59,7 +60,10 @@ export class Page {
             isStarred: (added, next) => this.#kept.has([...this.#state.parts, added], next),
             isSeen: (added, next) => this.#seen.has(this.#state.scramble, [...this.#state.parts, added], next),
         };
-        this.#kept = new KeptCandidates({ goOn: (parts) => this.#change({ parts }, { focusNext: "table" }), change: (kept) => this.#change({ kept }) });
+        this.#kept = new KeptCandidates(this.#keptCalls, {
+            goOn: (parts) => this.#change({ parts }, { focusNext: "table" }),
+            change: (kept) => this.#change({ kept }),
+        });
         this.#list = new SolutionList({
             ...stars,
             take: (taken) => this.#take(taken),
@@ -72,6 +76,7 @@ export class Page {
         this.#best = new BestContinuations(finders, { ...stars, goOn: (row) => this.#goOn(row), shown: () => this.#goBack() });
         keepInView(part("side-column"));
         part("skip").addEventListener("click", () => this.#table.focus());
+        part("again").addEventListener("click", () => this.#tryAgain());
         this.#listenToKeys();
     }
 
@@ -99,10 +104,11 @@ export class Page {
         const turn = ++this.#turn;
         const { state, fault } = readAddress(hash);
         this.#isReading = true;
-        this.#focusNext = document.activeElement === part("last-back") ? { to: "table", from: document.activeElement } : null;
+        this.#nextFocus.set(document.activeElement?.matches("#last-back, #again") ? "table" : undefined);
         dropAddress();
         setBusy("results", true);
         tell(part("alert"), fault);
+        tellFailed("");
         showBeginning(state);
         try {
             state.parts = await readSteps(this.#calls, state.parts);
@@ -130,31 +136,22 @@ export class Page {
 
     /** Takes another state, or parts of it. While an address is still read, what is done on the page that is seen overtakes it.
      * A list doesn't outlast a change of the steps, since it belongs to the cube before it.
-     * @param {Partial<State>} change @param {{focusNext?: "list" | "table", isStep?: boolean}} how where the focus is to go with the
+     * @param {Partial<State>} change @param {{focusNext?: import("./focus.js").Where, isStep?: boolean}} how where the focus is to go with the
      * answers, and whether the browser's Back leads to what was before */
     #change(change, { focusNext, isStep = "parts" in change } = {}) {
         this.#scramble.tellLeft(0);
-        this.#focusNext = focusNext ? { to: focusNext, from: document.activeElement } : null;
+        this.#nextFocus.set(focusNext);
         this.#wayBack.set(null);
         if ("parts" in change) keepPlace();
         this.#state = { ...this.#state, ...("parts" in change ? { list: null } : {}), ...change };
         const isOther = "scramble" in change || "parts" in change || this.#isReading;
         if (isOther) tell(part("alert"), "");
-        this.#writeAddress(isStep);
+        writeState(this.#state, isStep);
         if (isOther) return void this.#refresh();
         this.#line.turnTo(this.#state.side);
         this.#table.mark(this.#state.list);
         this.#showList();
         if ("kept" in change) this.#showKept();
-    }
-
-    /** Puts the state into the title, and into the address if that has room for it, since a longer one isn't read.
-     * @param {boolean} isStep whether the browser's Back leads to what the address said before */
-    #writeAddress(isStep) {
-        document.title = titleOfPage(this.#state);
-        const isLong = !fitsAddress(this.#state);
-        if (isLong || part("alert").textContent === NOT_IN_ADDRESS) tell(part("alert"), isLong ? NOT_IN_ADDRESS : "");
-        if (!isLong) writeAddress(addressOf(this.#state), isStep);
     }
 
     /** @param {string} scramble @param {boolean} isNew @param {import("./scramble.js").Fmc | null} fmc */
@@ -171,7 +168,7 @@ export class Page {
             this.#scramble.tellLeft(left);
             tell(part("alert"), whyUnread(unread));
         } catch (fault) {
-            if (turn === this.#turn) tell(part("alert"), unanswered(fault));
+            if (turn === this.#turn && !(fault instanceof Stopped)) tell(part("alert"), unanswered(fault));
         }
     }
 
@@ -191,6 +188,7 @@ export class Page {
         if (!this.#state.list) this.#openList.show("", null, "");
         this.#best.reset(null);
         announceLater("");
+        tellFailed("");
         setBusy("results", true);
         try {
             await this.#answer(turn);
@@ -256,7 +254,7 @@ export class Page {
         if (why === "") return;
         tell(part("alert"), why);
         this.#state = { ...this.#state, list: null };
-        this.#writeAddress(false);
+        writeState(this.#state, false);
     }
 
     /** Shows the steps that may follow as soon as they are known, and has the best looked for.
@@ -281,19 +279,11 @@ export class Page {
         this.#showList();
         const isFinished = isReduced(this.#cube.reached) && this.#state.parts.length > 0;
         // a list that is looked for takes the focus itself, and says what it has
-        if (this.#focusNext?.to === "list") return;
-        if (this.#isFocusNext("table")) this.#showTaken(isFinished);
+        if (this.#nextFocus.waitsFor("list")) return;
+        if (this.#nextFocus.take("table")) this.#showTaken(isFinished);
         else if (!isBare(this.#state)) announceLater(this.#table.summary());
         this.#table.giveBack();
         this.#goBack();
-    }
-
-    /** @param {"list" | "table"} to @returns whether the focus is to go there now: it stays where it went meanwhile */
-    #isFocusNext(to) {
-        const next = this.#focusNext;
-        if (next?.to !== to) return false;
-        this.#focusNext = null;
-        return [next.from, document.body].includes(document.activeElement);
     }
 
     /** @param {boolean} isFinished whether no step follows: what does comes into view and has the focus */
@@ -317,25 +307,18 @@ export class Page {
         const name = list ? [this.#turn, list.step, list.side, list.slack, list.isAll].join(" ") : "";
         const isShown = await this.#openList.show(name, list, list ? this.#cube.now[list.side] : "");
         if (!isShown) return;
-        if (this.#isFocusNext("list")) this.#list.focus();
+        if (this.#nextFocus.take("list")) this.#list.focus();
         this.#goBack();
     }
 
     /** Shows what the engine says of the lines that are kept. */
-    async #showKept() {
+    #showKept() {
         const { kept, parts } = this.#state;
         this.#kept.show(kept);
         this.#best.mark();
         this.#list.mark();
         this.#line.markKept(this.#kept.has(parts));
-        if (kept.length === 0 || !this.#cube || this.#kept.isDescribed(this.#cube.written)) return;
-        const { scramble, written } = this.#cube;
-        try {
-            const walks = await walkKept(this.#keptCalls, scramble, kept);
-            if (kept === this.#state.kept) this.#kept.describe(walks, written);
-        } catch (fault) {
-            if (kept === this.#state.kept) tell(part("alert"), `The lines that are kept can't be read: ${fault.words ?? fault.message}.`);
-        }
+        if (kept.length > 0 && this.#cube) this.#kept.describe(this.#cube.scramble, this.#cube.written);
     }
 
     /** Keeps a line with moves, or takes it away if it is kept.
@@ -394,6 +377,16 @@ export class Page {
         if (fault instanceof Stopped) return;
         setBusy("results", false);
         part("results").inert = true;
-        tell(part("alert"), fault instanceof EngineMissing ? `The engine can't start here. ${fault.message}` : unanswered(fault));
+        if (fault instanceof EngineFault) tell(part("alert"), unanswered(fault));
+        else tellFailed(unanswered(fault));
+    }
+
+    /** Asks again for all that is seen, by other workers. */
+    #tryAgain() {
+        for (const calls of [this.#calls, this.#keptCalls, this.#byHand, this.#openList, this.#best]) calls.end();
+        // what the address says may not have been read yet
+        if (this.#isReading) return void this.begin(location.hash);
+        this.#nextFocus.set(this.#state.list ? "list" : "table");
+        this.#refresh();
     }
 }

@@ -1,9 +1,11 @@
 // Where one was: with each entry of the browser's history that is left, what had the focus there and how far the page was scrolled is kept,
 // so that Back leads to the same place; the way to a card and back; and the lines that were taken in this session,
 // which lists and the best mark.
-import { part } from "./element.js";
+import { addressOf, fitsAddress } from "./address.js";
+import { part, tell } from "./element.js";
 import { keepLast } from "./last.js";
 import { bracketed } from "./steps.js";
+import { NOT_IN_ADDRESS, titleOfPage } from "./words.js";
 
 /** @typedef {import("./steps.js").Part} Part */
 /** @typedef {{key: string, scroll: number}} Place */
@@ -36,7 +38,7 @@ export const dropAddress = () => clearTimeout(writing);
  * Puts an address into the history, a step as an entry of its own; a moment later where the browser has it done too often.
  * @param {string} address @param {boolean} isStep
  */
-export function writeAddress(address, isStep) {
+function writeAddress(address, isStep) {
     dropAddress();
     keepLast(address);
     const isWritten = () => address === (location.hash || "#");
@@ -48,6 +50,17 @@ export function writeAddress(address, isStep) {
         // some browsers throw where it is done too often, others do nothing
     }
     if (!isWritten()) writing = setTimeout(writeAddress, AGAIN_AFTER, address, isStep);
+}
+
+/**
+ * Puts a state into the title, and into the address if that has room for it, since a longer one isn't read.
+ * @param {import("./address.js").State} state @param {boolean} isStep whether the browser's Back leads to what the address said before
+ */
+export function writeState(state, isStep) {
+    document.title = titleOfPage(state);
+    const isLong = !fitsAddress(state);
+    if (isLong || part("alert").textContent === NOT_IN_ADDRESS) tell(part("alert"), isLong ? NOT_IN_ADDRESS : "");
+    if (!isLong) writeAddress(addressOf(state), isStep);
 }
 
 /** The way back to where one was, as soon as that is shown. */

@@ -1,6 +1,7 @@
 // The card of the scramble: its field, with what was left out of a text and what is at fault, examples, random scrambles from a seed, and
 // the fold of it if the page is narrow.
 import { LONGEST_SCRAMBLE } from "./address.js";
+import { Stopped } from "./calls.js";
 import { announce, announceLater, counted, element, part, tell } from "./element.js";
 import { EngineFault, scrambleOf } from "./engine.js";
 import { plainLine, readFmc, wordsOfLeftOut } from "./pasted.js";
@@ -212,7 +213,8 @@ export class ScrambleField {
             this.#put(scramble);
             announce(`Scramble from seed ${seed}: ${scramble}`);
         } catch (fault) {
-            if (draw === this.#draws) show(fault instanceof EngineFault ? new Error(SEEDS) : fault);
+            if (draw !== this.#draws || fault instanceof Stopped) return;
+            show(fault instanceof EngineFault ? new Error(SEEDS) : fault);
         }
     }
 }

@@ -291,6 +291,12 @@ export class OpenList {
         part("solutions-stop").addEventListener("click", () => calls.stop());
     }
 
+    /** Ends the worker; what was shown is looked for anew. */
+    end() {
+        this.#name = "";
+        this.#calls.end();
+    }
+
     /**
      * Shows a list, or that none is open; one that is shown already stays. Says whether it is shown in the end.
      * @param {string} name what tells it from others @param {import("./address.js").List | null} list

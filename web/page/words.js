@@ -1,4 +1,5 @@
 // Sentences: why a line can't be read, with a mark at the place in the text that was typed, why there is no answer, and the page's title.
+import { EngineMissing } from "../module/faults.js";
 import { element } from "./element.js";
 import { EngineFault } from "./engine.js";
 import { MOST_MOVES } from "./lines.js";
@@ -10,9 +11,14 @@ const PAGE_NAME = "nissy";
 const TOO_MANY = `more than ${MOST_MOVES} moves`;
 const MOST_SIGNS = 40;
 
+/** What is said of an engine that failed.
+ * @param {string} message */
+export const engineFails = (message) => `The engine doesn't work here. ${message}`;
+
 /** Why there is no answer.
  * @param {Error & {words?: string}} fault */
 export function unanswered(fault) {
+    if (fault instanceof EngineMissing) return engineFails(fault.message);
     const words = fault.words ?? fault.message;
     if (words !== TOO_MANY) return `There is no answer: ${words}.`;
     return `The scramble and the moves after it can't be read together: they have ${TOO_MANY}.`;

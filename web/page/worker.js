@@ -21,5 +21,9 @@ function serveFinder(port) {
 
 /** @type {any} a worker, and no window */
 const worker = self;
+// what nobody caught becomes a failure of the worker, of which the page is told
+worker.addEventListener("unhandledrejection", ({ reason }) => {
+    throw reason;
+});
 if (worker.name === "finder") serveFinder(worker);
 else serve(worker);
