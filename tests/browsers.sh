@@ -52,4 +52,10 @@ if missing WebKitWebDriver || missing xvfb-run || ! $python -c "import selenium"
 else
     add xvfb-run -a $python tests/browsers/webkit.py "$page"
 fi
+if missing chromium || missing chromedriver || { missing firefox && missing firefox-esr; } || missing WebKitWebDriver || missing xvfb-run ||
+    ! $python -c "import selenium" 2> /dev/null; then
+    skips "the browsers beside each other, since one of them isn't installed"
+else
+    add xvfb-run -a $python tests/browsers/alike.py "$page"
+fi
 ended

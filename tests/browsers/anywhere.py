@@ -15,6 +15,7 @@ ADDRESS = "#scramble=R_U_F&steps=inverse.R&list=eofb.normal.1"
 DONE = """
     return document.querySelector("#results[aria-busy=false]") !== null
         && document.querySelector("[aria-busy=true]") === null"""
+SEEN = "return [...document.querySelectorAll(%s)].filter((each) => each.checkVisibility())"
 REFUSALS = "const said = []; addEventListener('securitypolicyviolation', (event) => said.push(event.blockedURI)); window.said = said"
 
 
@@ -28,6 +29,14 @@ class Window(ABC):
     @abstractmethod
     def script(self, text: str) -> Any:
         """What a script of the page answers."""
+
+    @abstractmethod
+    def labels(self, selector: str) -> list[str]:
+        """What the browser's accessibility tree calls the elements that a selector finds and that are seen."""
+
+    @abstractmethod
+    def resize(self, width: int, height: int) -> None:
+        """Makes the window about so large."""
 
     @abstractmethod
     def end(self) -> None:
@@ -58,6 +67,12 @@ class Driven(Window):
 
     def script(self, text: str) -> Any:
         return self.driver.execute_script(text)
+
+    def labels(self, selector: str) -> list[str]:
+        return [each.accessible_name for each in self.script(SEEN % json.dumps(selector))]
+
+    def resize(self, width: int, height: int) -> None:
+        self.driver.set_window_size(width, height)
 
     def end(self) -> None:
         self.driver.quit()

@@ -17,7 +17,7 @@ from typing import Any
 
 sys.path.insert(0, str(Path(__file__).resolve().parent.parent))
 
-from anywhere import PATIENCE, Window, try_all
+from anywhere import PATIENCE, SEEN, Window, try_all
 from tally import Tally
 
 
@@ -82,6 +82,13 @@ class Firefox(Window):
 
     def script(self, text: str) -> Any:
         return self.command("WebDriver:ExecuteScript", {"script": text, "args": []})["value"]
+
+    def labels(self, selector: str) -> list[str]:
+        names = [name for each in self.script(SEEN % json.dumps(selector)) for name in each.values()]
+        return [self.command("WebDriver:GetComputedLabel", {"id": name})["value"] for name in names]
+
+    def resize(self, width: int, height: int) -> None:
+        self.command("WebDriver:SetWindowRect", {"width": width, "height": height})
 
     def end(self) -> None:
         self.process.terminate()

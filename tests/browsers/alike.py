@@ -1,0 +1,125 @@
+#!/usr/bin/python3
+"""Compares what the page shows in Chromium, Firefox and WebKit, as far as they are here: the text of each card as it is seen, and what
+assistive technology is told that buttons and fields are called. WebKit needs a display.
+
+    tests/browsers/alike.py PAGE
+
+The last line is `N passed, M failed`, and the status is 1 where M isn't 0.
+"""
+import json
+import sys
+import tempfile
+from concurrent.futures import ThreadPoolExecutor
+from pathlib import Path
+
+sys.path.insert(0, str(Path(__file__).resolve().parent.parent))
+
+from anywhere import DONE, Window
+from tally import Tally
+from windows import BROWSERS, is_here
+
+SCRAMBLE = "#scramble=R-_U-_F_D2_L2_F_R2_U2_R2_B_D2_L_B2_D-_B2_L-_R-_B-_D2_B2_R-_U-_F"
+BOTH = SCRAMBLE + "&steps=inverse.B_D_R_F2_B_D~normal.R_B-"
+PRESS = "document.querySelector(%r).click();"
+# what is looked at: a name, an address, and what is done there
+STATES = (
+    ("empty", "", ""),
+    ("a scramble", SCRAMBLE, ""),
+    ("an EO that is taken", SCRAMBLE + "&steps=normal.R-_U_F-_R_L", ""),
+    ("both sides", BOTH, ""),
+    ("an open list", "#scramble=R_U_F_D2_L-_B&list=eorl.normal.1", ""),
+    ("the best with one move more", "#scramble=R_U_F",
+     "const field = document.getElementById('best-slack'); field.value = '1'; field.dispatchEvent(new Event('change'))"),
+    ("kept lines", BOTH + "&kept=inverse.B_D_R_F2_B_D;a_note,normal.R-_U_F-_R_L", ""),
+    ("a fault", "#scramble=R_U_q_F", ""),
+    ("a line that is too long", "#scramble=" + "_".join(["R", "U"] * 129), ""),
+    ("a solved cube", "#scramble=R_U&steps=normal.U-_R-", ""),
+    ("a reduction", BOTH + "~normal.D2_R", ""),
+    ("an edit", BOTH, PRESS % "#line-list button" + "const field = document.querySelector('#line-list input');"
+     "field.value = '(B D)'; field.form.requestSubmit()"),
+    ("an undo", BOTH, PRESS % "#undo-move"),
+)
+# wide, with all of them, and as a phone has it, with these
+SIZES = {(1280, 1000): range(len(STATES)), (520, 900): (0, 4, 6)}
+CARDS = """
+    const plain = (text) => text.replace(/\\s+/g, " ").trim();
+    const parts = [...document.querySelectorAll("header, .bar, .alert, .card, footer")].filter((each) => each.checkVisibility());
+    // what a browser's text of a part has, and another's has not, is compared by itself: the choices of a field in Chromium, the letters of
+    // a net with blanks between them, and what is there for screen readers alone, which WebKit leaves out
+    const others = [...document.querySelectorAll("select, .net, .unseen")];
+    for (const each of others) each.style.visibility = "hidden";
+    const texts = parts.map((each) => [each.id || each.localName, plain(each.innerText)]);
+    for (const each of others) each.style.visibility = "";
+    return Object.fromEntries(texts)"""
+# the fields with what they hold, and what is pressed, as the page says it itself
+CONTROLS = """
+    const seen = [...document.querySelectorAll("button, input, select, textarea, summary")].filter((each) => each.checkVisibility());
+    return seen.map((each) => [each.localName, each.id, each.ariaLabel, [...(each.labels ?? [])].map((label) => label.textContent).join(),
+        each.localName === "button" || each.localName === "summary" ? each.textContent : each.value, each.ariaPressed, each.disabled,
+        [...(each.options ?? [])].map((option) => option.textContent.trim()).join()])"""
+DRAWN = """
+    const seen = [...document.querySelectorAll(".net, table, .unseen:not(#status)")].filter((each) => each.checkVisibility());
+    return seen.map((each) => [each.ariaLabel ?? each.caption?.textContent, each.localName === "table" ? "" : each.textContent])"""
+
+
+def shown(window: Window, address: str, act: str) -> dict[str, object]:
+    """What a window shows of a state, once all is answered."""
+    window.open("about:blank")
+    window.open(address)
+    if not window.until(DONE):
+        raise TimeoutError(f"no answer at {address}")
+    if act != "":
+        before = window.script("return location.hash")
+        window.script(act)
+        if "best-slack" not in act:
+            window.until(f"return location.hash !== {json.dumps(before)}")
+        window.until(DONE)
+    return {"cards": window.script(CARDS), "controls": window.script(CONTROLS), "drawn": window.script(DRAWN)}
+
+
+def all_shown(browser: str, page: str) -> list[dict[str, object]]:
+    """What a browser shows of each state, by its sizes; and what its own accessibility tree calls the controls of one."""
+    found = []
+    with tempfile.TemporaryDirectory(ignore_cleanup_errors=True) as room:
+        window = BROWSERS[browser](room)
+        try:
+            for size, chosen in SIZES.items():
+                window.resize(*size)
+                found += [shown(window, page + address, act) for _, address, act in map(STATES.__getitem__, chosen)]
+            found.append({"labels": window.labels("button, input, select, textarea, progress")})
+        finally:
+            window.end()
+    return found
+
+
+def compare(tally: Tally, browser: str, other: str, found: dict[str, object], wanted: dict[str, object], what: str) -> None:
+    """Each part of what two browsers show."""
+    tally.equal(f"{what}: {browser} has the parts of {other}", sorted(found), sorted(wanted))
+    for name, part in wanted.items():
+        one = found.get(name)
+        if isinstance(part, dict) and isinstance(one, dict):
+            compare(tally, browser, other, one, part, f"{what}, {name}")
+        elif isinstance(part, list) and isinstance(one, list):
+            differ = [(mine, its) for mine, its in zip(one, part) if mine != its]
+            tally.equal(f"{what}, {name}: {browser} beside {other}", (len(one), differ), (len(part), []))
+        else:
+            tally.equal(f"{what}, {name}: {browser} beside {other}", one, part)
+
+
+def main() -> None:
+    """All browsers at once."""
+    tally = Tally()
+    page = Path(sys.argv[1]).resolve().as_uri()
+    here = [name for name in BROWSERS if is_here(name)]
+    with ThreadPoolExecutor(2) as pool:
+        found = dict(zip(here, pool.map(lambda name: all_shown(name, page), here)))
+    names = [f"{STATES[at][0]}, {width} points" for (width, _), chosen in SIZES.items() for at in chosen] + ["in the tree"]
+    for browser in here[1:]:
+        for what, one, other in zip(names, found[browser], found[here[0]]):
+            compare(tally, browser, here[0], one, other, what)
+    tally.holds("there are browsers to compare", len(here) > 1)
+    tally.end()
+
+
+if __name__ == "__main__":
+    main()
