@@ -239,6 +239,16 @@ async function tryGivenUpAtOnce() {
   same("which is answered", await kept, "D'");
 }
 
+/** A reply is none that failed, though some script gave an error to all objects. */
+async function tryGivenToAll() {
+  const { all, started } = puppets();
+  const call = thrown(() => new WorkerCalls(moduleBytes, started).invert("R"));
+  Object.defineProperty(Object.prototype, "error", { configurable: true, value: { name: "Error", message: "of all" } });
+  all[0].took({ id: all[0].sent[1].id, reply: { status: 0, out: "R'" } });
+  delete Object.prototype.error;
+  same("a reply while all objects have an error", await call, ["nothing", ""]);
+}
+
 const worker = await NissyWorker.start(WebAssembly.compile(moduleBytes));
 await tryRows(worker);
 await tryWrongValues(worker);
@@ -255,5 +265,6 @@ await tryAllAtOnce(worker);
 await tryUnstarted();
 await tryPuppets();
 await tryGivenUpAtOnce();
+await tryGivenToAll();
 // the process ends though the worker lives
 ended();

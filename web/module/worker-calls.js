@@ -1,6 +1,7 @@
 // Calls of an engine in a worker as promises, one after another. A call that runs is stopped by ending its worker, and the next one starts
 // another.
 import { EngineMissing, Stopped } from "./faults.js";
+import { hasOwn } from "./natives.js";
 import { allOf, countIn, lineIn, linesIn, outputLinesIn, solutionsIn } from "./replies.js";
 import {
   allRequest, countRequest, lineRequest, optionOf, runRequest, scrambleRequest, scramblesRequest, solveRequest, stepsRequest,
@@ -245,8 +246,9 @@ export class WorkerCalls {
     const call = this.#running;
     if (call?.id !== data.id) return;
     this.#running = null;
-    if ("error" in data) call.refused(errorOf(data.error));
-    else call.answered(data.reply);
+    // not by `in`, since some script may have given an error to all objects
+    if (hasOwn(data, "error")) call.refused(errorOf(/** @type {Unanswered} */ (data).error));
+    else call.answered(/** @type {Answered} */ (data).reply);
     this.#sendNext();
   }
 
