@@ -11,6 +11,7 @@ if missing python3; then skips_all "there is no python3 here, so the pages are n
 add python3 tests/documents/check.py
 typed tests/documents/*.py
 typed tests/model/*.py tests/npm/*.py
+for file in tests/*/beside_program.py; do typed "$file"; done
 # shellcheck disable=SC2046 # no name of a tool has a blank
 typed tools/*.py $(grep -d skip -l '^#!.*python3' tools/*)
 ended

@@ -2,6 +2,7 @@
 import random
 
 import solving
+from drawing import Drawing
 from model import Answer, REWRITES
 from trial import Trial
 
@@ -13,7 +14,7 @@ REWRITTEN, SEARCHED = 200, 60
 NUMBERS = [(0, 0), (3, 0), (20, 0), (2, 1), (3, 2), (3, 20)]
 
 
-def many_lines(trial, draw, files):
+def many_lines(trial: Trial, draw: Drawing, files: int) -> None:
     """Files of many lines, rewritten and searched, of which the last line is damaged in half of the files. A run of the program is the longest
     part of most comparisons, and here one serves for all the lines."""
     for at in range(files):
@@ -27,7 +28,7 @@ def many_lines(trial, draw, files):
         trial.compare("many lines, searched", words, with_damage(draw, lines))
 
 
-def with_damage(draw, lines):
+def with_damage(draw: Drawing, lines: list[str]) -> bytes:
     """Lines as input, the last one damaged in half of the cases."""
     *whole, last = (line.encode() for line in lines)
     return b"\n".join([*whole, draw.damaged(last) if draw.random() < 0.5 else last])

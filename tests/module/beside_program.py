@@ -3,10 +3,10 @@
 
     tests/module/beside_program.py PROGRAM MODULE SEED SCALE
 
-The draws are those by which the program is compared with the independent model
-(tests/model/against.py), some 4,000 at scale 0.25, each called with room that grows and with room of a drawn size, and then by a call for
-each line of its input, which is a string or bytes of a drawn form, a quarter of them in a worker. The last line is `N passed, M failed`, by kinds of calls, and the status is 1 if M
-isn't 0.
+The draws are those by which the program is compared with the independent model (tests/model/against.py), some 4,000 at scale 0.25, and files
+of many lines. Each is called with room that grows and with room of a drawn size, and then by a call for each line of its input, which is a
+string or bytes of a drawn form, a quarter of them in a worker. The last line is `N passed, M failed`, by kinds of calls, and the status is 1
+if M isn't 0.
 """
 import base64
 import json
@@ -15,6 +15,7 @@ import random
 import re
 import subprocess
 import sys
+from typing import Any
 
 HERE = os.path.dirname(os.path.abspath(__file__))
 sys.path.insert(0, os.path.join(os.path.dirname(HERE), "model"))
@@ -22,8 +23,10 @@ sys.path.insert(0, os.path.join(os.path.dirname(HERE), "model"))
 import against
 from beside import Beside, many_lines
 from drawing import Drawing
+from model import Answer
 
-
+# a value of JSON with names
+Value = dict[str, Any]
 # the calls on a line, by the program's words for them, and how many words each command has before its line
 REWRITINGS = {"invert": "invert", "unniss": "unniss", "cleanup": "cleanup", "print": "facelets"}
 WORDS_OF_SEARCHES = {"solve": 3, "count": 3, "near": 4}
@@ -36,39 +39,41 @@ FORMS = ("string", "array", "part", "buffer", "shared")
 CALLS = (*REWRITINGS.values(), "solve", "count", "scramble", "scrambles", "steps")
 
 
-def to_base64(data):
+def to_base64(data: bytes) -> str:
     """Bytes as text."""
     return base64.b64encode(data).decode("ascii")
 
 
-def lines_in(data):
+def lines_in(data: bytes) -> list[bytes]:
     """The lines of an input, whose last one may have no line feed."""
     lines = data.split(b"\n")
     return lines if lines[-1] else lines[:-1]
 
 
-def fault_in(err, step):
+def fault_in(err: bytes, step: str | None) -> tuple[int, Value]:
     """The number of the line that the program's error text is on, and the fault that a call on it throws. A search is by this step."""
-    line, column, text = FAULT.fullmatch(err).groups()
+    found = FAULT.fullmatch(err)
+    assert found is not None
+    line, column, text = found.groups()
     words, place = text.decode(), int(column) if column else None
     start = words[: -len(START)] if words.endswith(START) else None
-    message = words if start else "column %d: %s" % (place, words)
+    message = words if start else "column %s: %s" % (place, words)
     return int(line), {"text": words, "column": place, "step": step if start else None, "start": start, "message": message}
 
 
-def count_in(line):
+def count_in(line: str) -> Value:
     """A line of `count` as a value."""
     _, length, _, solutions, _, nodes = line.split()
     return {"length": None if length == "none" else int(length), "solutions": int(solutions), "nodes": int(nodes)}
 
 
-def solutions_in(block):
+def solutions_in(block: list[str]) -> list[Value]:
     """The lines of `solve` and `near` for one line as values."""
     pairs = [line.rpartition("(") for line in block if not line.startswith("no solution within ")]
     return [{"moves": moves.rstrip(), "length": int(length[:-1])} for moves, _, length in pairs]
 
 
-def values_of(words, out):
+def values_of(words: list[str], out: bytes) -> list[Any]:
     """What the program wrote for each line of its input, as the calls return it."""
     text = out.decode()
     if words[0] in REWRITINGS:
@@ -81,28 +86,31 @@ def values_of(words, out):
 class BesideModule(Beside):
     """Calls of the module, compared with the program's answers."""
 
-    def __init__(self, program, seed, module):
+    def __init__(self, program: str, seed: int, module: str) -> None:
         super().__init__(program, seed)
         self.draws = random.Random(seed)
         words = ["node", os.path.join(HERE, "calls.mjs"), module]
         self.node = subprocess.Popen(words, stdin=subprocess.PIPE, stdout=subprocess.PIPE, text=True)
+        assert self.node.stdin is not None and self.node.stdout is not None
+        self.asking, self.answers = self.node.stdin, self.node.stdout
 
-    def ask(self, asked):
+    def ask(self, asked: Value) -> Value:
         """What node answers."""
-        print(json.dumps(asked), file=self.node.stdin, flush=True)
-        return json.loads(self.node.stdout.readline())
+        print(json.dumps(asked), file=self.asking, flush=True)
+        answer: Value = json.loads(self.answers.readline())
+        return answer
 
-    def call(self, words, data, room=None):
+    def call(self, words: list[str], data: bytes, room: int | None = None) -> tuple[bytes, bytes, int, bool]:
         listed = [to_base64(word.encode("utf-8", "surrogateescape")) for word in words]
         answer = self.ask({"words": listed, "input": to_base64(data), "room": room})
         return base64.b64decode(answer["out"]), base64.b64decode(answer["err"]), answer["status"], answer["full"]
 
-    def compare_call(self, words, data, call, values, wanted):
+    def compare_call(self, words: list[str], data: bytes, call: str, values: list[Any], wanted: Value) -> None:
         """One call by its name, some in a worker."""
         got = self.ask({"call": call, "values": values, "inWorker": self.draws.random() < 0.25})
         self.check("call: " + call, words, data, got, wanted)
 
-    def compare_further(self, words, data, expected):
+    def compare_further(self, words: list[str], data: bytes, expected: Answer) -> None:
         out, err, status = expected
         if not words or status not in (0, 1):
             return
@@ -116,9 +124,9 @@ class BesideModule(Beside):
         elif words[0] == "steps":
             self.compare_call(words, data, "steps", [], {"value": out.decode().split("\n")[:-1]})
 
-    def compare_lines(self, words, data, out, err):
+    def compare_lines(self, words: list[str], data: bytes, out: bytes, err: bytes) -> None:
         """A call for each line that the program came to."""
-        faulty, fault = fault_in(err, *words[1:2] or [None]) if err else (0, None)
+        faulty, fault = fault_in(err, words[1] if len(words) > 1 else None) if err else (0, None)
         values = values_of(words, out)
         for number, line in enumerate(lines_in(data)[: faulty or None], 1):
             wanted = {"fault": fault} if number == faulty else {"value": values[number - 1]}
@@ -128,7 +136,7 @@ class BesideModule(Beside):
             else:
                 self.compare_search(words, line, given, wanted)
 
-    def compare_count(self, words, line, values, wanted, found):
+    def compare_count(self, words: list[str], line: bytes, values: list[Any], wanted: Value, found: list[Value]) -> None:
         """A count of a search whose solutions are known; the program doesn't say how many positions it looked at."""
         got = self.ask({"call": "count", "values": values, "inWorker": self.draws.random() < 0.25})
         counted = {"value": {"length": found[0]["length"] if found else None, "solutions": len(found)}} if "value" in wanted else wanted
@@ -136,7 +144,7 @@ class BesideModule(Beside):
             del got["value"]["nodes"]
         self.check("call: count", words, line, got, counted)
 
-    def compare_search(self, words, line, given, wanted):
+    def compare_search(self, words: list[str], line: bytes, given: Value, wanted: Value) -> None:
         """A search of a line, with the greatest number of solutions drawn."""
         within = {"limit": int(words[2]), "slack": int(words[3]) if words[0] == "near" else 0}
         if words[0] == "count":
@@ -150,7 +158,7 @@ class BesideModule(Beside):
         self.compare_call(words, line, "solve", [words[1], given, {**within, "most": most}], first)
 
 
-def main():
+def main() -> None:
     """Draws all kinds and reports."""
     if len(sys.argv) != 5:
         sys.exit(__doc__)
@@ -160,7 +168,7 @@ def main():
     against.all_kinds(trial, Drawing(int(seed)), float(scale))
     against.scrambles(trial, Drawing(int(seed) + 1), int(SCRAMBLES * float(scale)))
     many_lines(trial, Drawing(int(seed) + 2), int(FILES * float(scale)))
-    trial.node.stdin.close()
+    trial.asking.close()
     trial.awaits("node ends", *("call: " + call for call in CALLS))
     trial.check("node ends", [], b"", trial.node.wait(), 0)
     sys.exit(trial.report())
