@@ -190,7 +190,7 @@ def after_orientation(tally: Tally, browser: Browser) -> None:
     tally.equal("by all moves", [row[0] for row in rows], sorted(row[0] for row in rows))
     filters_reductions(tally, browser, rows)
     browser.act("#best-body .take")
-    tally.equal("the first finishes", browser.text("finished"), f"{rows[0][2]} is reached: {rows[0][0]} moves. nissy has no step after a DR.")
+    tally.equal("the first finishes", browser.text("finished"), f"{rows[0][2]} is reached: {rows[0][0]} moves. nissy has no step after a DR: go on by hand.")
     tally.equal("then there is no best", browser.script("return document.getElementById('best').checkVisibility()"), False)
 
 

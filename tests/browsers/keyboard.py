@@ -97,7 +97,7 @@ def reduce(tally: Tally, browser: Browser) -> None:
     browser.press(Keys.ENTER)
     browser.wait()
     shows_skeleton(tally, browser, "a reduction", f"({FIRST}) {listed[0]}")
-    tally.equal("it is said to be finished", browser.text("finished"), "DR F/B is reached: 10 moves. nissy has no step after a DR.")
+    tally.equal("it is said to be finished", browser.text("finished"), "DR F/B is reached: 10 moves. nissy has no step after a DR: go on by hand.")
     shows(tally, browser, "a reduction", Position(SCRAMBLE, listed[0], FIRST))
 
 

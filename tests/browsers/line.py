@@ -220,7 +220,7 @@ def solved(tally: Tally, browser: Browser) -> None:
         browser.text("reached"),
         "Reached: EO F/B EO R/L EO U/D DR U/D DR R/L DR F/B",
     )
-    for steps, said in (("normal.R2", "DR U/D, DR R/L and DR F/B are reached: 1 move. nissy has no step after a DR."),
+    for steps, said in (("normal.R2", "DR U/D, DR R/L and DR F/B are reached: 1 move. nissy has no step after a DR: go on by hand."),
             ("normal.U2", "Solved: 1 move."),
             ("inverse.U~normal.U-", "Solved: 2 moves.")):
         browser.open(f"#scramble=U2&steps={steps}")

@@ -73,6 +73,21 @@ def presses(tally: Tally, browser: Browser) -> None:
     tally.holds("and their whole row is pressed", "take" in browser.script(hit))
 
 
+def has_heads(tally: Tally, browser: Browser) -> None:
+    """On a phone what stands beside a heading has no line of its own, though the heading may have two."""
+    beside = """return [...document.querySelectorAll('.head')].flatMap((head) => {
+        const { bottom } = head.querySelector('h2').getBoundingClientRect();
+        return [...head.querySelectorAll('button, select')].filter((each) => each.checkVisibility()
+            && each.getBoundingClientRect().top > bottom).map((each) => each.id || each.ariaLabel);
+    })"""
+    for width in (390, 320):
+        browser.command("Emulation.setDeviceMetricsOverride", width=width, height=800, deviceScaleFactor=1, mobile=False)
+        browser.open(SCRAMBLE + "&steps=inverse.B_D_R_F2_B_D&list=drfb-eoud.inverse.0")
+        browser.wait_best()
+        tally.equal(f"{width}: what stands below a heading", browser.script(beside), [])
+    browser.command("Emulation.setDeviceMetricsOverride", width=360, height=800, deviceScaleFactor=1, mobile=False)
+
+
 def has_two_lines(tally: Tally, browser: Browser) -> None:
     """On a phone a row of the best has two lines at most, however long its moves are; nothing in it stands on something else."""
     for after in ("", "&steps=inverse.B_D_R_F2_B_D"):
@@ -130,7 +145,7 @@ def places(tally: Tally, browser: Browser, width: int, height: int) -> None:
 def try_all(tally: Tally, browser: Browser) -> None:
     """At 360 points of width, and what is in view at 1200 too."""
     browser.command("Emulation.setDeviceMetricsOverride", width=360, height=800, deviceScaleFactor=1, mobile=False)
-    presses(tally, browser)
-    has_two_lines(tally, browser)
+    for part in (presses, has_heads, has_two_lines):
+        part(tally, browser)
     for width, height in ((1200, 900), (360, 800)):
         places(tally, browser, width, height)

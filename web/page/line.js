@@ -38,7 +38,7 @@ function endOf({ parts, letters, reached, totals }) {
     if (isSolved(letters.at(-1))) return `Solved: ${total}.`;
     if (!isReduced(reached.at(-1))) return "";
     const states = statesOf(reached.at(-1)).filter((state) => state.startsWith("DR"));
-    return `${listed(states)} ${states.length === 1 ? "is" : "are"} reached: ${total}. nissy has no step after a DR.`;
+    return `${listed(states)} ${states.length === 1 ? "is" : "are"} reached: ${total}. nissy has no step after a DR: go on by hand.`;
 }
 
 /**
