@@ -56,10 +56,10 @@ struct count {
 };
 
 // Which solutions a search is for: those of at most `limit` turns that are at most `slack` turns longer than the shortest, and no more than
-// `most` of them.
+// `most` of them. Numbers are wide, here and below, so that one out of its range is told and not cut to one that is in it.
 struct search {
-    int limit = 20;
-    int slack = 0;
+    std::int64_t limit = 20;
+    std::int64_t slack = 0;
     std::uint64_t most = std::numeric_limits<std::uint64_t>::max();
 };
 
@@ -74,11 +74,10 @@ inline std::uint8_t *bytes(std::string &text) {
     return reinterpret_cast<std::uint8_t *>(text.data());
 }
 
-// The text of a call that writes one into so much room, or an exception for its status.
+// The text of a call that writes one into so much room, and that nothing can be wrong with.
 template <typename Call> std::string text_of(Call call) {
     std::string out(NISSY_LINE_ROOM, '\0');
     const nissy_line_answer answer = call(bytes(out), out.size());
-    if (answer.status == NISSY_USAGE) throw std::out_of_range("nissy: a number is out of its range");
     out.resize(answer.length);
     return out;
 }
@@ -105,9 +104,15 @@ inline std::string rewritten(line_call *call, std::string_view line) {
 }
 
 // A number from 0 to 20 as the library takes it.
-inline std::uint8_t turns(int number, const char *name) {
+inline std::uint8_t turns(std::int64_t number, const char *name) {
     if (number < 0 || number > 20) throw std::out_of_range(std::string("nissy: ") + name + " isn't 0 to 20");
     return static_cast<std::uint8_t>(number);
+}
+
+// A number of at most this one as the library takes it.
+inline std::uint32_t at_most(std::uint32_t most, std::uint64_t number) {
+    if (number > most) throw std::out_of_range("nissy: a number is out of its range");
+    return static_cast<std::uint32_t>(number);
 }
 
 using kept_tables = std::map<std::string, nissy_tables, std::less<>>;
@@ -161,17 +166,18 @@ inline std::string cleanup(std::string_view line) { return detail::rewritten(nis
 inline std::string facelets(std::string_view line) { return detail::rewritten(nissy_print, line); }
 
 // The first scramble of this length, at most 256 turns, of the generator that begins with this state and stream: what `scrambles` begins with.
-inline std::string scramble(std::uint64_t state, std::uint64_t stream, std::uint32_t length) {
-    return detail::text_of([=](std::uint8_t *out, std::size_t room) { return nissy_scramble(state, stream, length, out, room); });
+inline std::string scramble(std::uint64_t state, std::uint64_t stream, std::uint64_t length) {
+    const std::uint32_t turns = detail::at_most(256, length);
+    return detail::text_of([=](std::uint8_t *out, std::size_t room) { return nissy_scramble(state, stream, turns, out, room); });
 }
 
 // `count` scrambles of this length, at most 10,000, all of the generator that begins with this state and stream, as the program makes them.
-inline std::vector<std::string> scrambles(std::uint64_t state, std::uint64_t stream, std::uint32_t length, std::uint32_t count) {
+inline std::vector<std::string> scrambles(std::uint64_t state, std::uint64_t stream, std::uint64_t length, std::uint64_t count) {
     constexpr std::size_t MOST_OF_TURN = 3; // bytes of a turn, with the blank or the line feed behind it
-    if (length > 256 || count > 10000) throw std::out_of_range("nissy: a number is out of its range");
+    const std::size_t room = detail::at_most(10000, count) * (detail::at_most(256, length) * MOST_OF_TURN + 1);
     std::string words = "scramble";
-    for (const std::uint64_t number : {state, stream, std::uint64_t{length}, std::uint64_t{count}}) words += '\0' + std::to_string(number);
-    std::string out(count * (length * MOST_OF_TURN + 1), '\0');
+    for (const std::uint64_t number : {state, stream, length, count}) words += '\0' + std::to_string(number);
+    std::string out(room, '\0');
     const nissy_run_answer answer =
         nissy_run(detail::bytes(std::string_view(words)), words.size(), nullptr, 0, detail::bytes(out), out.size(), nullptr, 0);
     if (answer.status != NISSY_DONE) throw std::bad_alloc();
@@ -207,7 +213,7 @@ public:
     }
 
     // How many solutions solve gives if there is no `most`. A number above 2^64 - 1 is told as that.
-    nissy::count count(std::string_view line, int limit = 20, int slack = 0) const {
+    nissy::count count(std::string_view line, std::int64_t limit = 20, std::int64_t slack = 0) const {
         const nissy_count_answer answer = nissy_count(&kept_->second, detail::bytes(line), line.size(), detail::turns(limit, "limit"),
                                                       detail::turns(slack, "slack"));
         end_unless_searched(answer.status, answer.fault, answer.column);

@@ -89,6 +89,19 @@ void misuse_is_thrown() {
         throws<std::out_of_range>([&] { tables.count("F", number); }, "a limit");
         throws<std::out_of_range>([&] { tables.count("F", 20, number); }, "a slack");
     }
+    // of these the last 32 bits alone are in the range
+    for (const std::int64_t number : {std::int64_t{1} << 32, (std::int64_t{1} << 32) + 1, std::numeric_limits<std::int64_t>::min()}) {
+        nissy::search far, wide;
+        far.limit = number, wide.slack = number;
+        throws<std::out_of_range>([&] { tables.solve("F", far); }, "a limit of 64 bits");
+        throws<std::out_of_range>([&] { tables.solve("F", wide); }, "a slack of 64 bits");
+        throws<std::out_of_range>([&] { tables.count("F", number); }, "a limit of 64 bits");
+        throws<std::out_of_range>([&] { tables.count("F", 20, number); }, "a slack of 64 bits");
+        const auto length = static_cast<std::uint64_t>(number);
+        throws<std::out_of_range>([&] { nissy::scramble(1, 2, length); }, "a length of 64 bits");
+        throws<std::out_of_range>([&] { nissy::scrambles(1, 2, length, 1); }, "a length of 64 bits");
+        throws<std::out_of_range>([&] { nissy::scrambles(1, 2, 3, length); }, "a count of 64 bits");
+    }
     throws<std::out_of_range>([] { nissy::scramble(1, 2, 257); }, "a scramble of 257 turns");
     throws<std::out_of_range>([] { nissy::scrambles(1, 2, 257, 1); }, "scrambles of 257 turns");
     throws<std::out_of_range>([] { nissy::scrambles(1, 2, 0xffffffff, 0); }, "scrambles of as many turns as there may be");
