@@ -59,14 +59,14 @@ static void words_take_a_block_each(void) {
     }
 }
 
-/* A line of words that is too long takes no block; the words do, and their list. */
-static void long_words_are_given_back(void) {
-    size_t length = sizeof "invert" + NISSY_MOST_INPUT;
+/* A line of words that is too long takes no block, nor do the tables of a search on it; the words do, and their list. */
+static void long_words_are_given_back(const char *command, size_t command_length, long blocks) {
+    size_t length = command_length + NISSY_MOST_INPUT;
     char *words = malloc(length);
     if (!words) exit(2);
     memset(words, ' ', length);
-    memcpy(words, "invert", sizeof "invert");
-    run_row row = {words, length, "", NISSY_STOPPED, "", TOO_LONG, 3};
+    memcpy(words, command, command_length);
+    run_row row = {words, length, "", NISSY_STOPPED, "", TOO_LONG, blocks};
     answers_however_it_ends(&row);
     free(words);
 }
@@ -135,7 +135,8 @@ int main(void) {
     }
     holds(most > 4, "a run takes memory for words and tables", "all runs");
     words_take_a_block_each();
-    long_words_are_given_back();
+    long_words_are_given_back(WORDS("invert"), 3);
+    long_words_are_given_back(WORDS("solve\0eofb\0" "20"), 5);
     all_builds();
     others_take_none();
     return ended();
