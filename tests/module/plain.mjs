@@ -167,6 +167,18 @@ async function trySearches() {
   same("a copy of the struct", count(base + 400, "R U F", 20, 0), [0, 0, 1, 0, 2, 20]);
 }
 
+/** Tables of a step that are there already: they are built anew, in the new room. */
+async function tryBuildingAgain() {
+  const place = await placed();
+  const { base, bytes, number } = place;
+  const [tables, first, second] = [320, 4096, 4096 + SMALL + LARGE].map((at) => base + at);
+  bytes.fill(0, tables, tables + 16);
+  const stand = (blocks) => number(tables) >= blocks + SMALL && number(tables) < blocks + SMALL + LARGE;
+  const wanted = { status: 0, rooms: [0, 0], isBuilt: true };
+  same("tables in a room", [built(place, tables, "eofb", first), stand(first), stand(second)], [wanted, true, false]);
+  same("those of the same step in another", [built(place, tables, "eofb", second), stand(first), stand(second)], [wanted, false, true]);
+}
+
 /** The calls that write a line: status, fault, column, text, and that nothing else is written. */
 async function tryLines() {
   const { exports, base, bytes, view, number } = await placed();
@@ -199,5 +211,6 @@ const call = await runner();
 tryRuns(call);
 tryRooms(call);
 await trySearches();
+await tryBuildingAgain();
 await tryLines();
 ended();
