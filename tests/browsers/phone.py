@@ -1,4 +1,6 @@
 """What a finger does on a phone: the first tap after the scramble was edited, another scramble beside lines that are kept, undo, edits."""
+import re
+
 from browser import Browser
 from selenium.webdriver.common.keys import Keys
 from steps import ADDRESS, SCRAMBLE
@@ -172,11 +174,11 @@ def is_whole(tally: Tally, browser: Browser) -> None:
         .filter((each) => each.scrollWidth > each.clientWidth).map((each) => each.id)"""
     tally.equal("buttons that are narrower than their words", browser.script(narrow), [])
     browser.open(f"{ADDRESS}&steps=normal.D2_R2_L_U")
-    apart = """return [...document.querySelectorAll('#steps-body small')].filter((each) => {
-        const found = /[0-9,]+.solutions?$/.exec(each.textContent), range = document.createRange();
-        if (!found) return false;
-        range.setStart(each.firstChild, found.index);
-        range.setEnd(each.firstChild, found.index + found[0].length);
+    words = browser.texts("#steps-body .together")
+    tally.holds(f"numbers of solutions: {words}", words and all(re.fullmatch(r"[0-9,]+ solutions?", each) for each in words))
+    apart = """return [...document.querySelectorAll('#steps-body .together')].filter((each) => {
+        const range = document.createRange();
+        range.selectNodeContents(each);
         return range.getClientRects().length > 1;
     }).map((each) => each.textContent)"""
     tally.equal("numbers on another line than their word", browser.script(apart), [])

@@ -22,9 +22,8 @@ import { watched } from "./watch.js";
 /** How many rows are kept. */
 export const MOST_KEPT = 10000;
 
-/** The same order each time, whichever worker tells of its rows first.
- * @param {Row} one @param {Row} other */
-export const byTotal = (one, other) => one.total - other.total || one.length - other.length || byCase(one, other) || byState(one, other);
+/** @param {Row} one @param {Row} other */
+export const byTotal = (one, other) => one.total - other.total || one.length - other.length || byCase(one, other);
 
 /** How far the case of a row is.
  * @param {Row} row */
@@ -33,16 +32,18 @@ const farness = ({ next }) => (next === null ? 0 : next.far);
 /** @param {Row} one @param {Row} other */
 export const byCase = (one, other) => farness(one) - farness(other);
 
-/** @param {Row} one @param {Row} other */
-const byState = (one, other) => Number(one.state > other.state) - Number(one.state < other.state);
+/** The best of some rows, of which those that are as good stay in their order.
+ * @param {Row[]} rows @returns {Row[]} */
+const bestOf = (rows) => rows.sort(byTotal).slice(0, MOST_KEPT);
 
-/** Puts new rows among sorted ones.
- * @param {Row[]} rows @param {Row[]} added @returns {Row[]} */
-function withRows(rows, added) {
-    if (added.length === 0) return rows;
+/** What was found on all axes as one list. It is the same whichever worker tells first.
+ * @param {Row[][]} lists of the axes @returns {Row[]} */
+function joinedRows(lists) {
+    const rows = lists.flat().sort(byTotal);
+    if (rows.length === 0 || rows[0].next !== null) return rows;
     // where two orientations hold, a reduction may follow each of them
-    const known = added[0].next === null ? new Set(rows.map(({ key }) => key)) : new Set();
-    return [...rows, ...added.filter(({ key }) => !known.has(key))].sort(byTotal);
+    const known = new Set();
+    return rows.filter(({ key }) => !known.has(key) && known.add(key));
 }
 
 /**
@@ -53,17 +54,21 @@ export async function findContinuations(finders, question, tellProgress) {
     const held = ORIENTATIONS.filter(({ name }) => question.reached.includes(name));
     const asked = held.length > 0 ? held : ORIENTATIONS;
     const counts = asked.map(() => ({ done: 0, all: null }));
-    let [rows, isCut] = [[], false];
+    /** @type {Row[][]} */
+    const lists = asked.map(() => []);
+    let isCut = false;
     const tell = () => {
+        const rows = joinedRows(lists);
+        isCut ||= rows.length > MOST_KEPT;
+        rows.length = Math.min(rows.length, MOST_KEPT);
         const done = counts.reduce((sum, each) => sum + each.done, 0);
         const all = counts.some((each) => each.all === null) ? null : counts.reduce((sum, each) => sum + each.all, 0);
         tellProgress({ done, all, rows, isCut });
     };
     await Promise.all(asked.map((step, at) => finders[ORIENTATIONS.indexOf(step)].find(step.name, question, (found) => {
         counts[at] = found;
-        rows = withRows(rows, found.rows);
-        isCut ||= found.isCut || rows.length > MOST_KEPT;
-        rows.length = Math.min(rows.length, MOST_KEPT);
+        lists[at] = bestOf([...lists[at], ...found.rows]);
+        isCut ||= found.isCut;
         tell();
     })));
 }
