@@ -16,7 +16,7 @@
 #define NISSY_H
 
 /* The version of this header and of the library that it comes with. */
-#define NISSY_VERSION "1.4.0"
+#define NISSY_VERSION "1.5.0"
 
 #include <stdbool.h>
 #include <stddef.h>

@@ -26,7 +26,7 @@ export { EngineMissing, NissyFault, NoWebAssembly, Stopped } from "./faults.js";
 /** @typedef {import("./requests.js").Within} Within */
 
 /** The version of the scripts, and of the module that comes with them. */
-export const VERSION = "1.4.0";
+export const VERSION = "1.5.0";
 
 /** What it was called while the module needed 64-bit memories. @deprecated */
 export const NoWideMemory = NoWebAssembly;
