@@ -15,8 +15,10 @@
 #ifndef NISSY_H
 #define NISSY_H
 
-/* The version of this header and of the library that it comes with. */
+/* The version of this header and of the library that it comes with; and as one number, such as 10200 for 1.2.0, for #if. nissy_version
+ * returns that of the library that runs. */
 #define NISSY_VERSION "1.5.0"
+#define NISSY_VERSION_NUMBER 10500
 
 #include <stdbool.h>
 #include <stddef.h>

@@ -31,21 +31,33 @@ namespace nissy {
 // A line that can't be read, or on whose cube a step may not start. what() says both place and fault.
 class fault : public std::runtime_error {
 public:
-    fault(const std::string &what, nissy_fault code, std::size_t column) : std::runtime_error(what), code_(code), column_(column) {}
+    // by the program's words for it, such as "not a move"
+    fault(nissy_fault code, std::size_t column, const std::string &text)
+        : std::runtime_error(place_of(column) + text), code_(code), column_(column), place_(place_of(column).size()) {}
 
     nissy_fault code() const noexcept { return code_; }
     // the place of the fault in bytes, from 1; 0 of NISSY_START
     std::size_t column() const noexcept { return column_; }
+    // what is wrong, without the place; a view into what()
+    std::string_view text() const noexcept { return std::string_view(what()).substr(place_); }
+    // the step that would have to hold, with which text() begins; empty but of NISSY_START
+    std::string_view start() const noexcept { return code_ == NISSY_START ? text().substr(0, text().find(' ')) : std::string_view(); }
 
 private:
+    static std::string place_of(std::size_t column) { return column ? "nissy: column " + std::to_string(column) + ": " : "nissy: "; }
+
     nissy_fault code_;
     std::size_t column_;
+    std::size_t place_; // where text() begins in what(): a copy of an exception mustn't throw, as that of a string of its own may
 };
 
 // One solution.
 struct solution {
     std::string moves;
     int length;
+
+    friend bool operator==(const solution &one, const solution &other) { return one.moves == other.moves && one.length == other.length; }
+    friend bool operator!=(const solution &one, const solution &other) { return !(one == other); }
 };
 
 // How many solutions there are.
@@ -53,6 +65,11 @@ struct count {
     std::optional<int> length; // that of the shortest
     std::uint64_t solutions;
     std::uint64_t nodes; // the positions that the search looked at
+
+    friend bool operator==(const count &one, const count &other) {
+        return one.length == other.length && one.solutions == other.solutions && one.nodes == other.nodes;
+    }
+    friend bool operator!=(const count &one, const count &other) { return !(one == other); }
 };
 
 // Which solutions a search is for: those of at most `limit` turns that are at most `slack` turns longer than the shortest, and no more than
@@ -90,7 +107,7 @@ inline void end_unless_read(int status, int code, std::size_t column) {
     if (status == NISSY_STOPPED) throw std::length_error("nissy: line longer than 16777216 bytes");
     if (status != NISSY_FAULT) return;
     const auto fault_code = static_cast<nissy_fault>(code);
-    throw fault("nissy: column " + std::to_string(column) + ": " + text_of(fault_code), fault_code, column);
+    throw fault(fault_code, column, text_of(fault_code));
 }
 
 using line_call = nissy_line_answer(const std::uint8_t *, std::size_t, std::uint8_t *, std::size_t);
@@ -229,7 +246,7 @@ private:
         const std::string start = detail::text_of([this](std::uint8_t *out, std::size_t room) {
             return nissy_start(detail::bytes(std::string_view(step())), step().size(), out, room);
         });
-        throw fault("nissy: " + start + " " + detail::text_of(NISSY_START), NISSY_START, 0);
+        throw fault(NISSY_START, 0, start + " " + detail::text_of(NISSY_START));
     }
 
     const detail::kept_tables::value_type *kept_; // never null

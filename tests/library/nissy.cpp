@@ -52,6 +52,19 @@ template <typename Call> void has_fault(Call call, int code, std::size_t column,
     } catch (const nissy::fault &thrown) {
         holds(thrown.code() == code && thrown.column() == column, "its fault and column", of);
         if (what) holds(std::string_view(thrown.what()) == what, "what it says", of);
+        holds(thrown.start().empty() == (code != NISSY_START), "it has a start exactly if a step may not start", of);
+    }
+}
+
+// A call throws a fault of which text and start are these, also of a copy.
+template <typename Call> void has_words(Call call, const char *text, const char *start, const char *of) {
+    try {
+        call();
+        holds(0, "it throws", of);
+    } catch (const nissy::fault &thrown) {
+        const nissy::fault copy = thrown;
+        holds(copy.text() == text, "its text", of);
+        holds(copy.start() == start, "its start", of);
     }
 }
 
@@ -77,6 +90,17 @@ void faults_are_thrown() {
     has_fault([&] { tables.solve("F"); }, NISSY_START, 0, "nissy: eofb does not hold", "F");
     has_fault([&] { tables.count("F"); }, NISSY_START, 0, "nissy: eofb does not hold", "F");
     has_fault([] { nissy::invert(std::string_view("R\0U", 3)); }, NISSY_NOT_A_MOVE, 2, nullptr, "a zero byte");
+    has_words([] { nissy::unniss("R (U"); }, "bracket not closed", "", "R (U");
+    has_words([&] { tables.solve("F"); }, "eofb does not hold", "eofb", "F");
+    has_words([] { nissy::tables("drrl-eoud").count("U"); }, "eoud does not hold", "eoud", "U");
+}
+
+void values_are_compared() {
+    const nissy::tables tables("eofb");
+    holds(tables.solve("F B") == tables.solve("B F") && tables.solve("F") != tables.solve("F B"), "solutions", "eofb");
+    holds(nissy::solution{"R", 1} != nissy::solution{"L", 1} && nissy::solution{"R", 1} != nissy::solution{"R", 2}, "one solution", "R");
+    holds(tables.count("F") == nissy::count{1, 2, 20} && tables.count("F") != nissy::count{1, 2, 21}, "counts", "F");
+    holds(tables.count("F") != nissy::count{2, 2, 20} && tables.count("F") != nissy::count{1, 3, 20}, "another count", "F");
 }
 
 void misuse_is_thrown() {
@@ -199,12 +223,13 @@ int main() {
     for (const search_row &row : SEARCHES) solves(nissy::tables(row.step), row);
     lines_are_rewritten();
     faults_are_thrown();
+    values_are_compared();
     misuse_is_thrown();
     refused_memory_is_thrown();
     many_are_whole();
     objects_are_values();
     scrambles_are_drawn();
     holds(nissy::steps().size() == 13 && nissy::steps().front() == "eofb" && nissy::steps().back() == "dr-eoud", "the thirteen", "steps");
-    holds(nissy::version() == nissy_version(), "the library's", "version");
+    holds(nissy::version() == nissy_version() && nissy_version() == NISSY_VERSION_NUMBER, "the library's", "version");
     return ended();
 }
