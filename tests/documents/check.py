@@ -21,8 +21,9 @@ from markdown import NAME, Page, cells, rows
 from tally import Tally
 
 PAGES = ("*.md", "docs/*.md", "bench/*.md", "web/*/*.md")
-# most lines that README may have
+# most lines that README may have, and most columns that any page may
 MOST_LINES = 125
+MOST_COLUMNS = 120
 # pages of which each name of code in backquotes must be there, and pages of which each path must
 WITH_NAMES = ("README.md", "docs/ARCHITECTURE.md", "docs/PROMISES.md", "docs/DECISIONS.md")
 WITH_PATHS = ("CONTRIBUTING.md", *WITH_NAMES, "docs/EMBEDDING.md", "bench/README.md", "web/module/README.md")
@@ -48,6 +49,12 @@ def links_and_tables(tally: Tally, pages: list[Page]) -> None:
             tally.holds(f"{page.name}: its table is whole: {row[:80]}", not row)
         for link in page.links():
             tally.holds(f"{page.name}: the link to {link} leads somewhere", page.leads_somewhere(link))
+
+
+def columns(tally: Tally, pages: list[Page]) -> None:
+    """No page has a longer line than one sees at once."""
+    for page in pages:
+        tally.equal(f"{page.name}: its lines of more than {MOST_COLUMNS} columns", page.longer_lines(MOST_COLUMNS), [])
 
 
 def readme(tally: Tally, page: Page) -> None:
@@ -194,7 +201,9 @@ def main() -> None:
         print("\n".join(unlike), end="\n" if unlike else "")
         sys.exit(1 if unlike else 0)
     tally = Tally()
-    links_and_tables(tally, [Page(TOP, str(path.relative_to(TOP))) for pattern in PAGES for path in sorted(TOP.glob(pattern))])
+    pages = [Page(TOP, str(path.relative_to(TOP))) for pattern in PAGES for path in sorted(TOP.glob(pattern))]
+    links_and_tables(tally, pages)
+    columns(tally, pages)
     readme(tally, Page(TOP, "README.md"))
     names_of_code(tally, code)
     for what in unlike or [""]:
