@@ -122,7 +122,7 @@ async function tryTraps(nissy) {
   tryDeepCalls(() => nissy.count("eofb", "R U F"), () => isRight(nissy));
   for (const [what, code] of [
     ["a search", 'nissy.count("eo", "R U F2 L D R B", { slack: 12 })'],
-    ["tables", "for (;;) { nissy.count('dr-eoud', 'U'); nissy.count('dr-eorl', 'U'); nissy.count('dr-eofb', 'U') }"],
+    ["tables", "for (;;) { nissy.count('dr-eoud', 'R'); nissy.count('dr-eorl', 'U'); nissy.count('dr-eofb', 'U') }"],
   ]) {
     await tryCutOff(what, nissy, code, [1, 5, 20, 60], () => isRight(nissy));
   }
