@@ -23,7 +23,7 @@ sys.path[:0] = [os.path.join(TOP, "python"), os.path.join(TOP, "tests", "model")
 
 import against
 import nissy
-from beside import Beside, many_lines
+from beside import Beside, lines_in, many_lines
 from drawing import Drawing
 from model import Answer
 
@@ -73,12 +73,6 @@ def answered(answers: Iterable[Value], written: Callable[[Value], str]) -> Answe
     except nissy.StartFault as fault:
         return "".join(out).encode(), ("nissy: line %d: %s\n" % (fault.line or len(out) + 1, fault.text)).encode(), 1
     return "".join(out).encode(), b"", 0
-
-
-def lines_in(data: bytes) -> list[bytes]:
-    """The lines of an input, whose last one may have no line feed."""
-    lines = data.split(b"\n")
-    return lines if lines[-1] else lines[:-1]
 
 
 def search_in(words: list[str]) -> tuple[nissy.Step, int, int]:

@@ -28,6 +28,12 @@ def many_lines(trial: Trial, draw: Drawing, files: int) -> None:
         trial.compare("many lines, searched", words, with_damage(draw, lines))
 
 
+def lines_in(data: bytes) -> list[bytes]:
+    """The lines of an input, whose last one may have no line feed."""
+    lines = data.split(b"\n")
+    return lines if lines[-1] else lines[:-1]
+
+
 def with_damage(draw: Drawing, lines: list[str]) -> bytes:
     """Lines as input, the last one damaged in half of the cases."""
     *whole, last = (line.encode() for line in lines)

@@ -21,7 +21,7 @@ HERE = os.path.dirname(os.path.abspath(__file__))
 sys.path.insert(0, os.path.join(os.path.dirname(HERE), "model"))
 
 import against
-from beside import Beside, many_lines
+from beside import Beside, lines_in, many_lines
 from drawing import Drawing
 from model import Answer
 
@@ -42,12 +42,6 @@ CALLS = (*REWRITINGS.values(), "solve", "count", "scramble", "scrambles", "steps
 def to_base64(data: bytes) -> str:
     """Bytes as text."""
     return base64.b64encode(data).decode("ascii")
-
-
-def lines_in(data: bytes) -> list[bytes]:
-    """The lines of an input, whose last one may have no line feed."""
-    lines = data.split(b"\n")
-    return lines if lines[-1] else lines[:-1]
 
 
 def fault_in(err: bytes, step: str | None) -> tuple[int, Value]:
