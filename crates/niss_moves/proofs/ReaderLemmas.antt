@@ -1,6 +1,6 @@
 -- What the reader's answers mean, and what a move that is read at once does.
 use Rattle.niss_moves.proofs.Names.{LastMove, ◌≡◌, ℕ, ◌+◌, refl, ap, sym, ◌∙◌, subst, List, [], ◌∷◌, ◌++◌, length, Option, None, Some}
-use Rattle.niss_moves.proofs.Names.{Result, Ok, Err, arith, length-append, CanContinue, Stops, ReadFault, start, run, ended, ◌<◌, take}
+use Rattle.niss_moves.proofs.Names.{Result, Ok, Err, arith, length-append, CanContinue, Stops, IsReading, ReadFault, start, run, ended, ◌<◌, take}
 use Rattle.niss_moves.proofs.Names.{drop, get_or, inl, inr, ◌≢◌, ◌==◌, ◌||◌, ◌*◌, nat_lt, not, Bool, true, false, count, IsSuffix, IsMove}
 use Rattle.niss_moves.proofs.Names.{BeginsApostrophe, Power, Quarter, Half, Counter, Token, Base, ◌↔◌, IsOk, IfErr, take-add, ap₂}
 use Rattle.niss_moves.proofs.Names.{bool_byte, take_more, AllPass-from_list_all, list_all, lt-ltb, eqb-true, Reader, IsFed}
@@ -8,12 +8,12 @@ use Rattle.niss_moves.specs.Machine.{State, state_or, IsStep, step, and_then, ad
 use Rattle.niss_moves.specs.Line.{Gap, Spelled, token_of, base_bytes, Nothing, Two, Prime, TwoPrime, Blank, blank_byte}
 use Rattle.std.specs.Result.{result_err}
 use Rattle.std.proofs.lemmas.List.Elements.{All-append}
-use Rattle.niss_moves.specs.Reader.{line_of, HasNoLineFeed}
-use Rattle.niss_moves.specs.Reading.{read_line}
+use Rattle.niss_moves.specs.Reader.{line_of, read_line, HasNoLineFeed}
 use Rattle.niss_moves.proofs.Completes.{run-append, run_after, at_fed, run_move}
 use Rattle.niss_moves.proofs.Sound.{can_continue, continued_ok, run_stops, is_plain, plain_pieces}
-use Rattle.niss_moves.proofs.Found.{read_by_run}
 use Rattle.niss_moves.proofs.Finite.{and_right}
+use Rattle.niss_moves.proofs.Reading.{run_reads}
+use Rattle.niss_moves.specs.Line.{Moves}
 
 -- what a caller gets of an outcome
 abbrev pub answer : Result State ReadFault → Result (Unit {0}) ReadFault
@@ -40,8 +40,13 @@ unfolding line_of
 ended_ill r f e = ap (λ o. ended (state_or o r.so_far)) e
 
 pub line_of_fed : (r : Reader) (bytes : List ℕ) → IsFed r bytes → line_of r ≡ read_line bytes
-unfolding line_of
-line_of_fed r bytes h = ap ended h.holds ∙ read_by_run bytes
+unfolding line_of read_line
+line_of_fed r bytes h = ap ended h.holds
+
+-- the line of some bytes is their reading
+pub reads_so : (bytes : List ℕ) (line : Result Moves ReadFault) → line ≡ read_line bytes → IsReading bytes line
+unfolding read_line
+reads_so bytes line e = subst (IsReading bytes) (sym e) (run_reads bytes)
 
 pub ruleset at_the_end = (ended_well, ended_ill)
 

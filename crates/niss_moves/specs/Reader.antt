@@ -3,7 +3,6 @@ use Rattle.std.specs.Prelude.{◌≡◌, ◌≢◌, ℕ, List, length, All, Opti
 use Rattle.niss_moves.specs.Line.{Moves}
 use Rattle.niss_moves.specs.Names.{ReadFault}
 use Rattle.niss_moves.specs.Machine.{State, state_or, start, run, ended}
-pub use Rattle.niss_moves.specs.Reading.{read_line}
 
 -- a reader: how many bytes were fed, the fault of these, and what else it holds of them
 pub record Reader : Type 0 where
@@ -18,6 +17,11 @@ moves_of reader = reader.so_far.moves
 -- the line, if it ends here
 unfoldable pub line_of : Reader → Result Moves ReadFault
 line_of reader = ended (state_or reader.fault reader.so_far)
+
+-- The moves that the bytes spell, if they spell at most 256, and else their fault: what the steps come to. The law
+-- `line_is_read` says it by the grammar.
+unfoldable pub read_line : List ℕ → Result Moves ReadFault
+read_line bytes = ended (run start bytes)
 
 -- these moves, unless there is a fault
 abbrev pub moves_if : Result (Unit {0}) ReadFault → Moves → Result Moves ReadFault

@@ -156,7 +156,7 @@ impl LineReader {
 
 /// The line that the bytes spell, or its fault: the one reading that the grammar has of them. There may be at most
 /// 16,777,216 bytes.
-#[tactic(auto, using(crate::proofs::Found::reads_so))]
+#[tactic(auto, using(crate::proofs::ReaderLemmas::reads_so))]
 pub fn read(bytes: &[u8]) -> Result<Niss, ReadFault>
     requires { length bytes.now ≤ 16777216 }
     ensures reading { IsReading bytes.now result }

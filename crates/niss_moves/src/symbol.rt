@@ -2,7 +2,7 @@
 ghost use Rattle.std.specs.Prelude.{◌≡◌, ◌+◌, ◌≤◌, ◌<◌, IfSome, length, take, slice_index, if◌then◌else◌};
 ghost use Rattle.niss_moves.specs.Line.{base_bytes};
 ghost use Rattle.niss_moves.specs.Helpers.{BeginsApostrophe, IsSuffix, IsMove};
-ghost use Rattle.niss_moves.specs.Reading.{symbol_of};
+ghost use Rattle.niss_moves.specs.Symbols.{symbol_of};
 
 use crate::token::{Base, Slice, Token};
 use crate::turn::{Axis, Face, Power};
