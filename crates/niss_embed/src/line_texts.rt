@@ -2,9 +2,7 @@
 //! called.
 ghost use Rattle.std.specs.Prelude.{◌≡◌, ◌≢◌, ◌+◌, ◌<◌, ◌≤◌, List, ℕ, [], ◌++◌, length, take};
 ghost use Rattle.std.specs.Option.{option_copied};
-ghost use Rattle.niss_moves.specs.Reader.{IsFed};
 ghost use Rattle.niss_shell.specs.Output.{line_text};
-ghost use Rattle.niss_shell.specs.Words.{most_bytes};
 ghost use Rattle.niss_embed.specs.LineCalls.{status_number, Does, Rewrites, outcome_of_text, outcome_of_scramble};
 ghost use Rattle.niss_embed.specs.LineCalls.{outcome_of_steps, outcome_of_start, outcome_of_some, fault_text_of};
 ghost use Rattle.niss_embed.specs.declared.answer.Status.TheVariants.{NoRoom};
@@ -15,36 +13,6 @@ use niss_shell::{MOST_BYTES, Rewriting, rewrite, set_scramble, set_steps, step_n
 
 /// The most turns of a scramble.
 const MOST_TURNS: u32 = 256;
-
-/// Feeds the first bytes, whole moves or one byte, and returns how many.
-fn feed_some(reader: &mut LineReader, bytes: &[u8]) -> usize
-    requires some { 0 < length bytes.now }
-    requires room { reader.old.fed + length bytes.now ≤ most_bytes }
-    ensures some { 0 < result }
-    ensures within { result ≤ length bytes.now }
-    ensures fed { (front : List ℕ) → IsFed reader.old front →
-        IsFed reader.new (front ++ take result bytes.now) }
-{
-    let count = reader.feed_moves(bytes);
-    if count > 0 {
-        return count;
-    }
-    // a fault comes again at the line's end
-    let _ = reader.feed(bytes[0]);
-    1
-}
-
-/// Feeds a whole line to a new reader.
-pub(crate) fn feed_line(reader: &mut LineReader, line: &[u8])
-    requires new { IsFed reader.old [] }
-    requires room { length line.now ≤ most_bytes }
-    ensures { IsFed reader.new line.now }
-{
-    let mut index = 0;
-    while index < line.len() {
-        index += feed_some(reader, &line[index..]);
-    }
-}
 
 /// Writes the text of a line's moves, without the line feed.
 fn put_rewritten(rewriting: Rewriting, line: &Niss, out: &mut [u8]) -> LineAnswer
@@ -66,7 +34,7 @@ pub fn rewrite_line(rewriting: Rewriting, line: &[u8], out: &mut [u8]) -> LineAn
         return LineAnswer::too_long();
     }
     let mut reader = LineReader::new();
-    feed_line(&mut reader, line);
+    reader.feed_all(line);
     match reader.end() {
         Ok(()) => put_rewritten(rewriting, reader.moves(), out),
         Err(fault) => LineAnswer::unread(fault),

@@ -1,5 +1,5 @@
 -- What a reader stands for.
-use Rattle.std.specs.Prelude.{◌≡◌, ◌≢◌, ℕ, List, length, All, Option, Result, Ok, Err}
+use Rattle.std.specs.Prelude.{◌≡◌, ℕ, List, length, Option, Result, Ok, Err}
 use Rattle.niss_moves.specs.Line.{Moves}
 use Rattle.niss_moves.specs.Names.{ReadFault}
 use Rattle.niss_moves.specs.Machine.{State, state_or, start, run, ended}
@@ -33,7 +33,3 @@ moves_if (Err f) m = Err f
 pub record IsFed (reader : Reader) (bytes : List ℕ) : Type 0 where
   pub fed : reader.fed ≡ length bytes
   pub holds : state_or reader.fault reader.so_far ≡ run start bytes
-
--- no byte is a line feed
-abbrev pub HasNoLineFeed : List ℕ → Type 0
-HasNoLineFeed bytes = All (λ b. b ≢ 10) bytes
