@@ -1,11 +1,6 @@
 -- Short texts that have room in 2,048 bytes.
-use Rattle.std.proofs.Common.{◌≡◌, ℕ, zero, suc, ◌+◌, ◌<◌, ◌≤◌, take, drop, Option, Some, List, ◌++◌, length, sym, ap, subst, arith}
-use Rattle.std.specs.List.{between}
+use Rattle.std.proofs.Common.{◌≡◌, ℕ, zero, suc, ◌≤◌, Option, Some, List, length, sym, subst, arith}
 use Rattle.std.specs.Prelude.{IfSome}
-use Rattle.std.proofs.lemmas.Slice.{between_to_end}
-use Rattle.std.proofs.lemmas.List.{length-drop}
-use Rattle.std.proofs.Math.Seq.{take-add}
-use Rattle.niss_moves.specs.Reader.{Reader, IsFed}
 use Rattle.niss_cube.specs.declared.step.Step.TheVariants.{Eofb, Eorl, Eoud, DrudEofb, DrrlEofb, DrudEorl, DrfbEorl}
 use Rattle.niss_cube.specs.declared.step.Step.TheVariants.{DrrlEoud, DrfbEoud, Eo, DrEofb, DrEorl, DrEoud}
 use Rattle.niss_cube.specs.Steps.{start_name_of}

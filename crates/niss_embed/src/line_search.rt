@@ -13,6 +13,7 @@ ghost use Rattle.niss_embed.specs.LineSearch.{SolvesLine, count_at, CountsLine};
 ghost use Rattle.niss_embed.specs.declared.answer.Status.TheVariants.{Done, NoRoom};
 
 use crate::answer::{CountAnswer, SolveAnswer, Status};
+use crate::line_texts::feed_line;
 use crate::memory::put;
 use niss_moves::{LineReader, LineText, Turn};
 use niss_search::laws::first_is_least;
@@ -149,7 +150,7 @@ fn begin<A: Allocator>(tables: &Tables<A>, line: &[u8]) -> Result<Position, Line
         (λ fault. start_cube tables.now (read_line line.now) ≡ Err fault) }
 {
     let mut reader = LineReader::new();
-    reader.feed_all(line);
+    feed_line(&mut reader, line);
     if let Err(fault) = reader.end() {
         return Err(LineFault::Unread(fault));
     }

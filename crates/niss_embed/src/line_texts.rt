@@ -2,7 +2,9 @@
 //! called.
 ghost use Rattle.std.specs.Prelude.{◌≡◌, ◌≢◌, ◌+◌, ◌<◌, ◌≤◌, List, ℕ, [], ◌++◌, length, take};
 ghost use Rattle.std.specs.Option.{option_copied};
+ghost use Rattle.niss_moves.specs.Reader.{IsFed};
 ghost use Rattle.niss_shell.specs.Output.{line_text};
+ghost use Rattle.niss_shell.specs.Words.{most_bytes};
 ghost use Rattle.niss_embed.specs.LineCalls.{status_number, Does, Rewrites, outcome_of_text, outcome_of_scramble};
 ghost use Rattle.niss_embed.specs.LineCalls.{outcome_of_steps, outcome_of_start, outcome_of_some, fault_text_of};
 ghost use Rattle.niss_embed.specs.declared.answer.Status.TheVariants.{NoRoom};
@@ -13,6 +15,15 @@ use niss_shell::{MOST_BYTES, Rewriting, rewrite, set_scramble, set_steps, step_n
 
 /// The most turns of a scramble.
 const MOST_TURNS: u32 = 256;
+
+/// Feeds a whole line to a new reader.
+pub(crate) fn feed_line(reader: &mut LineReader, line: &[u8])
+    requires new { IsFed reader.old [] }
+    requires room { length line.now ≤ most_bytes }
+    ensures { IsFed reader.new line.now }
+{
+    reader.feed_all(line);
+}
 
 /// Writes the text of a line's moves, without the line feed.
 fn put_rewritten(rewriting: Rewriting, line: &Niss, out: &mut [u8]) -> LineAnswer
@@ -34,7 +45,7 @@ pub fn rewrite_line(rewriting: Rewriting, line: &[u8], out: &mut [u8]) -> LineAn
         return LineAnswer::too_long();
     }
     let mut reader = LineReader::new();
-    reader.feed_all(line);
+    feed_line(&mut reader, line);
     match reader.end() {
         Ok(()) => put_rewritten(rewriting, reader.moves(), out),
         Err(fault) => LineAnswer::unread(fault),
