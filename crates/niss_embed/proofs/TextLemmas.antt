@@ -1,31 +1,11 @@
--- A line fed piece by piece, and short texts that have room in 2,048 bytes.
-use Rattle.std.proofs.Common.{◌≡◌, ℕ, zero, suc, ◌+◌, ◌<◌, ◌≤◌, take, drop, Option, Some, List, ◌++◌, length, sym, ap, subst, arith}
-use Rattle.std.specs.List.{between}
+-- Short texts that have room in 2,048 bytes.
+use Rattle.std.proofs.Common.{◌≡◌, ℕ, zero, suc, ◌≤◌, Option, Some, List, length, sym, subst, arith}
 use Rattle.std.specs.Prelude.{IfSome}
-use Rattle.std.proofs.lemmas.Slice.{between_to_end}
-use Rattle.std.proofs.lemmas.List.{length-drop}
-use Rattle.std.proofs.Math.Seq.{take-add}
-use Rattle.niss_moves.specs.Reader.{Reader, IsFed}
 use Rattle.niss_cube.specs.declared.step.Step.TheVariants.{Eofb, Eorl, Eoud, DrudEofb, DrrlEofb, DrudEorl, DrfbEorl}
 use Rattle.niss_cube.specs.declared.step.Step.TheVariants.{DrrlEoud, DrfbEoud, Eo, DrEofb, DrEorl, DrEoud}
 use Rattle.niss_cube.specs.Steps.{start_name_of}
 use Rattle.niss_shell.specs.Names.{Step}
 use Rattle.niss_embed.specs.LineCalls.{fault_text_of}
-
-rest_is : (line : List ℕ) (i : ℕ) → between i (length line) line ≡ drop i line
-rest_is line i = between_to_end line i (length line) (omega arith)
-
--- the next bytes of what is left
-pub fed_more : (reader : Reader) (line : List ℕ) (i k : ℕ) → IsFed reader (take i line ++ take k (between i (length line) line))
-    → IsFed reader (take (i + k) line)
-fed_more reader line i k h =
-    subst (IsFed reader) (sym (take-add i k line))
-    (subst (λ (rest : List ℕ). IsFed reader (take i line ++ take k rest)) (rest_is line i) h)
-
-pub still_within : (line : List ℕ) (i k : ℕ) → i < length line → k ≤ length (between i (length line) line) → i + k ≤ length line
-still_within line i k h l =
-    let e : length (between i (length line) line) ≡ length (drop i line) = ap length (rest_is line i) in
-    omega (arith, e, length-drop i line)
 
 abbrev HasRoom : Option (List ℕ) → Type 0
 HasRoom text = IfSome text (λ bytes. length bytes ≤ 2048)

@@ -16,34 +16,13 @@ use niss_shell::{MOST_BYTES, Rewriting, rewrite, set_scramble, set_steps, step_n
 /// The most turns of a scramble.
 const MOST_TURNS: u32 = 256;
 
-/// Feeds the first bytes, whole moves or one byte, and returns how many.
-fn feed_some(reader: &mut LineReader, bytes: &[u8]) -> usize
-    requires some { 0 < length bytes.now }
-    requires room { reader.old.fed + length bytes.now ≤ most_bytes }
-    ensures some { 0 < result }
-    ensures within { result ≤ length bytes.now }
-    ensures fed { (front : List ℕ) → IsFed reader.old front →
-        IsFed reader.new (front ++ take result bytes.now) }
-{
-    let count = reader.feed_moves(bytes);
-    if count > 0 {
-        return count;
-    }
-    // a fault comes again at the line's end
-    let _ = reader.feed(bytes[0]);
-    1
-}
-
 /// Feeds a whole line to a new reader.
 pub(crate) fn feed_line(reader: &mut LineReader, line: &[u8])
     requires new { IsFed reader.old [] }
     requires room { length line.now ≤ most_bytes }
     ensures { IsFed reader.new line.now }
 {
-    let mut index = 0;
-    while index < line.len() {
-        index += feed_some(reader, &line[index..]);
-    }
+    reader.feed_all(line);
 }
 
 /// Writes the text of a line's moves, without the line feed.

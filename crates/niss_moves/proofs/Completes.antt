@@ -2,15 +2,32 @@
 use Rattle.niss_moves.proofs.Names.{◌≡◌, ℕ, ◌<◌, Bool, true, false, cond, eqb, refl, ap, sym, ◌∙◌, subst, List, [], ◌∷◌, get_or, map, arith}
 use Rattle.niss_moves.proofs.Names.{U, Rl, M, Base, Symbol, append_assoc, append-nil, length-append, ◌+◌, ◌≤◌, ◌++◌, length, flat_map}
 use Rattle.niss_moves.proofs.Names.{Option, None, Some, Result, Ok, Err, face_letter, Whole, piece_moves, start, count, Face, Half, Counter}
-use Rattle.niss_moves.proofs.Names.{Token, LastMove, ReadFault, TooLong, item_bytes, range_with_len, eqb-true, lt-ltb}
-use Rattle.niss_moves.specs.Reading.{symbol_of, bytes_of_a_line, look_up, moves_in}
+use Rattle.niss_moves.proofs.Names.{Token, LastMove, ReadFault, TooLong, NotAMove, Nested, Unopened, ◌-◌, item_bytes, range_with_len, eqb-true, lt-ltb}
+use Rattle.niss_moves.specs.Symbols.{symbol_of, bytes_of_a_line, look_up}
 use Rattle.niss_moves.specs.Line.{piece_bytes, base_bytes, Blank, Space, Tab, Return, blank_byte, token_of, Plain, Typographic, Suffix}
 use Rattle.niss_moves.specs.Line.{Nothing, Two, Prime, TwoPrime, suffix_bytes, suffix_power, Piece, Gap, Spelled, Item, Outside, Bracket}
 use Rattle.niss_moves.specs.Line.{item_normal, item_bracketed, Spells, IsLine, Moves}
 use Rattle.niss_moves.specs.Machine.{State, opened, step_within, cut_of, with_more, added, settled, closed, with_last, fed_to, step_by}
 use Rattle.niss_moves.specs.Machine.{step_at, and_then, run_within}
 use Rattle.std.proofs.lemmas.List.FromFn.{get_or-map-range_with_len}
+use Rattle.niss_moves.specs.Faults.{Cut, cut_length}
 use Rattle.niss_moves.specs.declared.symbol.TheConstants.{SYMBOLS}
+
+-- the moves of items
+abbrev pub moves_in : List Item → Moves
+moves_in xs = record { normal = flat_map item_normal xs; bracketed = flat_map item_bracketed xs }
+
+-- the fault of a symbol that can't stand at a column
+abbrev pub fault_by : Symbol → Bool → ℕ → ReadFault
+fault_by Symbol.Open true column = Nested column
+fault_by Symbol.Close false column = Unopened column
+fault_by (Symbol.Base b) o column = TooLong column
+fault_by _ o column = NotAMove column
+
+-- the fault of a byte that can't: of a U+2019 that it cuts, the first byte
+abbrev pub fault_at : Cut → Bool → ℕ → ℕ → ReadFault
+fault_at Whole o byte column = fault_by (symbol_of byte) o column
+fault_at c o byte column = NotAMove (column - cut_length c)
 
 -- the base that the first byte of a base is by itself
 abbrev pub letter : Base → Base

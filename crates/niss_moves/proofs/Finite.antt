@@ -1,7 +1,7 @@
 -- Truth values, and facts over finite types by a test that is computed over all values.
 use Rattle.niss_moves.proofs.Names.{◌||◌, not}
 use Rattle.niss_moves.proofs.Names.{◌≢◌, ◌↔◌, refl, ap, sym, subst, arith, inl, inr, ◌≡◌, ◌∙◌, ◌<◌, ◌==◌, ℕ, zero, suc, nat_lt, length}
-use Rattle.niss_moves.proofs.Names.{get_or, true, List, [], ◌∷◌, Some, Bool, map, false, ◌&&◌, Option, None, if◌then◌else◌, eqb}
+use Rattle.niss_moves.proofs.Names.{get_or, true, List, [], ◌∷◌, Some, Bool, cond, map, false, ◌&&◌, Option, None, if◌then◌else◌, eqb}
 use Rattle.niss_moves.proofs.Names.{face_order, places, letter_at, Turn, Face, Power, Token, Rotation, U, Quarter, Axis, Ud, Rl, Fb, Slice}
 use Rattle.niss_moves.proofs.Names.{M, E, S, Place, same_face, powers, face_index, power_index, axis_index, layer_index, and_parts}
 use Rattle.niss_moves.proofs.Names.{eqb-true, ltb-true, AllPass-from_list_all, list_any, list_all, pointwise, bytes_decides}
@@ -15,7 +15,7 @@ use Rattle.std.specs.Cmp.{IsEquivalence, booleans_Decides}
 use mathlib.Core.Bool.{beq}
 unfoldable use Rattle.niss_moves.specs.Facelets.{letter_of, letters}
 use Rattle.niss_moves.specs.contracts.turn.Face.{the_type}
-use Rattle.std.specs.Prelude.{Contains, AllPairs}
+use Rattle.std.specs.Prelude.{Contains, AllPairs, find}
 pub use Rattle.std.proofs.lemmas.Bool.{not-true as not_true, and_from as and_both}
 
 pub and_left : (a b : Bool) → (a && b) ≡ true → a ≡ true
@@ -324,3 +324,12 @@ holds (Digits b n f) e = λ ds l r.
     let all = ap (λ n. every_digits b n (λ ds. tested (f ds))) l ∙ e in
     holds (f ds) (at_digits b ds (λ ds. tested (f ds)) all (λ i li. r i (omega (arith, l, li))))
 holds (Truths n f) e = λ bs l. holds (f bs) (at_truths bs (λ bs. tested (f bs)) (ap (λ n. every_truths n (λ bs. tested (f bs))) l ∙ e))
+
+-- What is found passes the test.
+pub find_passes : {X : Type 0} (p : X → Bool) (xs : List X) (x : X) → find p xs ≡ Some x → p x ≡ true
+find_passes p [] x e = cc
+find_passes {X = X} p (y ∷ xs) x e = by_test (p y) refl e (find_passes p xs x)
+  where
+    by_test : (b : Bool) → p y ≡ b → cond b (Some y) (find p xs) ≡ Some x → (find p xs ≡ Some x → p x ≡ true) → p x ≡ true
+    by_test true q e r = let same : y ≡ x = cc in subst (λ (z : X). p z ≡ true) same q
+    by_test false q e r = r e

@@ -7,7 +7,6 @@ pub mod CallerLemmas
 pub mod Completes
 pub mod Sound
 pub mod Reading
-pub mod Found
 pub mod ReaderLemmas
 pub mod Words
 pub mod Home

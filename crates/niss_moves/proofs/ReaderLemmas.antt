@@ -1,19 +1,17 @@
 -- What the reader's answers mean, and what a move that is read at once does.
 use Rattle.niss_moves.proofs.Names.{LastMove, ◌≡◌, ℕ, ◌+◌, refl, ap, sym, ◌∙◌, subst, List, [], ◌∷◌, ◌++◌, length, Option, None, Some}
-use Rattle.niss_moves.proofs.Names.{Result, Ok, Err, arith, length-append, CanContinue, Stops, ReadFault, start, run, ended, ◌<◌, take}
-use Rattle.niss_moves.proofs.Names.{drop, get_or, inl, inr, ◌≢◌, ◌==◌, ◌||◌, ◌*◌, nat_lt, not, Bool, true, false, count, IsSuffix, IsMove}
-use Rattle.niss_moves.proofs.Names.{BeginsApostrophe, Power, Quarter, Half, Counter, Token, Base, ◌↔◌, IsOk, IfErr, take-add, ap₂}
-use Rattle.niss_moves.proofs.Names.{bool_byte, take_more, AllPass-from_list_all, list_all, lt-ltb, eqb-true, Reader, IsFed}
+use Rattle.niss_moves.proofs.Names.{Result, Ok, Err, arith, length-append, CanContinue, Stops, IsReading, ReadFault, start, run, ended, ◌<◌, take}
+use Rattle.niss_moves.proofs.Names.{between, between_to_end, append_assoc, length-drop, ◌≤◌, drop, get_or, inl, inr, ◌≢◌, count, IsSuffix, IsMove}
+use Rattle.niss_moves.proofs.Names.{BeginsApostrophe, Power, Half, Counter, Token, Base, ◌↔◌, IsOk, IfErr, take-add, ap₂}
+use Rattle.niss_moves.proofs.Names.{take_more, Reader, IsFed}
 use Rattle.niss_moves.specs.Machine.{State, state_or, IsStep, step, and_then, added, settled, with_last, cut_of}
-use Rattle.niss_moves.specs.Line.{Gap, Spelled, token_of, base_bytes, Nothing, Two, Prime, TwoPrime, Blank, blank_byte}
+use Rattle.niss_moves.specs.Line.{token_of, base_bytes, Two, Prime, TwoPrime, Blank, blank_byte}
 use Rattle.std.specs.Result.{result_err}
-use Rattle.std.proofs.lemmas.List.Elements.{All-append}
-use Rattle.niss_moves.specs.Reader.{line_of, HasNoLineFeed}
-use Rattle.niss_moves.specs.Reading.{read_line}
+use Rattle.niss_moves.specs.Reader.{line_of, read_line}
 use Rattle.niss_moves.proofs.Completes.{run-append, run_after, at_fed, run_move}
-use Rattle.niss_moves.proofs.Sound.{can_continue, continued_ok, run_stops, is_plain, plain_pieces}
-use Rattle.niss_moves.proofs.Found.{read_by_run}
-use Rattle.niss_moves.proofs.Finite.{and_right}
+use Rattle.niss_moves.proofs.Sound.{can_continue, continued_ok, run_stops}
+use Rattle.niss_moves.proofs.Reading.{run_reads}
+use Rattle.niss_moves.specs.Line.{Moves}
 
 -- what a caller gets of an outcome
 abbrev pub answer : Result State ReadFault → Result (Unit {0}) ReadFault
@@ -40,8 +38,13 @@ unfolding line_of
 ended_ill r f e = ap (λ o. ended (state_or o r.so_far)) e
 
 pub line_of_fed : (r : Reader) (bytes : List ℕ) → IsFed r bytes → line_of r ≡ read_line bytes
-unfolding line_of
-line_of_fed r bytes h = ap ended h.holds ∙ read_by_run bytes
+unfolding line_of read_line
+line_of_fed r bytes h = ap ended h.holds
+
+-- the line of some bytes is their reading
+pub reads_so : (bytes : List ℕ) (line : Result Moves ReadFault) → line ≡ read_line bytes → IsReading bytes line
+unfolding read_line
+reads_so bytes line e = subst (IsReading bytes) (sym e) (run_reads bytes)
 
 pub ruleset at_the_end = (ended_well, ended_ill)
 
@@ -80,6 +83,17 @@ is_fed_on old new xs bytes h k =
       holds = h.outcome ∙ ap (λ r. and_then r (λ s. run s xs)) k.holds ∙ sym (run-append 256 start bytes xs);
     }
 
+-- the next bytes of all
+pub all_more : (r : Reader) (front bytes : List ℕ) (i k : ℕ) → IsFed r ((front ++ take i bytes) ++ take k (between i (length bytes) bytes)) → IsFed r (front ++ take (i + k) bytes)
+all_more r front bytes i k h =
+    let rest : between i (length bytes) bytes ≡ drop i bytes = between_to_end bytes i (length bytes) (omega arith) in
+    subst (IsFed r) (append_assoc front (take i bytes) _ ∙ ap (λ xs. front ++ xs) (ap (λ xs. take i bytes ++ take k xs) rest ∙ sym (take-add i k bytes))) h
+
+pub all_within : (bytes : List ℕ) (i k : ℕ) → i < length bytes → k ≤ length (between i (length bytes) bytes) → i + k ≤ length bytes
+all_within bytes i k h l =
+    let rest : between i (length bytes) bytes ≡ drop i bytes = between_to_end bytes i (length bytes) (omega arith) in
+    omega (arith, l, ap length rest, length-drop i bytes)
+
 pub new_fed : (s : State) → s ≡ start → IsFed (reader None s) []
 new_fed s e = record { fed = ap (λ (s : State). s.fed) e; holds = ap Ok e }
 
@@ -87,17 +101,17 @@ new_fed s e = record { fed = ap (λ (s : State). s.fed) e; holds = ap Ok e }
 pub take_one : (bytes : List ℕ) (x : ℕ) → 0 < length bytes → get_or bytes 0 0 ≡ x → take 1 bytes ≡ x ∷ []
 take_one bytes x lt e = take_more bytes 0 0 lt ∙ ap (λ y. y ∷ []) e
 
--- a suffix, by whether a `2` stands there and how long the apostrophe after it is
-pub suffix_at : (two : Bool) (bytes : List ℕ) (n : ℕ) → 0 < length bytes → (get_or bytes 0 0 == 50) ≡ two → BeginsApostrophe (drop (bool_byte two) bytes) n
-    → IsSuffix (take (bool_byte two + n) bytes) (get_or (Quarter ∷ Half ∷ Counter ∷ Half ∷ []) (bool_byte two + 2 * bool_byte (nat_lt 0 n)) Quarter)
-suffix_at false bytes n lt e (inl none) =
-    record { suffix = Nothing; bytes_are = ap (λ k. take (0 + k) bytes) none; power_is = ap (λ k. get_or (Quarter ∷ Half ∷ Counter ∷ Half ∷ []) (0 + 2 * bool_byte (nat_lt 0 k)) Quarter) none }
-suffix_at false bytes n lt e (inr (a, some, is)) =
-    record { suffix = Prime a; bytes_are = take-add 0 n bytes ∙ is; power_is = ap (λ k. get_or (Quarter ∷ Half ∷ Counter ∷ Half ∷ []) (0 + 2 * bool_byte k) Quarter) (lt-ltb 0 n some) }
-suffix_at true bytes n lt e (inl none) =
-    record { suffix = Two; bytes_are = ap (λ k. take (1 + k) bytes) none ∙ take_one bytes 50 lt (eqb-true _ 50 e); power_is = ap (λ k. get_or (Quarter ∷ Half ∷ Counter ∷ Half ∷ []) (1 + 2 * bool_byte (nat_lt 0 k)) Quarter) none }
-suffix_at true bytes n lt e (inr (a, some, is)) =
-    record { suffix = TwoPrime a; bytes_are = take-add 1 n bytes ∙ ap₂ (λ (x y : List ℕ). x ++ y) (take_one bytes 50 lt (eqb-true _ 50 e)) is; power_is = ap (λ k. get_or (Quarter ∷ Half ∷ Counter ∷ Half ∷ []) (1 + 2 * bool_byte k) Quarter) (lt-ltb 0 n some) }
+-- a suffix: a `2`, and an apostrophe after it or none; an apostrophe alone
+pub half_suffix : (bytes : List ℕ) (n : ℕ) → 0 < length bytes → get_or bytes 0 0 ≡ 50 → BeginsApostrophe (between 1 (length bytes) bytes) n → IsSuffix (take (1 + n) bytes) Half
+half_suffix bytes n lt e h = by_apostrophe (subst (λ (xs : List ℕ). BeginsApostrophe xs n) (between_to_end bytes 1 (length bytes) (omega arith)) h)
+  where
+    by_apostrophe : BeginsApostrophe (drop 1 bytes) n → IsSuffix (take (1 + n) bytes) Half
+    by_apostrophe (inl none) = record { suffix = Two; bytes_are = ap (λ k. take (1 + k) bytes) none ∙ take_one bytes 50 lt e; power_is = refl }
+    by_apostrophe (inr (a, some, is)) = record { suffix = TwoPrime a; bytes_are = take-add 1 n bytes ∙ ap₂ (λ (x y : List ℕ). x ++ y) (take_one bytes 50 lt e) is; power_is = refl }
+
+pub counter_suffix : (bytes : List ℕ) (n : ℕ) → n ≢ 0 → BeginsApostrophe bytes n → IsSuffix (take n bytes) Counter
+counter_suffix bytes n some (inl none) = absurd (some none)
+counter_suffix bytes n some (inr (a, _, is)) = record { suffix = Prime a; bytes_are = is; power_is = refl }
 
 -- a move, by its parts
 pub move_at : (bytes : List ℕ) (b : Base) (power : Power) (i k : ℕ) (blank : Blank) (t : Token) → take i bytes ≡ base_bytes b → IsSuffix (take k (drop i bytes)) power → i + k < length bytes → get_or bytes (i + k) 0 ≡ blank_byte blank → t ≡ token_of b power
@@ -120,19 +134,11 @@ move_run s bytes t e room h =
     ap (run s) h.bytes_are ∙ run_move 256 s h.base h.suffix h.blank (ap cut_of e) (subst (λ (x : State). count x < 256) (sym here) room)
     ∙ (λ i. Ok (at_fed (here i) (sym h.token_is i) (s.fed + length (sym h.bytes_are i))))
 
--- no line feed stands in a move
-no_line_feed : (bytes : List ℕ) (t : Token) → IsMove bytes t → HasNoLineFeed bytes
-no_line_feed bytes t h k d lt e =
-    let plain = plain_pieces (Spelled h.base h.suffix ∷ Gap h.blank ∷ []) in
-    let here = AllPass-from_list_all is_plain bytes (ap (list_all is_plain) h.bytes_are ∙ plain) k d lt in
-    cc (and_right (not (get_or bytes k d == 40 || get_or bytes k d == 41)) _ here)
-
 -- A line took these bytes as whole moves, and counts them later.
 pub record HasTaken (old new : State) (bytes : List ℕ) : Type 0 where
   pub runs : run old bytes ≡ Ok (record new { fed = old.fed + length bytes })
   pub uncounted : new.fed ≡ old.fed
   pub finished : new.last ≡ LastMove.Finished
-  pub inside : HasNoLineFeed bytes
 
 -- a move of a piece of the bytes
 pub taken_next : (old mid new : State) (bytes rest : List ℕ) (i k : ℕ) (t : Token) → rest ≡ drop i bytes → HasTaken old mid (take i bytes)
@@ -149,5 +155,4 @@ taken_next old mid new bytes rest i k t e h few is pushed =
           run_after 256 old _ a b h.runs ∙ move_run (record mid { fed = old.fed + length a }) b t h.finished few is ∙ (λ i. Ok (record (sym pushed i) { fed = sum i }));
       uncounted = ap (λ (s : State). s.fed) pushed ∙ h.uncounted;
       finished = ap (λ (s : State). s.last) pushed;
-      inside = All-append (λ b. b ≢ 10) a b h.inside (no_line_feed b t is);
     })

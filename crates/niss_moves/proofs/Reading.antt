@@ -3,12 +3,12 @@ use Rattle.niss_moves.proofs.Names.{refl, ap, sym, ◌∙◌, arith, inl, inr, �
 use Rattle.niss_moves.proofs.Names.{length, take, drop, Option, None, Some, Result, Ok, Err, suc, ◌==◌, ◌||◌, not, has_no_bracket, Whole}
 use Rattle.niss_moves.proofs.Names.{CanContinue, Stops, Lacks, start, run, ended, is_some, Symbol, LastMove, ReadFault, NotAMove, Nested}
 use Rattle.niss_moves.proofs.Names.{Unopened, Unclosed, TooLong, IsReading, Token, take-append-drop, take_more, length-take-le}
-use Rattle.niss_moves.specs.Reading.{symbol_of, fault_by, fault_at}
+use Rattle.niss_moves.specs.Symbols.{symbol_of}
 use Rattle.niss_moves.specs.Machine.{State, step_within, step, and_then, ended_by, cut_of, ended_in, settled}
 use Rattle.niss_moves.specs.Faults.{Cut, LacksOne, LacksTwo, cut_length, cut_ending, bracket_ending, Continues, BeginsBase, StopsAt, Faults}
 use Rattle.niss_moves.specs.Line.{Moves, Spells, IsLine}
 use Rattle.niss_moves.proofs.Finite.{and_right}
-use Rattle.niss_moves.proofs.Completes.{state, run-append, run_after, read_line_of, IsSymbol, symbol_is, first_symbol, completes}
+use Rattle.niss_moves.proofs.Completes.{fault_by, fault_at, state, run-append, run_after, read_line_of, IsSymbol, symbol_is, first_symbol, completes}
 use Rattle.niss_moves.proofs.Sound.{Reads, Outcome, step_means, reads_all, can_continue, continued_ok, opens_at, cut_fits, run_stops}
 use Rattle.niss_moves.proofs.Sound.{ends_whole, lacks_bracket, lacks_apostrophe}
 
@@ -46,7 +46,7 @@ one_ending bytes s c q e line =
     cut_ending_is s.moves s.bracket s.last s.fed c q d.end x d.ready d.bracket
 
 -- Where bytes stop, the run has the fault of the byte there.
-pub stopped : (bytes : List ℕ) (column : ℕ) (c : Cut) (q : Bool) (byte : ℕ) → StopsAt bytes column c q byte → run start bytes ≡ Err (fault_at c q byte column)
+stopped : (bytes : List ℕ) (column : ℕ) (c : Cut) (q : Bool) (byte : ℕ) → StopsAt bytes column c q byte → run start bytes ≡ Err (fault_at c q byte column)
 stopped bytes column c q byte h =
     let front = take (column - 1) bytes in
     let w = continued_ok front (h.before (column - 1) (omega (arith, h.positive))) in
@@ -73,7 +73,7 @@ cut_fault : (c : Cut) (o : Bool) (byte column : ℕ) → 0 < cut_length c → fa
 cut_fault Whole o byte column p = absurd (omega (arith, p))
 cut_fault _ o byte column p = ap NotAMove (omega arith)
 
-pub stops_run : (bytes : List ℕ) (f : ReadFault) → Stops bytes f → run start bytes ≡ Err f
+stops_run : (bytes : List ℕ) (f : ReadFault) → Stops bytes f → run start bytes ≡ Err f
 unfolding symbol_of
 stops_run bytes (NotAMove column) h =
     elim h [
@@ -87,7 +87,7 @@ stops_run bytes (TooLong column) h =
 stops_run bytes (Unclosed column) h = absurd h
 
 -- the last opening bracket is one
-pub has_opening : (a b : List ℕ) → has_no_bracket (a ++ 40 ∷ b) ≡ true → ⊥
+has_opening : (a b : List ℕ) → has_no_bracket (a ++ 40 ∷ b) ≡ true → ⊥
 has_opening [] b e = cc
 has_opening (x ∷ a) b e = has_opening a b (and_right (not (x == 40 || x == 41)) _ e)
 
@@ -105,7 +105,7 @@ cut_ended : (c : Cut) (s : State) (column : ℕ) → 0 < cut_length c → column
 cut_ended Whole s column p e = absurd (omega (arith, p))
 cut_ended _ s column p e = ap (λ n. Err (NotAMove n)) (omega (arith, e))
 
-pub lacks_continue : (bytes : List ℕ) (f : ReadFault) → Lacks bytes f → CanContinue bytes
+lacks_continue : (bytes : List ℕ) (f : ReadFault) → Lacks bytes f → CanContinue bytes
 lacks_continue bytes (NotAMove column) h = (h.1, h.0, h.3.ends_so)
 lacks_continue bytes (Unclosed column) h = (Whole, true, h.0.ends_so)
 lacks_continue bytes _ h = absurd h

@@ -7,14 +7,14 @@ use Rattle.niss_moves.proofs.Names.{CanContinue, Stops, Lacks, run, U, Rl, M, Un
 use Rattle.niss_moves.proofs.Names.{take-append-drop, list_all, AllPass-from_list_all, list_all-from_AllPass}
 use Rattle.niss_moves.specs.Line.{piece_bytes, token_of, base_bytes, Typographic, Plain, Nothing, Two, Prime, TwoPrime, Moves, Piece, Gap}
 use Rattle.niss_moves.specs.Line.{Spelled, Item, Outside, Bracket, item_normal, item_bracketed, Spells, IsLine, Suffix, suffix_bytes, Space}
-use Rattle.niss_moves.specs.Reading.{symbol_of, fault_by, fault_at, moves_in}
+use Rattle.niss_moves.specs.Symbols.{symbol_of}
 use Rattle.niss_moves.specs.Machine.{State, step_within, cut_of, with_more, settled, with_last, fed_to, step_by, step_at, step, and_then}
 use Rattle.std.proofs.Math.Path.{subst₃}
 use Rattle.std.proofs.lemmas.List.Concat.{flat_map-append}
 use Rattle.std.proofs.lemmas.List.Folds.{list_all-append}
 use Rattle.std.proofs.Math.Seq.{take-append_seam, take-append-add, get_or-append_seam}
 use Rattle.niss_moves.specs.Faults.{EndsEarly, OpensAt, Cut, LacksOne, LacksTwo, cut_ending, cut_length, bracket_ending, Continues, StopsAt}
-use Rattle.niss_moves.proofs.Completes.{state, counted, count_more, more_none, IsSymbol, symbol_is, symbol_of_brackets, first_symbol}
+use Rattle.niss_moves.proofs.Completes.{moves_in, fault_by, fault_at, state, counted, count_more, more_none, IsSymbol, symbol_is, symbol_of_brackets, first_symbol}
 use Rattle.niss_moves.proofs.Completes.{run-append, run_after, read_line_of}
 use Rattle.niss_moves.proofs.Finite.{and_both, and_left}
 

@@ -8,7 +8,7 @@ pub mod Canonical
 pub mod Cleaning
 pub mod Line
 pub mod Faults
-pub mod Reading
+pub mod Symbols
 pub mod Machine
 pub mod Reader
 pub mod Text

@@ -7,7 +7,7 @@ use Rattle.niss_moves.specs.Line.{token_of, Moves}
 use Rattle.niss_moves.specs.Faults.{Cut, Whole, LacksOne, LacksTwo, cut_length}
 use Rattle.niss_moves.specs.Names.{Quarter, Half, Counter, Token, Base, Symbol, LastMove, ReadFault, NotAMove, Nested}
 use Rattle.niss_moves.specs.Names.{Unopened, Unclosed, TooLong}
-use Rattle.niss_moves.specs.Reading.{symbol_of}
+use Rattle.niss_moves.specs.Symbols.{symbol_of}
 
 -- what is read so far: the whole moves, the column of the open bracket, the last move as far as it goes
 pub record State : Type 0 where

@@ -1,9 +1,8 @@
 -- What a reader stands for.
-use Rattle.std.specs.Prelude.{◌≡◌, ◌≢◌, ℕ, List, length, All, Option, Result, Ok, Err}
+use Rattle.std.specs.Prelude.{◌≡◌, ℕ, List, length, Option, Result, Ok, Err}
 use Rattle.niss_moves.specs.Line.{Moves}
 use Rattle.niss_moves.specs.Names.{ReadFault}
 use Rattle.niss_moves.specs.Machine.{State, state_or, start, run, ended}
-pub use Rattle.niss_moves.specs.Reading.{read_line}
 
 -- a reader: how many bytes were fed, the fault of these, and what else it holds of them
 pub record Reader : Type 0 where
@@ -19,6 +18,11 @@ moves_of reader = reader.so_far.moves
 unfoldable pub line_of : Reader → Result Moves ReadFault
 line_of reader = ended (state_or reader.fault reader.so_far)
 
+-- The moves that the bytes spell, if they spell at most 256, and else their fault: what the steps come to. The law
+-- `line_is_read` says it by the grammar.
+unfoldable pub read_line : List ℕ → Result Moves ReadFault
+read_line bytes = ended (run start bytes)
+
 -- these moves, unless there is a fault
 abbrev pub moves_if : Result (Unit {0}) ReadFault → Moves → Result Moves ReadFault
 moves_if (Ok u) m = Ok m
@@ -29,7 +33,3 @@ moves_if (Err f) m = Err f
 pub record IsFed (reader : Reader) (bytes : List ℕ) : Type 0 where
   pub fed : reader.fed ≡ length bytes
   pub holds : state_or reader.fault reader.so_far ≡ run start bytes
-
--- no byte is a line feed
-abbrev pub HasNoLineFeed : List ℕ → Type 0
-HasNoLineFeed bytes = All (λ b. b ≢ 10) bytes

@@ -16,7 +16,7 @@ ghost use Rattle.niss_moves.specs.Cleaning.{IsRewriting, Cleans, disorder, clean
 ghost use Rattle.niss_moves.specs.Line.{Moves, Spells, IsLine, joined_moves};
 ghost use Rattle.niss_moves.specs.Faults.{Faults, Cut, Continues};
 ghost use Rattle.niss_moves.specs.Text.{word, with_words};
-ghost use Rattle.niss_moves.specs.Reading.{read_line};
+ghost use Rattle.niss_moves.specs.Reader.{read_line};
 ghost use Rattle.niss_moves.specs.declared.token.Token.TheVariants as token;
 
 /// `read_line`, which `read` and `finish` return, is the moves that spell the line, if they are at most 256, and else

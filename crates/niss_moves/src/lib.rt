@@ -12,7 +12,7 @@
 //! put_tokens(&unniss(&line), &mut text);     // R D F U'
 //! ```
 //!
-//! A line that comes in pieces goes into a `LineReader`, by single bytes or by moves. No call takes memory.
+//! A line that comes in pieces goes into a `LineReader`, by one byte or by many. No call takes memory.
 //!
 //! Any sequence is face turns and one rotation after them (`to_faces`), and the face turns are made canonical (`cleanup`):
 //!

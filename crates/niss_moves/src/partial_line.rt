@@ -65,7 +65,7 @@ impl Model for PartialLine {
 
 impl PartialLine {
     ghost use Rattle.std.specs.Prelude.{◌≡◌, ◌+◌, ◌-◌, ◌<◌, ◌≤◌, Some, Ok, OnErr, length, take};
-    ghost use Rattle.niss_moves.specs.Reader.{HasNoLineFeed, moves_if};
+    ghost use Rattle.niss_moves.specs.Reader.{moves_if};
     ghost use Rattle.niss_moves.specs.declared.fault.ReadFault.TheVariants.{NotAMove};
     ghost use Rattle.niss_moves.specs.Machine.{start, count, added, settled, opened, closed, begun, widened, doubled};
     ghost use Rattle.niss_moves.specs.Machine.{primed, cut, step_at, step_by, step, run, ended, IsStep};
@@ -163,7 +163,6 @@ impl PartialLine {
         ensures taken { result ≤ length bytes.now }
         ensures runs { run self.old (take result bytes.now) ≡ Ok self.new }
         ensures fed { self.new.fed ≡ self.old.fed + result }
-        ensures inside { HasNoLineFeed (take result bytes.now) }
     {
         let LastMove::Finished = self.last else {
             return 0;

@@ -1,4 +1,4 @@
-//! Lines that come in pieces, read by single bytes or by whole moves.
+//! Lines that come in pieces.
 ghost use Rattle.std.specs.Prelude.{◌≡◌, ◌≤◌, length};
 ghost use Rattle.niss_moves.specs.Faults.{IsReading};
 ghost use Rattle.niss_moves.specs.Reader.{read_line};
@@ -8,7 +8,7 @@ use crate::niss::Niss;
 use crate::partial_line::PartialLine;
 use std::marker::Model;
 
-/// Reads a line of at most 16,777,216 bytes, by single bytes or by whole moves.
+/// Reads a line of at most 16,777,216 bytes, by one byte or by many.
 ///
 /// The `PartialLine` reads, the reader keeps the first fault: in one type each step would have to say what a fault does
 /// to it.
@@ -30,7 +30,7 @@ impl LineReader {
     ghost use Rattle.std.specs.Prelude.{◌≡◌, ℕ, ◌+◌, ◌<◌, ◌≤◌, ◌↔◌, List, [], ◌∷◌, ◌++◌, length, take, IsOk, IfErr, OnErr};
     ghost use Rattle.std.specs.Prelude.{MatchResult, Err, None, Some};
     ghost use Rattle.niss_moves.specs.Faults.{CanContinue, Stops, IsReading};
-    ghost use Rattle.niss_moves.specs.Reader.{HasNoLineFeed, IsFed, read_line, line_of, moves_if, moves_of};
+    ghost use Rattle.niss_moves.specs.Reader.{IsFed, read_line, line_of, moves_if, moves_of};
     ghost use Rattle.niss_moves.specs.declared.fault.ReadFault.{ReadFault};
 
     /// A reader before the first byte of a line.
@@ -84,21 +84,53 @@ impl LineReader {
     }
 
     /// Takes whole moves in front of the bytes, each with the blank after it, and returns how many bytes these are. How
-    /// many moves it takes is a matter of speed and may be none: `feed` takes what is left. After a fault it takes none.
-    /// With those fed before, the bytes are at most 16,777,216.
-    pub fn feed_moves(&mut self, bytes: &[u8]) -> usize
+    /// many moves it takes is a matter of speed and may be none.
+    fn feed_moves(&mut self, bytes: &[u8]) -> usize
         requires { self.old.fed + length bytes.now ≤ 16777216 }
         ensures taken { result ≤ length bytes.now }
         ensures fed { self.new.fed ≡ self.old.fed + result }
         ensures bytes { (front : List ℕ) → IsFed self.old front →
             IsFed self.new (front ++ take result bytes.now) }
-        ensures inside { HasNoLineFeed (take result bytes.now) }
         ensures fault { self.new.fault ≡ self.old.fault }
-        ensures none { (f : ReadFault) → self.old.fault ≡ Some f → result ≡ 0 }
     {
         match self.fault {
             Some(_) => 0,
             None => self.line.take_moves(bytes),
+        }
+    }
+
+    /// Takes the first bytes, whole moves or one byte, and returns how many.
+    fn feed_some(&mut self, bytes: &[u8]) -> usize
+        requires some { 0 < length bytes.now }
+        requires room { self.old.fed + length bytes.now ≤ 16777216 }
+        ensures some { 0 < result }
+        ensures taken { result ≤ length bytes.now }
+        ensures fed { self.new.fed ≡ self.old.fed + result }
+        ensures bytes { (front : List ℕ) → IsFed self.old front →
+            IsFed self.new (front ++ take result bytes.now) }
+        ensures again { (f : ReadFault) → self.old.fault ≡ Some f → self.new.fault ≡ Some f }
+    {
+        let count = self.feed_moves(bytes);
+        if count > 0 {
+            return count;
+        }
+        // a fault comes again at the line's end
+        let _ = self.feed(bytes[0]);
+        1
+    }
+
+    /// Takes all of the bytes, as `feed` takes them one by one. A fault shows at the line's end. With those fed before, the
+    /// bytes are at most 16,777,216.
+    pub fn feed_all(&mut self, bytes: &[u8])
+        requires { self.old.fed + length bytes.now ≤ 16777216 }
+        ensures fed { self.new.fed ≡ self.old.fed + length bytes.now }
+        ensures bytes { (front : List ℕ) → IsFed self.old front →
+            IsFed self.new (front ++ bytes.now) }
+        ensures again { (f : ReadFault) → self.old.fault ≡ Some f → self.new.fault ≡ Some f }
+    {
+        let mut index = 0;
+        while index < bytes.len() {
+            index += self.feed_some(&bytes[index..]);
         }
     }
 
@@ -156,16 +188,12 @@ impl LineReader {
 
 /// The line that the bytes spell, or its fault: the one reading that the grammar has of them. There may be at most
 /// 16,777,216 bytes.
-#[tactic(auto, using(crate::proofs::Found::reads_so))]
 pub fn read(bytes: &[u8]) -> Result<Niss, ReadFault>
     requires { length bytes.now ≤ 16777216 }
     ensures reading { IsReading bytes.now result }
     ensures value { result ≡ read_line bytes.now }
 {
     let mut reader = LineReader::new();
-    for byte in bytes {
-        // A fault comes again at the end.
-        let _ = reader.feed(*byte);
-    }
+    reader.feed_all(bytes);
     reader.finish()
 }

@@ -1,10 +1,11 @@
 -- How the engine's steps join: bytes inside a line, a line feed, a block piece by piece, and what stands at its end.
 use Rattle.niss_shell.proofs.Names.{◌≡◌, ◌≢◌, ℕ, ◌+◌, ◌<◌, ◌≤◌, take, drop, get_or, Bool, false, Result, Ok, Err, List, [], ◌∷◌, ◌++◌}
 use Rattle.niss_shell.proofs.Names.{length, refl, sym, ap, ◌∙◌, subst, append-nil, length-append, arith, OnOk, between, between_to_end}
-use Rattle.niss_shell.proofs.Names.{take_more, take-append-drop, length-drop, All-nil, TargetCall, ended_lines, last_part, HasNoLineFeed}
+use Rattle.niss_shell.proofs.Names.{take_more, take-append-drop, length-drop, All-nil, TargetCall, ended_lines, last_part}
 use Rattle.niss_shell.proofs.Names.{Reader, IsFed, LineAnswers, answers_from, then_answer, AnswerState, Progress, Answers}
 use Rattle.niss_shell.proofs.Names.{TakesBytes, Stop, take_all, take-add, All-cons, line_answer, line_with_bytes, Delivered}
 use Rattle.niss_shell.proofs.Names.{TakesNext, TakesLast, Keeps, answers_of, Lines, TakesEnd, outcome_before, CannotWrite, true}
+use Rattle.niss_shell.proofs.Names.{HasNo, line_feed, zero, suc}
 use Rattle.niss_shell.proofs.LinesLemmas.{ended_after, last_after, ended_lines-append, last_part-append, answers_from-append}
 use Rattle.niss_shell.proofs.StateLemmas.{delivers_nothing, then_nothing, answered, answers_more, answers_stopped, answers_sent}
 
@@ -13,11 +14,11 @@ on_ok (Ok u) f a b = f a b
 on_ok (Err stop) f a b = tt
 
 -- bytes inside a line
-inside_ended : (front xs : List ℕ) → HasNoLineFeed xs → ended_lines front xs ≡ []
+inside_ended : (front xs : List ℕ) → HasNo line_feed xs → ended_lines front xs ≡ []
 unfolding ended_lines
 inside_ended front xs h = ap (λ v. ended_lines front v) (sym (append-nil xs)) ∙ ended_after front xs [] h
 
-inside_last : (front xs : List ℕ) → HasNoLineFeed xs → last_part front xs ≡ front ++ xs
+inside_last : (front xs : List ℕ) → HasNo line_feed xs → last_part front xs ≡ front ++ xs
 unfolding last_part
 inside_last front xs h = ap (λ v. last_part front v) (sym (append-nil xs)) ∙ last_after front xs [] h
 
@@ -36,12 +37,11 @@ piece_within bytes i h l =
     let e : length (between i (length bytes) bytes) ≡ length (drop i bytes) = ap length (between_to_end bytes i (length bytes) (omega arith)) in
     omega (arith, e, length-drop i bytes)
 
--- where no moves were taken first
-pub still_fed : {r s : Reader} (bytes : List ℕ) (k : ℕ) → k ≤ 0 → ((front : List ℕ) → IsFed r front → IsFed s (front ++ take k bytes))
-    → (front : List ℕ) → IsFed r front → IsFed s front
-still_fed {s = s} bytes k none fed front at =
-    let zero : k ≡ 0 = omega (arith, none) in
-    subst (λ (xs : List ℕ). IsFed s xs) (ap (λ (i : ℕ). front ++ take i bytes) zero ∙ append-nil front) (fed front at)
+-- no line feed stands up to here
+pub none_below : (bytes : List ℕ) (n : ℕ) → n ≤ length bytes → ((k : ℕ) → k < n → get_or bytes k 0 ≢ 10) → HasNo line_feed (take n bytes)
+none_below bytes zero le h = All-nil (λ b. b ≢ 10)
+none_below [] (suc n) le h = absurd (omega (arith, le))
+none_below (b ∷ bs) (suc n) le h = All-cons (λ b. b ≢ 10) b _ (h 0 (omega arith)) (none_below bs n (omega (arith, le)) (λ k lt. h (suc k) (omega (arith, lt))))
 
 module _ {W : Type 0} (call : W → TargetCall → W → Type 0) where
   -- one line, and no line
@@ -56,7 +56,7 @@ module _ {W : Type 0} (call : W → TargetCall → W → Type 0) where
   answered_none f n out = answered call false _ (Ok tt) out out refl (delivers_nothing call out)
 
   pub takes_inside : (f : LineAnswers) (front xs : List ℕ) (n : ℕ) (q : Progress) (out : AnswerState W)
-      → HasNoLineFeed xs → IsFed q.reader (front ++ xs) → q.line ≡ n
+      → HasNo line_feed xs → IsFed q.reader (front ++ xs) → q.line ≡ n
       → TakesBytes call f front xs n q (Ok tt) out out
   takes_inside f front xs n q out h reader line = (
     subst (λ ls. Answers call (answers_from f n ls) (Ok tt) out out) (sym (inside_ended _ _ h)) (answered_none f n out),
@@ -89,7 +89,7 @@ module _ {W : Type 0} (call : W → TargetCall → W → Type 0) where
   pub none_taken : {f : LineAnswers} {p : Progress} (out : AnswerState W) → TakesNext call f [] p p (Ok tt) out out
   none_taken out = record { takes = λ front at. takes_none _ front _ _ out at refl }
 
-  pub inside_taken : {f : LineAnswers} {bytes : List ℕ} {p q : Progress} (out : AnswerState W) → HasNoLineFeed bytes
+  pub inside_taken : {f : LineAnswers} {bytes : List ℕ} {p q : Progress} (out : AnswerState W) → HasNo line_feed bytes
       → ((front : List ℕ) → IsFed p.reader front → IsFed q.reader (front ++ bytes)) → q.line ≡ p.line
       → TakesNext call f bytes p q (Ok tt) out out
   inside_taken out inside fed line = record { takes = λ front at. takes_inside _ front _ _ _ out inside (fed front at) line }
@@ -102,15 +102,6 @@ module _ {W : Type 0} (call : W → TargetCall → W → Type 0) where
   line_feed_taken {f = f} bytes {p = p} {q = q} {r = r} {old = old} {new = new} some feed answers reader line = record {
     takes = λ front at. subst (λ xs. TakesBytes call f front xs p.line q r old new) (sym (first_byte bytes some feed))
         (answered_line f p.line front r old new (answers front at), on_ok r (λ fed next. record { reader = fed; line = next }) reader line);
-  }
-
-  pub byte_taken : {f : LineAnswers} (bytes : List ℕ) {p q : Progress} {out : AnswerState W}
-      → 0 < length bytes → get_or bytes 0 0 ≢ 10
-      → ((front : List ℕ) → IsFed p.reader front → IsFed q.reader (front ++ get_or bytes 0 0 ∷ []))
-      → q.line ≡ p.line → TakesNext call f (take 1 bytes) p q (Ok tt) out out
-  byte_taken {f = f} bytes {p = p} {q = q} {out = out} some other fed line = record {
-    takes = λ front at. subst (λ xs. TakesBytes call f front xs p.line q (Ok tt) out out) (sym (first_byte bytes some refl))
-        (takes_inside _ front _ p.line q out (All-cons (λ b. b ≢ 10) _ [] other (All-nil (λ b. b ≢ 10))) (fed front at) line);
   }
 
   -- a block, piece by piece

@@ -29,7 +29,7 @@ pub use Rattle.niss_moves.specs.Effects.{effect_of_turns}
 pub use Rattle.niss_moves.specs.Rotations.{faces}
 pub use Rattle.niss_moves.specs.Line.{Moves, joined_moves}
 pub use Rattle.niss_moves.specs.Places.{Place}
-pub use Rattle.niss_moves.specs.Reader.{Reader, IsFed, read_line, HasNoLineFeed}
+pub use Rattle.niss_moves.specs.Reader.{Reader, IsFed, read_line}
 pub use Rattle.niss_search.specs.Cubes.{near_looks_of, least_length_of, near_solutions_of}
 pub use Rattle.niss_search.specs.Delivery.{WentThrough, StoppedIn}
 pub use Rattle.niss_search.specs.Draw.{after_words, next_words, draw}

@@ -5,6 +5,7 @@ ghost use Rattle.niss_moves.specs.Effects.{effect};
 ghost use Rattle.niss_moves.specs.Facelets.{letters};
 ghost use Rattle.niss_moves.specs.Line.{joined_moves};
 ghost use Rattle.niss_moves.specs.Places.{Place, SameMap};
+ghost use Rattle.niss_moves.specs.Rotations.{spelling};
 ghost use Rattle.niss_cube.specs.Map.{map_of};
 ghost use Rattle.niss_cube.specs.Steps.{may_start, turns_of};
 ghost use Rattle.niss_search.specs.Cubes.{IsPosition, HasPosition, near_looks_of};
@@ -20,7 +21,9 @@ use crate::output::Output;
 use crate::text::{put_text, set_count, set_end};
 use niss_cube::laws::steps_see_places;
 use niss_cube::{Cube, OutOfMemory, Step, facelets_after};
-use niss_moves::{LineText, Niss, put_inverted, put_niss_clean, put_unniss, to_faces, unniss};
+use niss_moves::{
+    LineText, Niss, Rotation, put_inverted, put_niss_clean, put_unniss, to_faces, unniss,
+};
 use niss_search::{Limit, Meter, Outcome, Position, Sink, Tables, TurnPath, search};
 use std::alloc::Allocator;
 use std::convert::Infallible;
@@ -82,14 +85,16 @@ pub fn rewrite(rewriting: Rewriting, line: &Niss, text: &mut LineText)
     text.push(b'\n');
 }
 
-/// The cube of a line with its centres at home.
-fn cube_of(line: &Niss) -> Cube
-    ensures { SameMap (map_of result) (home line.now) }
+/// The cube of a line with its centres at home, and the rotation that is left.
+fn cube_of(line: &Niss) -> (Cube, Rotation)
+    ensures home { SameMap (map_of result.0) (home line.now) }
+    ensures rotated { SameMap (effect (joined_moves line.now))
+        (λ q. effect (spelling result.1) (map_of result.0 q)) }
 {
-    let (turns, _) = to_faces(unniss(line).as_slice());
+    let (turns, rotation) = to_faces(unniss(line).as_slice());
     let mut cube = Cube::solved();
     cube.apply(turns.as_slice());
-    cube
+    (cube, rotation)
 }
 
 /// The position of a line's cube, if the step may start there.
@@ -99,7 +104,7 @@ pub fn start_position<A: Allocator>(tables: &Tables<A>, line: &Niss) -> Option<P
         (λ position. HasPosition tables.now (home line.now) position) }
 {
     steps_see_places();
-    let cube = cube_of(line);
+    let (cube, _) = cube_of(line);
     if tables.step().may_start(&cube) {
         Some(tables.position(&cube))
     } else {

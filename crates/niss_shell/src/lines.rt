@@ -1,7 +1,8 @@
 //! The lines of a run, and how each is answered.
-ghost use Rattle.std.specs.Prelude.{◌≡◌, ◌+◌, ◌^◌, ◌<◌, ◌≤◌, false, Err, [], length, take, OnOk, OnErr, IfOk};
+ghost use Rattle.std.specs.Prelude.{◌≡◌, slice_index, ◌+◌, ◌^◌, ◌<◌, ◌≤◌, false, Err, [], length, take, OnOk, OnErr, IfOk};
 ghost use Rattle.niss_shell.specs.Device.{Calls, End};
 ghost use Rattle.niss_moves.specs.Reader.{IsFed};
+ghost use Rattle.niss_shell.specs.Lines.{line_feed, HasNo};
 ghost use Rattle.niss_shell.specs.Words.{most_bytes};
 
 use crate::device::{Source, Target};
@@ -18,6 +19,18 @@ pub const MOST_BYTES: usize = 16_777_216;
 
 /// How many bytes a read asks for.
 const BLOCK: usize = 4096;
+
+/// How many bytes come before the first line feed, or all if there is none.
+fn line_length(bytes: &[u8]) -> usize
+    ensures within { result ≤ length bytes.now }
+    ensures inside { HasNo line_feed (take result bytes.now) }
+    ensures ends { result < length bytes.now → slice_index bytes.now result ≡ line_feed }
+{
+    match bytes.iter().position(|byte| *byte == b'\n') {
+        Some(length) => length,
+        None => bytes.len(),
+    }
+}
 
 /// The lines of a run: what is done with each, the looks, and the line that is being read, with its number.
 #[derive(Drop)]
@@ -115,7 +128,7 @@ impl<'a, A: Allocator> Lines<'a, A> {
         Ok(())
     }
 
-    /// Takes moves or a byte in front of the next bytes of the input, and returns how many bytes these are.
+    /// Takes what comes before the next line feed, or that line feed, and returns how many bytes these are.
     #[tactic(auto, using(crate::proofs::EngineLemmas::inside_taken))]
     fn take_piece<W: Target>(&mut self, bytes: &[u8], output: &mut Output<W>) -> Result<usize, Stop>
         requires some { 0 < length bytes.now }
@@ -127,17 +140,14 @@ impl<'a, A: Allocator> Lines<'a, A> {
         ensures empty { OnErr result (output.new.pending.items ≡ []) }
         ensures rises { IfOk result (λ n. Rises n self.old self.new) }
     {
-        let count = self.reader.feed_moves(bytes);
-        if count > 0 {
-            return Ok(count);
-        }
         if bytes[0] == b'\n' {
             self.end_line(output)?;
             return Ok(1);
         }
         // a line is judged at its end
-        let _ = self.reader.feed(bytes[0]);
-        Ok(1)
+        let count = line_length(bytes);
+        self.reader.feed_all(&bytes[..count]);
+        Ok(count)
     }
 
     /// Takes the next bytes of the input, and writes the answers to the lines that they end.

@@ -1,6 +1,5 @@
 use Rattle.niss_moves.proofs.Names.{arith}
-use Rattle.niss_moves.proofs.ReaderLemmas.{at_the_end, line_of_fed}
-use Rattle.niss_moves.proofs.Found.{reads_so}
+use Rattle.niss_moves.proofs.ReaderLemmas.{at_the_end, line_of_fed, reads_so}
 use Rattle.niss_moves.proofs.reader.LineReader.end.Goals as goal
 
 pub returns-in-Some-clause-line : goal.returns-in-Some-clause-line
