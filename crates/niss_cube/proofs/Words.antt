@@ -62,7 +62,6 @@ pub use Rattle.niss_cube.specs.StepLaws.{InversesOfSteps, StepTurnsInOrder, Step
 pub use Rattle.niss_cube.specs.Steps.{start_of, goals_of, powers_from, is_face_of, steps, name_of}
 unfoldable pub use Rattle.niss_cube.specs.Steps.{turns_of, may_start, reached}
 pub use Rattle.niss_cube.specs.AfterTurn.{IsMoveRow, IsRankAfter, AreMoveRows, turn_in, turn_number}
-pub use Rattle.niss_cube.specs.MoveRows.{AreWritten, GoOn, GoesOn}
 pub use Rattle.niss_cube.specs.declared.cube.coordinate.ranking.TheConstants.{CHOICES}
 pub use Rattle.niss_cube.specs.declared.cubie_turns.CubieTurn.{CubieTurn}
 pub use Rattle.niss_cube.specs.declared.followed_places.TheConstants.{FIRST_FACELETS, CUBIES, FACELETS}
