@@ -5,6 +5,7 @@ ghost use Rattle.niss_moves.specs.Effects.{effect};
 ghost use Rattle.niss_moves.specs.Facelets.{letters};
 ghost use Rattle.niss_moves.specs.Line.{joined_moves};
 ghost use Rattle.niss_moves.specs.Places.{Place, SameMap};
+ghost use Rattle.niss_moves.specs.Rotations.{spelling};
 ghost use Rattle.niss_cube.specs.Map.{map_of};
 ghost use Rattle.niss_cube.specs.Steps.{may_start, turns_of};
 ghost use Rattle.niss_search.specs.Cubes.{IsPosition, HasPosition, near_looks_of};
@@ -19,7 +20,8 @@ use crate::device::{DeviceFault, Target};
 use crate::output::Output;
 use crate::text::{put_text, set_count, set_end};
 use niss_cube::laws::steps_see_places;
-use niss_cube::{Cube, OutOfMemory, Step, facelets_after};
+use niss_cube::{Cube, OutOfMemory, Rotation, Step};
+use niss_moves::laws::same_letters;
 use niss_moves::{LineText, Niss, put_inverted, put_niss_clean, put_unniss, to_faces, unniss};
 use niss_search::{Limit, Meter, Outcome, Position, Sink, Tables, TurnPath, search};
 use std::alloc::Allocator;
@@ -61,11 +63,25 @@ impl LineCommand<Step> {
     }
 }
 
+/// The cube of a line's face turns, whose centres are home, and the rotation that is left.
+fn cube_of(line: &Niss) -> (Cube, Rotation)
+    ensures cube { SameMap (map_of result.0) (home line.now) }
+    ensures rotated { SameMap (λ q. effect (spelling result.1) (map_of result.0 q))
+        (effect (joined_moves line.now)) }
+{
+    let (turns, rotation) = to_faces(unniss(line).as_slice());
+    let mut cube = Cube::solved();
+    cube.apply(turns.as_slice());
+    (cube, rotation)
+}
+
 /// The facelet text of a line.
 fn facelets_of(line: &Niss) -> [u8; 54]
     ensures { result ≡ letters (effect (joined_moves line.now)) }
 {
-    facelets_after(line.normal(), line.inverse())
+    same_letters();
+    let (cube, rotation) = cube_of(line);
+    cube.facelets(rotation)
 }
 
 /// Sets the text to what is written for a line without a search.
@@ -82,16 +98,6 @@ pub fn rewrite(rewriting: Rewriting, line: &Niss, text: &mut LineText)
     text.push(b'\n');
 }
 
-/// The cube of a line with its centres at home.
-fn cube_of(line: &Niss) -> Cube
-    ensures { SameMap (map_of result) (home line.now) }
-{
-    let (turns, _) = to_faces(unniss(line).as_slice());
-    let mut cube = Cube::solved();
-    cube.apply(turns.as_slice());
-    cube
-}
-
 /// The position of a line's cube, if the step may start there.
 pub fn start_position<A: Allocator>(tables: &Tables<A>, line: &Niss) -> Option<Position>
     ensures { MatchOption result
@@ -99,7 +105,7 @@ pub fn start_position<A: Allocator>(tables: &Tables<A>, line: &Niss) -> Option<P
         (λ position. HasPosition tables.now (home line.now) position) }
 {
     steps_see_places();
-    let cube = cube_of(line);
+    let (cube, _) = cube_of(line);
     if tables.step().may_start(&cube) {
         Some(tables.position(&cube))
     } else {
