@@ -32,7 +32,7 @@ unfoldable pub use Rattle.niss_moves.proofs.CallerLemmas.{every_face, every_powe
 pub use Rattle.niss_moves.specs.Canonical.{face_order, turn_order, same_face}
 pub use Rattle.niss_moves.specs.Effects.{turned, effect, inverse, moved_by, effect_of_turns, inverse_turn}
 pub use Rattle.niss_moves.specs.Facelets.{places, facelet, letter_at}
-pub use Rattle.niss_moves.specs.Indices.{axis_index}
+pub use Rattle.niss_moves.specs.Indices.{axis_index, power_index}
 unfoldable pub use Rattle.niss_moves.specs.Facelets.{letter_of, letters}
 pub use Rattle.niss_moves.specs.Places.{Place, is_place, same_place, SameMap, is_edge, is_corner}
 pub use Rattle.niss_moves.specs.Rotations.{renamed_turn, rotation_if, to_top, about_vertical}
@@ -51,7 +51,7 @@ unfoldable pub use Rattle.niss_cube.specs.Map.{place_at}
 pub use Rattle.niss_cube.specs.Names.{Turn, U, Axis, Flip, Fb, Rl, Slice, Twist, Ud, Coordinate, Face, Token, Cube}
 pub use Rattle.niss_cube.specs.Names.{Renaming, Step, Domino, DrEofb, DrEorl, DrEoud, DrfbEorl, DrfbEoud, DrrlEofb}
 pub use Rattle.niss_cube.specs.Names.{DrrlEoud, DrudEofb, DrudEorl, Eo, Eofb, Eorl, Eoud, Goal, Half, XCounter}
-pub use Rattle.niss_cube.specs.Names.{XQuarter, YQuarter, ZCounter, Quarter}
+pub use Rattle.niss_cube.specs.Names.{XQuarter, YQuarter, ZCounter, Quarter, Counter, Power}
 unfoldable pub use Rattle.niss_cube.specs.AfterTurn.{rank_after}
 pub use Rattle.niss_cube.specs.Sets.{PermutesPlaces, CubesPermutePlaces, KeptIsEqual, Kept, flip_set, HasOnlyPlaces, set_of}
 pub use Rattle.niss_cube.specs.Sets.{slice_set, twist_set, SetsArePlaces, KeptIsTested}
@@ -64,4 +64,4 @@ pub use Rattle.niss_cube.specs.AfterTurn.{IsMoveRow, IsRankAfter, AreMoveRows, t
 pub use Rattle.niss_cube.specs.declared.cube.coordinate.ranking.TheConstants.{CHOICES}
 pub use Rattle.niss_cube.specs.declared.cubie_turns.CubieTurn.{CubieTurn}
 pub use Rattle.niss_cube.specs.declared.facelet_text.TheConstants.{CUBIES, FACELETS, CORNER_POSITIONS, EDGE_POSITIONS}
-pub use Rattle.niss_cube.specs.declared.facelet_text.TheConstants.{SOLVED_TEXT, BEFORE_QUARTER}
+pub use Rattle.niss_cube.specs.declared.facelet_text.TheConstants.{SOLVED_TEXT, BEFORE_ROTATION}
