@@ -2,7 +2,6 @@ pub mod CallerLemmas
 pub mod Codes
 pub mod CoordinateLaws
 pub mod CubieKinds
-pub mod MoveRowLemmas
 pub mod MovedCubies
 pub mod Ranks
 pub mod Shown

@@ -5,6 +5,5 @@ pub mod Sets
 pub mod CubieTurns
 pub mod Coordinates
 pub mod AfterTurn
-pub mod MoveRows
 pub mod Steps
 pub mod StepLaws

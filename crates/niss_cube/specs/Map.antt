@@ -1,8 +1,7 @@
 -- A cube as a map of the sticker places, when two cubes are equal, and places by their positions in the facelet text.
 use Rattle.std.specs.Prelude.{◌≡◌, ℕ, ◌+◌, ◌%◌, ◌<◌, if◌then◌else◌, List, slice_index, get_or, ◌==◌, Bool, ◌&&◌, nat_eq}
 use Rattle.std.specs.List.{list_any}
-use Rattle.niss_moves.specs.Effects.{effect}
-use Rattle.niss_cube.specs.Names.{Place, places, facelet, U, same_place, is_corner, is_edge, Token, Cube}
+use Rattle.niss_cube.specs.Names.{Place, places, facelet, U, same_place, is_corner, is_edge, Cube}
 use Rattle.niss_cube.specs.Cubies.{index_in, row_at, facelet_at, corner_facelets, edge_facelets}
 use lib.Pointwise.{pointwise}
 
@@ -34,10 +33,6 @@ same_cubies c d =
 
 unfoldable pub place_at : ℕ → Place
 place_at n = get_or places n (facelet U 5)
-
--- each of the 26 new positions is that of the place to which a sequence brings what stands at the old one
-abbrev pub AreMoved : (old new : List ℕ) → List Token → Type 0
-AreMoved old new s = (k : ℕ) → k < 26 → place_at (slice_index new k) ≡ effect s (place_at (slice_index old k))
 
 -- The sticker that a cube has at a position began at another one.
 abbrev pub BeganAt : Cube → (position origin : ℕ) → Type 0

@@ -4,8 +4,9 @@ ghost use Rattle.niss_moves.specs.Rotations.{about_vertical};
 ghost use Rattle.niss_cube.specs.Cubies.{AreCubies};
 
 use crate::cubie_turns::{cubie_turn, turn_homes, turn_orientations};
-use crate::followed_places::{CORNER_POSITIONS, CUBIE_LETTERS, CUBIES, EDGE_POSITIONS, FACELETS};
-use crate::place_positions::position_before;
+use crate::facelet_text::{
+    CORNER_POSITIONS, CUBIES, EDGE_POSITIONS, FACELETS, SOLVED_TEXT, rotated_if,
+};
 use coordinate::Coordinate;
 use coordinate::renaming::Renaming;
 use niss_moves::{Axis, Power, Rotation, Turn};
@@ -37,10 +38,10 @@ pub struct Cube {
 impl Cube {
     ghost use Rattle.std.specs.Prelude.{◌≡◌, ◌↔◌, ℕ, slice_index};
     ghost use Rattle.niss_moves.specs.Places.{SameMap};
-    ghost use Rattle.niss_moves.specs.Facelets.{places, letter_of, letters};
+    ghost use Rattle.niss_moves.specs.Facelets.{letters};
     ghost use Rattle.niss_moves.specs.Effects.{effect, effect_of_turns, turned};
     ghost use Rattle.niss_moves.specs.Rotations.{spelling};
-    ghost use Rattle.niss_cube.specs.Map.{map_of, same_cubies, BeganAt, place_at};
+    ghost use Rattle.niss_cube.specs.Map.{map_of, same_cubies, BeganAt};
     ghost use Rattle.niss_cube.specs.CubieTurns.{renamed_by};
     ghost use Rattle.niss_cube.specs.Coordinates.{IsRank};
     ghost use Rattle.niss_cube.specs.declared.cube.coordinate.Coordinate.TheVariants.{Flip, Twist, Slice};
@@ -149,28 +150,24 @@ impl Cube {
         position
     }
 
-    /// The letter at a position of the facelet text of the cube, rotated as a whole.
-    fn letter(&self, rotation: Rotation, position: usize) -> u8
-        requires { position < 54 }
-        ensures { result ≡ letter_of (λ q. effect (spelling rotation) (map_of self.now q)) places
-            (place_at position) }
+    /// The facelet text of the cube as its centres stand.
+    fn text(&self) -> [u8; 54]
+        ensures { result ≡ letters (map_of self.now) }
     {
-        let upright = position_before(about_vertical(rotation.vertical), position);
-        let before = position_before(rotation.top.to_top(), upright);
-        CUBIE_LETTERS[self.origin(before)][0]
+        let mut text = [0; 54];
+        for (position, letter) in text.iter_mut().enumerate() {
+            *letter = SOLVED_TEXT[self.origin(position)];
+        }
+        text
     }
 
     /// The facelet text of the cube, then rotated as a whole: the faces in the order U, R, F, D, L, B with nine letters
     /// each, row by row as one looks at the face. The letter at a place names the face on which its sticker began.
-    #[tactic(auto, using(crate::proofs::Shown::text_is))]
     pub fn facelets(&self, rotation: Rotation) -> [u8; 54]
         ensures { result ≡ letters (λ q. effect (spelling rotation) (map_of self.now q)) }
     {
-        let mut text = [0; 54];
-        for (position, letter) in text.iter_mut().enumerate() {
-            *letter = self.letter(rotation, position);
-        }
-        text
+        let held = rotated_if(self.text(), rotation.top.to_top());
+        rotated_if(held, about_vertical(rotation.vertical))
     }
 }
 

@@ -15,8 +15,6 @@
 //! let number = cube.flip(Axis::Fb);                     // 550: the turn flips four edges with respect to F and B
 //! ```
 //!
-//! For the letters of moves alone, of any kind, `facelets_after` makes no cube.
-//!
 //! The coordinate after a turn follows from the coordinate alone, so a table gives it without a cube. A step asks whether its
 //! coordinates are 0:
 //!
@@ -36,15 +34,13 @@
 
 mod cube;
 mod cubie_turns;
-mod followed_places;
+mod facelet_text;
 pub mod laws;
-mod place_positions;
 mod step;
 mod turn_tables;
 
 pub use cube::Cube;
 pub use cube::coordinate::Coordinate;
-pub use followed_places::facelets_after;
 pub use niss_moves::{Axis, Face, Power, Rotation, Turn};
 pub use step::{Goal, Step};
 pub use turn_tables::{OutOfMemory, TurnTable, TurnTables};

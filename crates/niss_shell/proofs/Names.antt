@@ -25,8 +25,8 @@ pub use Rattle.rand_pcg.specs.Lcg.{Lcg}
 unfoldable pub use Rattle.rand_pcg.specs.Lcg.{state_after}
 pub use Rattle.niss_cube.specs.Map.{map_of}
 pub use Rattle.niss_cube.specs.Steps.{steps, may_start, turns_of, name_of}
-pub use Rattle.niss_moves.specs.Effects.{effect_of_turns}
-pub use Rattle.niss_moves.specs.Rotations.{faces}
+pub use Rattle.niss_moves.specs.Effects.{effect, effect_of_turns}
+pub use Rattle.niss_moves.specs.Rotations.{faces, spelling}
 pub use Rattle.niss_moves.specs.Line.{Moves, joined_moves}
 pub use Rattle.niss_moves.specs.Places.{Place}
 pub use Rattle.niss_moves.specs.Reader.{Reader, IsFed, read_line}

@@ -20,10 +20,9 @@ use crate::device::{DeviceFault, Target};
 use crate::output::Output;
 use crate::text::{put_text, set_count, set_end};
 use niss_cube::laws::steps_see_places;
-use niss_cube::{Cube, OutOfMemory, Step, facelets_after};
-use niss_moves::{
-    LineText, Niss, Rotation, put_inverted, put_niss_clean, put_unniss, to_faces, unniss,
-};
+use niss_cube::{Cube, OutOfMemory, Rotation, Step};
+use niss_moves::laws::same_letters;
+use niss_moves::{LineText, Niss, put_inverted, put_niss_clean, put_unniss, to_faces, unniss};
 use niss_search::{Limit, Meter, Outcome, Position, Sink, Tables, TurnPath, search};
 use std::alloc::Allocator;
 use std::convert::Infallible;
@@ -64,11 +63,25 @@ impl LineCommand<Step> {
     }
 }
 
+/// The cube of a line's face turns, whose centres are home, and the rotation that is left.
+fn cube_of(line: &Niss) -> (Cube, Rotation)
+    ensures cube { SameMap (map_of result.0) (home line.now) }
+    ensures rotated { SameMap (λ q. effect (spelling result.1) (map_of result.0 q))
+        (effect (joined_moves line.now)) }
+{
+    let (turns, rotation) = to_faces(unniss(line).as_slice());
+    let mut cube = Cube::solved();
+    cube.apply(turns.as_slice());
+    (cube, rotation)
+}
+
 /// The facelet text of a line.
 fn facelets_of(line: &Niss) -> [u8; 54]
     ensures { result ≡ letters (effect (joined_moves line.now)) }
 {
-    facelets_after(line.normal(), line.inverse())
+    same_letters();
+    let (cube, rotation) = cube_of(line);
+    cube.facelets(rotation)
 }
 
 /// Sets the text to what is written for a line without a search.
@@ -83,18 +96,6 @@ pub fn rewrite(rewriting: Rewriting, line: &Niss, text: &mut LineText)
         Rewriting::Print => put_text(&facelets_of(line), text),
     }
     text.push(b'\n');
-}
-
-/// The cube of a line with its centres at home, and the rotation that is left.
-fn cube_of(line: &Niss) -> (Cube, Rotation)
-    ensures home { SameMap (map_of result.0) (home line.now) }
-    ensures rotated { SameMap (effect (joined_moves line.now))
-        (λ q. effect (spelling result.1) (map_of result.0 q)) }
-{
-    let (turns, rotation) = to_faces(unniss(line).as_slice());
-    let mut cube = Cube::solved();
-    cube.apply(turns.as_slice());
-    (cube, rotation)
 }
 
 /// The position of a line's cube, if the step may start there.

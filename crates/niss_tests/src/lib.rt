@@ -33,6 +33,8 @@ mod runs;
 #[cfg(test)]
 mod searches;
 #[cfg(test)]
+mod shown_cubes;
+#[cfg(test)]
 mod std_streams;
 #[cfg(test)]
 mod steps;

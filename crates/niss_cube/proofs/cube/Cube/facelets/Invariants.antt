@@ -1,6 +1,0 @@
-use Rattle.niss_cube.proofs.Words.{◌≡◌, ℕ, ◌<◌, get_or, effect, spelling, map_of, letter_of, places, place_at}
-use Rattle.niss_cube.proofs.cube.Cube.facelets.Given as goal
-
-abbrev pub invariant-loop-position : goal.invariant-loop-position
-invariant-loop-position l =
-    (i : ℕ) → i < l.position → get_or l.letter-items i 0 ≡ letter_of (λ q. effect (spelling l.rotation) (map_of l.self q)) places (place_at i)
