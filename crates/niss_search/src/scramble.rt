@@ -9,24 +9,15 @@ use rand_core::utils::NextWord;
 use rand_pcg::Lcg64Xsh32;
 
 /// The index that a word picks among the turns that may follow the last one.
-#[tactic(auto, using(crate::proofs::Bounds::count_after))]
+#[tactic(auto, using(crate::proofs::Bounds::word_times))]
 fn choice_index(last: Option<Turn>, word: u32) -> usize
     ensures { result ≡ word * length (choices last) / 2 ^ 32 }
 {
-    let word = u64::from(word);
-    let index = match last {
-        None => word * 18 / (1 << 32),
-        // D, L and B, whose numbers are odd, have 12 turns after them. The products don't wait for the last turn
-        Some(last) => {
-            let (of_15, of_12) = (word * 15 / (1 << 32), word * 12 / (1 << 32));
-            of_15 - (of_15 - of_12) * (last.face as u64 % 2)
-        }
-    };
-    index as usize
+    (u64::from(word) * turns_after(last).len() as u64 / (1 << 32)) as usize
 }
 
 /// The turn that the generator's next word picks among those that may follow the last one.
-pub fn random_turn(rng: &mut Lcg64Xsh32, last: Option<Turn>) -> Turn
+fn random_turn(rng: &mut Lcg64Xsh32, last: Option<Turn>) -> Turn
     ensures turn { result ≡ choice last (pcg32 rng.old).0 }
     ensures follows { may_follow last result ≡ true }
     ensures word { rng.new ≡ (pcg32 rng.old).1 }
@@ -46,9 +37,8 @@ pub fn random_turns(rng: &mut Lcg64Xsh32, count: usize) -> Faces
     ensures words { rng.new ≡ after_words count rng.old }
 {
     let mut turns = Faces::new();
-    // held beside the list: read back from its end, each turn would wait for the one before to be stored
     let mut last = None;
-    'drawing: for _ in 0..count {
+    for _ in 0..count {
         let turn = random_turn(rng, last);
         turns.push(turn);
         last = Some(turn);
