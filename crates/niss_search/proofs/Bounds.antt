@@ -7,7 +7,7 @@ use Rattle.niss_search.proofs.Words.{all_canonical, canonical_extensions, least_
 use Rattle.niss_search.proofs.Words.{length-map, look_bound, sum_by-le-sum_by, count_by-le-length, count_of_length, sum_by-le, BoundIsSmall}
 use Rattle.niss_search.proofs.Words.{length-filter, pow-suc, ◌∙◌, sym, refl, B, D, F, Face, L, R, U, face_may_follow, last_turn-push}
 use Rattle.niss_search.proofs.Words.{turn_order, CountRecurrence, PartHasNoMore, StepBoundIsLess, StepTurnsInOrder, goes_first, map, not}
-use Rattle.niss_search.proofs.Words.{true, ◌-◌, ◌/◌, no_turn, choice, filter_passes, mul-le-mul_left, mul-le-mul_right, choices, lit<, false}
+use Rattle.niss_search.proofs.Words.{true, ◌-◌, ◌/◌, no_turn, choice, filter_passes, mul-le-mul_right, choices, lit<, false}
 use Rattle.std.proofs.Math.Nat.{pow-le-pow_right}
 use Rattle.std.proofs.lemmas.List.Filters.{sum_by-filter_both}
 use Rattle.niss_search.proofs.ListLemmas.{sum_by-same}
@@ -171,10 +171,6 @@ some false = lit< tt
 choices-some : (last : Option Turn) → 0 < length (choices last)
 choices-some None = lit< tt
 choices-some (Some t) = rw (count_after t.face) (some (goes_first t.face))
-
--- a word times a number of turns has 64 bits
-pub word_times : (w k : ℕ) → w < 2 ^ 32 → k ≤ 18 → w * k < 2 ^ 64
-word_times w k h few = omega (arith, mul-le-mul_left w few, h)
 
 -- a word's index is that of a choice
 pub choice-index : (last : Option Turn) (w : ℕ) → w < 2 ^ 32 → w * length (choices last) / 2 ^ 32 < length (choices last)

@@ -9,11 +9,20 @@ use rand_core::utils::NextWord;
 use rand_pcg::Lcg64Xsh32;
 
 /// The index that a word picks among the turns that may follow the last one.
-#[tactic(auto, using(crate::proofs::Bounds::word_times))]
+#[tactic(auto, using(crate::proofs::Bounds::count_after))]
 fn choice_index(last: Option<Turn>, word: u32) -> usize
     ensures { result ≡ word * length (choices last) / 2 ^ 32 }
 {
-    (u64::from(word) * turns_after(last).len() as u64 / (1 << 32)) as usize
+    let word = u64::from(word);
+    let index = match last {
+        None => word * 18 / (1 << 32),
+        // D, L and B, whose numbers are odd, have 12 turns after them. The products don't wait for the last turn
+        Some(last) => {
+            let (of_15, of_12) = (word * 15 / (1 << 32), word * 12 / (1 << 32));
+            of_15 - (of_15 - of_12) * (last.face as u64 % 2)
+        }
+    };
+    index as usize
 }
 
 /// The turn that the generator's next word picks among those that may follow the last one.
