@@ -48,6 +48,9 @@ holds "an empty line says nothing" says "$own: no line says what it does wrong" 
 holds "a body without a function is named" says "$own: this line doesn't belong where it stands: - Face::U => Face::D," own '/^refused/d'
 holds "a body with two functions is named" says "$own: this line doesn't belong where it stands: refused: x" own '/^refused/arefused: x
 '
+holds "a body with two errors of the compiler is named" says "$own: this line doesn't belong where it stands: compiler: y" \
+    own '/^refused/acompiler: x\ncompiler: y
+'
 holds "a body without changes is named" says "$own: it needs a line 'refused: FUNCTION', and then lines after '- '" own '/^[-+]/d'
 holds "a body that changes nothing is named" says "$own: it needs a line 'refused: FUNCTION', and then lines after '- '" \
     own 's/^+ .*/+ Face::U => Face::D,/'

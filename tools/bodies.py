@@ -10,7 +10,7 @@ FOLDER = f"{TOP}/tests/wrong-bodies"
 HEAD = re.compile(r'( *)(?:pub(?:\([a-z]+\))? )?(?:const )?(?:unsafe )?(?:extern "C" )?fn (\w+)')
 # how a body begins, and a line of it that is no description
 NAMED = re.compile(r"(gate|further): (\w+)")
-OF_A_BODY = re.compile(r"(gate|further|refused|file):|[-+]")
+OF_A_BODY = re.compile(r"(gate|further|refused|compiler|file):|[-+]")
 
 
 class BadBody(Exception):
@@ -77,13 +77,15 @@ def function_at(lines: list[str], at: int) -> Span | None:
 
 @dataclass
 class WrongBody:
-    """A wrong body, with one line on what it does wrong, the function that must be refused, and the changes that make it."""
+    """A wrong body, with one line on what it does wrong, the function that must be refused, by which error if it doesn't compile, and the
+    changes that make it."""
 
     crate: str
     name: str
     is_of_gate: bool
     says: str = ""
     refused: str = ""
+    error: str = ""
     changes: list[Change] = field(default_factory=list)
 
     @property
@@ -140,7 +142,8 @@ def read(path: str) -> list[WrongBody]:
 
 def read_body(crate: str, file: str, lines: list[str]) -> WrongBody:
     """Reads a wrong body from the lines: 'gate: NAME' or 'further: NAME', what it does wrong, 'refused: FUNCTION', and the lines of the file,
-    after '- ', with those in their place, after '+ '. A line 'file: PATH' names another file of the crate for what is below it."""
+    after '- ', with those in their place, after '+ '. A line 'compiler: ERROR' says that it doesn't compile, a line 'file: PATH' names another
+    file of the crate for what is below it."""
     kind, _, name = lines[0].partition(": ")
     body, parted = WrongBody(crate, name, kind == "gate"), True
     if len(lines) > 1 and lines[1].strip() and not OF_A_BODY.match(lines[1]):
@@ -151,6 +154,8 @@ def read_body(crate: str, file: str, lines: list[str]) -> WrongBody:
         sign, text = line[:1], line[1:].strip()
         if line.startswith("refused: ") and not body.refused:
             body.refused = line.removeprefix("refused: ")
+        elif line.startswith("compiler: ") and body.refused and not body.error:
+            body.error = line.removeprefix("compiler: ")
         elif line.startswith("file: ") and body.refused:
             file, parted = line.removeprefix("file: "), True
         elif sign == "-" and body.refused:

@@ -37,8 +37,20 @@ def is_named(function: str, head: str) -> bool:
     return bool(re.search(rf"fn {function.split('::')[-1]}\b", head))
 
 
+def by_compiler(body: WrongBody, said: str) -> str:
+    """Returns REFUSED if the compiler has the error of the body in a function that it turns, and no other one."""
+    errors = re.findall(r"^(?:(src/\S+\.rt):(\d+):\d+: )?error\b(?:\[([\w-]+)\])?", said, re.MULTILINE)
+    spans = [(file, span) for file, span, _ in body.turned() if span]
+    if not errors:
+        return f"it compiles, or the check tells nothing: {said.strip()[-200:]}"
+    own = [it for it in errors if it[2] == body.error and any(file == it[0] and span.first < int(it[1]) <= span.last + 1 for file, span in spans)]
+    return REFUSED if own == errors else fault(said)
+
+
 def verdict(body: WrongBody, said: str) -> str:
     """Returns REFUSED, WAITS, UNTOLD, LEMMA, or why the body is not refused."""
+    if body.error:
+        return by_compiler(body, said)
     line = re.search(rf"^fn {re.escape(body.refused)}: (.*)", said, re.MULTILINE)
     if not re.search(r"^only=\d+ holes=", said, re.MULTILINE) or not line or "could not tell" in line[1]:
         return UNTOLD

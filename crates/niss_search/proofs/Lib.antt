@@ -1,4 +1,3 @@
-pub mod ByteLemmas
 pub mod Words
 pub mod ListLemmas
 pub mod DepthFirst

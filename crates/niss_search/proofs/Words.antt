@@ -15,15 +15,13 @@ pub use Rattle.std.proofs.lemmas.List.Concat.{length-flat_map}
 pub use Rattle.std.proofs.lemmas.List.Elements.{All-contains, Contains-get_or, All-contains_itself, All-head, All-push, All-tail, All-take}
 pub use Rattle.std.proofs.lemmas.List.Elements.{filter_passes, All-append, All-cons, All-drop, All-filter, All-map}
 pub use Rattle.std.proofs.lemmas.List.Elements.{Contains-append_right, filter-append, filter_more, All-nil}
-pub use Rattle.std.proofs.lemmas.List.Folds.{find-append, list_any_at, prefix_len-append}
+pub use Rattle.std.proofs.lemmas.List.Folds.{find-append, list_any_at}
 pub use Rattle.std.proofs.lemmas.List.FromFn.{length-map-range_with_len, length-range_with_len}
 pub use Rattle.std.proofs.lemmas.List.Sums.{sum_by-cons, sum_by-append, sum_by-le-sum_by, count_by-le-length, sum_by-le, length-filter}
-pub use Rattle.std.proofs.lemmas.List.Sums.{sum_by_push, prefix_len-le-length, prefix_len_passes, prefix_len_stops}
-pub use Rattle.std.proofs.lemmas.Nat.{and_block, and_le_l, and_le_r, and_mask, div-mul-add, le_or_l, le_or_r, mod-mul-add, or_block, or_lt}
-pub use Rattle.std.proofs.lemmas.Nat.{xor_block, xor_lt}
+pub use Rattle.std.proofs.lemmas.List.Sums.{sum_by_push}
+pub use Rattle.std.proofs.lemmas.Nat.{div-mul-add, mod-mul-add}
 pub use Rattle.std.proofs.lemmas.Result.{err_from_is_err_and}
 pub use Rattle.std.specs.Bool.{then_some}
-pub use Rattle.std.specs.Int.{bit_at, from_le_bytes, w64}
 pub use Rattle.std.specs.List.{range_with_len, list_any, prefix_len}
 pub use Rattle.std.specs.Option.{option_map_or, option_or}
 pub use Rattle.std.specs.Prelude.{flat_map, Err, Ok, Result, OnErr, OnOk, IfOk, ◌↔◌}
@@ -66,4 +64,3 @@ unfoldable pub use Rattle.niss_search.specs.Positions.{distance_at, position_aft
 pub use Rattle.niss_search.specs.Solutions.{Space, Homomorphism, after_all, last_length, reaching, up_to, solution_lengths, count_of_length}
 pub use Rattle.niss_search.specs.Solutions.{is_looked_at}
 unfoldable pub use Rattle.niss_search.specs.Solutions.{least_length, look_bound, solutions, is_reached_in, distance, looks, all_looks}
-pub use lib.Lanes.{number_l}

@@ -60,6 +60,6 @@ mod tables;
 
 pub use path::{Limit, TurnPath};
 pub use scan::next_at;
-pub use scramble::{random_turn, random_turns};
+pub use scramble::random_turns;
 pub use searching::{Outcome, Sink, search};
 pub use tables::{Meter, Position, Tables};

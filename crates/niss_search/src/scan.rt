@@ -1,78 +1,35 @@
-//! The bytes of a table that are at a level, found eight at a time as one number: quick also if a target has no vectors.
-ghost use Rattle.std.specs.Prelude.{◌≡◌, ◌≢◌, ℕ, ◌+◌, ◌<◌, ◌≤◌, ◌==◌, length, drop, map, not, slice_index, if◌then◌else◌};
-ghost use Rattle.std.specs.Prelude.{IfSome, IfNone, false};
-ghost use Rattle.std.specs.Int.{w64, from_le_bytes};
+//! The bytes of a table that are at a level, found 32 at a time.
+ghost use Rattle.std.specs.Prelude.{◌≡◌, ◌≢◌, ℕ, ◌<◌, ◌≤◌, ◌==◌, length, not, slice_index, IfSome, IfNone};
 ghost use Rattle.std.specs.List.{prefix_len};
 
-/// 127 in each of eight bytes.
-const LOW_BITS: u64 = 0x7f7f_7f7f_7f7f_7f7f;
-
-/// 128 in each of eight bytes.
-const HIGH_BITS: u64 = 0x8080_8080_8080_8080;
-
-/// The number that has 128 in the place of each byte at the level, and 0 in the place of any other. In the sum no byte
-/// carries into the next: it is at most 254.
-fn marks(word: &[u8; 8], level: u8) -> u64
-    ensures { result ≡ from_le_bytes w64 (map (λ byte. if byte == level then 128 else 0) word.now) }
-{
-    let differences = u64::from_le_bytes(*word) ^ u64::from_le_bytes([level; 8]);
-    let others = ((differences & LOW_BITS) + LOW_BITS) | differences;
-    (others & HIGH_BITS) ^ HIGH_BITS
-}
+use std::simd::prelude::*;
 
 /// The first index of the level in eight bytes, or 8 if there is none.
 fn first_in_word(word: &[u8; 8], level: u8) -> usize
     ensures { result ≡ prefix_len (λ byte. not (byte == level)) word.now }
 {
-    (marks(word, level).trailing_zeros() / 8) as usize
+    let mask = u8x8::from_array(*word)
+        .simd_eq(u8x8::splat(level))
+        .to_bitmask();
+    if mask == 0 {
+        8
+    } else {
+        mask.trailing_zeros() as usize
+    }
 }
 
-/// Whether a block has the level.
-fn is_in_block(block: &[u8; 32], level: u8) -> bool
-    ensures { result ≡ false → prefix_len (λ byte. not (byte == level)) block.now ≡ 32 }
+/// The first index of the level in a block, or 32 if there is none.
+fn first_in_block(block: &[u8; 32], level: u8) -> usize
+    ensures { result ≡ prefix_len (λ byte. not (byte == level)) block.now }
 {
-    let (words, _) = block.as_chunks::<8>();
-    let first_half = marks(&words[0], level) | marks(&words[1], level);
-    let last_half = marks(&words[2], level) | marks(&words[3], level);
-    first_half | last_half != 0
-}
-
-/// Goes on from `from` by the blocks that don't have the level.
-fn skip_blocks(table: &[u8], from: usize, level: u8) -> usize
-    requires { from ≤ length table.now }
-    ensures to { result ≤ length table.now }
-    ensures skipped { result + prefix_len (λ byte. not (byte == level)) (drop result table.now)
-        ≡ from + prefix_len (λ byte. not (byte == level)) (drop from table.now) }
-{
-    let mut at = from;
-    while let Some(block) = table[at..].first_chunk::<32>() {
-        if is_in_block(block, level) {
-            return at;
-        }
-        at += 32;
+    let mask = u8x32::from_array(*block)
+        .simd_eq(u8x32::splat(level))
+        .to_bitmask();
+    if mask == 0 {
+        32
+    } else {
+        mask.trailing_zeros() as usize
     }
-    at
-}
-
-/// The least index from `from` on, by eight bytes at a time; the table's length if there is none.
-fn next_by_words(table: &[u8], from: usize, level: u8) -> usize
-    requires { from ≤ length table.now }
-    ensures { result ≡ from + prefix_len (λ byte. not (byte == level)) (drop from table.now) }
-{
-    let mut at = from;
-    while let Some(word) = table[at..].first_chunk::<8>() {
-        let place = first_in_word(word, level);
-        if place < 8 {
-            return at + place;
-        }
-        at += 8;
-    }
-    for index in at..table.len() {
-        if table[index] == level {
-            return index;
-        }
-    }
-    table.len()
 }
 
 /// The least index, from `from` on, at which the table has the level, if there is one. `from` is at most the table's
@@ -92,9 +49,20 @@ pub fn next_at(table: &[u8], from: usize, level: u8) -> Option<usize>
             return Some(from + place);
         }
     }
-    let next = next_by_words(table, skip_blocks(table, from, level), level);
-    if next < table.len() {
-        return Some(next);
+    let (blocks, rest) = table[from..].as_chunks::<32>();
+    let mut at = from;
+    for block in blocks {
+        let place = first_in_block(block, level);
+        if place < 32 {
+            return Some(at + place);
+        }
+        at += 32;
+    }
+    for byte in rest {
+        if *byte == level {
+            return Some(at);
+        }
+        at += 1;
     }
     None
 }

@@ -26,7 +26,7 @@ fn choice_index(last: Option<Turn>, word: u32) -> usize
 }
 
 /// The turn that the generator's next word picks among those that may follow the last one.
-pub fn random_turn(rng: &mut Lcg64Xsh32, last: Option<Turn>) -> Turn
+fn random_turn(rng: &mut Lcg64Xsh32, last: Option<Turn>) -> Turn
     ensures turn { result ≡ choice last (pcg32 rng.old).0 }
     ensures follows { may_follow last result ≡ true }
     ensures word { rng.new ≡ (pcg32 rng.old).1 }
@@ -46,9 +46,8 @@ pub fn random_turns(rng: &mut Lcg64Xsh32, count: usize) -> Faces
     ensures words { rng.new ≡ after_words count rng.old }
 {
     let mut turns = Faces::new();
-    // held beside the list: read back from its end, each turn would wait for the one before to be stored
     let mut last = None;
-    'drawing: for _ in 0..count {
+    for _ in 0..count {
         let turn = random_turn(rng, last);
         turns.push(turn);
         last = Some(turn);
