@@ -1,5 +1,5 @@
 #!/usr/bin/env bash
-# What the built program does where it meets a limit: much input and too much, no input, a reader that goes, no memory.
+# What the built program does where it meets a limit: much input, no input, a reader that goes, a signal, a file that may not grow, no memory.
 # The model draws such devices and limits by the thousand; these few take seconds, and need neither Python nor strace nor a compiler.
 #
 #     tests/limits.sh [PROGRAM]
@@ -11,8 +11,6 @@ set -u
 nissy=$(program_of "$@") || exit 2
 
 many_blocks() { yes "R U'" | head -n 30000 | "$nissy" invert; }
-blanks() { head -c "$1" /dev/zero | tr '\0' ' ' | "$nissy" invert; }
-endless() { yes R | tr -d '\n' | "$nissy" invert; }
 closed_input() { "$nissy" invert <&-; }
 # shellcheck disable=SC2094
 gone_reader() { # opened to be read and to be written, and then no more to be read
@@ -20,9 +18,6 @@ gone_reader() { # opened to be read and to be written, and then no more to be re
     "$nissy" solve eofb 20 "R U F" 8<> gone > gone 8>&-
 }
 answers "many blocks of input" 0 "$(yes "U R'" | head -n 30000)\n" "" many_blocks
-answers "input at the limit" 0 "\n" "" blanks 16777216
-answers "input above it" 3 "" "nissy: input longer than 16777216 bytes\n" blanks 16777217
-answers "input without an end" 3 "" "nissy: input longer than 16777216 bytes\n" endless
 answers "a closed input" 3 "" "nissy: cannot read\n" closed_input
 answers "a reader that has gone" 3 "" "nissy: cannot write\n" gone_reader
 

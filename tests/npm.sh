@@ -1,7 +1,7 @@
 #!/usr/bin/env bash
 # Packs build/nissy.wasm and its JavaScript for npm, installs the package in an empty folder, and tries what it exports, its types and its
-# command there, by rows and by drawn runs beside the model. For more of them tests/answers.sh and tests/model/against.py take the installed
-# command as their program. No network is asked for. The last line is `N passed, M failed`, and the status is 1 if M isn't 0.
+# command there, by rows and by drawn runs beside the model. For more of them tests/model/against.py takes the installed command as its
+# program. No network is asked for. The last line is `N passed, M failed`, and the status is 1 if M isn't 0.
 set -u
 # shellcheck source=tests/shared
 . "$(dirname "$0")/shared"

@@ -1,6 +1,6 @@
 //! Input that is read in blocks: how often it is read, and how often written.
 use crate::devices::{Devices, FAULTLESS};
-use crate::runs::Given::{Input, Words};
+use crate::runs::Given::Input;
 use crate::runs::Run::{Fault, Good};
 use crate::runs::{check_count, check_each_write, repeated};
 use std::alloc::Global;
@@ -61,9 +61,45 @@ fn each_write_of_waiting_answers_fails(rt: HostRuntime) {
     check_each_write(&rt, rt.alloc(), run, devices);
 }
 
+/// Runs `invert` over blanks and a text, of which so many bytes stand in the first block: what is cut there is read as one.
+fn check_cut(rt: &impl Abort, alloc: Global, first: usize, text: &str, output: &[u8]) {
+    let blanks = BLOCK.saturating_sub(first);
+    let input = repeated(alloc, " ", blanks, text).expect(rt, "memory for input");
+    let devices = Devices {
+        most_read: BLOCK,
+        ..FAULTLESS
+    };
+    Good(Input(&["invert"], input.as_bytes()), output).check(rt, alloc, devices);
+}
+
 #[test]
-fn each_write_of_scrambles_fails(rt: HostRuntime) {
-    let words = ["scramble", "42", "54", "3", "2"];
-    let run = Good(Words(&words), b"L' D' F'\nL F' L'\n");
-    check_each_write(&rt, rt.alloc(), run, FAULTLESS);
+fn a_block_ends_anywhere(rt: HostRuntime) {
+    let cuts: &[(usize, &str, &[u8])] = &[
+        (4, "R U\nF'\n", b"U' R'\nF\n"),
+        (4, "R U\n", b"U' R'\n"),
+        (3, "R U", b"U' R'\n"),
+        (1, "R2\n", b"R2\n"),
+        (2, "R\r\nU\r\n", b"R'\nU'\n"),
+        (1, "R\u{2019} U\n", b"U' R\n"),
+        (2, "R\u{2019} U\n", b"U' R\n"),
+        (3, "R\u{2019} U\n", b"U' R\n"),
+    ];
+    for (first, text, output) in cuts {
+        check_cut(&rt, rt.alloc(), *first, text, output);
+    }
+}
+
+/// The same fault, whether a read gives a byte or a block.
+#[test]
+fn a_fault_stands_after_a_block(rt: HostRuntime) {
+    let input = repeated(rt.alloc(), " ", 4096, "q\n").expect(&rt, "memory for input");
+    let fault = b"nissy: line 1, column 4097: not a move\n";
+    let run = Fault(Input(&["invert"], input.as_bytes()), b"", fault);
+    for most_read in &[1, BLOCK] {
+        let devices = Devices {
+            most_read: *most_read,
+            ..FAULTLESS
+        };
+        run.check(&rt, rt.alloc(), devices);
+    }
 }

@@ -19,3 +19,14 @@ pub fn cube_after(rt: &impl Abort, moves: &str) -> Cube {
     cube.apply(turns.as_slice());
     cube
 }
+
+/// R and U, again and again, give the solved cube back after 105 times and not before.
+#[test]
+fn right_and_up_have_order_105(rt: HostRuntime) {
+    let mut cube = Cube::solved();
+    for count in 1..=105usize {
+        cube.apply(&[quarter(Face::R), quarter(Face::U)]);
+        let is_solved = cube == Cube::solved();
+        assert!(rt; is_solved == (count == 105), "after {count} times");
+    }
+}

@@ -36,6 +36,14 @@ pub const FAULTLESS: Devices<'static> = Devices {
     heap: None,
 };
 
+/// Few bytes in each call: so lines, moves and answers are cut anywhere.
+pub const FEW: Devices<'static> = Devices {
+    most_read: 3,
+    most_written: 5,
+    most_reported: 1,
+    ..FAULTLESS
+};
+
 impl Devices<'_> {
     /// The same, but the flush after the last write fails.
     pub fn unflushed(self) -> Self {

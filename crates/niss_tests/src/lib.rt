@@ -1,7 +1,12 @@
-//! Tests of what no built program shows: calls of the crates below it, and runs of the commands over devices in memory, which
-//! fail, move few bytes, count their calls or refuse memory. What the program shows is in the scripts of `tests/`.
+//! Tests of what no contract says: rows of words and input with what a run of them writes, says and returns, over devices
+//! in memory, which fail, move few bytes, count their calls or refuse memory; and calls of the crates below. What only the
+//! built program shows is in the scripts of `tests/`.
 #![tactic(auto)]
 
+#[cfg(test)]
+mod alternatives;
+#[cfg(test)]
+mod ample_memory;
 #[cfg(test)]
 mod blocks;
 #[cfg(test)]
@@ -15,15 +20,23 @@ mod devices;
 #[cfg(test)]
 mod examples;
 #[cfg(test)]
-mod few_bytes;
+mod farthest;
 #[cfg(test)]
 mod generator;
 #[cfg(test)]
+mod levels;
+#[cfg(test)]
 mod limits;
+#[cfg(test)]
+mod lines;
 #[cfg(test)]
 mod memory;
 #[cfg(test)]
+mod near;
+#[cfg(test)]
 mod path_sinks;
+#[cfg(test)]
+mod reading;
 #[cfg(test)]
 mod refused_growths;
 #[cfg(test)]
@@ -31,9 +44,13 @@ mod rewriting;
 #[cfg(test)]
 mod runs;
 #[cfg(test)]
+mod scrambles;
+#[cfg(test)]
 mod searches;
 #[cfg(test)]
 mod shown_cubes;
+#[cfg(test)]
+mod solutions;
 #[cfg(test)]
 mod std_streams;
 #[cfg(test)]

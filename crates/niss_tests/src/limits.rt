@@ -1,9 +1,12 @@
-//! Words at the limit of input and above it, which are too long for a command line.
-use crate::devices::FAULTLESS;
+//! Input at its limit and above it, as words and from a reader.
+use crate::blocks::BLOCK;
+use crate::devices::{Devices, FAULTLESS};
 use crate::memory::check_heap;
 use crate::runs::Given::{Input, Words};
 use crate::runs::Run::{Failure, Good};
-use crate::runs::{TOO_LONG, repeated};
+use crate::runs::{Outcome, TOO_LONG, repeated, words_of};
+use niss_shell::{FromReader, Meter, run};
+use std::io;
 use std::test::Fail;
 
 const LIMIT: usize = 16_777_216;
@@ -20,7 +23,55 @@ fn words_at_the_limit_are_taken(rt: HostRuntime) -> Result<(), Fail> {
 #[test]
 fn words_above_the_limit_are_refused(rt: HostRuntime) -> Result<(), Fail> {
     let spaces = repeated(rt.alloc(), " ", LIMIT, "")?;
-    let run = Failure(Input(&["invert", &spaces], b"R"), b"", TOO_LONG);
+    let run = Failure(Words(&["invert", &spaces]), b"", TOO_LONG);
+    run.check(&rt, rt.alloc(), FAULTLESS);
     check_heap(&rt, rt.alloc(), 16, run)?;
     Ok(())
+}
+
+/// Reads of whole blocks.
+const BLOCKS: Devices<'static> = Devices {
+    most_read: BLOCK,
+    ..FAULTLESS
+};
+
+#[test]
+fn blanks_at_the_limit_are_read(rt: HostRuntime) -> Result<(), Fail> {
+    let spaces = repeated(rt.alloc(), " ", LIMIT, "")?;
+    let run = Good(Input(&["invert"], spaces.as_bytes()), b"\n");
+    run.check(&rt, rt.alloc(), FAULTLESS);
+    run.check(&rt, rt.alloc(), BLOCKS);
+    Ok(())
+}
+
+#[test]
+fn blanks_above_the_limit_are_refused(rt: HostRuntime) -> Result<(), Fail> {
+    let spaces = repeated(rt.alloc(), " ", LIMIT, " ")?;
+    let run = Failure(Input(&["invert"], spaces.as_bytes()), b"", TOO_LONG);
+    run.check(&rt, rt.alloc(), FAULTLESS);
+    run.check(&rt, rt.alloc(), BLOCKS);
+    Ok(())
+}
+
+/// The line has more than 256 moves, but its end was never read.
+#[test]
+fn moves_without_an_end_are_refused(rt: HostRuntime) {
+    let words = words_of(rt.alloc(), &["invert"]).expect(&rt, "memory for words");
+    let mut out = FAULTLESS.target(rt.alloc());
+    let mut err = FAULTLESS.error_target(rt.alloc());
+    let status = run(
+        rt.alloc(),
+        &words,
+        &mut FromReader::new(io::repeat(b'R')),
+        &mut out,
+        &mut err,
+        &mut Meter::new(),
+    );
+    let refused = Outcome {
+        name: "moves without an end",
+        output: b"",
+        error: TOO_LONG,
+        status: 3,
+    };
+    refused.compare(&rt, status, &out, &err);
 }

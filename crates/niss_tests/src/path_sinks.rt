@@ -84,3 +84,19 @@ impl Sink for HeapWatch<'_> {
         Ok(())
     }
 }
+
+/// Takes all paths.
+#[derive(Drop)]
+pub struct All;
+
+impl Sink for All {
+    type Fault = Refused;
+
+    ghost took = { λ old path new. Unit {0} };
+
+    ghost refused = { λ old path new. Unit {0} };
+
+    fn take(&mut self, _path: &TurnPath) -> Result<(), Refused> {
+        Ok(())
+    }
+}

@@ -47,12 +47,14 @@ fn in_heap(heap: &LocalHeap) -> Devices<'_> {
 fn outcome_of<'a>(fits: bool, output: &'a [u8]) -> Outcome<'a> {
     if fits {
         Outcome {
+            name: "a run in little room",
             output,
             error: b"",
             status: 0,
         }
     } else {
         Outcome {
+            name: "a run in little room",
             output: b"",
             error: OUT_OF_MEMORY,
             status: 3,

@@ -1,6 +1,6 @@
 //! Runs of the engine over devices in memory, and the check of what they write and answer.
 
-use crate::devices::{Bytes, Devices, Held};
+use crate::devices::{Bytes, Devices, FEW, Held};
 use niss_shell::{FromReader, Meter, ToWriter, run, run_in};
 use std::alloc::{AllocError, Global};
 use std::process::Abort;
@@ -44,7 +44,12 @@ pub fn repeated(alloc: Global, text: &str, count: usize, end: &str) -> Result<St
 
 /// Checks the bytes that a run wrote.
 pub fn check_bytes(rt: &impl Abort, written: &[u8], wanted: &[u8]) {
-    assert_eq!(rt; written, wanted);
+    check_written(rt, "bytes", written, wanted);
+}
+
+/// The same, with what a failure names the run by.
+fn check_written(rt: &impl Abort, name: &str, written: &[u8], wanted: &[u8]) {
+    assert_eq!(rt; written, wanted, "{name}");
 }
 
 /// Checks how often something was done.
@@ -55,6 +60,8 @@ pub fn check_count(rt: &impl Abort, what: &str, found: usize, wanted: usize) {
 /// What a run has to write and to answer.
 #[derive(Clone, Copy)]
 pub struct Outcome<'a> {
+    /// What a failure names the run by.
+    pub name: &'a str,
     pub output: &'a [u8],
     pub error: &'a [u8],
     pub status: u8,
@@ -64,9 +71,9 @@ impl Outcome<'_> {
     /// Compares it with what a run answered and what its targets hold. However a run ends, it writes no empty piece, and
     /// its last call of the output is its one flush.
     pub fn compare(self, rt: &impl Abort, status: u8, out: &Held, err: &Held) {
-        check_bytes(rt, out.bytes.as_slice(), self.output);
-        check_bytes(rt, err.bytes.as_slice(), self.error);
-        check_count(rt, "status", usize::from(status), usize::from(self.status));
+        check_written(rt, self.name, out.bytes.as_slice(), self.output);
+        check_written(rt, self.name, err.bytes.as_slice(), self.error);
+        check_count(rt, self.name, usize::from(status), usize::from(self.status));
         check_count(rt, "flushes", out.flushes, 1);
         assert!(rt; out.flush_tried, "a write after the flush");
         assert!(rt;
@@ -130,18 +137,37 @@ pub struct Calls {
     pub looks: u128,
 }
 
-/// What a run is given: its words, and its input, if that isn't empty.
+/// What a run is given.
 #[derive(Clone, Copy)]
 pub enum Given<'a> {
+    /// Words alone: what the source would give is left unread.
     Words(&'a [&'a str]),
+    /// Words and input.
     Input(&'a [&'a str], &'a [u8]),
 }
 
 impl<'a> Given<'a> {
     fn parts(self) -> (&'a [&'a str], &'a [u8]) {
         match self {
-            Given::Words(words) => (words, b"".as_slice()),
+            Given::Words(words) => (words, b"left".as_slice()),
             Given::Input(words, input) => (words, input),
+        }
+    }
+
+    /// The last word, by which a failure names the run.
+    fn name(self) -> &'a str {
+        let (words, _) = self.parts();
+        match words.last() {
+            Some(word) => *word,
+            None => "",
+        }
+    }
+
+    /// Checks that words alone have read nothing.
+    fn check_reads(self, rt: &impl Abort, reads: usize) {
+        match self {
+            Given::Words(_) => check_count(rt, "reads", reads, 0),
+            Given::Input(..) => (),
         }
     }
 }
@@ -169,6 +195,7 @@ impl<'a> Run<'a> {
             Run::Failure(given, output, error) => (given, output, error, 3),
         };
         let outcome = Outcome {
+            name: given.name(),
             output,
             error,
             status,
@@ -183,6 +210,7 @@ impl<'a> Run<'a> {
         let words = words_of(alloc, words).expect(rt, "memory for words");
         let ran = run_over(alloc, &words, input, devices);
         outcome.compare(rt, ran.status, &ran.out, &ran.err);
+        given.check_reads(rt, ran.input.reads);
         let calls = Calls {
             reads: ran.input.reads,
             least_asked: ran.input.least_asked,
@@ -246,4 +274,24 @@ pub fn check_nothing_taken(rt: &impl Abort, alloc: Global, given: Given<'_>, dev
     };
     let calls = Run::Failure(given, b"", CANNOT_WRITE).check(rt, alloc, full);
     check_count(rt, "writes", calls.writes, 1);
+}
+
+/// Makes each of these runs, by calls that move few bytes.
+pub fn check_runs(rt: &impl Abort, alloc: Global, runs: &[Run<'_>]) {
+    for run in runs {
+        run.check(rt, alloc, FEW);
+    }
+}
+
+/// Checks that words write this, by calls that move few bytes.
+pub fn check_words<'a>(rt: &impl Abort, alloc: Global, words: &'a [&'a str], output: &'a [u8]) {
+    Run::Good(Given::Words(words), output).check(rt, alloc, FEW);
+}
+
+/// Makes each of these runs, and checks how many positions each of them looks at.
+pub fn check_looks(rt: &impl Abort, alloc: Global, runs: &[(Run<'_>, u128)]) {
+    for row in runs {
+        let calls = row.0.check(rt, alloc, FEW);
+        assert_eq!(rt; calls.looks, row.1);
+    }
 }

@@ -11,7 +11,7 @@ use std::process::Abort;
 
 /// The tables of a step. Who has them ends with `drop(tables)`, which is proved once: if a scope ends without it, the
 /// proof goes through all parts of the tables again.
-fn tables_of(rt: &impl Abort, alloc: Global, step: Step, meter: &mut Meter) -> Tables
+pub fn tables_of(rt: &impl Abort, alloc: Global, step: Step, meter: &mut Meter) -> Tables
     requires { meter.old ≤ 2 ^ 127 }
 {
     let tables = Tables::build(alloc, step, meter).expect(rt, "tables");
@@ -75,20 +75,24 @@ impl Row {
     }
 }
 
-/// Checks the distance of the solved cube after some moves, by one look.
-fn check_distance(rt: &impl Abort, tables: &Tables, moves: &str, distance: u8) {
-    let position = position_after(rt, tables, moves);
+/// Moves, and how far the solved cube is from the goal after them.
+const DISTANCES: &[(&str, u8)] = &[("", 0), ("R", 1), ("R U", 2)];
+
+/// Each look ticks once.
+fn check_distances(rt: &impl Abort, tables: &Tables) {
     let mut meter = Meter::new();
-    assert!(rt; tables.look(&position, &mut meter) == distance, "{moves}");
-    assert!(rt; meter.count() == 1, "{moves}");
+    for (moves, distance) in DISTANCES {
+        let position = position_after(rt, tables, moves);
+        assert!(rt; meter.count() < 3);
+        assert!(rt; tables.look(&position, &mut meter) == *distance, "{moves}");
+    }
+    assert!(rt; meter.count() == 3);
 }
 
 #[test]
 fn looks_give_distances(rt: HostRuntime) {
     let tables = tables_of(&rt, rt.alloc(), Step::DrudEofb, &mut Meter::new());
-    check_distance(&rt, &tables, "", 0);
-    check_distance(&rt, &tables, "R", 1);
-    check_distance(&rt, &tables, "R U", 2);
+    check_distances(&rt, &tables);
     drop(tables);
 }
 
@@ -150,10 +154,17 @@ const TOO_FEW_TURNS: Search = Search {
     slack: 0,
 };
 
+/// What disorients no edge may follow a turn that orients them all.
+const ORIENTED_AFTER_F: &[&str] = &[
+    "F", "F'", "F U", "F U2", "F U'", "F D", "F D2", "F D'", "F R", "F R2", "F R'", "F L", "F L2",
+    "F L'", "F B2", "F' U", "F' U2", "F' U'", "F' D", "F' D2", "F' D'", "F' R", "F' R2", "F' R'",
+    "F' L", "F' L2", "F' L'", "F' B2",
+];
+
 /// A refusal ends the search at once. The looks of `TWO_TURNS` before it: one in each of the deepenings to 0 and 1; then the
 /// one at the root and 13 to F, 13 more to F B and 2 to F B'; 2 to F', 13 to F' B and 2 to F' B'. Without a refusal 27 follow
 /// below B and B'. Those of `A_TURN_MORE`: 20 in the two deepenings before it; in the third the one at the root, 13 to F, and
-/// the one to F U.
+/// the one to F U. Without a refusal the third has 76.
 #[test]
 fn paths_are_taken_or_refused(rt: HostRuntime) {
     let tables = tables_of(&rt, rt.alloc(), Step::Eofb, &mut Meter::new());
@@ -164,6 +175,7 @@ fn paths_are_taken_or_refused(rt: HostRuntime) {
         refused(TWO_TURNS, &["F B", "F B'", "F' B"], 48),
         found(TWO_TURNS, &["F B", "F B'", "F' B", "F' B'"], Some(2), 75),
         refused(A_TURN_MORE, &["F", "F'"], 35),
+        found(A_TURN_MORE, ORIENTED_AFTER_F, Some(1), 96),
         found(TOO_FEW_TURNS, &[], None, 4),
     ] {
         row.check(&rt, &tables);

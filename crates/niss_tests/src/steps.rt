@@ -1,5 +1,6 @@
 //! Steps: their names and turns.
-use crate::runs::check_bytes;
+use crate::cubes::cube_after;
+use crate::runs::{STEPS as LISTED, check_bytes, check_words};
 use niss_cube::Step;
 use niss_moves::{LineText, put_faces};
 use std::process::Abort;
@@ -59,6 +60,11 @@ fn steps_have_their_names_and_turns(rt: HostRuntime) {
     }
 }
 
+#[test]
+fn steps_are_listed(rt: HostRuntime) {
+    check_words(&rt, rt.alloc(), &["steps"], LISTED);
+}
+
 fn check_equal(rt: &impl Abort, step: Step, other: Step) {
     let one_name = step.name() == other.name();
     let is_right = (step == other) == one_name && (step.goals() == other.goals()) == one_name;
@@ -76,5 +82,120 @@ fn check_equals(rt: &impl Abort, step: Step) {
 fn steps_and_goals_are_equal_to_themselves_alone(rt: HostRuntime) {
     for step in Step::all() {
         check_equals(&rt, *step);
+    }
+}
+
+/// The steps that are reached after some moves, and the others that may start. No other may start.
+struct Standing {
+    moves: &'static str,
+    reached: &'static [Step],
+    started: &'static [Step],
+}
+
+const STANDINGS: &[Standing] = &[
+    Standing {
+        moves: "",
+        reached: &[
+            Step::Eofb,
+            Step::Eorl,
+            Step::Eoud,
+            Step::DrudEofb,
+            Step::DrrlEofb,
+            Step::DrudEorl,
+            Step::DrfbEorl,
+            Step::DrrlEoud,
+            Step::DrfbEoud,
+            Step::Eo,
+            Step::DrEofb,
+            Step::DrEorl,
+            Step::DrEoud,
+        ],
+        started: &[],
+    },
+    // A quarter turn flips edges with respect to its own axis alone. It keeps the stickers of its axis on that axis, and
+    // brings edges of the other two slices out of them.
+    Standing {
+        moves: "F",
+        reached: &[
+            Step::Eorl,
+            Step::Eoud,
+            Step::DrfbEorl,
+            Step::DrfbEoud,
+            Step::Eo,
+            Step::DrEorl,
+            Step::DrEoud,
+        ],
+        started: &[Step::Eofb, Step::DrudEorl, Step::DrrlEoud],
+    },
+    // R flips edges with respect to R and L, and U those with respect to U and D. R twists corners with respect to U and
+    // D, and U then twists them with respect to R and L.
+    Standing {
+        moves: "R U",
+        reached: &[Step::Eofb, Step::Eo],
+        started: &[
+            Step::Eorl,
+            Step::Eoud,
+            Step::DrudEofb,
+            Step::DrrlEofb,
+            Step::DrEofb,
+        ],
+    },
+    // Quarter turns of U and D and half turns of the other faces keep a domino on U and D.
+    Standing {
+        moves: "R2 U F2",
+        reached: &[
+            Step::Eofb,
+            Step::Eorl,
+            Step::DrudEofb,
+            Step::DrudEorl,
+            Step::Eo,
+            Step::DrEofb,
+            Step::DrEorl,
+        ],
+        started: &[Step::Eoud, Step::DrrlEofb, Step::DrfbEorl],
+    },
+    // Three edges of the upper layer cycled, R U' R U R U R' U' R' U' R2, between R and R': the edge FR is one of them, and
+    // all corners are home. So the edge outside its slice alone keeps the domino from being reached.
+    Standing {
+        moves: "R2 U' R U R U R' U' R' U' R",
+        reached: &[Step::Eofb, Step::Eo],
+        started: &[
+            Step::Eorl,
+            Step::Eoud,
+            Step::DrudEofb,
+            Step::DrrlEofb,
+            Step::DrEofb,
+        ],
+    },
+];
+
+fn check_standing(rt: &impl Abort, standing: &Standing, step: Step) {
+    let cube = cube_after(rt, standing.moves);
+    let is_reached = standing.reached.contains(&step);
+    let may_start = is_reached || standing.started.contains(&step);
+    assert!(rt;
+        step.reached(&cube) == is_reached,
+        "{} after {}",
+        step.name(),
+        standing.moves
+    );
+    assert!(rt;
+        step.may_start(&cube) == may_start,
+        "{} after {}",
+        step.name(),
+        standing.moves
+    );
+}
+
+fn check_standings(rt: &impl Abort, standing: &Standing) {
+    for step in Step::all() {
+        check_standing(rt, standing, *step);
+    }
+}
+
+#[test]
+fn steps_are_reached_or_may_start(rt: HostRuntime) {
+    for standing in STANDINGS {
+        check_standings(&rt, standing);
     }
 }

@@ -1,4 +1,6 @@
 //! Wrong words: each has its fault, in the order in which faults are looked for.
+use crate::devices::FEW;
+use crate::runs::Run::Usage;
 use crate::runs::words_of;
 use niss_shell::UsageFault::{self, BadNumber, NoCommand, UnknownCommand, UnknownStep, WrongCount};
 use niss_shell::parse_words;
@@ -71,6 +73,7 @@ const ROWS: &[Row] = &[
     (&["scramble", "1", "2", "3", "\u{664}"], BadNumber),
 ];
 
+/// Words that are refused have this fault, and a run of them says how the program is used.
 fn check_fault(rt: &impl Abort, alloc: Global, index: usize, row: &Row) {
     let (texts, fault) = *row;
     let words = words_of(alloc, texts).expect(rt, "memory for words");
@@ -78,6 +81,7 @@ fn check_fault(rt: &impl Abort, alloc: Global, index: usize, row: &Row) {
         panic!(rt; "row {index} has no fault")
     };
     assert!(rt; found == fault, "row {index}");
+    Usage(texts).check(rt, alloc, FEW);
 }
 
 #[test]
