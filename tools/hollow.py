@@ -42,7 +42,9 @@ def owner_named(header: str) -> tuple[str, str]:
     trait, _, of = after_list(head).rpartition(" for ")
     name: str = re.findall(r"^\s*(?:\w+::)*(\w+)", of)[0]
     made_for = re.findall(r"^\s*\w+<(\w+)>", head) if not trait else []
-    return name, name + "".join([*(f"+{it}" for it in made_for), *re.findall(r"\w+", trait.split("::")[-1])])
+    own = re.findall(r"(?:^<|,)\s*(\w+)", head[: len(head) - len(after_list(head))])
+    words = [it for it in re.findall(r"\w+", trait.split("::")[-1]) if it not in own]
+    return name, name + "".join([*(f"+{it}" for it in made_for), *words])
 
 
 def module_of(file: str) -> tuple[str, ...]:

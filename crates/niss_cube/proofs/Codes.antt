@@ -146,7 +146,7 @@ pub renaming : (k : Coordinate) (a : Axis) → IsRenaming (renamed_for k a) (tur
 renaming k a = if_renamed (renaming_for k a)
 
 -- the cubies of a coordinate, and the places of its set
-abbrev kind_for : Coordinate → Kind
+abbrev pub kind_for : Coordinate → Kind
 kind_for Flip = Edges
 kind_for Twist = Corners
 kind_for Slice = Edges
@@ -160,14 +160,14 @@ pub sets_are_places : SetsArePlaces
 sets_are_places k a q h = kind_place (kind_for k) q (set_kind k a q h)
 
 -- the set of the cube that is renamed for an axis
-abbrev standard_set : Coordinate → Axis → Place → Bool
+abbrev pub standard_set : Coordinate → Axis → Place → Bool
 standard_set Flip Ud q = is_edge q && not (flip_set Fb q)
 standard_set Flip Rl q = flip_set Fb q
 standard_set Flip Fb q = flip_set Fb q
 standard_set Twist a q = twist_set Ud q
 standard_set Slice a q = slice_set Ud q
 
-standard_kind : (k : Coordinate) (a : Axis) (q : Place) → standard_set k a q ≡ true → is_of (kind_for k) q ≡ true
+pub standard_kind : (k : Coordinate) (a : Axis) (q : Place) → standard_set k a q ≡ true → is_of (kind_for k) q ≡ true
 standard_kind Flip Ud q h = and_left _ _ h
 standard_kind Flip Rl q h = and_left _ _ h
 standard_kind Flip Fb q h = and_left _ _ h
@@ -206,7 +206,7 @@ kept_renamed k a e keep = go k a
     go Slice Ud = ((λ h. h), (λ h. h))
 
 -- in each row one facelet, the s-th, belongs to the set
-abbrev row_fact : Kind → (Place → Bool) → ℕ → Fact
+abbrev pub row_fact : Kind → (Place → Bool) → ℕ → Fact
 row_fact k set s = Numbers (count k) λ i. Numbers (facelets k) λ j. Same (set (at k i j)) (j == s)
 
 none_turned : (k : Kind) (s t : ℕ) → s < facelets k → t < facelets k → (s + t) % facelets k ≡ s → t ≡ 0
@@ -237,7 +237,7 @@ module _ (k : Kind) (set : Place → Bool) (inside : (q : Place) → set q ≡ t
   turns_kept : Kept set e ↔ ((i : ℕ) → i < count k → turn_at k c i ≡ 0)
   turns_kept = (kept-unturned, unturned-kept)
 
-slice_at : (h : ℕ) → h < 12 → (j : ℕ) → j < 2 → slice_set Ud (at Edges h j) ≡ nat_le 8 h
+pub slice_at : (h : ℕ) → h < 12 → (j : ℕ) → j < 2 → slice_set Ud (at Edges h j) ≡ nat_le 8 h
 slice_at = holds (Numbers 12 λ h. Numbers 2 λ j. Same (slice_set Ud (at Edges h j)) (nat_le 8 h)) refl
 
 -- each place of the slice holds an edge of it, and no other does
@@ -259,7 +259,7 @@ slice_number_zero c v =
 
 -- the slice is kept where its edges stand in it
 module _ (c : CubieLists) (v : Valid c) (e : Place → Place) (same : SameMap e (map_lists c)) where
-  goes : (h j : ℕ) → h < 12 → j < 2 → slice_set Ud (e (at Edges h j)) ≡ nat_le 8 (place_of Edges c h)
+  pub goes : (h j : ℕ) → h < 12 → j < 2 → slice_set Ud (e (at Edges h j)) ≡ nat_le 8 (place_of Edges c h)
   goes h j lh lj = ap (slice_set Ud) (shown_at Edges c e same h j lh lj) ∙ slice_at (place_of Edges c h) (stands Edges c v h lh).0 _ (low Edges _)
 
   home-kept : AtHome c.edges → Kept (slice_set Ud) e

@@ -315,16 +315,16 @@ pub cubes_permute_places : CubesPermutePlaces
 cubes_permute_places c = permutes (lists_of c) c.are_cubies
 
 -- the places by number
-abbrev place_at : ℕ → Place
+abbrev pub place_at : ℕ → Place
 place_at k = get_or places k (facelet U 5)
 
-abbrev number_at : Place → ℕ
+abbrev pub number_at : Place → ℕ
 number_at q = index_in (same_place q) places
 
-at_number : (q : Place) → is_place q ≡ true → (number_at q < 54) × (place_at (number_at q) ≡ q)
+pub at_number : (q : Place) → is_place q ≡ true → (number_at q < 54) × (place_at (number_at q) ≡ q)
 at_number = holds (Places λ q. Both (Below (number_at q) 54) (Alike (place_at (number_at q)) q)) refl
 
-of_rank : (k : ℕ) → k < 54 → (number_at (place_at k) ≡ k) × (is_place (place_at k) ≡ true)
+pub of_rank : (k : ℕ) → k < 54 → (number_at (place_at k) ≡ k) × (is_place (place_at k) ≡ true)
 of_rank = holds (Numbers 54 λ k. Both (Equal (number_at (place_at k)) k) (Yes (is_place (place_at k)))) refl
 
 -- a numbering of the places, and a map that permutes them
@@ -362,3 +362,7 @@ module _ (n : ℕ) (nth : ℕ → Place) (number : Place → ℕ) (numbers : (q 
 
 pub kept_is_equal : KeptIsEqual
 kept_is_equal c set kept q l m = kept_back 54 place_at number_at at_number of_rank (map_lists (lists_of c)) (cubes_permute_places c) set kept q l m
+
+-- a sum over the places is that over those to which they are brought
+pub sum_moved : (e : Place → Place) → PermutesPlaces e → (f : Place → ℕ) → below 54 (λ k. f (e (place_at k))) ≡ below 54 (λ k. f (place_at k))
+sum_moved e permuted f = sum_permuted 54 place_at number_at at_number of_rank e permuted f

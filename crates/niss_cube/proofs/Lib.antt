@@ -1,7 +1,9 @@
+pub mod BadPieces
 pub mod CallerLemmas
 pub mod Codes
 pub mod CoordinateLaws
 pub mod CubieKinds
+pub mod Leaving
 pub mod MovedCubies
 pub mod Ranks
 pub mod Shown

@@ -6,4 +6,5 @@ pub mod CubieTurns
 pub mod Coordinates
 pub mod AfterTurn
 pub mod Steps
+pub mod BadPieces
 pub mod StepLaws

@@ -3,6 +3,8 @@
 
 ghost use Rattle.niss_cube.specs.AfterTurn.{TurnedIsCube, AreCoordinates};
 ghost use Rattle.niss_cube.specs.Sets.{KeptIsTested, SetsArePlaces, CubesPermutePlaces, KeptIsEqual};
+ghost use Rattle.niss_cube.specs.BadPieces.{InverseIsAsBad, BadEdgesAreEven, NoCornerAlone, BadPiecesSeePlaces};
+ghost use Rattle.niss_cube.specs.BadPieces.{GoalsByBadPieces};
 ghost use Rattle.niss_cube.specs.StepLaws.{StartIsKept, OtherTurnsLeaveStart, StepsSeePlaces, InversesOfSteps};
 ghost use Rattle.niss_cube.specs.StepLaws.{StepTurnsInOrder, StepTurnsAreCounted, DominoKeepsStart, NamesDiffer};
 
@@ -35,6 +37,32 @@ pub fn kept_is_tested()
 /// The sets of the coordinates have sticker places only.
 pub fn sets_are_places()
     ensures { SetsArePlaces }
+{}
+
+/// On the inverse of a cube as many edges are flipped, corners twisted and slice edges outside as on the cube.
+pub fn inverse_is_as_bad()
+    ensures { InverseIsAsBad }
+{}
+
+/// The number of flipped edges is even.
+pub fn bad_edges_are_even()
+    ensures { BadEdgesAreEven }
+{}
+
+/// No cube has one twisted corner.
+pub fn no_corner_alone()
+    ensures { NoCornerAlone }
+{}
+
+/// How many pieces are bad depends on the 54 sticker places alone.
+pub fn bad_pieces_see_places()
+    ensures { BadPiecesSeePlaces }
+{}
+
+/// A goal holds of a cube exactly if no piece is bad: for an edge orientation no edge is flipped; for a domino reduction
+/// besides that no corner is twisted on its axis, and no edge of its slice is outside.
+pub fn goals_by_bad_pieces()
+    ensures { GoalsByBadPieces }
 {}
 
 /// A step that may start may start after each of its turns too.

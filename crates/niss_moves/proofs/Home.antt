@@ -103,7 +103,7 @@ keeps_centre : (t : Turn) (g : Face) → turned t (centre g) ≡ centre g
 unfolding every_turn every_face every_power
 keeps_centre = holds (Turns (λ t. Faces (λ g. Alike (turned t (centre g)) (centre g)))) refl
 
-keep_centre : (s : List Turn) (g : Face) → effect_of_turns s (centre g) ≡ centre g
+pub keep_centre : (s : List Turn) (g : Face) → effect_of_turns s (centre g) ≡ centre g
 keep_centre [] g = refl
 keep_centre (t ∷ s) g = ap (effect_of_turns s) (keeps_centre t g) ∙ keep_centre s g
 
@@ -158,13 +158,13 @@ centres_come_home s =
     (home, λ f. ap (effect (spelling home)) (sym (w.2 f)) ∙ undone w.0 f)
 
 -- A rotation at the end adds no face turn.
-no_faces : (f : Face) (o : Option Power) → faces (spelling (rotation f o)) ≡ []
+pub no_faces : (f : Face) (o : Option Power) → faces (spelling (rotation f o)) ≡ []
 no_faces U None = refl
 no_faces U (Some p) = refl
 no_faces _ None = refl
 no_faces _ (Some p) = refl
 
-faces-append : (s t : List Token) → faces t ≡ [] → faces (s ++ t) ≡ faces s
+pub faces-append : (s t : List Token) → faces t ≡ [] → faces (s ++ t) ≡ faces s
 faces-append [] t e = e
 faces-append (k ∷ s) t e = ap (faces_with (expanded k)) (faces-append s t e)
 

@@ -10,3 +10,4 @@ pub mod Reading
 pub mod ReaderLemmas
 pub mod Words
 pub mod Home
+pub mod Solving

@@ -12,4 +12,5 @@ pub mod Symbols
 pub mod Machine
 pub mod Reader
 pub mod Text
+pub mod Solving
 pub mod Helpers

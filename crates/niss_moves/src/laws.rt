@@ -3,6 +3,7 @@
 
 ghost use Rattle.std.specs.Prelude.{◌≡◌, ◌≢◌, ◌↔◌, ℕ, ◌+◌, ◌<◌, ◌≤◌, ◌⊎◌, Bool, List, [], ◌∷◌, ◌++◌, map, length};
 ghost use Rattle.std.specs.Prelude.{AllPairs, Contains, IsTrue, Ok, Err};
+ghost use Rattle.std.specs.List.{sum_by};
 ghost use Rattle.std.specs.List.{join_with_byte};
 ghost use Rattle.niss_moves.specs.Names.{Token, Face, Power, Turn, Axis, Rotation, ReadFault};
 ghost use Rattle.niss_moves.specs.Places.{Place, IsPlace, SameMap};
@@ -17,6 +18,7 @@ ghost use Rattle.niss_moves.specs.Line.{Moves, Spells, IsLine, joined_moves};
 ghost use Rattle.niss_moves.specs.Faults.{Faults, Cut, Continues};
 ghost use Rattle.niss_moves.specs.Text.{word, with_words};
 ghost use Rattle.niss_moves.specs.Reader.{read_line};
+ghost use Rattle.niss_moves.specs.Solving.{IsRotated, is_rotated, weight};
 ghost use Rattle.niss_moves.specs.declared.token.Token.TheVariants as token;
 
 /// `read_line`, which `read` and `finish` return, is the moves that spell the line, if they are at most 256, and else
@@ -169,4 +171,23 @@ pub fn one_clean_list()
 pub fn cleaned_lines()
     ensures turns { (s : List Turn) → Cleans s (clean_turns s) }
     ensures rotation { (s : List Token) → IsRotationOf s (rotation_left s) }
+{}
+
+/// A sequence and then another do no more than a rotation of the whole cube exactly if their face turns do nothing, those
+/// of the second one renamed as the cube is held after the first.
+pub fn solved_by_turns()
+    ensures { (s t : List Token) (r : Rotation) → IsRotationOf s r → IsRotated (s ++ t)
+        ↔ SameMap (λ q. effect_of_turns (map (renamed_turn (face_before r)) (faces t)) (effect_of_turns (faces s) q)) (λ q. q) }
+{}
+
+/// The test of a sequence says whether it does no more than a rotation.
+#[tactic(auto, using(crate::proofs::Solving::rotated_is_tested))]
+pub fn rotated_is_tested()
+    ensures { (s : List Token) → IsTrue (is_rotated s) ↔ IsRotated s }
+{}
+
+/// A sequence counts as many moves as it has face turns.
+#[tactic(auto, using(crate::proofs::Solving::counted_by_faces))]
+pub fn counted_by_faces()
+    ensures { (s : List Token) → sum_by weight s ≡ length (faces s) }
 {}

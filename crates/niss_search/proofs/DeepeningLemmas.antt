@@ -5,8 +5,8 @@ use Rattle.niss_search.proofs.Words.{cond, range_with_len, ◌++◌, flat_map, G
 use Rattle.niss_search.proofs.Words.{Some, flat_map-append, last_length, looks, reaching, unwrap_or, up_to, all_canonical, find}
 use Rattle.niss_search.proofs.Words.{least_length, solution_lengths, solutions, option_or, then_some, find-append, sum_by, ◌^◌, Place}
 use Rattle.niss_search.proofs.Words.{at_limit, min, HasPosition, append-nil, nat_lt, nat_tests, Err, GoesThrough, Ok, Part, for_each}
-use Rattle.niss_search.proofs.Words.{PositionsFollowCubes, Result, all_looks, progress_at, OnErr, OnOk, Path, StoppedIn, StopsIn}
-use Rattle.niss_search.proofs.Words.{WentThrough, near_looks_of, near_solutions_of, option_map_or, Delivers, IfOk, NoSlackIsLeast, suc}
+use Rattle.niss_search.proofs.Words.{PositionsFollowCubes, Result, all_looks, progress_at, OnOk, Path, StopsIn}
+use Rattle.niss_search.proofs.Words.{EndedIn, IfErr, WentThrough, near_looks_of, near_solutions_of, option_map_or, Delivers, IfOk, NoSlackIsLeast, suc}
 use Rattle.niss_search.proofs.Words.{Contains, All, All-head, All-filter, All-contains_itself, subst, after_all, then_part, deepening}
 use Rattle.niss_search.proofs.Words.{all_deepenings, distance_of, find_passes}
 use Rattle.std.specs.Prelude.{option_map, slice_get}
@@ -178,14 +178,14 @@ module _
     pub goes-on : {m2 e : ℕ} {s2 : K} → GoesThrough took refused (each d) (progress_at m1 0 s1) (progress_at m2 e s2)
         → GoesThrough took refused (done (d + 1)) (progress_at m0 0 s0) (progress_at m2 (c + e) s2)
     goes-on {m2} {e} {s2} h = rw done-more
-        (Descends-then {F = Unit {0}} (Ok tt) (each d) (progress_at m2 (c + e) s2) went
+        (Descends-then {E = Bool} (λ b. b) 0 (Ok tt) (each d) (progress_at m2 (c + e) s2) went
         record { delivered = h.delivered; counted = omega (arith, h.counted); looked = h.looked })
 
     -- or stop
     pub stops-here : d ≤ last_length (least_below space start d) n slack
-        → {m2 : ℕ} {s2 : K} → StopsIn took refused (each d) (progress_at m1 0 s1) (progress_at m2 0 s2)
-        → StopsIn took refused (all_deepenings space look start n slack) (progress_at m0 0 s0) (progress_at m2 0 s2)
-    stops-here within {m2} {s2} h =
+        → {m2 : ℕ} {s2 : K} {cut : Bool} {bound : ℕ} → StopsIn took refused (each d) (progress_at m1 0 s1) (progress_at m2 0 s2) cut bound
+        → StopsIn took refused (all_deepenings space look start n slack) (progress_at m0 0 s0) (progress_at m2 0 s2) cut bound
+    stops-here within {m2} {s2} {cut} {bound} h =
         let last = last_length (least_length space start n) n slack in
         let more = range_with_len (d + 1) (last + 1 - (d + 1)) in
         let parts = range-split (d + 1) (last + 1) (omega (arith, length-within space start n slack d within)) in
@@ -193,8 +193,8 @@ module _
         whole-parts space look start n slack ∙ ap (for_each each) parts ∙ for_each-append each (range_with_len 0 (d + 1)) more ∙ ap (λ q. then_part q (for_each each more)) done-more in
         rw whole
         (StopsIn-before (for_each each more)
-        (Descends-then {F = Unit {0}} (Err tt) (each d) (progress_at m2 0 s2) went
-        record { stopped = h.stopped; rises = h.rises; looked = h.looked }))
+        (Descends-then (λ b. b) bound (Err cut) (each d) (progress_at m2 0 s2) went
+        record { stopped = h.stopped; rises = h.rises; looked = h.looked; over = h.over }))
 
     -- until the last
     pub all-done : d ≡ last_length (least_below space start d) n slack + 1
@@ -204,25 +204,32 @@ module _
         rw (whole-parts space look start n slack, last) went
 
 -- What a search says of a cube, by what it returns.
-pub record Searched {K F : Type 0} (took refused : K → Path → K → Type 0) (step : Step) (e : Place → Place) (n slack m m1 : ℕ) (s s1 : K) (r : Result Outcome F) : Type 0 where
+pub record Searched {K E : Type 0} (took refused : K → Path → K → Type 0) (is_cut : E → Bool) (bound : ℕ) (step : Step) (e : Place → Place) (n slack m m1 : ℕ) (s s1 : K) (r : Result Outcome E) : Type 0 where
   pub solutions : IfOk r (λ o. o.solutions ≡ length (near_solutions_of step e n slack))
   pub ok : OnOk r (WentThrough (at_limit took n) s (near_solutions_of step e n slack) s1)
-  pub err : OnErr r (StoppedIn (at_limit took n) (at_limit refused n) s (near_solutions_of step e n slack) s1)
+  pub err : IfErr r (λ stop. EndedIn (at_limit took n) (at_limit refused n) (is_cut stop) s (near_solutions_of step e n slack) s1)
   pub looks : OnOk r (m1 ≡ m + near_looks_of step e n slack)
   pub looks_at_most : m1 ≤ m + near_looks_of step e n slack
+  pub over : IfErr r (λ stop. is_cut stop ≡ true → bound < m + near_looks_of step e n slack)
 
-pub searched : {K F : Type 0} (took refused : K → Path → K → Type 0) (step : Step) (x : List GoalCoordinates) (n slack m m1 : ℕ) (s s1 : K) (r : Result Outcome F)
-    → Delivers took refused n (all_deepenings (positions step) (distance_at step) x n slack) m m1 s s1 (λ o. o.solutions) r
-    → PositionsFollowCubes → (e : Place → Place) → HasPosition step e x → Searched took refused step e n slack m m1 s s1 r
-searched {F = F} took refused step x n slack m m1 s s1 r h law e at = by_result r h where
+pub searched : {K E : Type 0} (took refused : K → Path → K → Type 0) (is_cut : E → Bool) (bound : ℕ) (step : Step) (x : List GoalCoordinates) (n slack m m1 : ℕ) (s s1 : K) (r : Result Outcome E)
+    → Delivers took refused n (all_deepenings (positions step) (distance_at step) x n slack) m m1 s s1 is_cut bound (λ o. o.solutions) r
+    → PositionsFollowCubes → (e : Place → Place) → HasPosition step e x → Searched took refused is_cut bound step e n slack m m1 s s1 r
+searched {E = E} took refused is_cut bound step x n slack m m1 s s1 r h law e at = by_result r h where
   found : near_solutions_of step e n slack ≡ solutions (positions step) x n slack
   found = solutions-same (law.follow step) e x at n slack
 
   looked : near_looks_of step e n slack ≡ all_looks (positions step) (distance_at step) x n slack
   looked = all_looks-same (law.follow step) e x at (distance_of step) (distance_at step) (distance-cube law step) n slack
 
-  by_result : (r : Result Outcome F) → Delivers took refused n (all_deepenings (positions step) (distance_at step) x n slack) m m1 s s1 (λ o. o.solutions) r → Searched took refused step e n slack m m1 s s1 r
+  by_result : (r : Result Outcome E) → Delivers took refused n (all_deepenings (positions step) (distance_at step) x n slack) m m1 s s1 is_cut bound (λ o. o.solutions) r → Searched took refused is_cut bound step e n slack m m1 s s1 r
   by_result (Ok o) h =
-      record { solutions = omega (arith, ap length found, h.counted); ok = rw found h.delivered; err = tt; looks = omega (arith, looked, h.looked); looks_at_most = omega (arith, looked, h.looked) }
-  by_result (Err fault) h =
-      record { solutions = tt; ok = tt; err = rw found h.stopped; looks = tt; looks_at_most = omega (arith, looked, h.looked) }
+      record { solutions = omega (arith, ap length found, h.counted); ok = rw found h.delivered; err = tt; looks = omega (arith, looked, h.looked); looks_at_most = omega (arith, looked, h.looked); over = tt }
+  by_result (Err stop) h =
+      record { solutions = tt; ok = tt; err = rw found h.stopped; looks = tt; looks_at_most = omega (arith, looked, h.looked); over = λ t. omega (arith, looked, h.over t) }
+
+-- What passes a bound on the meter passes one on the looks.
+pub cut-over : {E : Type 0} (is_cut : E → Bool) (bound m all looks : ℕ) → (bound < m + all → looks < all) → (r : Result Outcome E)
+    → IfErr r (λ stop. is_cut stop ≡ true → bound < m + all) → IfErr r (λ stop. is_cut stop ≡ true → looks < all)
+cut-over is_cut bound m all looks passes (Ok o) h = tt
+cut-over is_cut bound m all looks passes (Err stop) h = λ t. passes (h t)

@@ -1,6 +1,8 @@
 -- With any consistent heuristic that is 0 only at the goal, depth-first search finds exactly the solutions that the
 -- definition lists, and looks exactly where the definition of looks says. And a descent part by part, with how a sink
 -- goes through parts.
+use Rattle.niss_search.specs.Budgets.{IsTaken}
+use Rattle.niss_search.proofs.Words.{OnErr, OnOk}
 use Rattle.niss_search.proofs.Words.{◌≡◌, arith, length, ◌+◌, ◌<◌, ℕ, ap, ◌∙◌, sym, ◌≤◌, [], List, refl, true, ◌-◌, ◌∷◌, Bool, Turn, false}
 use Rattle.niss_search.proofs.Words.{suc, cond, range_with_len, ◌++◌, zero, may_follow, Contains, flat_map, last_turn, count_by, filter}
 use Rattle.niss_search.proofs.Words.{leb, sum_by, sum_by-cons, nat_le, looks, all_canonical, canonical_extensions, le-leb, lt-leb, add-one}
@@ -9,7 +11,7 @@ use Rattle.niss_search.proofs.Words.{beyond, length-append, only_looks, then_par
 use Rattle.niss_search.proofs.Words.{turns_of, get_or, map, subst, GoalCoordinates, positions, distance_at, Step, inl, inr, All}
 use Rattle.niss_search.proofs.Words.{position_after, take, drop, flat_map-append, Follower, no_turn, sum_by-append, Err, GoesThrough, Ok}
 use Rattle.niss_search.proofs.Words.{Result, progress_at, below_at, beyond_at, deepening, All-head, All-tail, ap₂, Descends, Progress}
-use Rattle.niss_search.proofs.Words.{OnErr, OnOk, StoppedIn, StopsIn, WentThrough, map-append, AreFar, IsNextNear, drop_more}
+use Rattle.niss_search.proofs.Words.{EndedIn, WentInto, StoppedIn, StopsIn, WentThrough, map-append, AreFar, IsNextNear, drop_more}
 use Rattle.niss_search.proofs.Words.{length-take-le, take-append-drop}
 use Rattle.niss_search.proofs.ListLemmas.{flat_map-none, filter-flat_map, sum_by-flat_map, flat_map-flat_map, sum_by-map, sum_by-swap}
 use Rattle.niss_search.proofs.ListLemmas.{sum_by-shift, sum_by-none, sum_by-one, in-range}
@@ -215,13 +217,43 @@ module _ {K : Type 0} (took refused : K → List Turn → K → Type 0) where
   StoppedIn-before a c (p ∷ ps) qs h =
       elim h [ inl r ↦ inl r | inr m ↦ inr (m.0, (m.1.0, StoppedIn-before m.0 c ps qs m.1.1)) ]
 
+  -- cut after some paths, or before any
+  WentInto-after : (a b c : K) (ps qs : List (List Turn)) → WentThrough took a ps b → WentInto took b qs c → WentInto took a (ps ++ qs) c
+  WentInto-after a b c [] qs h k = subst (λ (s : K). WentInto took s qs c) (sym h) k
+  WentInto-after a b c (p ∷ ps) qs h k = inr (h.0, (h.1.0, WentInto-after h.0 b c ps qs h.1.1 k))
+
+  pub WentInto-none : (a : K) (ps : List (List Turn)) → WentInto took a ps a
+  WentInto-none a [] = refl
+  WentInto-none a (p ∷ ps) = inl refl
+
+  WentInto-before : (a c : K) (ps qs : List (List Turn)) → WentInto took a ps c → WentInto took a (ps ++ qs) c
+  WentInto-before a c [] qs h = subst (λ (s : K). WentInto took a qs s) h (WentInto-none a qs)
+  WentInto-before a c (p ∷ ps) qs h =
+      elim h [ inl r ↦ inl r | inr m ↦ inr (m.0, (m.1.0, WentInto-before m.0 c ps qs m.1.1)) ]
+
+  EndedIn-after : (cut : Bool) (a b c : K) (ps qs : List (List Turn)) → WentThrough took a ps b → EndedIn took refused cut b qs c → EndedIn took refused cut a (ps ++ qs) c
+  EndedIn-after true = WentInto-after
+  EndedIn-after false = StoppedIn-after
+
+  EndedIn-before : (cut : Bool) (a c : K) (ps qs : List (List Turn)) → EndedIn took refused cut a ps c → EndedIn took refused cut a (ps ++ qs) c
+  EndedIn-before true = WentInto-before
+  EndedIn-before false = StoppedIn-before
+
   -- a path that is handed out
-  pub Descends-take : {F : Type 0} (r : Result (Unit {0}) F) (m c : ℕ) (s t : K) (p : List Turn) → OnOk r (took s p t)
-      → OnErr r (refused s p t) → Descends took refused (record { paths = p ∷ []; looks = 0 }) (progress_at m c s) (progress_at m (c + 1) t) r
-  Descends-take (Ok u) m c s t p ok err =
+  Stops-take : (bound m c : ℕ) (s t : K) (p : List Turn) (cut : Bool) → cut ≡ false → refused s p t
+      → StopsIn took refused (record { paths = p ∷ []; looks = 0 }) (progress_at m c s) (progress_at m (c + 1) t) cut bound
+  Stops-take bound m c s t p true e err = absurd (cc e)
+  Stops-take bound m c s t p false e err =
+      record { stopped = inl err; rises = omega arith; looked = omega arith; over = λ e. absurd (cc e) }
+
+  pub Descends-take : {F E : Type 0} (is_cut : E → Bool) (bound : ℕ) (said : Result (Unit {0}) F) (r : Result (Unit {0}) E) (m c : ℕ) (s t : K) (p : List Turn)
+      → IsTaken is_cut said r → OnOk said (took s p t) → OnErr said (refused s p t)
+      → Descends took refused (record { paths = p ∷ []; looks = 0 }) (progress_at m c s) (progress_at m (c + 1) t) is_cut bound r
+  Descends-take is_cut bound (Ok u) (Ok v) m c s t p of ok err =
       record { delivered = (t, (ok, refl)); counted = omega arith; looked = omega arith }
-  Descends-take (Err e) m c s t p ok err =
-      record { stopped = inl err; rises = omega arith; looked = omega arith }
+  Descends-take is_cut bound (Ok u) (Err e) m c s t p of ok err = absurd of
+  Descends-take is_cut bound (Err f) (Ok v) m c s t p of ok err = absurd of
+  Descends-take is_cut bound (Err f) (Err e) m c s t p of ok err = Stops-take bound m c s t p (is_cut e) of err
 
 module _ {K : Type 0} {took refused : K → List Turn → K → Type 0} where
   -- looks that find nothing
@@ -230,26 +262,35 @@ module _ {K : Type 0} {took refused : K → List Turn → K → Type 0} where
 
   module _ {part : Part} {a b : Progress K} where
     -- a part, and then another
-    pub Descends-then : {F : Type 0} (r : Result (Unit {0}) F) (more : Part) (c : Progress K)
-        → GoesThrough took refused part a b → Descends took refused more b c r → Descends took refused (then_part part more) a c r
-    Descends-then (Ok u) more c h g = record {
+    pub Descends-then : {E : Type 0} (is_cut : E → Bool) (bound : ℕ) (r : Result (Unit {0}) E) (more : Part) (c : Progress K)
+        → GoesThrough took refused part a b → Descends took refused more b c is_cut bound r
+        → Descends took refused (then_part part more) a c is_cut bound r
+    Descends-then is_cut bound (Ok u) more c h g = record {
       delivered = WentThrough-append took refused a.sink b.sink c.sink part.paths more.paths h.delivered g.delivered;
       counted = omega (arith, h.counted, g.counted, length-append part.paths more.paths);
       looked = omega (arith, h.looked, g.looked);
     }
-    Descends-then (Err f) more c h g = record {
-      stopped = StoppedIn-after took refused a.sink b.sink c.sink part.paths more.paths h.delivered g.stopped;
+    Descends-then is_cut bound (Err e) more c h g = record {
+      stopped = EndedIn-after took refused (is_cut e) a.sink b.sink c.sink part.paths more.paths h.delivered g.stopped;
       rises = omega (arith, h.looked, g.rises);
       looked = omega (arith, h.looked, g.looked);
+      over = λ t. omega (arith, h.looked, g.over t);
     }
 
-    -- a refusal, before another part
-    pub StopsIn-before : (more : Part) → StopsIn took refused part a b → StopsIn took refused (then_part part more) a b
-    StopsIn-before more h = record {
-      stopped = StoppedIn-before took refused a.sink b.sink part.paths more.paths h.stopped;
+    -- an end, before another part
+    pub StopsIn-before : {cut : Bool} {bound : ℕ} (more : Part) → StopsIn took refused part a b cut bound → StopsIn took refused (then_part part more) a b cut bound
+    StopsIn-before {cut} more h = record {
+      stopped = EndedIn-before took refused cut a.sink b.sink part.paths more.paths h.stopped;
       rises = h.rises;
       looked = omega (arith, h.looked);
+      over = λ t. omega (arith, h.over t);
     }
+
+  -- a cut before a part that passes the bound
+  pub StopsIn-cut : (bound : ℕ) (part : Part) (a : Progress K) (cut : Bool) → cut ≡ true → bound < a.meter + part.looks → StopsIn took refused part a a cut bound
+  StopsIn-cut bound part a true e over =
+      record { stopped = WentInto-none took refused a.sink part.paths; rises = omega arith; looked = omega arith; over = λ t. over }
+  StopsIn-cut bound part a false e over = absurd (cc e)
 
 module _ (step : Step) (x : List GoalCoordinates) (p : List Turn) (left : ℕ) where
   abbrev IsFar : Follower → Type 0
@@ -275,8 +316,8 @@ pub record Remains
     {K : Type 0} (took refused : K → List Turn → K → Type 0) (step : Step) (x : List GoalCoordinates) (p : List Turn) (left : ℕ)
     (rest : List Follower) (start now : Progress K) : Type 0 where
   room : now.meter + (for_each (after_at step x p (left - 1)) (turns_in rest)).looks ≤ start.meter + (beyond_at step x p left).looks
-  ends : (r : Result (Unit {0}) (Unit {0})) (new : Progress K) → Descends took refused (for_each (after_at step x p (left - 1)) (turns_in rest)) now new r
-      → Descends took refused (beyond_at step x p left) start new r
+  ends : (bound : ℕ) (r : Result (Unit {0}) Bool) (new : Progress K) → Descends took refused (for_each (after_at step x p (left - 1)) (turns_in rest)) now new (λ c. c) bound r
+      → Descends took refused (beyond_at step x p left) start new (λ c. c) bound r
 
 module _ {K : Type 0} {took refused : K → List Turn → K → Type 0} {step : Step} {x : List GoalCoordinates} {p : List Turn} where
   pub Remains-all : (left more : ℕ) (rest : List Follower) (start : Progress K) → left ≡ suc more → distance_at step x ≤ left
@@ -288,7 +329,7 @@ module _ {K : Type 0} {took refused : K → List Turn → K → Type 0} {step : 
       let whole : beyond_at step x p (suc k) ≡ for_each (after_at step x p (suc k - 1)) (turns_in rest) = rw (same, all, le-leb (distance_at step x) (suc k) near) refl in
       record {
         room = omega (arith, ap (λ (q : Part). q.looks) whole);
-        ends = λ r new h. subst (λ (q : Part). Descends took refused q start new r) (sym whole) h;
+        ends = λ bound r new h. subst (λ (q : Part). Descends took refused q start new (λ c. c) bound r) (sym whole) h;
       }
 
   module _ {left : ℕ} {rest : List Follower} {start now : Progress K} (remains : Remains took refused step x p left rest start now) where
@@ -303,9 +344,15 @@ module _ {K : Type 0} {took refused : K → List Turn → K → Type 0} {step : 
         → GoesThrough took refused (beyond_at step x p left) start (progress_at n now.count now.sink)
     Remains-far {n} are =
         let new = progress_at n now.count now.sink in
-        remains.ends (Ok tt) new
+        remains.ends 0 (Ok tt) new
         (subst (λ (q : Part). GoesThrough took refused q now new) (sym (after_at-far step x p (left - 1) rest are.far))
         (GoesThrough-looks (length rest) now.meter n now.count now.sink are.looked))
+
+    -- their looks would pass the bound
+    pub Remains-cut : (bound : ℕ) (cut : Bool) → cut ≡ true → bound < now.meter + length rest → StopsIn took refused (beyond_at step x p left) start now cut bound
+    Remains-cut bound cut e over =
+        remains.ends bound (Err cut) now
+        (StopsIn-cut bound (for_each each (turns_in rest)) now cut e (omega (arith, over, after_at-some step x p (left - 1) rest)))
 
     -- from the first on after which a look allows so many turns
     module _ {n i : ℕ} (next : IsNextNear step x (left - 1) rest now.meter n i) where
@@ -340,23 +387,23 @@ module _ {K : Type 0} {took refused : K → List Turn → K → Type 0} {step : 
       Remains-room_next = omega (arith, remains.room, ap (λ (q : Part). q.looks) parts, next.looked)
 
       -- what is done from there on ends what it does
-      ends_there : (r : Result (Unit {0}) (Unit {0})) (new : Progress K) → Descends took refused (then_part under others) there new r
-          → Descends took refused (beyond_at step x p left) start new r
-      ends_there r new h =
+      ends_there : (bound : ℕ) (r : Result (Unit {0}) Bool) (new : Progress K) → Descends took refused (then_part under others) there new (λ c. c) bound r
+          → Descends took refused (beyond_at step x p left) start new (λ c. c) bound r
+      ends_there bound r new h =
           let passed = GoesThrough-looks (i + 1) now.meter n now.count now.sink (omega (arith, next.looked)) in
-          remains.ends r new (subst (λ (q : Part). Descends took refused q now new r) (sym parts) (Descends-then r (then_part under others) new passed h))
+          remains.ends bound r new (subst (λ (q : Part). Descends took refused q now new (λ c. c) bound r) (sym parts) (Descends-then (λ c. c) bound r (then_part under others) new passed h))
 
       -- so it goes on with those behind that one, or it stops
       pub Remains-next : {mid : Progress K} → GoesThrough took refused under there mid
           → Remains took refused step x p left (drop (i + 1) rest) start mid
       Remains-next h = record {
         room = omega (arith, remains.room, ap (λ (q : Part). q.looks) parts, next.looked, h.looked);
-        ends = λ r new g. ends_there r new (Descends-then r others new h g);
+        ends = λ bound r new g. ends_there bound r new (Descends-then (λ c. c) bound r others new h g);
       }
 
-      pub Remains-stops : {new : Progress K} → StopsIn took refused under there new
-          → StopsIn took refused (beyond_at step x p left) start new
-      Remains-stops {new} h = ends_there (Err tt) new (StopsIn-before others h)
+      pub Remains-stops : {cut : Bool} {bound : ℕ} {new : Progress K} → StopsIn took refused under there new cut bound
+          → StopsIn took refused (beyond_at step x p left) start new cut bound
+      Remains-stops {cut} {bound} {new} h = ends_there bound (Err cut) new (StopsIn-before others h)
 
 -- one deepening from a position
 pub below_at-start : (step : Step) (x : List GoalCoordinates) (d : ℕ) → below_at step x [] d ≡ deepening (positions step) (distance_at step) x d

@@ -24,7 +24,7 @@ pub use Rattle.std.proofs.lemmas.Result.{err_from_is_err_and}
 pub use Rattle.std.specs.Bool.{then_some}
 pub use Rattle.std.specs.List.{range_with_len, list_any, prefix_len}
 pub use Rattle.std.specs.Option.{option_map_or, option_or}
-pub use Rattle.std.specs.Prelude.{flat_map, Err, Ok, Result, OnErr, OnOk, IfOk, ◌↔◌}
+pub use Rattle.std.specs.Prelude.{flat_map, Err, Ok, Result, OnErr, OnOk, IfErr, IfOk, ◌↔◌}
 pub use Rattle.std.specs.Simd.{first_chunks}
 pub use Rattle.niss_cube.proofs.CallerLemmas.{alike_is_cube, cube-itself, zero_test}
 pub use Rattle.niss_cube.specs.AfterTurn.{AreCoordinates, IsCube, TurnedIsCube}
@@ -43,7 +43,7 @@ pub use Rattle.niss_moves.specs.Places.{Place, SameMap}
 pub use Rattle.niss_moves.specs.Canonical.{goes_first}
 pub use Rattle.niss_search.specs.Cubes.{HasPosition, near_looks_of, near_solutions_of, distance_of, least_length_of, cubes}
 pub use Rattle.niss_search.specs.Deepening.{Delivers, progress_of, Keeps, GoesThrough, progress_at, Descends, Progress, StopsIn}
-pub use Rattle.niss_search.specs.Delivery.{Path, at_limit, StoppedIn, WentThrough}
+pub use Rattle.niss_search.specs.Delivery.{Path, at_limit, EndedIn, StoppedIn, WentInto, WentThrough}
 pub use Rattle.niss_search.specs.Deepening.{Part, only_looks, then_part, for_each, deepening, all_deepenings, below_at}
 unfoldable pub use Rattle.niss_search.specs.Deepening.{beyond, beyond_at}
 pub use Rattle.niss_search.specs.Draw.{after_words, choice, choices}

@@ -1,11 +1,11 @@
 -- What a search does by its position alone: the paths that it hands out, and how often it looks. (For the search's own
 -- functions.)
-use Rattle.std.specs.Prelude.{◌≡◌, ℕ, zero, suc, ◌+◌, ◌≤◌, nat_le, Result, Ok, Err, if◌then◌else◌}
+use Rattle.std.specs.Prelude.{◌≡◌, ℕ, zero, suc, ◌+◌, ◌≤◌, ◌<◌, nat_le, Bool, true, Result, Ok, Err, if◌then◌else◌}
 use Rattle.std.specs.Prelude.{List, [], ◌∷◌, ◌++◌, length, filter, flat_map, sum_by}
 use Rattle.niss_search.specs.Names.{Turn, Step, GoalCoordinates}
 use Rattle.niss_moves.specs.Canonical.{may_follow, last_turn}
 use Rattle.niss_search.specs.Solutions.{Space, reaching, looks, solutions, all_looks}
-use Rattle.niss_search.specs.Delivery.{Path, at_limit, WentThrough, StoppedIn}
+use Rattle.niss_search.specs.Delivery.{Path, at_limit, WentThrough, EndedIn}
 use Rattle.niss_search.specs.Positions.{positions, distance_at}
 use Rattle.niss_search.specs.declared.searching.Descent.{Descent}
 
@@ -66,16 +66,18 @@ module _ {K : Type 0} (took refused : K → List Turn → K → Type 0) (part : 
     pub counted : new.count ≡ old.count + length part.paths
     pub looked : new.meter ≡ old.meter + part.looks
 
-  -- The sink refused one of the paths, after so many looks at most. Of the count nothing is said.
-  pub record StopsIn : Type 0 where
-    pub stopped : StoppedIn took refused old.sink part.paths new.sink
+  -- The sink refused one of the paths, or the descent was cut since the part's looks pass the bound; after so many looks
+  -- at most. Of the count nothing is said.
+  pub record StopsIn (cut : Bool) (bound : ℕ) : Type 0 where
+    pub stopped : EndedIn took refused cut old.sink part.paths new.sink
     pub rises : old.meter ≤ new.meter
     pub looked : new.meter ≤ old.meter + part.looks
+    pub over : cut ≡ true → bound < old.meter + part.looks
 
   -- What a descent does that makes this part, by what it says.
-  abbrev pub Descends : {F : Type 0} → Result (Unit {0}) F → Type 0
-  Descends (Ok u) = GoesThrough
-  Descends (Err e) = StopsIn
+  abbrev pub Descends : {E : Type 0} → (E → Bool) → ℕ → Result (Unit {0}) E → Type 0
+  Descends is_cut bound (Ok u) = GoesThrough
+  Descends is_cut bound (Err e) = StopsIn (is_cut e) bound
 
 -- The turns of the path of a descent, what it changes beside that, and what its functions keep and do.
 module _ {K : Type 0} where
@@ -96,21 +98,22 @@ module _ {K : Type 0} where
 
   -- It makes this part of the search.
   abbrev pub Makes :
-      {F : Type 0} → (took refused : K → Path → K → Type 0) → Part → (meter meter_now : ℕ)
-      → (old new : Descent K) → Result (Unit {0}) F → Type 0
-  Makes took refused part meter meter_now old new =
+      {E : Type 0} → (took refused : K → Path → K → Type 0) → (is_cut : E → Bool) → (bound : ℕ) → Part
+      → (meter meter_now : ℕ) → (old new : Descent K) → Result (Unit {0}) E → Type 0
+  Makes took refused is_cut bound part meter meter_now old new =
       let limit = old.path.now.limit in
       Descends (at_limit took limit) (at_limit refused limit) part (progress_of meter old) (progress_of meter_now new)
+      is_cut bound
 
 -- What deepenings do that make this part, by what they return: how many paths, or a fault.
 module _
     {K : Type 0} (took refused : K → Path → K → Type 0) (limit : ℕ) (part : Part) (meter meter_now : ℕ)
     (sink sink_now : K)
   where
-    abbrev pub Delivers : {T F : Type 0} → (T → ℕ) → Result T F → Type 0
-    Delivers count (Ok value) =
+    abbrev pub Delivers : {T E : Type 0} → (E → Bool) → ℕ → (T → ℕ) → Result T E → Type 0
+    Delivers is_cut bound count (Ok value) =
         GoesThrough (at_limit took limit) (at_limit refused limit) part
         (progress_at meter 0 sink) (progress_at meter_now (count value) sink_now)
-    Delivers count (Err fault) =
+    Delivers is_cut bound count (Err stop) =
         StopsIn (at_limit took limit) (at_limit refused limit) part
-        (progress_at meter 0 sink) (progress_at meter_now 0 sink_now)
+        (progress_at meter 0 sink) (progress_at meter_now 0 sink_now) (is_cut stop) bound

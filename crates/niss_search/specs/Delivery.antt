@@ -1,5 +1,5 @@
 -- Paths, and how a sink goes through a list of them.
-use Rattle.std.specs.Prelude.{◌≡◌, ◌⊎◌, ℕ, List, [], ◌∷◌}
+use Rattle.std.specs.Prelude.{◌≡◌, ◌⊎◌, ℕ, Bool, true, false, List, [], ◌∷◌}
 use Rattle.niss_search.specs.Names.{Turn}
 
 -- What a contract sees of a path.
@@ -22,3 +22,13 @@ module _ {K : Type 0} where
   StoppedIn took refused old [] new = ⊥
   StoppedIn took refused old (p ∷ ps) new =
       refused old p new ⊎ ((mid : K) × (took old p mid × StoppedIn took refused mid ps new))
+
+  -- It took some of the first paths, maybe none and maybe all, and none after them.
+  abbrev pub WentInto : (took : K → List Turn → K → Type 0) → K → List (List Turn) → K → Type 0
+  WentInto took old [] new = old ≡ new
+  WentInto took old (p ∷ ps) new = (old ≡ new) ⊎ ((mid : K) × (took old p mid × WentInto took mid ps new))
+
+  -- How it ended before it was done: it was cut off, or a path was refused.
+  abbrev pub EndedIn : (took refused : K → List Turn → K → Type 0) → Bool → K → List (List Turn) → K → Type 0
+  EndedIn took refused true = WentInto took
+  EndedIn took refused false = StoppedIn took refused

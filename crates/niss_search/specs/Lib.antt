@@ -12,3 +12,4 @@ pub mod Filling
 pub mod Moves
 pub mod StepSpace
 pub mod KindOfStep
+pub mod Budgets

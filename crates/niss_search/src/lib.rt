@@ -51,6 +51,7 @@
 //! has it (`specs/Cubes`). The functions of `laws` state what follows from the definitions alone.
 #![tactic(auto)]
 
+mod budget;
 pub mod laws;
 mod path;
 mod scan;
@@ -58,8 +59,9 @@ mod scramble;
 mod searching;
 mod tables;
 
+pub use budget::Stopped;
 pub use path::{Limit, TurnPath};
 pub use scan::next_at;
 pub use scramble::random_turns;
-pub use searching::{Outcome, Sink, search};
+pub use searching::{Outcome, Sink, search, search_within};
 pub use tables::{Meter, Position, Tables};

@@ -19,6 +19,7 @@
 //! ```
 #![tactic(auto)]
 
+mod checking;
 mod command;
 mod device;
 mod input;
@@ -33,10 +34,11 @@ mod streams;
 mod text;
 mod writing;
 
+pub use checking::{clean_count, move_count, solves};
 pub use command::{Command, Rewriting, UsageFault, parse_words, step_named};
 pub use device::{DeviceFault, Source, Target};
 pub use laws::{accepted_lines_are_solved, lines_are_cut, more_input_keeps_answers};
-pub use line_command::{count_solutions, rewrite, start_position};
+pub use line_command::{count_solutions, cube_of, rewrite, start_position};
 pub use lines::MOST_BYTES;
 pub use niss_cube::Step;
 pub use niss_search::{Limit, Meter};

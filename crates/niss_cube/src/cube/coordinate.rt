@@ -6,13 +6,16 @@ ghost use Rattle.niss_cube.specs.Map.{map_of};
 ghost use Rattle.niss_cube.specs.Sets.{Kept, is_kept, set_of};
 ghost use Rattle.niss_cube.specs.Coordinates.{IsRank, count_of, face_for, rank_of, renamed_for, renaming_for, standard_axis, turn_for};
 ghost use Rattle.niss_cube.specs.AfterTurn.{rank_after};
+ghost use Rattle.niss_cube.specs.BadPieces.{AreBad, bad_pieces};
 
 use super::{CORNERS_HOME, Cube, EDGES_HOME};
 use crate::cubie_turns::{cubie_turn, turn_homes, turn_orientations};
+use bad_pieces::{count_outside, count_turned};
 use niss_moves::{Axis, Face, Turn};
 use ranking::{rank_digits, rank_slice, unrank_orientations, unrank_slice};
 use renaming::Renaming;
 
+mod bad_pieces;
 mod move_rows;
 mod ranking;
 pub(crate) mod renaming;
@@ -55,6 +58,14 @@ impl Coordinate {
         self.rank(axis, cube) == 0
     }
 
+    /// How many pieces are bad on an axis: flipped edges, twisted corners, or edges of the slice outside it. It is 0 exactly
+    /// if the cube keeps the coordinate's set of places.
+    pub fn bad_pieces(self, axis: Axis, cube: &Cube) -> u8
+        ensures { AreBad self axis (map_of cube.now) result }
+    {
+        self.standard_bad_pieces(&self.renamed(axis, cube))
+    }
+
     /// The rotation by which a cube is renamed before the coordinate on an axis is read, if it is. The flips on Ud are
     /// read from the renamed cube, whose set is the complement, among the edge places, of the set that geometry
     /// defines: a cube keeps both or neither, so the rank is 0 exactly if it keeps this one.
@@ -94,6 +105,17 @@ impl Coordinate {
             Coordinate::Flip => rank_digits(2, &cube.flips[..11]),
             Coordinate::Twist => rank_digits(3, &cube.twists[..7]),
             Coordinate::Slice => rank_slice(&cube.edges),
+        }
+    }
+
+    /// How many pieces are bad on the standard axis, for which the cube isn't renamed.
+    fn standard_bad_pieces(self, cube: &Cube) -> u8
+        ensures { result ≡ bad_pieces self (standard_axis self) (map_of cube.now) }
+    {
+        match self {
+            Coordinate::Flip => count_turned(&cube.flips),
+            Coordinate::Twist => count_turned(&cube.twists),
+            Coordinate::Slice => count_outside(&cube.edges),
         }
     }
 

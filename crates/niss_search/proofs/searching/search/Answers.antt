@@ -1,83 +1,24 @@
-use Rattle.niss_search.proofs.Words.{◌≡◌, ◌+◌, arith, ◌∙◌, sym, last_length, err_from_is_err_and, positions, distance_at, length}
-use Rattle.niss_search.proofs.Words.{reaching, cubes, distance_of, Err, Ok}
-use Rattle.niss_search.proofs.Bounds.{all_looks-bound, turns_of-length}
+use Rattle.niss_search.proofs.Words.{arith, cubes, distance_of, false, ◌^◌}
+use Rattle.niss_search.proofs.Bounds.{all_looks-bound}
 use Rattle.niss_search.proofs.LookLemmas.{least_length-same}
-use Rattle.niss_search.proofs.DeepeningLemmas.{least_below, least_below-more, length-next, least_length-is, looks-room, goes-on, stops-here}
-use Rattle.niss_search.proofs.DeepeningLemmas.{all-done, searched}
+use Rattle.niss_search.proofs.DeepeningLemmas.{searched}
 use Rattle.niss_search.proofs.searching.search.Goals as goal
-
-pub deepen-requires-clause-meter : goal.deepen-requires-clause-meter
-deepen-requires-clause-meter g c =
-    let step = c.args.tables.now in
-    looks-room (positions step) (distance_at step) c.args.position.now c.args.path.now.limit c.args.slack c.loop-length.length c.loop-length.invariant.went (turns_of-length step) c.requires.meter (omega arith)
-
-pub overflow_add-solutions : goal.overflow_add-solutions
-overflow_add-solutions g c =
-    let step = c.args.tables.now in
-    let went = rw (c.loop-length.invariant.path, c.in_ok-found.was) at c.deepen.ensures.delivers in
-    omega (arith, c.loop-length.invariant.counted, c.in_ok-found.ensures.counted, went.looked, looks-room (positions step) (distance_at step) c.args.position.now c.args.path.now.limit c.args.slack c.loop-length.length c.loop-length.invariant.went (turns_of-length step) c.requires.meter (omega arith))
-
-pub loop-length-preserved : goal.loop-length-preserved
-loop-length-preserved g c =
-    let inv = c.loop-length.invariant in
-    let step = c.args.tables.now in
-    let x = c.args.position.now in
-    let d = c.loop-length.length in
-    let went = rw (inv.path, c.in_ok-found.was) at c.deepen.ensures.delivers in
-    let last = rw (inv.least, c.limit-limit.ensures.value) at c.last_length.ensures.value in
-    let count : c.in_ok-found.found ≡ length (reaching (positions step) x d) = omega (arith, went.counted) in
-    record {
-      path = c.deepen.ensures.path ∙ inv.path;
-      least = c.or-least.ensures ∙ rw (c.then_some.ensures, inv.least, count) (sym (least_below-more (positions step) x d));
-      within = omega (arith, length-next (positions step) x c.args.path.now.limit c.args.slack d (omega (arith, last)));
-      counted = omega (arith, inv.counted, c.in_ok-found.ensures.counted);
-      went = goes-on (positions step) (distance_at step) x c.args.path.now.limit c.args.slack d inv.went went;
-    }
-
-pub returns-in_err-found : goal.returns-in_err-found
-returns-in_err-found g c =
-    let inv = c.loop-length.invariant in
-    let step = c.args.tables.now in
-    let x = c.args.position.now in
-    let n = c.args.path.now.limit in
-    let p = err_from_is_err_and c.from_residual.result c.from_residual.ensures.1 in
-    let stops = rw (inv.path, c.in_err-found.was) at c.deepen.ensures.delivers in
-    let last = rw (inv.least, c.limit-limit.ensures.value) at c.last_length.ensures.value in
-    let stopped = stops-here (positions step) (distance_at step) x n c.args.slack c.loop-length.length inv.went (omega (arith, last)) stops in
-    let of = searched g.K.Sink.took g.K.Sink.refused step x n c.args.slack c.args.meter.now c.deepen.new.meter c.args.sink.now c.deepen.new.sink (Err p.0) stopped c.positions_follow_cubes.ensures in
-    let some = c.requires.position in
-    rw p.1 record {
-      length = λ e h. tt;
-      solutions = λ e h. tt;
-      path = c.deepen.ensures.path ∙ inv.path;
-      ok = λ e h. tt;
-      err = λ e h. (of e h).err;
-      looks = λ e h. tt;
-      looks_at_most = λ e h. (of e h).looks_at_most;
-      rises = omega (arith, inv.went.looked, stops.rises);
-      bound = omega (arith, (of some.0 some.1).looks_at_most, all_looks-bound (cubes step) (distance_of step) some.0 n c.args.slack);
-    }
 
 pub returns : goal.returns
 returns g c =
-    let inv = c.loop-length.invariant in
     let step = c.args.tables.now in
     let x = c.args.position.now in
     let n = c.args.path.now.limit in
-    let last = rw (inv.least, c.limit-limit.ensures.value) at c.last_length.ensures.value in
-    let end : c.loop-length.length ≡ last_length (least_below (positions step) x c.loop-length.length) n c.args.slack + 1 = omega (arith, last, inv.within) in
-    let least = inv.least ∙ sym (least_length-is (positions step) x n c.args.slack c.loop-length.length end) in
-    let went = all-done (positions step) (distance_at step) x n c.args.slack c.loop-length.length inv.went end in
-    let of = searched {F = Unit {0}} g.K.Sink.took g.K.Sink.refused step x n c.args.slack c.args.meter.now c.loop-length.meter c.args.sink.now c.loop-length.sink (Ok record { length = c.loop-length.least; solutions = c.loop-length.solutions }) went c.positions_follow_cubes.ensures in
+    let of = searched g.K.Sink.took g.K.Sink.refused (λ stop. false) (2 ^ 128) step x n c.args.slack c.args.meter.now c.deepen_all.new.meter c.args.sink.now c.deepen_all.new.sink c.deepen_all.result c.deepen_all.ensures.delivers c.positions_follow_cubes.ensures in
     let some = c.requires.position in
     record {
-      length = λ e h. rw (least_length-same (c.positions_follow_cubes.ensures.follow step) e x h n) least;
+      length = λ e h. rw (least_length-same (c.positions_follow_cubes.ensures.follow step) e x h n) c.deepen_all.ensures.length;
       solutions = λ e h. (of e h).solutions;
-      path = inv.path;
+      path = c.deepen_all.ensures.path;
       ok = λ e h. (of e h).ok;
-      err = λ e h. tt;
+      err = λ e h. (of e h).err;
       looks = λ e h. (of e h).looks;
       looks_at_most = λ e h. (of e h).looks_at_most;
-      rises = omega (arith, inv.went.looked);
+      rises = c.deepen_all.ensures.rises;
       bound = omega (arith, (of some.0 some.1).looks_at_most, all_looks-bound (cubes step) (distance_of step) some.0 n c.args.slack);
     }

@@ -1,4 +1,4 @@
-use Rattle.niss_search.proofs.Words.{length, ◌+◌, ◌<◌, ◌*◌, All, at_limit, IsFollower, progress_of, Keeps}
+use Rattle.niss_search.proofs.Words.{length, ◌+◌, ◌<◌, ◌≤◌, ◌*◌, All, at_limit, IsFollower, progress_of, Keeps}
 use Rattle.niss_search.proofs.DepthFirst.{Remains}
 use Rattle.niss_search.proofs.searching.Descent.+descent.Given as goal
 
@@ -11,12 +11,13 @@ decreases-try_turns g l = 3 * l.left
 abbrev pub decreases-follow : goal.decreases-follow
 decreases-follow g l = 3 * l.left + 2
 
-abbrev pub decreases-try_turns-loop-index : goal.decreases-try_turns-loop-index
-decreases-try_turns-loop-index g l = length l.rest
+abbrev pub decreases-try_turns-loop-stop : goal.decreases-try_turns-loop-stop
+decreases-try_turns-loop-stop g l = length l.rest
 
-abbrev pub invariant-try_turns-loop-index : goal.invariant-try_turns-loop-index
-invariant-try_turns-loop-index g l = record {
+abbrev pub invariant-try_turns-loop-stop : goal.invariant-try_turns-loop-stop
+invariant-try_turns-loop-stop g l = record {
   columns : All (IsFollower l.tables.step) l.rest;
+  within : l.meter ≤ g.B.Budget.bound l.budget;
   few : length l.rest * 3 < 9223372036854775808;
   keeps : Keeps l.fn.self l.self l.fn.meter l.meter;
   remains : Remains (at_limit g.K.Sink.took l.fn.self.path.now.limit) (at_limit g.K.Sink.refused l.fn.self.path.now.limit)

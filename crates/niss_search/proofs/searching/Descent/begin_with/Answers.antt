@@ -1,5 +1,5 @@
-use Rattle.niss_search.proofs.Words.{arith, ◌<◌, distance_at, at_limit, beyond_at, progress_of}
-use Rattle.niss_search.proofs.DepthFirst.{beyond_at-far, GoesThrough-looks, Descends-then}
+use Rattle.niss_search.proofs.Words.{arith, ◌<◌, distance_at, at_limit, beyond_at, below_at, progress_of}
+use Rattle.niss_search.proofs.DepthFirst.{StopsIn-cut, beyond_at-far, GoesThrough-looks, Descends-then}
 use Rattle.niss_search.proofs.searching.Descent.begin_with.Goals as goal
 
 pub returns-then-look-left-clause-makes : goal.returns-then-look-left-clause-makes
@@ -14,4 +14,11 @@ pub returns-clause-makes : goal.returns-clause-makes
 returns-clause-makes g c =
     let path = c.args.self.now.path.now in
     let looked = GoesThrough-looks {took = at_limit g.K.Sink.took path.limit} {refused = at_limit g.K.Sink.refused path.limit} 1 c.args.meter c.look.new.meter c.args.self.now.count c.args.self.now.sink.now c.look.ensures.tick in
-    Descends-then c.extend.result.1 (beyond_at c.args.tables.now.step c.args.position.now path.turns c.args.left) (progress_of c.extend.result.0 c.extend.new.self) looked (rw c.state-state.ensures at c.extend.ensures.makes)
+    Descends-then g.B.Budget.is_cut (g.B.Budget.bound c.args.budget.now) c.extend.result.1 (beyond_at c.args.tables.now.step c.args.position.now path.turns c.args.left) (progress_of c.extend.result.0 c.extend.new.self) looked (rw c.state-state.ensures at c.extend.ensures.makes)
+
+pub returns-in-Err-clause-makes : goal.returns-in-Err-clause-makes
+returns-in-Err-clause-makes g c =
+    let path = c.args.self.now.path.now in
+    let below = below_at c.args.tables.now.step c.args.position.now path.turns c.args.left in
+    StopsIn-cut (g.B.Budget.bound c.args.budget.now) below (progress_of c.args.meter c.args.self.now)
+    (g.B.Budget.is_cut c.in-Err.stop) c.in-Err.ensures.cut (omega (arith, c.in-Err.ensures.over))
