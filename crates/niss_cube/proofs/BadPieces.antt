@@ -68,7 +68,7 @@ module _ (k : Kind) (set : Place → Bool) (inside : (q : Place) → set q ≡ t
     below_same 6 (λ i. leaves set e (place_at (9 * i + 4))) (λ _. 0) (λ i li. elsewhere (place_at (9 * i + 4)) (out.1 i li)) ∙ below_zero 6,
   )
 
-leaving-rows : (k : Kind) (set : Place → Bool) → ((q : Place) → set q ≡ true → is_of k q ≡ true) → (e : Place → Place) → leaving set e ≡ row_sum k (leaves set e)
+pub leaving-rows : (k : Kind) (set : Place → Bool) → ((q : Place) → set q ≡ true → is_of k q ≡ true) → (e : Place → Place) → leaving set e ≡ row_sum k (leaves set e)
 leaving-rows Corners set inside e =
     let none = rows_elsewhere Corners set inside e Edges (holds (outside_fact Edges Corners) refl) in
     omega (arith, leaving-places set e, by_rows (leaves set e), none.0, none.1)
@@ -77,7 +77,7 @@ leaving-rows Edges set inside e =
     omega (arith, leaving-places set e, by_rows (leaves set e), none.0, none.1)
 
 -- a sum over the cubies by where they stand is that over the places
-by_places : (k : Kind) (c : CubieLists) → Valid c → (f : ℕ → ℕ → ℕ) →
+pub by_places : (k : Kind) (c : CubieLists) → Valid c → (f : ℕ → ℕ → ℕ) →
     below (count k) (λ h. f h (place_of k c h)) ≡ below (count k) (λ i. f (home_at k c i) i)
 by_places k c v f =
     sym (below_permuted (count k) (home_at k c) (λ h. f h (place_of k c h)) (stand k c v).placed.range

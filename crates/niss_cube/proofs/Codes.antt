@@ -151,7 +151,7 @@ kind_for Flip = Edges
 kind_for Twist = Corners
 kind_for Slice = Edges
 
-set_kind : (k : Coordinate) (a : Axis) (q : Place) → set_of k a q ≡ true → is_of (kind_for k) q ≡ true
+pub set_kind : (k : Coordinate) (a : Axis) (q : Place) → set_of k a q ≡ true → is_of (kind_for k) q ≡ true
 set_kind Flip a q h = and_left _ _ h
 set_kind Twist a q h = and_left _ _ h
 set_kind Slice a q h = and_left _ _ h

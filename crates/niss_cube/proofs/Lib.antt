@@ -1,4 +1,5 @@
 pub mod BadPieces
+pub mod BadPlaces
 pub mod CallerLemmas
 pub mod Codes
 pub mod CoordinateLaws

@@ -7,12 +7,15 @@ use Rattle.niss_cube.proofs.Words.{row_at, edge_facelets, and_left, and_right, a
 use Rattle.niss_cube.proofs.Words.{same_place_of, get_or_default, list_any_at, get_or-range_with_len}
 use Rattle.niss_cube.proofs.Words.{length-range_with_len, firsts, brings, orientations, occupied, Cube, map_of}
 use Rattle.niss_cube.proofs.Words.{same_cubies, pointwise, same_text, other_text, true_from_ne_false}
-use Rattle.niss_cube.proofs.Words.{false_from_ne_true, Yes, Both, Places}
+use Rattle.niss_cube.proofs.Words.{false_from_ne_true, Yes, Both, Places, Alike}
 use Rattle.niss_cube.proofs.Words.{is_place, places, effect, inverse, moved_by, inverse_after, letter_at}
 use Rattle.niss_cube.proofs.Words.{letter_of, letters, Token, place_at, SOLVED_TEXT}
 use Rattle.niss_cube.proofs.CubieKinds.{CubieLists, Valid, map_lists, lists_of, lists_path, Kind, Corners, Edges, count}
 use Rattle.niss_cube.proofs.CubieKinds.{facelets, rows, at, homes, turns, home_at, turn_at, place_of, stand, stands}
-use Rattle.niss_cube.proofs.CubieKinds.{stands-at, unturned, some_facelet, same_facelet, shown_at}
+use Rattle.niss_cube.proofs.CubieKinds.{stands-at, unturned, some_facelet, same_facelet, shown_at, of_rank}
+use Rattle.niss_cube.proofs.Words.{list_all-from_AllPass}
+use Rattle.niss_cube.specs.Map.{HomeIsTested, HomeSeesPlaces}
+unfoldable use Rattle.niss_cube.specs.Map.{is_home}
 use Rattle.niss_cube.proofs.Sums.{eqb-itself}
 
 -- a test that passes at one index at most passes where it does there
@@ -186,3 +189,19 @@ text_is e text long h =
 pub text_at : (e : Place → Place) (text : List ℕ) → text ≡ letters e → (j : ℕ) → j < 54 → get_or text j 0 ≡ letter_of e places (place_at j)
 unfolding place_at letters
 text_at e text h j l = ap (λ t. get_or t j 0) h ∙ get_or-map (letter_of e places) places j (facelet U 5) 0 l
+
+-- The test of the solved cube's map.
+pub home_is_tested : HomeIsTested
+unfolding is_home
+home_is_tested e = (
+  (λ h q p. holds (Places λ q. Alike (e q) q) h q p),
+  (λ s.
+      list_all-from_AllPass (λ q. same_place (e q) q) places (λ i d l.
+      same_place_of _ _ (s (get_or places i d) (ap is_place (get_or_default places i d (facelet U 5) l) ∙ (of_rank i l).1)))),
+)
+
+pub home_sees_places : HomeSeesPlaces
+home_sees_places d e s =
+    same_truth _ _
+    (λ h. (home_is_tested e).1 (λ q p. sym (s q p) ∙ (home_is_tested d).0 h q p))
+    (λ h. (home_is_tested d).1 (λ q p. s q p ∙ (home_is_tested e).0 h q p))

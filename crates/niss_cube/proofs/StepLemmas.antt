@@ -16,6 +16,14 @@ use Rattle.niss_cube.specs.Names.{Edges}
 use Rattle.niss_cube.specs.Steps.{holds as goal_holds}
 use Rattle.niss_cube.proofs.Codes.{kept_is_tested, kept_same, sets_are_places}
 use Rattle.niss_cube.proofs.CubieKinds.{cubes_permute_places, kept_is_equal}
+use Rattle.niss_cube.specs.StepLaws.{ReachedStepsSeePlaces}
+use Rattle.niss_cube.specs.Steps.{reached_mask}
+use Rattle.niss_cube.proofs.Words.{Numbers, Below, drop, suc, ◌+◌, ◌*◌, ◌<◌, get_or, cond, get_or-map, length-drop}
+use Rattle.niss_cube.proofs.BadPlaces.{next_bit, byte_is}
+use Rattle.std.proofs.lemmas.Simd.{mask_l-lt}
+use Rattle.std.specs.Prelude.{◌^◌}
+use lib.Lanes.{mask_l}
+use mir.Val.{bool_byte}
 
 -- the turns of a step from its start
 abbrev pub turns_from : Option Axis → List Turn
@@ -219,6 +227,15 @@ pub steps_see_places : StepsSeePlaces
 unfolding may_start reached
 steps_see_places d e same = record { start = λ s. starts_same (start_of s) d e same; goal = λ s. any_same (goals_of s) d e same }
 
+reached_same : (d e : Place → Place) → SameMap d e → (all : List Step) → map (λ step. reached step d) all ≡ map (λ step. reached step e) all
+reached_same d e s [] = refl
+reached_same d e s (step ∷ all) =
+    ap (λ b. b ∷ map (λ step. reached step d) all) ((steps_see_places d e s).goal step)
+    ∙ ap (λ bs. reached step e ∷ bs) (reached_same d e s all)
+
+pub reached_steps_see_places : ReachedStepsSeePlaces
+reached_steps_see_places d e s = ap mask_l (reached_same d e s steps)
+
 -- a turn after which the set is kept still keeps the set itself, since the cube's map brings the set to itself
 turn_alone : (a : Axis) (c : Cube) (t : Turn) → Kept (flip_set a) (map_of c) → Kept (flip_set a) (λ q. turned t (map_of c q)) → Kept (flip_set a) (turned t)
 turn_alone a c t before after q s =
@@ -240,3 +257,23 @@ others_leave (Some a) c t before after =
 pub other_turns_leave_start : OtherTurnsLeaveStart
 unfolding may_start turns_of
 other_turns_leave_start s c t before after = others_leave (start_of s) c t before after
+
+-- The steps that are reached, one bit more from the front.
+abbrev pub tests_of : (Place → Place) → List Bool
+tests_of e = map (λ step. reached step e) steps
+
+pub reached_bit : (e : Place → Place) (i mask bit : ℕ) (d : Step) → i < 13 → mask ≡ mask_l (drop (suc i) (tests_of e)) → bit ≡ bool_byte (reached (get_or steps i d) e) →
+    2 * mask + bit ≡ mask_l (drop i (tests_of e))
+reached_bit e i mask bit d l m b =
+    let next = next_bit (tests_of e) i l in
+    let here : bit ≡ cond (get_or (tests_of e) i false) 1 0 =
+    b ∙ byte_is _ ∙ ap (λ (t : Bool). cond {A = ℕ} t 1 0) (sym (get_or-map (λ step. reached step e) steps i d false l)) in
+    omega (arith, next, here, m)
+
+pub reached_bits_fit : (e : Place → Place) (i mask : ℕ) → mask ≡ mask_l (drop i (tests_of e)) → mask < 8192
+reached_bits_fit e i mask m =
+    let few : length (drop i (tests_of e)) ≤ 13 = omega (arith, length-drop i (tests_of e)) in
+    omega (arith, m, mask_l-lt (drop i (tests_of e)), powers (length (drop i (tests_of e))) (omega arith))
+  where
+    powers : (n : ℕ) → n < 14 → 2 ^ n < 8193
+    powers = holds (Numbers 14 λ n. Below (2 ^ n) 8193) refl

@@ -7,4 +7,5 @@ pub mod Coordinates
 pub mod AfterTurn
 pub mod Steps
 pub mod BadPieces
+pub mod BadPlaces
 pub mod StepLaws

@@ -1,7 +1,7 @@
 -- A cube as a map of the sticker places, when two cubes are equal, and places by their positions in the facelet text.
-use Rattle.std.specs.Prelude.{◌≡◌, ℕ, ◌+◌, ◌%◌, ◌<◌, if◌then◌else◌, List, slice_index, get_or, ◌==◌, Bool, ◌&&◌, nat_eq}
-use Rattle.std.specs.List.{list_any}
-use Rattle.niss_cube.specs.Names.{Place, places, facelet, U, same_place, is_corner, is_edge, Cube}
+use Rattle.std.specs.Prelude.{◌≡◌, ℕ, ◌+◌, ◌%◌, ◌<◌, if◌then◌else◌, List, slice_index, get_or, ◌==◌, Bool, ◌&&◌, nat_eq, IsTrue, ◌↔◌}
+use Rattle.std.specs.List.{list_any, list_all}
+use Rattle.niss_cube.specs.Names.{Place, places, facelet, U, same_place, is_corner, is_edge, Cube, SameMap}
 use Rattle.niss_cube.specs.Cubies.{index_in, row_at, facelet_at, corner_facelets, edge_facelets}
 use lib.Pointwise.{pointwise}
 
@@ -23,6 +23,17 @@ sticker_map corners twists edges flips p =
 -- where the cube has the sticker that began at a place
 abbrev pub map_of : Cube → Place → Place
 map_of c = sticker_map c.corners c.twists c.edges c.flips
+
+-- each of the 54 stickers stands where it began
+unfoldable pub is_home : (Place → Place) → Bool
+is_home e = list_all (λ q. same_place (e q) q) places
+
+-- The test says whether a map is that of the solved cube, and sees the 54 places alone.
+abbrev pub HomeIsTested : Type 0
+HomeIsTested = (e : Place → Place) → IsTrue (is_home e) ↔ SameMap e (λ q. q)
+
+abbrev pub HomeSeesPlaces : Type 0
+HomeSeesPlaces = (d e : Place → Place) → SameMap d e → is_home d ≡ is_home e
 
 -- the same cubies at the same places, turned alike
 abbrev pub same_cubies : Cube → Cube → Bool

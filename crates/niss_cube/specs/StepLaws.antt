@@ -4,7 +4,7 @@ use Rattle.std.specs.Option.{option_map_or}
 use Rattle.niss_moves.specs.Canonical.{turn_order}
 use Rattle.niss_cube.specs.Names.{Place, SameMap, turned, inverse_turn, Turn, Axis, Domino, Cube, Step}
 use Rattle.niss_cube.specs.Map.{map_of}
-use Rattle.niss_cube.specs.Steps.{start_of, goals_of, turns_of, may_start, reached, name_of}
+use Rattle.niss_cube.specs.Steps.{reached_mask, start_of, goals_of, turns_of, may_start, reached, name_of}
 
 -- A step that may start may start after each of its turns too.
 abbrev pub StartIsKept : Type 0
@@ -25,6 +25,9 @@ pub record SameSteps (d e : Place → Place) : Type 0 where
 
 abbrev pub StepsSeePlaces : Type 0
 StepsSeePlaces = (d e : Place → Place) → SameMap d e → SameSteps d e
+
+abbrev pub ReachedStepsSeePlaces : Type 0
+ReachedStepsSeePlaces = (d e : Place → Place) → SameMap d e → reached_mask d ≡ reached_mask e
 
 -- The turns of a step hold their inverses.
 abbrev pub InversesOfSteps : Type 0

@@ -36,12 +36,12 @@ pub struct Cube {
 }
 
 impl Cube {
-    ghost use Rattle.std.specs.Prelude.{◌≡◌, ◌↔◌, ℕ, slice_index};
+    ghost use Rattle.std.specs.Prelude.{◌≡◌, ◌↔◌, ℕ, slice_index, IsTrue};
     ghost use Rattle.niss_moves.specs.Places.{SameMap};
     ghost use Rattle.niss_moves.specs.Facelets.{letters};
     ghost use Rattle.niss_moves.specs.Effects.{effect, effect_of_turns, turned};
     ghost use Rattle.niss_moves.specs.Rotations.{spelling};
-    ghost use Rattle.niss_cube.specs.Map.{map_of, same_cubies, BeganAt};
+    ghost use Rattle.niss_cube.specs.Map.{map_of, same_cubies, BeganAt, is_home};
     ghost use Rattle.niss_cube.specs.CubieTurns.{renamed_by};
     ghost use Rattle.niss_cube.specs.Coordinates.{IsRank};
     ghost use Rattle.niss_cube.specs.BadPieces.{AreBad};
@@ -94,6 +94,14 @@ impl Cube {
             edges,
             flips,
         }
+    }
+
+    /// Whether each sticker stands where it began.
+    pub fn is_solved(&self) -> bool
+        ensures value { result ≡ is_home (map_of self.now) }
+        ensures solved { IsTrue result ↔ SameMap (map_of self.now) (λ q. q) }
+    {
+        *self == Cube::solved()
     }
 
     /// The edge orientation with respect to an axis, from 0 to 2,047: the flips at the first eleven edge places of the cube

@@ -5,7 +5,10 @@ ghost use Rattle.niss_cube.specs.AfterTurn.{TurnedIsCube, AreCoordinates};
 ghost use Rattle.niss_cube.specs.Sets.{KeptIsTested, SetsArePlaces, CubesPermutePlaces, KeptIsEqual};
 ghost use Rattle.niss_cube.specs.BadPieces.{InverseIsAsBad, BadEdgesAreEven, NoCornerAlone, BadPiecesSeePlaces};
 ghost use Rattle.niss_cube.specs.BadPieces.{GoalsByBadPieces};
+ghost use Rattle.niss_cube.specs.BadPlaces.{BadPlacesAreCounted, BadPlacesSeePlaces};
 ghost use Rattle.niss_cube.specs.StepLaws.{StartIsKept, OtherTurnsLeaveStart, StepsSeePlaces, InversesOfSteps};
+ghost use Rattle.niss_cube.specs.StepLaws.{ReachedStepsSeePlaces};
+ghost use Rattle.niss_cube.specs.Map.{HomeIsTested, HomeSeesPlaces};
 ghost use Rattle.niss_cube.specs.StepLaws.{StepTurnsInOrder, StepTurnsAreCounted, DominoKeepsStart, NamesDiffer};
 
 /// A turned cube is a cube.
@@ -59,6 +62,16 @@ pub fn bad_pieces_see_places()
     ensures { BadPiecesSeePlaces }
 {}
 
+/// So many pieces are bad as places have one; of a slice two edges are on the wrong side for each of its own outside it.
+pub fn bad_places_are_counted()
+    ensures { BadPlacesAreCounted }
+{}
+
+/// Which places have a bad piece depends on the 54 sticker places alone.
+pub fn bad_places_see_places()
+    ensures { BadPlacesSeePlaces }
+{}
+
 /// A goal holds of a cube exactly if no piece is bad: for an edge orientation no edge is flipped; for a domino reduction
 /// besides that no corner is twisted on its axis, and no edge of its slice is outside.
 pub fn goals_by_bad_pieces()
@@ -78,6 +91,21 @@ pub fn other_turns_leave_start()
 /// Whether a step may start and whether it is reached depends on the 54 sticker places alone.
 pub fn steps_see_places()
     ensures { StepsSeePlaces }
+{}
+
+/// Which steps are reached depends on the 54 sticker places alone.
+pub fn reached_steps_see_places()
+    ensures { ReachedStepsSeePlaces }
+{}
+
+/// The test of the solved cube's map is true exactly if each of the 54 stickers stands where it began.
+pub fn home_is_tested()
+    ensures { HomeIsTested }
+{}
+
+/// Whether a cube is solved depends on the 54 sticker places alone.
+pub fn home_sees_places()
+    ensures { HomeSeesPlaces }
 {}
 
 /// The turns of a step hold their inverses.

@@ -4,7 +4,7 @@ ghost use Rattle.std.specs.List.{Any};
 ghost use Rattle.std.specs.Option.{option_copied};
 ghost use Rattle.niss_cube.specs.Map.{map_of};
 ghost use Rattle.niss_cube.specs.Steps.{steps, name_of, start_of, start_name_of, goals_of};
-ghost use Rattle.niss_cube.specs.Steps.{turns_of, holds, may_start, reached, KeepsGoal, KeepsStart};
+ghost use Rattle.niss_cube.specs.Steps.{turns_of, holds, may_start, reached, reached_mask, KeepsGoal, KeepsStart};
 ghost use Rattle.niss_cube.specs.declared.step.Step.{Step};
 
 use crate::cube::Cube;
@@ -194,6 +194,19 @@ impl Step {
             None => true,
             Some(axis) => Goal::Edges(axis).holds(cube),
         }
+    }
+
+    /// Which steps the cube has reached, as a mask: bit i is set if it has reached step i in the order of `all`.
+    pub fn all_reached(cube: &Cube) -> u16
+        ensures { result ≡ reached_mask (map_of cube.now) }
+    {
+        let mut mask = 0;
+        let mut index = STEPS.len();
+        while index > 0 {
+            index -= 1;
+            mask = 2 * mask + u16::from(STEPS[index].reached(cube));
+        }
+        mask
     }
 
     /// Whether the cube has reached the step.

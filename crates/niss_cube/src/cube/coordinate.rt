@@ -1,5 +1,5 @@
 //! The coordinates of a cube, each as one value.
-ghost use Rattle.std.specs.Prelude.{◌≡◌, ◌<◌, ◌↔◌, ℕ, IsTrue};
+ghost use Rattle.std.specs.Prelude.{◌≡◌, ◌<◌, ◌≤◌, ◌↔◌, ℕ, IsTrue};
 ghost use Rattle.niss_moves.specs.Effects.{turned};
 ghost use Rattle.niss_moves.specs.Places.{SameMap};
 ghost use Rattle.niss_cube.specs.Map.{map_of};
@@ -7,15 +7,19 @@ ghost use Rattle.niss_cube.specs.Sets.{Kept, is_kept, set_of};
 ghost use Rattle.niss_cube.specs.Coordinates.{IsRank, count_of, face_for, rank_of, renamed_for, renaming_for, standard_axis, turn_for};
 ghost use Rattle.niss_cube.specs.AfterTurn.{rank_after};
 ghost use Rattle.niss_cube.specs.BadPieces.{AreBad, bad_pieces};
+ghost use Rattle.niss_cube.specs.BadPlaces.{bad_mask, bad_count};
+ghost use Rattle.std.specs.Int.RustNames.{count_ones};
 
 use super::{CORNERS_HOME, Cube, EDGES_HOME};
 use crate::cubie_turns::{cubie_turn, turn_homes, turn_orientations};
 use bad_pieces::{count_outside, count_turned};
+use bad_places::{flip_marks, mask_of_turned, slice_marks, twist_marks};
 use niss_moves::{Axis, Face, Turn};
 use ranking::{rank_digits, rank_slice, unrank_orientations, unrank_slice};
 use renaming::Renaming;
 
 mod bad_pieces;
+mod bad_places;
 mod move_rows;
 mod ranking;
 pub(crate) mod renaming;
@@ -64,6 +68,25 @@ impl Coordinate {
         ensures { AreBad self axis (map_of cube.now) result }
     {
         self.standard_bad_pieces(&self.renamed(axis, cube))
+    }
+
+    /// At which places a bad piece stands on an axis, as a mask: bit i is set if the piece at place i is bad. Of a slice, edges
+    /// on the wrong side are bad: those of the slice that stand outside, and the others that stand in it.
+    #[tactic(auto, using(crate::proofs::BadPlaces::ones_are, crate::proofs::BadPlaces::at_most_twelve))]
+    pub fn bad_places(self, axis: Axis, cube: &Cube) -> u16
+        ensures mask { result ≡ bad_mask self axis (map_of cube.now) }
+        ensures bits { count_ones result ≡ bad_count self axis (map_of cube.now) }
+        ensures at_most { bad_count self axis (map_of cube.now) ≤ 12 }
+    {
+        match self {
+            Coordinate::Flip => {
+                mask_of_turned::<12, 2>(&cube.edges, &cube.flips, flip_marks(axis))
+            }
+            Coordinate::Twist => {
+                mask_of_turned::<8, 3>(&cube.corners, &cube.twists, twist_marks(axis))
+            }
+            Coordinate::Slice => mask_of_turned::<12, 3>(&cube.edges, &[0; 12], slice_marks(axis)),
+        }
     }
 
     /// The rotation by which a cube is renamed before the coordinate on an axis is read, if it is. The flips on Ud are
