@@ -4,7 +4,7 @@ use Rattle.std.proofs.lemmas.Simd.{mask_l-lt, ones-mask_l}
 use Rattle.std.specs.Int.RustNames.{count_ones}
 use Rattle.std.specs.Prelude.{◌^◌}
 use Rattle.std.proofs.lemmas.List.{drop_all}
-use Rattle.niss_cube.proofs.Words.{◌≡◌, ℕ, suc, zero, ◌+◌, ◌*◌, ◌-◌, ◌%◌, ◌<◌, ◌≤◌, ◌==◌, refl, sym, ◌∙◌, ap, subst}
+use Rattle.niss_cube.proofs.Words.{◌≡◌, ℕ, suc, ◌+◌, ◌*◌, ◌-◌, ◌%◌, ◌<◌, ◌≤◌, ◌==◌, refl, sym, ◌∙◌, ap}
 use Rattle.niss_cube.proofs.Words.{arith, Bool, true, false, not, ◌&&◌, ◌||◌, List, [], length, get_or, cond, drop, drop-cons}
 use Rattle.niss_cube.proofs.Words.{length-drop, slice_index, map, list_any, Any-from_list_any, list_any_at, same_truth, and_left, and_right, and_both}
 use Rattle.niss_cube.proofs.Words.{same_place, same_place_is, same_place_of, get_or_default, get_or-map, length-map, ext_get_or}
@@ -245,9 +245,9 @@ strays_same set d e s (row ∷ all) =
     let rest = strays_same set d e s all in (
       ap (λ b. b ∷ map (has_stray set d) all) one ∙ ap (λ bs. has_stray set e row ∷ bs) rest.0,
       sum_by-cons (λ r. one_if (has_stray set d r)) row all
-      ∙ ap (λ b. one_if b + count_by (has_stray set d) all) one
-      ∙ ap (λ n. one_if (has_stray set e row) + n) rest.1
-      ∙ sym (sum_by-cons (λ r. one_if (has_stray set e r)) row all),
+          ∙ ap (λ b. one_if b + count_by (has_stray set d) all) one
+          ∙ ap (λ n. one_if (has_stray set e row) + n) rest.1
+          ∙ sym (sum_by-cons (λ r. one_if (has_stray set e r)) row all),
     )
 
 pub bad_places_see_places : BadPlacesSeePlaces

@@ -17,7 +17,6 @@ use Rattle.niss_cube.specs.Steps.{holds as goal_holds}
 use Rattle.niss_cube.proofs.Codes.{kept_is_tested, kept_same, sets_are_places}
 use Rattle.niss_cube.proofs.CubieKinds.{cubes_permute_places, kept_is_equal}
 use Rattle.niss_cube.specs.StepLaws.{ReachedStepsSeePlaces}
-use Rattle.niss_cube.specs.Steps.{reached_mask}
 use Rattle.niss_cube.proofs.Words.{Numbers, Below, drop, suc, ◌+◌, ◌*◌, ◌<◌, get_or, cond, get_or-map, length-drop}
 use Rattle.niss_cube.proofs.BadPlaces.{next_bit, byte_is}
 use Rattle.std.proofs.lemmas.Simd.{mask_l-lt}

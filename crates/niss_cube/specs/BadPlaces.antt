@@ -1,11 +1,11 @@
 -- Where the bad pieces of a cube stand: at which places of edges or corners a sticker is on the wrong side of a coordinate's set.
 use Rattle.std.specs.Prelude.{◌≡◌, ℕ, ◌+◌, ◌*◌, ◌%◌, Bool, ◌&&◌, ◌||◌, not, ◌==◌, List, map, length, count_by, slice_index}
 use Rattle.std.specs.List.{list_any, range_with_len}
-use Rattle.niss_cube.specs.Names.{Place, places, same_place, Axis, Ud, Rl, Fb, Coordinate, Flip, Twist, Slice, Cube, SameMap}
+use Rattle.niss_cube.specs.Names.{Place, places, same_place, Axis, Coordinate, Twist, Slice, Cube, SameMap}
 use Rattle.niss_cube.specs.Cubies.{corner_facelets, edge_facelets, index_in}
 use Rattle.niss_cube.specs.Map.{map_of}
 use Rattle.niss_cube.specs.Sets.{set_of}
-use Rattle.niss_cube.specs.BadPieces.{bad_pieces, stickers_in}
+use Rattle.niss_cube.specs.BadPieces.{bad_pieces}
 use lib.Lanes.{mask_l}
 
 -- The sticker that began at a place is on the wrong side of a set: it began in it and stands outside, or the other way round.

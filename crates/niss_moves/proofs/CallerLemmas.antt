@@ -8,4 +8,3 @@ pub use Rattle.niss_moves.proofs.Finite.{tested, holds, find_passes}
 unfoldable pub use Rattle.niss_moves.proofs.Finite.{every_face, every_power, every_axis, every_slice, every_token, every_turn}
 pub use Rattle.niss_moves.proofs.Effects.{effect-append, inverse_after, inverse_before, inverse_whole}
 pub use Rattle.niss_moves.proofs.CanonicalLists.{last_turn-push}
-pub use Rattle.niss_moves.proofs.Words.{spaced_turns, spaced_line}

@@ -8,7 +8,7 @@ use Rattle.niss_moves.specs.Line.{item_bracketed, Spells, token_of}
 use Rattle.niss_moves.specs.Text.{gap, gap_after, with_word, turn_words, cleaned_words, with_bracket}
 use Rattle.niss_moves.specs.Helpers.{with_buffered, is_empty}
 use Rattle.std.proofs.Math.Seq.{take-append-add}
-use Rattle.std.proofs.lemmas.Slice.{between_is, between_from_start, drop-put_mid}
+use Rattle.std.proofs.lemmas.Slice.{between_is, between_from_start}
 use borrow.Rule.Slice.PartMut.{put_mid, post_of}
 use Rattle.niss_moves.specs.declared.text.Word.{Word}
 use Rattle.niss_moves.specs.declared.text.TheConstants.{WORDS}
@@ -126,9 +126,6 @@ pub copied : {X : Type 0} (a k n : ℕ) (xs ys : List X) → a ≤ length xs →
 copied a k n xs ys h l =
     ap (λ m. take (m + n) (put_mid a k xs ys)) (sym (length-take-le a xs h)) ∙ take-append-add (take a xs) (ys ++ post_of a k xs) n ∙ ap (λ t. take a xs ++ t) (take-append-le n ys (post_of a k xs) l)
 
--- what stands behind it stays
-pub ruleset kept_behind = (drop-put_mid)
-
 -- all words after a text, none of them written
 all_buffered : (text : List ℕ) (no_gap : Bool) (ts : List Token) → gap text ≡ (if no_gap then [] else 32 ∷ []) → with_buffered text no_gap (spaced ts) ≡ with_words text (map word ts)
 all_buffered text false ts g = after_word text ts g
@@ -193,14 +190,6 @@ writes_all {text} {new} {first} {words} no_gap e wrote h =
 pub words_of_turns : (ts : List Turn) → map word (map Token.Face ts) ≡ turn_words ts
 words_of_turns [] = refl
 words_of_turns (t ∷ ts) = ap (λ ws. word (Token.Face t) ∷ ws) (words_of_turns ts)
-
--- the words of face turns, each after a space
-abbrev pub spaced_turns : List Turn → List ℕ
-spaced_turns ts = spaced (map Token.Face ts)
-
--- without the first space they are a line
-pub spaced_line : (ts : List Turn) → drop 1 (spaced_turns ts) ≡ with_words [] (turn_words ts)
-spaced_line ts = all_buffered [] true (map Token.Face ts) refl ∙ ap (with_words []) (words_of_turns ts)
 
 -- words after words
 pub words_more : (text : List ℕ) (ts us : List Token) → with_words (with_words text (map word ts)) (map word us) ≡ with_words text (map word (ts ++ us))

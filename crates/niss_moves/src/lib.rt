@@ -48,7 +48,6 @@ pub use reader::{LineReader, read};
 pub use rotation::{Faces, Rotation, to_faces};
 pub use text::{
     LineText, put_faces, put_inverted, put_niss_clean, put_rotation, put_tokens, put_unniss,
-    write_turn,
 };
 pub use token::{Slice, Token};
 pub use turn::{Axis, Face, Power, Turn, allowed, turn_order, turns_after};

@@ -79,22 +79,6 @@ macro_rules! words_of {
 /// By the numbers of the moves.
 static WORDS: [Word; 54] = words_of!(b'U' b'D' b'R' b'L' b'F' b'B'; b'M' b'E' b'S' b'y' b'x' b'z');
 
-/// Writes a space and the word of a face turn over the bytes from `start` on, of which there are four or more, and
-/// returns where the word ends. Of these four bytes those after it aren't kept, since a piece of fixed length is copied
-/// fastest; all other bytes stay.
-#[tactic(auto, using(crate::proofs::Words::copied, crate::proofs::Words::kept_behind))]
-pub fn write_turn(turn: Turn, bytes: &mut [u8], start: usize) -> usize
-    requires { start + 4 ≤ length bytes.old }
-    ensures word { take result bytes.new ≡ take start bytes.old ++ 32 ∷ word (token.Face turn) }
-    ensures end { result ≤ start + 3 }
-    ensures length { length bytes.new ≡ length bytes.old }
-    ensures rest { drop (start + 4) bytes.new ≡ drop (start + 4) bytes.old }
-{
-    let word = Word::of_turn(turn);
-    bytes[start..start + 4].copy_from_slice(&word.bytes);
-    start + word.len
-}
-
 /// Words that are to be appended to a text. They wait here since a piece of fixed length is copied fastest.
 #[derive(Drop)]
 pub struct WordBuffer {

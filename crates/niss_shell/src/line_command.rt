@@ -64,7 +64,7 @@ impl LineCommand<Step> {
 }
 
 /// The cube of a line's face turns, whose centres are home, and the rotation that is left.
-fn cube_of(line: &Niss) -> (Cube, Rotation)
+pub fn cube_of(line: &Niss) -> (Cube, Rotation)
     ensures cube { SameMap (map_of result.0) (home line.now) }
     ensures rotated { SameMap (λ q. effect (spelling result.1) (map_of result.0 q))
         (effect (joined_moves line.now)) }

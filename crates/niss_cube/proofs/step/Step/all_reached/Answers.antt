@@ -1,4 +1,4 @@
-use Rattle.niss_cube.proofs.Words.{◌≡◌, ◌+◌, ◌-◌, ◌*◌, suc, arith, ap, sym, ◌∙◌, drop, map_of}
+use Rattle.niss_cube.proofs.Words.{◌≡◌, ◌+◌, ◌-◌, ◌*◌, suc, arith, ap, ◌∙◌, drop, map_of}
 use Rattle.niss_cube.proofs.StepLemmas.{tests_of, reached_bit, reached_bits_fit}
 use Rattle.niss_cube.proofs.step.Step.all_reached.Goals.{After-from}
 use Rattle.niss_cube.proofs.step.Step.all_reached.Goals as goal

@@ -1,5 +1,5 @@
 use Rattle.std.specs.Int.RustNames.{count_ones}
-use Rattle.niss_cube.proofs.Words.{◌≡◌, sym, ap, ◌∙◌, Flip, Twist, Slice, List, ℕ, map_of, flips_home}
+use Rattle.niss_cube.proofs.Words.{sym, ap, ◌∙◌, Flip, Twist, Slice, List, ℕ, map_of, flips_home}
 use Rattle.niss_cube.specs.BadPlaces.{turned_away}
 use Rattle.niss_cube.proofs.BadPlaces.{flips_bad, twists_bad, slices_bad, ones_are}
 use Rattle.niss_cube.proofs.cube.coordinate.Coordinate.bad_places.Goals as goal

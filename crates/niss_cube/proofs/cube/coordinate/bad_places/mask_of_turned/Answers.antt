@@ -1,4 +1,4 @@
-use Rattle.std.proofs.Common.{◌≡◌, ◌+◌, ◌-◌, ◌*◌, suc, arith, ap, sym, ◌∙◌, drop}
+use Rattle.std.proofs.Common.{◌≡◌, ◌+◌, ◌-◌, ◌*◌, suc, arith, ap, ◌∙◌, drop}
 use Rattle.niss_cube.specs.BadPlaces.{turned_away}
 use Rattle.niss_cube.proofs.BadPlaces.{no_bits, bit_more, bits_fit}
 use Rattle.niss_cube.proofs.cube.coordinate.bad_places.mask_of_turned.Goals.{After-from}
@@ -14,8 +14,11 @@ loop-place-init g c = record {
 
 pub overflow_mul-mask : goal.overflow_mul-mask
 overflow_mul-mask g c =
-    omega (arith, bits_fit g.row.FACELETS c.args.homes.now c.args.turns.now c.args.marks.now c.loop-place.place c.loop-place.mask
-    (omega (arith, c.told-homes, c.requires.few)) c.loop-place.invariant.bits)
+    omega (
+      arith,
+      bits_fit g.row.FACELETS c.args.homes.now c.args.turns.now c.args.marks.now c.loop-place.place c.loop-place.mask
+          (omega (arith, c.told-homes, c.requires.few)) c.loop-place.invariant.bits,
+    )
 
 -- the mask with the bit of this place
 more : (g : Over) (c : After-from g) →
@@ -29,8 +32,11 @@ more g c =
 
 pub overflow_add-mask : goal.overflow_add-mask
 overflow_add-mask g c =
-    omega (arith, bits_fit g.row.FACELETS c.args.homes.now c.args.turns.now c.args.marks.now (c.loop-place.place - 1) (2 * c.loop-place.mask + c.from.result)
-    (omega (arith, c.told-homes, c.requires.few)) (more g c))
+    omega (
+      arith,
+      bits_fit g.row.FACELETS c.args.homes.now c.args.turns.now c.args.marks.now (c.loop-place.place - 1) (2 * c.loop-place.mask + c.from.result)
+          (omega (arith, c.told-homes, c.requires.few)) (more g c),
+    )
 
 pub loop-place-preserved : goal.loop-place-preserved
 loop-place-preserved g c = record { within = omega (arith, c.loop-place.invariant.within); bits = more g c }

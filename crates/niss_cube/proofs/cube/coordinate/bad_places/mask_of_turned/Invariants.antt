@@ -1,4 +1,4 @@
-use Rattle.niss_cube.proofs.Words.{◌≡◌, ◌≤◌, ◌<◌, drop}
+use Rattle.niss_cube.proofs.Words.{◌≡◌, ◌≤◌, drop}
 use Rattle.niss_cube.specs.BadPlaces.{turned_away}
 use Rattle.niss_cube.proofs.cube.coordinate.bad_places.mask_of_turned.Given as goal
 use lib.Lanes.{mask_l}
