@@ -33,13 +33,14 @@ holds "it names the processors that it is for" names_level "$folder/libnissy.so.
 holds "so does the archive" names_level "$folder/libnissy.a"
 
 # each test in C, plain by the archive and by the shared object, with the sanitizers, and by valgrind
-# where the parts put what they compile, and the rows of tests/runs.tsv as C
-made=$room
-strict=(-O1 -g -Wall -Wextra -Wpedantic -Werror -Iinclude -Itests/library "-I$made")
+# where the parts put what they compile, and beside it, since one has the name of a header, the rows of tests/runs.tsv as C
+made=$room/made
+mkdir "$made" "$room/rows"
+strict=(-O1 -g -Wall -Wextra -Wpedantic -Werror -Iinclude -Itests/library "-I$room/rows")
 awk -F '\t' '!/^#/ {
     gsub(/\|/, "\\000", $2)
     printf "{\"%s\", %s, \"%s\", %s, \"%s\", \"%s\", %s},\n", $2, $2 == "" ? 0 : "sizeof \"" $2 "\"", $3, $1, $4, $5, $6 == "-" ? -1 : $6
-}' tests/runs.tsv > "$made/runs.inc"
+}' tests/runs.tsv > "$room/rows/runs.inc"
 sanitized=("-fsanitize=address,undefined" -fno-sanitize-recover=all)
 wrapped=-Wl,--wrap=malloc,--wrap=realloc,--wrap=free
 linked() { # NAME: what the test is linked with
@@ -81,13 +82,12 @@ tried() { # NAME: the test in C of this name
         memory | fuzz | broken_rules | handlers) ;;
         # unlike the sanitizer it sees what the library itself reads and writes; searches alone, since a run takes it seconds
         threads) valgrinds --tool=helgrind "$made/$name" 0 20 ;;
-        beside_run) valgrinds --leak-check=full "$made/$name" 2 1 ;;
         # it makes each byte thirty times as slow
         calls) valgrinds --leak-check=full "$made/$name" few ;;
     esac
     ended
 }
-for name in calls beside_run threads fuzz memory handlers broken_rules; do part tried $name; done
+for name in calls threads fuzz memory handlers broken_rules; do part tried $name; done
 
 # the headers in C++, by each compiler that is here
 compiled_by() { # COMPILER PROGRAM WORD..: compiles the test in C++, with these words too
