@@ -44,17 +44,25 @@ def built(crate: str, top: str) -> str:
     return f"{top}/crates/{crate}/out/rlib/{crate}.rlib"
 
 
+def keeps() -> bool:
+    """Whether `rt ci` can keep what it passes, which it does beside the kit where the disk has 5 GB left."""
+    beside = os.path.dirname(kit())
+    folder = f"{beside}/rattle-kept"
+    return os.access(folder if os.path.isdir(folder) else beside, os.W_OK) and shutil.disk_usage(beside).free > 5 << 30
+
+
 def goes_on(names: list[str]) -> bool:
-    """Whether checks in this checkout left work of one of these crates, from which the next check goes on. While a gate runs in it, nothing does:
-    the kit's other commands there would wait until that gate ends."""
-    return "NISSY_GATE" not in os.environ and any(os.path.isdir(f"{TOP}/crates/{name}/out/incremental") for name in names)
+    """Whether the next check goes on from what checks left in this checkout: if they left work of one of these crates, or if `rt ci` keeps nothing.
+    While a gate runs here, the kit's other commands wait until it ends, so nothing goes on that needn't."""
+    left = "NISSY_GATE" not in os.environ and any(os.path.isdir(f"{TOP}/crates/{name}/out/incremental") for name in names)
+    return left or not keeps()
 
 
 @lru_cache(None)
 def build_below(crate: str) -> str:
     """Proves and builds the libraries below a crate, and returns the top of the repository, or of a copy, below which they are built.
 
-    If checks left work in this checkout, `rt lib` goes on from it, and proves the libraries whose texts are others than before: it compares the
+    If the next check goes on from work in this checkout, `rt lib` proves the libraries whose texts are others than before: it compares the
     texts and the kit, and not times. Else `rt ci` proves them from nothing in a copy. It keeps what passes, for the gate too, which takes no other
     proofs: so nothing is proved twice. A library fits only those below it that it was built over, so the two kinds are never mixed."""
     names = below(crate)
