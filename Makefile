@@ -62,12 +62,10 @@ lib: build/libnissy.a
 
 page: build/nissy.html
 
-build/nissy: $(SOURCES)
+build/nissy: $(SOURCES) tools/program tools/kit.py
 	$(NEEDS_KIT)
-	@echo "Proving and building. The first time this takes ten minutes or more; later, seconds."
-	cd crates/nissy && rt run -- invert "" > /dev/null
-	mkdir -p build
-	cp crates/nissy/out/nissy build/nissy.part && mv build/nissy.part build/nissy
+	@echo "Proving and building. The first time this takes ten minutes or more."
+	tools/program build/nissy
 
 # the shared object comes with it, under both of its names
 build/libnissy.a: $(SOURCES) tools/static-library tools/kit.py

@@ -4,7 +4,7 @@
 #     tests/browsers.sh [PAGE [PROGRAM]]
 #
 # The page is build/nissy.html if none is named, and the program build/nissy. What needs a browser that isn't here is skipped, and named.
-# `/usr/bin/python3 tests/browsers/drive.py build/nissy.html build/nissy looks` runs one part. Look at the page after a change too: 360 points
+# `/usr/bin/python3 tests/browsers/drive.py build/nissy.html build/nissy looks` runs one part of Chromium's. Look at the page after a change too: 360 points
 # wide, light and dark. docs/page.png has 1180 by 980 points.
 # The last line is `N passed, M failed`, and the status is 1 if M isn't 0.
 set -u
@@ -40,22 +40,25 @@ python=/usr/bin/python3
 if missing chromium || missing chromedriver || ! $python -c "import selenium" 2> /dev/null; then
     skips "the page in Chromium, since chromium, chromedriver or python3-selenium isn't installed"
 else
-    add $python tests/browsers/drive.py "$page" "$program"
+    # each in a browser of its own, which mostly waits
+    for name in $($python tests/browsers/drive.py); do part $python tests/browsers/drive.py "$page" "$program" "$name"; done
 fi
 if missing firefox && missing firefox-esr; then
     skips "the page in Firefox, which isn't installed"
 else
-    add python3 tests/browsers/firefox.py "$page"
+    part python3 tests/browsers/firefox.py "$page"
 fi
 if missing WebKitWebDriver || missing xvfb-run || ! $python -c "import selenium" 2> /dev/null; then
     skips "the page in WebKit, since webkit2gtk-driver, xvfb or python3-selenium isn't installed"
 else
-    add xvfb-run -a $python tests/browsers/webkit.py "$page"
+    part xvfb-run -a $python tests/browsers/webkit.py "$page"
 fi
 if missing chromium || missing chromedriver || { missing firefox && missing firefox-esr; } || missing WebKitWebDriver || missing xvfb-run ||
     ! $python -c "import selenium" 2> /dev/null; then
     skips "the browsers beside each other, since one of them isn't installed"
 else
-    add xvfb-run -a $python tests/browsers/alike.py "$page"
+    # two that look for a free display at once may find the same
+    after="xvfb-run -a $python tests/browsers/webkit.py $page" part xvfb-run -a $python tests/browsers/alike.py "$page"
 fi
+parts_end
 ended

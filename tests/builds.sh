@@ -12,6 +12,8 @@ cd "$(dirname "$0")/.." || exit 2
 if missing rt; then skips_all "there is no Rattle kit here, so nothing can be built"; fi
 top=$PWD
 here=$room/workspace
+# as where no gate runs
+unset NISSY_GATE
 
 number() { # CRATE NAME BODY: a library with a function that returns 7
     mkdir -p "$here/crates/$1/src"
@@ -76,12 +78,19 @@ killed_after() { # SECONDS COMMAND..
     [ $status -eq 137 ] || { echo "it ended with status $status:" && tail -n 3 "$room/said" && return 1; }
 }
 is_built() { make --no-print-directory all lib; }
+goes_on() { python3 -B -c 'import sys; sys.path.insert(0, "tools"); import kit; sys.exit(not kit.goes_on(["niss_moves", "niss_embed"]))'; }
 is_first() { cmp build/libnissy.a "$room/first.a"; }
 
 workspace || { fails "a workspace is made"; ended; exit; }
 holds "make builds the program" make --no-print-directory
 holds "the program runs" test "$(build/nissy)" = 7
-holds "the gate passes after make" rt ci
+holds "no check left anything here" refuses goes_on
+takes_proofs() { # CRATE..: the gate passes, and proves none of these again
+    local name
+    rt ci > "$room/said" || { tail -n 3 "$room/said" && return 1; }
+    for name in "$@"; do grep "^.*$name is kept: " "$room/said" || { echo "$name is proved again" && return 1; }; done
+}
+holds "the gate takes what make proved" takes_proofs niss_moves nissy
 holds "the library is built after make and the gate" make --no-print-directory lib
 cp build/libnissy.a "$room/first.a"
 if missing wasm-opt; then skips "the module, since there is no binaryen"; else
@@ -94,6 +103,7 @@ edit niss_moves 'A number' 'One number'
 holds "all is built after an edit of a comment in the lowest crate" is_built
 holds "the library is the same" is_first
 for crate in niss_moves niss_embed niss_c niss_page; do edit $crate '7' '9'; done
+echo 9 > crates/nissy/stdout
 by_git commit -qam two
 holds "all is built after an edit of each function" is_built
 holds "the library is another" refuses is_first
@@ -102,6 +112,8 @@ holds "all is built in the commit before" is_built
 holds "the library is the first one again" is_first
 holds "the program is, too" test "$(build/nissy)" = 7
 
+holds "a check of one crate" env -C crates/niss_embed rt check
+holds "the tools go on from what it left" goes_on
 edit niss_embed 'A number' 'One number'
 holds "a check is killed" killed_after 1 env -C crates/niss_embed rt lib
 holds "all is built after a check that was killed" is_built

@@ -221,7 +221,7 @@ holds "make install succeeds again" with_others
 holds "make uninstall succeeds beside other files" install_at uninstall
 holds "the other files are left" test "$(find "$packed" -type f | wc -l)" -eq 3
 holds "make uninstall succeeds where nothing is installed" install_at uninstall
-builds_first() { make -n -B install | grep -F 'rt run'; }
+builds_first() { make -n -B install | grep -F 'tools/program build/nissy'; }
 cd "$top" || exit 2
 holds "make install proves and builds first" builds_first
 ended

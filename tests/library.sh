@@ -33,7 +33,14 @@ holds "it names the processors that it is for" names_level "$folder/libnissy.so.
 holds "so does the archive" names_level "$folder/libnissy.a"
 
 # each test in C, plain by the archive and by the shared object, with the sanitizers, and by valgrind
-strict=(-O1 -g -Wall -Wextra -Wpedantic -Werror -Iinclude -Itests/library)
+# where the parts put what they compile, and beside it, since one has the name of a header, the rows of tests/runs.tsv as C
+made=$room/made
+mkdir "$made" "$room/rows"
+strict=(-O1 -g -Wall -Wextra -Wpedantic -Werror -Iinclude -Itests/library "-I$room/rows")
+awk -F '\t' '!/^#/ {
+    gsub(/\|/, "\\000", $2)
+    printf "{\"%s\", %s, \"%s\", %s, \"%s\", \"%s\", %s},\n", $2, $2 == "" ? 0 : "sizeof \"" $2 "\"", $3, $1, $4, $5, $6 == "-" ? -1 : $6
+}' tests/runs.tsv > "$room/rows/runs.inc"
 sanitized=("-fsanitize=address,undefined" -fno-sanitize-recover=all)
 wrapped=-Wl,--wrap=malloc,--wrap=realloc,--wrap=free
 linked() { # NAME: what the test is linked with
@@ -58,32 +65,29 @@ if has_sanitizer -fsanitize=thread; then sees_races=yes; else skips "cc has no s
 missing valgrind && skips "valgrind isn't installed"
 valgrinds() { missing valgrind || add valgrind -q --error-exitcode=99 "$@"; } # WORD..
 
-for name in lines runs tables beside_run memory threads handlers fuzz broken_rules; do
-    holds "$name.c compiles without a warning" compiled "$room/$name" "$name"
-    add "$room/$name"
+tried() { # NAME: the test in C of this name
+    local name=$1
+    holds "$name.c compiles without a warning" compiled "$made/$name" "$name"
+    add "$made/$name"
     if [ $is_sanitized = yes ]; then
-        holds "$name.c compiles with the sanitizers" compiled "$room/$name.sanitized" "$name" "${sanitized[@]}"
-        add "$room/$name.sanitized"
+        holds "$name.c compiles with the sanitizers" compiled "$made/$name.sanitized" "$name" "${sanitized[@]}"
+        add "$made/$name.sanitized"
     fi
-    if [ $name = threads ] && [ $sees_races = yes ]; then
-        holds "$name.c compiles with the sanitizer for threads" compiled "$room/$name.raced" "$name" -fsanitize=thread
-        add "$room/$name.raced"
+    if [ "$name" = threads ] && [ $sees_races = yes ]; then
+        holds "$name.c compiles with the sanitizer for threads" compiled "$made/$name.raced" "$name" -fsanitize=thread
+        add "$made/$name.raced"
     fi
     case $name in
         # valgrind's own malloc takes no wraps, helgrind tells the races that are meant, and a handler's small stack isn't for either
         memory | fuzz | broken_rules | handlers) ;;
         # unlike the sanitizer it sees what the library itself reads and writes; searches alone, since a run takes it seconds
-        threads) valgrinds --tool=helgrind "$room/$name" 0 20 ;;
-        beside_run) valgrinds --leak-check=full "$room/$name" 2 1 ;;
-        # it makes each byte thirty times as slow: of the rooms, which the others went through, one of seven, and no longest input
-        *) valgrinds --leak-check=full "$room/$name" 7 ;;
+        threads) valgrinds --tool=helgrind "$made/$name" 0 20 ;;
+        # it makes each byte thirty times as slow
+        calls) valgrinds --leak-check=full "$made/$name" few ;;
     esac
-done
-shared_one() {
-    cc -std=c99 "${strict[@]}" -D_DEFAULT_SOURCE -o "$room/shared_runs" tests/library/runs.c -L"$folder" -lnissy -Wl,-rpath,"$folder"
+    ended
 }
-holds "runs.c compiles against the shared object" shared_one
-add "$room/shared_runs"
+for name in calls threads fuzz memory handlers broken_rules; do part tried $name; done
 
 # the headers in C++, by each compiler that is here
 compiled_by() { # COMPILER PROGRAM WORD..: compiles the test in C++, with these words too
@@ -97,25 +101,34 @@ read_strictly() { # COMPILER: callers have warnings of their own, and it is no h
     [ "$1" = clang++ ] || more+=(-Wuseless-cast)
     "$1" -std=c++17 "${strict[@]}" "${more[@]}" -x c++ -fsyntax-only include/nissy.hpp
 }
-for compiler in g++ clang++; do
-    if missing $compiler; then skips "$compiler isn't installed" && continue; fi
-    holds "nissy.h is C++98 too, by $compiler" $compiler -std=c++98 "${strict[@]}" -x c++ -fsyntax-only include/nissy.h
-    holds "nissy.hpp tells C++14 that it is for C++17, by $compiler" tells_older $compiler
-    holds "nissy.hpp is read without further warnings, by $compiler" read_strictly $compiler
+by_compiler() { # COMPILER
+    local compiler=$1 standard
+    holds "nissy.h is C++98 too, by $compiler" "$compiler" -std=c++98 "${strict[@]}" -x c++ -fsyntax-only include/nissy.h
+    holds "nissy.hpp tells C++14 that it is for C++17, by $compiler" tells_older "$compiler"
+    holds "nissy.hpp is read without further warnings, by $compiler" read_strictly "$compiler"
     for standard in c++17 c++20; do
-        holds "nissy.cpp compiles as $standard by $compiler" compiled_by $compiler "$room/$compiler.$standard" -std=$standard
-        add "$room/$compiler.$standard"
+        holds "nissy.cpp compiles as $standard by $compiler" compiled_by "$compiler" "$made/$compiler.$standard" -std=$standard
+        add "$made/$compiler.$standard"
     done
+    ended
+}
+# g++ alone: with the sanitizers, and by valgrind
+with_sanitizers() {
+    if [ $is_sanitized = yes ]; then
+        holds "nissy.cpp compiles with the sanitizers" compiled_by g++ "$made/nissy.sanitized" -std=c++17 "${sanitized[@]}"
+        add "$made/nissy.sanitized"
+    fi
+    if [ $sees_races = yes ]; then
+        holds "nissy.cpp compiles with the sanitizer for threads" compiled_by g++ "$made/nissy.raced" -std=c++17 -fsanitize=thread
+        add "$made/nissy.raced"
+    fi
+    valgrinds --leak-check=full "$made/g++.c++17"
+    ended
+}
+for compiler in g++ clang++; do
+    if missing $compiler; then skips "$compiler isn't installed"; else part by_compiler $compiler; fi
 done
-if ! missing g++ && [ $is_sanitized = yes ]; then
-    holds "nissy.cpp compiles with the sanitizers" compiled_by g++ "$room/nissy.sanitized" -std=c++17 "${sanitized[@]}"
-    add "$room/nissy.sanitized"
-fi
-if ! missing g++ && [ $sees_races = yes ]; then
-    holds "nissy.cpp compiles with the sanitizer for threads" compiled_by g++ "$room/nissy.raced" -std=c++17 -fsanitize=thread
-    add "$room/nissy.raced"
-fi
-missing g++ || valgrinds --leak-check=full "$room/g++.c++17"
+missing g++ || after="by_compiler g++" part with_sanitizers
 printf '#include "nissy.h"\nint main(void) { return nissy_invert("R", 1, 0).status; }\n' > "$room/other.c"
 holds "a call with too few arguments doesn't compile" refuses cc -std=c11 "${strict[@]}" -o "$room/other" "$room/other.c" "$folder/libnissy.a"
 
@@ -126,34 +139,38 @@ is_refused() { # COMMAND..: the older processor loads none of it
     said=$(qemu-x86_64 -cpu Penryn "$@" 2> /dev/null)
     [ $? -eq 127 ] && [ -z "$said" ]
 }
-if missing qemu-x86_64; then
-    skips "qemu-user isn't installed, so no other processor is tried"
-else
-    add qemu-x86_64 -cpu Nehalem "$room/lines"
-    add qemu-x86_64 -cpu Nehalem "$room/runs" 7
-    add qemu-x86_64 -cpu Nehalem "$room/tables" 7
+on_old_processors() {
+    add qemu-x86_64 -cpu Nehalem "$made/shared_calls"
     answers "the program on an old processor" 0 'length 7 solutions 4 nodes 107\n' '' \
         qemu-x86_64 -cpu Nehalem "$program" count drud-eofb 20 "R U2 L' D R2 U' F2 L D' B2 R' U L2 D2 R U' F2 D L'"
-    holds "an older one doesn't load the library" is_refused "$room/shared_runs" 7
-fi
+    holds "an older one doesn't load the library" is_refused "$made/shared_calls" few
+    ended
+}
+shared_one() {
+    cc -std=c99 "${strict[@]}" -D_DEFAULT_SOURCE -o "$made/shared_calls" tests/library/calls.c -L"$folder" -lnissy -Wl,-rpath,"$folder"
+}
+holds "calls.c compiles against the shared object" shared_one
+part "$made/shared_calls"
+if missing qemu-x86_64; then skips "qemu-user isn't installed, so no other processor is tried"; else part on_old_processors; fi
 
-if missing python3; then
-    skips "there is no python3 here"
-else
-    add python3 tests/library/module.py
-    add python3 tests/library/values.py
-    add python3 tests/library/processes.py
+beside_program() {
+    local caller=() further=()
+    if [ $is_sanitized = yes ]; then further=("${sanitized[@]}"); fi
+    if ! missing g++; then
+        holds "caller.cpp compiles" g++ -std=c++17 "${strict[@]}" "${further[@]}" -o "$made/caller" tests/library/caller.cpp "$folder/libnissy.a"
+        caller=("$made/caller")
+    fi
+    add python3 tests/library/beside_program.py "$program" 1 0.4 "${caller[@]}"
+    ended
+}
+if missing python3; then skips "there is no python3 here"; else
+    part beside_program
+    for trial in processes values module; do part python3 tests/library/$trial.py; done
     if python3.7 -c "import ctypes" 2> /dev/null; then
-        for trial in module values processes; do add python3.7 "tests/library/$trial.py"; done
+        for trial in module values processes; do part python3.7 tests/library/$trial.py; done
     else
         skips "Python 3.7, the oldest that the package is for, isn't installed"
     fi
-    caller=() further=()
-    if [ $is_sanitized = yes ]; then further=("${sanitized[@]}"); fi
-    if ! missing g++; then
-        holds "caller.cpp compiles" g++ -std=c++17 "${strict[@]}" "${further[@]}" -o "$room/caller" tests/library/caller.cpp "$folder/libnissy.a"
-        caller=("$room/caller")
-    fi
-    add python3 tests/library/beside_program.py "$program" 1 0.4 "${caller[@]}"
 fi
+parts_end
 ended

@@ -12,6 +12,7 @@ set -u
 . "$(dirname "$0")/shared"
 program=$(program_of "$@") || exit 2
 if missing python3; then skips_all "there is no python3 here, so nothing is compared with the model"; fi
-add python3 "$(dirname "$0")/model/against.py" "$program" 1 0.4
-add python3 "$(dirname "$0")/model/hostile.py" "$program" 1 0.02 calls,devices,growing
+part python3 "$(dirname "$0")/model/against.py" "$program" 1 0.4
+for kind in calls devices growing; do part python3 "$(dirname "$0")/model/hostile.py" "$program" 1 0.02 $kind; done
+parts_end
 ended

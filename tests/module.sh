@@ -16,14 +16,12 @@ module=$(realpath -m -- "${2:-build/nissy.wasm}")
 if [ ! -e "$module" ] || missing node; then
     skips_all "there is no module that make build/nissy.wasm built, or no node"
 fi
-add node tests/module/rows.mjs "$module"
-for trial in plain wrong overridden typed in_worker; do add node "tests/module/$trial.mjs" "$module"; done
-add node tests/module/cases.mjs "$module"
 if missing python3; then
     skips "there is no python3 here"
 else
-    add python3 tests/module/beside_program.py "$program" "$module" 1 0.25
+    part python3 tests/module/beside_program.py "$program" "$module" 1 0.25
 fi
+for trial in typed in_worker wrong overridden rows plain cases; do part node "tests/module/$trial.mjs" "$module"; done
 
 # Debian's Python has Debian's selenium, whatever other Python comes first
 python=/usr/bin/python3
@@ -31,7 +29,7 @@ export SE_OFFLINE=true SE_AVOID_STATS=true
 if missing chromium || missing chromedriver || ! $python -c "import selenium" 2> /dev/null; then
     skips "the module in a page, since chromium, chromedriver or python3-selenium isn't installed"
 else
-    add $python tests/module/in_browser.py "$module"
+    part $python tests/module/in_browser.py "$module"
 fi
 
 if missing tsc; then
@@ -44,4 +42,5 @@ else
     echo 'declare const nissy: import("./nissy.js").Nissy; nissy.invert(1);' > "$room/types/wrong.ts"
     holds "tsc refuses a wrong call" refuses "${strict[@]}" "$room/types/wrong.ts"
 fi
+parts_end
 ended

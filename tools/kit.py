@@ -1,5 +1,6 @@
 """What the Python tools of this folder share: the crates of the repository, and how the kit's checker is called on one of them."""
 
+import atexit
 import os
 import shutil
 import subprocess
@@ -12,11 +13,16 @@ TOP = os.path.dirname(os.path.dirname(os.path.abspath(__file__)))
 PARTS = ("src", "specs", "proofs")
 
 
+def listing() -> list[str]:
+    """Returns the lines of crates.txt, one a crate."""
+    with open(f"{TOP}/crates.txt", encoding="utf-8") as lines:
+        return [line for line in lines if line.strip()]
+
+
 @lru_cache(None)
 def crates() -> dict[str, list[str]]:
     """Returns the crates that crates.txt lists, each with the libraries that it names. A kind may stand after a name, as `staticlib`."""
-    with open(f"{TOP}/crates.txt", encoding="utf-8") as lines:
-        listed = [line.partition(":") for line in lines if line.strip()]
+    listed = [line.partition(":") for line in listing()]
     return {name.split()[0]: uses.split() for name, _, uses in listed}
 
 
@@ -33,18 +39,60 @@ def kit() -> str:
     return os.path.dirname(said.stdout.strip())
 
 
-def built(crate: str) -> str:
-    """Returns where a library is built."""
-    return f"{TOP}/crates/{crate}/out/rlib/{crate}.rlib"
+def built(crate: str, top: str) -> str:
+    """Returns where a library is built below the top of a repository, or of a copy of it."""
+    return f"{top}/crates/{crate}/out/rlib/{crate}.rlib"
 
 
-def build(*crates_above: str) -> None:
-    """Proves and builds the libraries below these crates, but those that `rt lib` built of the same texts: it compares the texts and the kit, and
-    not times. What `rt ci` left has no mark of `rt lib`, and is built anew: a library fits only those below it that it was built over."""
-    for name in {use: None for crate in crates_above for use in crates()[crate] if use in crates()}:
-        ran = subprocess.run(["rt", "lib"], cwd=f"{TOP}/crates/{name}", stdout=subprocess.PIPE, stderr=subprocess.STDOUT, text=True, check=False)
-        if ran.returncode:
-            sys.exit(f"{ran.stdout}{name} is not proved")
+def keeps() -> bool:
+    """Whether `rt ci` can keep what it passes, which it does beside the kit where the disk has 5 GB left."""
+    beside = os.path.dirname(kit())
+    folder = f"{beside}/rattle-kept"
+    return os.access(folder if os.path.isdir(folder) else beside, os.W_OK) and shutil.disk_usage(beside).free > 5 << 30
+
+
+def goes_on(names: list[str]) -> bool:
+    """Whether the next check goes on from what checks left in this checkout: if they left work of one of these crates, or if `rt ci` keeps nothing.
+    While a gate runs here, the kit's other commands wait until it ends, so nothing goes on that needn't."""
+    left = "NISSY_GATE" not in os.environ and any(os.path.isdir(f"{TOP}/crates/{name}/out/incremental") for name in names)
+    return left or not keeps()
+
+
+@lru_cache(None)
+def build_below(crate: str) -> str:
+    """Proves and builds the libraries below a crate, and returns the top of the repository, or of a copy, below which they are built.
+
+    If the next check goes on from work in this checkout, `rt lib` proves the libraries whose texts are others than before: it compares the
+    texts and the kit, and not times. Else `rt ci` proves them from nothing in a copy. It keeps what passes, for the gate too, which takes no other
+    proofs: so nothing is proved twice. A library fits only those below it that it was built over, so the two kinds are never mixed."""
+    names = below(crate)
+    if not names or not goes_on(names):
+        return build_copy(names) if names else TOP
+    for name in names:
+        run_or_end(["rt", "lib"], f"{TOP}/crates/{name}", f"{name} is not proved")
+    return TOP
+
+
+def build_copy(names: list[str]) -> str:
+    """Proves and builds crates by `rt ci` in a copy, which lasts as long as this process, and returns its top."""
+    copy = tempfile.mkdtemp(prefix="nissy-proved-")
+    atexit.register(shutil.rmtree, copy, ignore_errors=True)
+    for name in names:
+        shutil.copytree(f"{TOP}/crates/{name}", f"{copy}/crates/{name}", ignore=shutil.ignore_patterns("out"))
+    with open(f"{copy}/crates.txt", "w", encoding="utf-8") as it:
+        it.writelines(line for line in listing() if line.partition(":")[0].split()[0] in names)
+    shutil.copy(f"{TOP}/HANDLES", copy)
+    # `rt ci` then takes it for the top of a repository, wherever it stands
+    os.mkdir(f"{copy}/.git")
+    run_or_end(["rt", "ci"], copy, f"not all of these are proved: {' '.join(names)}")
+    return copy
+
+
+def run_or_end(words: list[str], folder: str, why: str) -> None:
+    """Runs a command in a folder. If it fails, this process shows what it said, and ends."""
+    ran = subprocess.run(words, cwd=folder, stdin=subprocess.DEVNULL, stdout=subprocess.PIPE, stderr=subprocess.STDOUT, text=True, check=False)
+    if ran.returncode:
+        sys.exit(f"{ran.stdout}{why}")
 
 
 def begin(crate: str, kept: str) -> None:
@@ -54,8 +102,8 @@ def begin(crate: str, kept: str) -> None:
         shutil.copytree(f"{TOP}/crates/{crate}/out/incremental", kept, dirs_exist_ok=True)
 
 
-def words_on(crate: str, folder_of_kit: str) -> list[str]:
-    """Returns the words by which the kit's checker and its compiler find a crate's root and the libraries below it."""
+def words_on(crate: str, top: str, folder_of_kit: str) -> list[str]:
+    """Returns the words by which the kit's checker and its compiler find a crate's root and the libraries below it, as `build` built them."""
     of_kit = ["std", *[use for use in crates()[crate] if use not in crates()]]
     root = "src/main.rt" if os.path.isfile(f"{TOP}/crates/{crate}/src/main.rt") else "src/lib.rt"
     words = ["--crate-name", crate, root]
@@ -63,22 +111,21 @@ def words_on(crate: str, folder_of_kit: str) -> list[str]:
         words += ["--extern", f"{name}={folder_of_kit}/rlibs/{name}.rlib"]
     words += ["-L", f"dependency={folder_of_kit}/rlibs"]
     for name in below(crate):
-        words += ["--extern", f"{name}={built(name)}"] if name in crates()[crate] else []
-        words += ["-L", f"dependency={os.path.dirname(built(name))}"]
+        words += ["--extern", f"{name}={built(name, top)}"] if name in crates()[crate] else []
+        words += ["-L", f"dependency={os.path.dirname(built(name, top))}"]
     words += ["--antt-project", f"{folder_of_kit}/rattle/logic/antt-project.json", "--logic-built", f"{folder_of_kit}/logic_built"]
     return words + ["--links", f"{crate}="]
 
 
 def check_words(crate: str, kept: str, functions: list[str]) -> list[str]:
     """Returns the words that check functions of a crate, to be run in a folder with its sources, over the work kept in another folder."""
-    words = [f"{kit()}/bin/rattle", "check", *words_on(crate, kit()), "--jobs", "1", "--incremental", kept, "--allow-holes"]
+    words = [f"{kit()}/bin/rattle", "check", *words_on(crate, build_below(crate), kit()), "--jobs", "1", "--incremental", kept, "--allow-holes"]
     return words + [word for function in functions for word in ("--only", function)]
 
 
 def build_archive(crate: str, archive: str, target: str) -> None:
     """Proves a crate that crates.txt lists as a static library, and compiles it for a target."""
-    build(crate)
-    words = [f"{kit()}/bin/rattle", "build", *words_on(crate, kit()), "--jobs", "2", "--crate-type", "staticlib", "--target", target]
+    words = [f"{kit()}/bin/rattle", "build", *words_on(crate, build_below(crate), kit()), "--jobs", "2", "--crate-type", "staticlib", "--target", target]
     words += ["--toolchain", f"{kit()}/toolchain", "--backend", "llvm", "-o", archive]
     with tempfile.TemporaryDirectory() as kept:
         words += ["--incremental", kept]

@@ -1,10 +1,10 @@
 #!/usr/bin/env python3
 """Drives the page in Chromium, and holds what it shows against the independent model.
 
-    tests/browsers/drive.py PAGE PROGRAM [PART..]
+    tests/browsers/drive.py [PAGE PROGRAM [PART..]]
 
 PAGE is the joined file, PROGRAM the built nissy, and a PART one of those in PARTS below; all where none is named. The last line is
-`N passed, M failed`, and the status is 1 where M isn't 0.
+`N passed, M failed`, and the status is 1 where M isn't 0. Without a word it prints the names of the parts.
 """
 import shutil
 import subprocess
@@ -55,6 +55,9 @@ def page_without_engine(room: Path) -> str:
 
 def main() -> None:
     """Each part in a browser of its own, whose console and requests are looked at in the end."""
+    if len(sys.argv) == 1:
+        print(*(part.__name__ for part in PARTS), sep="\n")
+        return
     page, program = Path(sys.argv[1]).resolve().as_uri(), str(Path(sys.argv[2]).resolve())
     tally = Tally()
     chosen = [part for part in PARTS if len(sys.argv) == 3 or part.__name__ in sys.argv[3:]]

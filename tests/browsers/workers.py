@@ -3,10 +3,10 @@ from browser import BEST, IDLE, Browser
 from tally import Tally
 
 ADDRESS = "#scramble=R_U_F"
-# what is put before the script of each worker until `sound` is set; waits that are as long as the page's patience are short
+# what is put before the script of each worker until `sound` is set; waits as long as the page's patience are shorter, but for a busy machine
 SPOILT = """
     const [Sound, later] = [Worker, setTimeout];
-    window.setTimeout = (act, wait, ...words) => later(act, wait >= 20000 ? 500 : wait, ...words);
+    window.setTimeout = (act, wait, ...words) => later(act, wait >= 20000 ? 3000 : wait, ...words);
     window.made = [];
     window.Worker = class extends Sound {
         constructor(address, how) {
@@ -101,7 +101,7 @@ def mends_crash(tally: Tally, browser: Browser, what: str) -> None:
 
 def late(tally: Tally, browser: Browser) -> None:
     """What a worker says late is taken, and the words go."""
-    slow = "{ const say = postMessage; self.postMessage = (...words) => setTimeout(() => say(...words), 1500); }"
+    slow = "{ const say = postMessage; self.postMessage = (...words) => setTimeout(() => say(...words), 6000); }"
     opened(browser, slow)
     tally.holds("a slow engine is said", browser.until(FAILED))
     tally.equal("as one that may be at work", browser.text("failed-words"), SILENCE)

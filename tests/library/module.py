@@ -22,6 +22,7 @@ PYTHON = os.path.join(TOP, "python")
 sys.path[:0] = [PYTHON, os.path.join(TOP, "tests")]
 
 import nissy
+from runs import runs as rows_of_all
 from tally import Tally
 
 USAGE = b"usage: nissy COMMAND [ARGUMENTS]\n"
@@ -67,12 +68,10 @@ def lines():
 
 def runs():
     """Runs by words: their answers and what is no run."""
-    rows = [(["invert"], b"R U' F2\n", (0, b"F2 U R'\n", b"")), (["invert"], "R\u2019", (0, b"R\n", b"")),
-            (("invert", "R"), b"q", (0, b"R'\n", b"")), ([b"solve", "eofb", "7"], b"F\n", (0, b"F (1)\nF' (1)\n\n", b"")),
-            (["invert", "R '"], b"", (1, b"", b"nissy: line 1, column 3: not a move\n")),
-            ([], b"", (2, b"", USAGE)), ([b"inver\xff"], b"", (2, b"", USAGE)), (["invert", "\udcff"], b"", (2, b"", USAGE)),
-            (["invert", "\ud800"], b"", (2, b"", USAGE)), (["invert"], "R\ud800", (1, b"", b"nissy: line 1, column 2: not a move\n")),
-            (["invert"], b" " * (nissy.MOST_INPUT + 1), (3, b"", TOO_LONG)), (["invert"], b"", (0, b"", b""))]
+    rows = [(run.words, run.data, (run.status, run.out, run.err)) for run in rows_of_all()]
+    rows += [(["invert"], "R\u2019", (0, b"R\n", b"")), (("invert", "R"), b"q", (0, b"R'\n", b"")), (["invert", "\udcff"], b"", (2, b"", USAGE)),
+             (["invert", "\ud800"], b"", (2, b"", USAGE)), (["invert"], "R\ud800", (1, b"", b"nissy: line 1, column 2: not a move\n")),
+             (["invert"], b" " * (nissy.MOST_INPUT + 1), (3, b"", TOO_LONG))]
     for words, data, wanted in rows:
         answer = nissy.run(words, data)
         holds("run of %r" % (words,), (answer.status, answer.out, answer.err, answer.full) == wanted + (False,))

@@ -8,7 +8,7 @@
 
 enum { THREADS = 8, STACK = 64 * 1024 };
 
-static int run_rounds = 12, search_rounds = 500;
+static int run_rounds = 1, search_rounds = 100;
 
 /* The sanitizers themselves take more stack. */
 static int is_sanitized(void) {

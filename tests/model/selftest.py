@@ -10,14 +10,18 @@ import random
 import re
 import sys
 from collections.abc import Callable
+from contextlib import suppress
+from pathlib import Path
+
+sys.path.insert(0, str(Path(__file__).resolve().parent.parent))
 
 import model
 import solving
 from cube import EFFECTS, LAYERS, PLACES, Effect, Move, brought_home, effect_of, inverse_of, then
 from notation import (EXPANSION, MOST_MOVES, NESTED, NOT_A_MOVE, RENAMED, TOO_LONG, TURNS, UNCLOSED, UNOPENED, ReadFault, allowed, clean,
                       meaning, power_of_word, read, to_faces)
+from runs import runs
 from selftest_numbers import EXAMPLES, number_by_stickers
-from selftest_rows import FAULTS, INPUTS, ROWS, Case
 
 SEED = 20261123
 Sequence = tuple[Move, ...]
@@ -27,13 +31,19 @@ MOVES = [(letters, quarters) for letters in LAYERS for quarters in (1, 2, 3)]
 
 
 def worked_rows() -> None:
-    """Rows of words with their answers."""
-    cases: list[Case] = [(words, b"", output, "", 0) for words, output in ROWS]
-    cases += [(words, b"", output, fault, status) for words, output, fault, status in FAULTS]
-    cases += INPUTS
-    for words, data, output, fault, status in cases:
-        got = model.run(words.split() if isinstance(words, str) else words, data)
-        assert got == (output.encode(), fault.encode(), status), (words, got)
+    """Rows of words with their answers, but those whose words are no text, and inputs that are too long to stand there."""
+    for words, data, status, out, err in runs():
+        with suppress(UnicodeDecodeError):
+            assert model.run([word.decode() for word in words], data) == (out, err, status), words
+    for data, out, err, status in [
+        (b"R U'\n" * 3000, b"U R'\n" * 3000, b"", 0),
+        (b" " * 4096 + b"q\n", b"", b"nissy: line 1, column 4097: not a move\n", 1),
+        (b" " * model.MOST_INPUT, b"\n", b"", 0),
+        (b" " * (model.MOST_INPUT + 1), b"", b"nissy: input longer than 16777216 bytes\n", 3),
+    ]:
+        assert model.run(["invert"], data) == (out, err, status), len(data)
+    assert model.run(["cleanup", "U" * 256]) == (b"\n", b"", 0)
+    assert model.run(["cleanup", "U" * 257]) == (b"", b"nissy: line 1, column 257: more than 256 moves\n", 1)
 
 
 def generator_words() -> None:

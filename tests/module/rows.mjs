@@ -3,6 +3,7 @@
 //     node tests/module/rows.mjs MODULE
 //
 // The last line is `N passed, M failed`, and the status is 1 where M isn't 0.
+import { readFileSync } from "node:fs";
 import { NoWebAssembly, NoWideMemory, Nissy } from "../../web/module/nissy.js";
 import { ended, loaded, moduleBytes as module, same, text, thrown } from "./tally.mjs";
 
@@ -15,18 +16,9 @@ const EXPORTS = ["__heap_base", "memory", ...["run", "build", "solve", "count", 
 
 // what a row shows, the arguments of `run`, and what is wanted: the status, the output, the error text, and whether it was full
 const ROWS = [
-  ["a line in words", [["invert", "R U' F2"]], 0, "F2 U R'\n", "", false],
-  ["a line in words of their own", [["invert", "R", "U'", "F2"]], 0, "F2 U R'\n", "", false],
-  ["lines as input", [["count", "eofb", "20"], "R U F\n\n"], 0, "length 1 solutions 2 nodes 20\nlength 0 solutions 1 nodes 1\n", "", false],
   ["input as bytes", [["unniss"], Uint8Array.of(0x52, 0xe2, 0x80, 0x99)], 0, "R'\n", "", false],
   ["words as bytes", [[Uint8Array.of(0x70, 0x72, 0x69, 0x6e, 0x74), ""]], 0, SOLVED, "", false],
   ["a string is UTF-8", [["unniss"], "U2\u2019 R"], 0, "U2 R\n", "", false],
-  ["a domino reduction", [["solve", "drud-eofb", "5", "R", "U"]], 0, "U' R (2)\nU' R' (2)\n\n", "", false],
-  ["one of two domino reductions", [["count", "dr-eofb", "20"], "R U F2 L D R"], 0, "length 5 solutions 2 nodes 60\n", "", false],
-  ["a fault of a line", [["unniss"], "R\nR (U"], 1, "R\n", "nissy: line 2, column 3: bracket not closed\n", false],
-  ["no command", [["nosuch"]], 2, "", USAGE, false],
-  ["no words", [[]], 2, "", USAGE, false],
-  ["a word that is no text", [["invert", Uint8Array.of(0xff)]], 2, "", USAGE, false],
   ["room for the output", [["solve", "eofb", "7"], "F", 14], 0, "F (1)\nF' (1)\n\n", "", false],
   ["a byte of room too few", [["solve", "eofb", "7"], "F", 13], 3, "F (1)\nF' (1)\n", OUT_OF_ROOM, true],
   ["no room", [["invert", "R"], "", 0], 3, "", OUT_OF_ROOM, true],
@@ -36,8 +28,20 @@ const ROWS = [
   ["words that need more memory than is lent at first", [["invert", " ".repeat(6_000_000) + "R"]], 0, "R'\n", "", false],
   ["the longest line in words, which a line feed ends", [["invert", " ".repeat(16_777_214) + "R"]], 0, "R'\n", "", false],
   ["a byte more in words", [["invert", " ".repeat(16_777_215) + "R"]], 3, "", "nissy: input longer than 16777216 bytes\n", false],
-  ["a search after these", [["count", "drud-eofb", "5", "R U"]], 0, "length 2 solutions 2 nodes 28\n", "", false],
 ];
+
+const SIGNS = (_, code) => (code === "n" ? "\n" : String.fromCharCode(Number.parseInt(code, 8)));
+const bytesOf = (field) => Uint8Array.from(Buffer.from(field.replace(/\\(n|[0-7]{3})/g, SIGNS), "latin1"));
+
+/** The runs that each host is tried with. */
+function tryRuns(nissy) {
+  const lines = readFileSync(new URL("../runs.tsv", import.meta.url), "latin1").split("\n");
+  for (const line of lines.filter((each) => each !== "" && !each.startsWith("#"))) {
+    const [status, words, input, out, err] = line.split("\t");
+    const answer = nissy.run(words === "" ? [] : words.split("|").map(bytesOf), bytesOf(input));
+    same(line, [answer.status, text(answer.out), text(answer.err), answer.full], [Number(status), text(bytesOf(out)), text(bytesOf(err)), false]);
+  }
+}
 
 function tryRows(nissy) {
   for (const [what, given, status, out, err, full] of ROWS) {
@@ -93,6 +97,7 @@ const copied = module.buffer.slice(module.byteOffset, module.byteOffset + module
 same("a module in an ArrayBuffer", text((await Nissy.load(copied)).run(["invert", "R"]).out), "R'\n");
 const { nissy } = await loaded(Nissy);
 tryRows(nissy);
+tryRuns(nissy);
 await tryRefusals(nissy);
 await tryMemory();
 ended();
