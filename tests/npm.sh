@@ -54,6 +54,8 @@ holds "each link of its pages leads to one of them" test -z "$(dead_links "$pack
 block() { sed -n "/^\`\`\`$1\$/,/^\`\`\`\$/p" "$package/README.md" | sed '1d;/^```$/,$d'; } # KIND: the first block of this kind on its page
 example() { block js > "$user/example.mjs" && cmp <(block text) <(in_folder node example.mjs) && rm "$user/example.mjs"; }
 holds "the example of its page prints what the page says" example
+holds "they speak of nothing that only the repository has" refuses grep -nE '\bmake (all|lib|page|dist|test|install|build)|repository|tools/|web/' \
+    "$package"/{README,MANUAL,COOKBOOK}.md
 holds "it names no licence" refuses grep -q '"license"' "$package/package.json"
 
 # imported, and its types

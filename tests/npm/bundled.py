@@ -29,11 +29,15 @@ TRIED = ("chromium", "firefox")
 OF_TESTS = TOP / "tests/npm/bundled"
 
 
+def page_of(package: Path) -> str:
+    """Returns the package's page."""
+    return (package / "README.md").read_text(encoding="utf-8")
+
+
 def by_page(package: Path) -> tuple[dict[str, str], str]:
     """Returns the scripts that the package's page names, and the command that bundles them."""
-    text = (package / "README.md").read_text(encoding="utf-8")
-    scripts = dict(re.findall(r"^```javascript (\S+)\n(.*?)^```$", text, re.M | re.S))
-    return scripts, re.findall(r"^    (esbuild .*)$", text, re.M)[0]
+    scripts = dict(re.findall(r"^```javascript (\S+)\n(.*?)^```$", page_of(package), re.M | re.S))
+    return scripts, re.findall(r"^    (esbuild .*)$", page_of(package), re.M)[0]
 
 
 def site(folder: Path, script: str) -> None:
@@ -55,8 +59,8 @@ def bundle(tally: Tally, package: Path, user: Path) -> dict[str, Path]:
             continue
         ran = subprocess.run(words, cwd=user, capture_output=True, text=True, check=False)
         tally.holds(f"{tool} bundles what the page says: {ran.stderr[-400:]}", ran.returncode == 0)
-        made[tool] = user / folder
-        site(made[tool], "page.js")
+        made[f"by {tool}"] = user / folder
+        site(user / folder, "page.js")
     return made
 
 
@@ -71,6 +75,15 @@ def bundle_without(tally: Tally, package: Path, user: Path) -> list[Path]:
     shutil.copy(package / "nissy.wasm", user / "unmade")
     site(user / "unmade", "unmade.js")
     return [user / "unmade"]
+
+
+def plain(package: Path, user: Path) -> Path:
+    """Makes the folder of the page without a bundler, as the package's page has it."""
+    folder = user / "plain"
+    folder.mkdir()
+    (folder / "node_modules").symlink_to(package.parent)
+    (folder / "index.html").write_text("<!doctype html><title>nissy</title>\n" + re.findall(r"^```html\n(.*?)^```$", page_of(package), re.M | re.S)[0])
+    return folder
 
 
 def elsewhere(user: Path) -> Path:
@@ -91,19 +104,20 @@ def seen(window: Window, address: str) -> object:
 
 @dataclass
 class Trial:
-    """The folders that servers have: those of the bundles, of one without the worker's script, of a page that has none, and of the package."""
+    """The folders that servers have: those whose page shows a solution, by what made them, of a bundle without the worker's script, of a page that
+    takes the package from another server, and of the package."""
 
-    bundles: dict[str, Path]
+    solving: dict[str, Path]
     unmade: list[Path]
     elsewhere: Path
     package: Path
 
     def in_window(self, tally: Tally, browser: str, window: Window) -> None:
         """Opens each page in a window."""
-        for tool, folder in self.bundles.items():
+        for what, folder in self.solving.items():
             with served(folder) as address:
                 window.open(address + "index.html")
-                tally.holds(f"{browser}: the bundle by {tool} has a solution", window.until("return document.title === 'F'"))
+                tally.holds(f"{browser}: the page {what} has a solution", window.until("return document.title === 'F'"))
         for folder in self.unmade:
             with served(folder) as address:
                 missing = f"EngineMissing: the worker's script, or one that it imports, can't be loaded from {address}worker.js"
@@ -119,7 +133,8 @@ def main() -> None:
     package = Path(sys.argv[1]) / "node_modules/nissy"
     with tempfile.TemporaryDirectory(dir=sys.argv[1]) as made:
         user = Path(made)
-        trial = Trial(bundle(tally, package, user), bundle_without(tally, package, user), elsewhere(user), package)
+        solving = {**bundle(tally, package, user), "without a bundler": plain(package, user)}
+        trial = Trial(solving, bundle_without(tally, package, user), elsewhere(user), package)
         for browser in filter(is_here, TRIED):
             with tempfile.TemporaryDirectory(ignore_cleanup_errors=True) as room:
                 window = BROWSERS[browser](room)
