@@ -6,6 +6,8 @@ DESTDIR ?=
 LIBDIR ?= $(PREFIX)/lib
 # where the system's Python looks for modules that are installed below PREFIX
 PYTHONDIR ?= $(shell tools/python-folder "$(PREFIX)")
+# what is installed was built there; `make arm` builds for Linux on ARM in build/aarch64
+BUILD ?= build
 # `make install LIBRARY=no` leaves out what needs a C compiler, binutils and Python 3 to be built.
 LIBRARY ?= yes
 # asked for by `make dist` alone
@@ -22,9 +24,9 @@ SOURCES := HANDLES crates.txt $(shell find crates \( -name out -o -name niss_tes
 # `make install DESTDIR=FOLDER PREFIX=/usr`: the files go below FOLDER, and PREFIX says where they will stand. `make uninstall` takes the
 # same words.
 LIBRARY_FILES := \
-	build/libnissy.a:@lib/libnissy.a \
-	build/$(SONAME):@lib/$(SONAME) \
-	build/libnissy.so:@lib/libnissy.so \
+	$(BUILD)/libnissy.a:@lib/libnissy.a \
+	$(BUILD)/$(SONAME):@lib/$(SONAME) \
+	$(BUILD)/libnissy.so:@lib/libnissy.so \
 	include/nissy.h:include/nissy.h \
 	include/nissy.hpp:include/nissy.hpp \
 	include/nissy.pc:@lib/pkgconfig/nissy.pc \
@@ -34,7 +36,7 @@ LIBRARY_FILES := \
 	docs/EMBEDDING.md:share/doc/nissy/EMBEDDING.md
 LIBRARY_INSTALLED := $(if $(filter no,$(LIBRARY)),,$(LIBRARY_FILES))
 INSTALLED := \
-	build/nissy:bin/nissy \
+	$(BUILD)/nissy:bin/nissy \
 	docs/nissy.1:share/man/man1/nissy.1 \
 	docs/MANUAL.md:share/doc/nissy/MANUAL.md \
 	docs/COOKBOOK.md:share/doc/nissy/COOKBOOK.md \
@@ -52,7 +54,7 @@ EACH_INSTALLED = set -e; for pair in $(INSTALLED); do \
 		esac; \
 		to="$(DESTDIR)$$to"
 
-.PHONY: all lib page check test install uninstall wheel npm deb dist clean bench
+.PHONY: all lib page arm check test install uninstall wheel npm deb dist clean bench
 # what a recipe left in part is no file that a later one takes
 .DELETE_ON_ERROR:
 
@@ -62,15 +64,28 @@ lib: build/libnissy.a
 
 page: build/nissy.html
 
+arm: build/aarch64/nissy $(if $(LIBRARY_INSTALLED),build/aarch64/libnissy.a)
+
 build/nissy: $(SOURCES) tools/program tools/kit.py
 	$(NEEDS_KIT)
 	@echo "Proving and building. The first time this takes ten minutes or more."
 	tools/program build/nissy
 
 # the shared object comes with it, under both of its names
-build/libnissy.a: $(SOURCES) tools/static-library tools/kit.py
+build/libnissy.a: $(SOURCES) tools/static-library tools/targets.py tools/kit.py
 	$(NEEDS_KIT)
 	tools/static-library niss_c build/libnissy.a $(SONAME)
+
+# the same for Linux on ARM, each proved for that target
+OF_ARM := $(SOURCES) tools/targets.py tools/kit.py $(wildcard packaging/aarch64/*.c)
+
+build/aarch64/nissy: $(OF_ARM) tools/cross-program
+	$(NEEDS_KIT)
+	tools/cross-program nissy build/aarch64/nissy aarch64
+
+build/aarch64/libnissy.a: $(OF_ARM) tools/static-library
+	$(NEEDS_KIT)
+	tools/static-library niss_c build/aarch64/libnissy.a $(SONAME) aarch64
 
 build/nissy.wasm: $(SOURCES) tools/web-module tools/kit.py
 	$(NEEDS_KIT)
@@ -87,13 +102,13 @@ test:
 	$(NEEDS_KIT)
 	tests/run
 
-install: build/nissy $(if $(LIBRARY_INSTALLED),build/libnissy.a)
+install: $(BUILD)/nissy $(if $(LIBRARY_INSTALLED),$(BUILD)/libnissy.a)
 	@$(EACH_INSTALLED); \
 		case $$from in \
 			*.so) ln -sf $(SONAME) "$$to" ;; \
 			*.pc) install -D -m 644 "$$from" "$$to"; \
 				sed -i "s|../../include|$$(realpath -ms --relative-to="$(LIBDIR)/pkgconfig" "$(PREFIX)/include")|" "$$to" ;; \
-			build/*[!a]) install -D -m 755 "$$from" "$$to" ;; \
+			$(BUILD)/*[!a]) install -D -m 755 "$$from" "$$to" ;; \
 			*) install -D -m 644 "$$from" "$$to" ;; \
 		esac; \
 		echo "$$to"; \
@@ -117,7 +132,8 @@ npm: build/nissy.wasm
 deb: build/nissy build/libnissy.a
 	tools/deb build
 
-dist: build/nissy $(if $(LIBRARY_INSTALLED),build/libnissy.a) $(if $(shell command -v wasm-opt),build/nissy.html)
+dist: build/nissy $(if $(LIBRARY_INSTALLED),build/libnissy.a) $(if $(shell command -v wasm-opt),build/nissy.html) \
+		$(if $(shell command -v aarch64-linux-gnu-gcc),arm)
 	tools/dist build/dist $(if $(LIBRARY_INSTALLED),,program)
 
 bench: build/nissy

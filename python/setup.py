@@ -13,6 +13,25 @@ except ImportError:
 
 HERE = Path(__file__).resolve().parent
 LIBRARY = "libnissy.so.1"
+# the processors, by the number that a library gives of its own at this place
+MACHINES = {62: "x86_64", 183: "aarch64"}
+MACHINE_AT = 18
+
+
+def library() -> Path:
+    """Returns where the library stands."""
+    for place in (HERE / "nissy" / LIBRARY, HERE.parent / "build" / LIBRARY):
+        if place.is_file():
+            return place
+    raise SystemExit(f"nissy: there is no {LIBRARY}: `make lib` of the repository builds it, or take a wheel that has it")
+
+
+def machine() -> str:
+    """Returns which processor the library is for."""
+    number = int.from_bytes(library().read_bytes()[MACHINE_AT : MACHINE_AT + 2], "little")
+    if number not in MACHINES:
+        raise SystemExit(f"nissy: {LIBRARY} is for no processor that has a wheel")
+    return MACHINES[number]
 
 
 class WithLibrary(build_py):
@@ -21,11 +40,7 @@ class WithLibrary(build_py):
     def run(self) -> None:
         """Copies the modules, and the library beside them."""
         super().run()
-        places = (HERE / "nissy" / LIBRARY, HERE.parent / "build" / LIBRARY)
-        library = next((place for place in places if place.is_file()), None)
-        if library is None:
-            raise SystemExit(f"nissy: there is no {LIBRARY}: `make lib` of the repository builds it, or take a wheel that has it")
-        self.copy_file(str(library), str(Path(self.build_lib) / "nissy" / LIBRARY))
+        self.copy_file(str(library()), str(Path(self.build_lib) / "nissy" / LIBRARY))
 
 
 class OfOneProcessor(Distribution):
@@ -37,11 +52,11 @@ class OfOneProcessor(Distribution):
 
 
 class ForLinux(bdist_wheel):
-    """Packs a wheel for any Python 3 on Linux: the library is linked with the C library 2.14 and needs no newer one."""
+    """Packs a wheel for any Python 3 on Linux: the library is linked with the C library 2.14, on ARM 2.17, and needs no newer one."""
 
     def get_tag(self) -> Tuple[str, str, str]:
         """The platform has two names: a pip of before 20.3 knows the second alone."""
-        return "py3", "none", "manylinux_2_17_x86_64.manylinux2014_x86_64"
+        return "py3", "none", f"manylinux_2_17_{machine()}.manylinux2014_{machine()}"
 
 
 setup(distclass=OfOneProcessor, cmdclass={"build_py": WithLibrary, "bdist_wheel": ForLinux})

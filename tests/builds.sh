@@ -59,7 +59,7 @@ workspace() {
     mkdir -p "$here/tests/wrong-bodies/niss_embed"
     printf '%s\n' 'gate: second_is_eight' 'Returns 8.' 'refused: niss_embed::second' '- first()' '+ first() + 1' \
         > "$here/tests/wrong-bodies/niss_embed/lib.txt"
-    cp -R "$top"/{Makefile,HANDLES,tools} "$here" && cd "$here" || return
+    mkdir "$here/packaging" && cp -R "$top/packaging/aarch64" "$here/packaging" && cp -R "$top"/{Makefile,HANDLES,tools} "$here" && cd "$here" || return
     cat > crates.txt << END
 niss_moves:
 niss_embed: niss_moves
@@ -95,6 +95,18 @@ holds "the library is built after make and the gate" make --no-print-directory l
 cp build/libnissy.a "$room/first.a"
 if missing wasm-opt; then skips "the module, since there is no binaryen"; else
     holds "so is the module" make --no-print-directory build/nissy.wasm
+fi
+if missing aarch64-linux-gnu-gcc || missing qemu-aarch64; then skips "what is for ARM, since gcc-aarch64-linux-gnu or qemu-user isn't installed"; else
+    by_qemu() { qemu-aarch64 -L /usr/aarch64-linux-gnu "$@"; }
+    called_on_arm() {
+        printf 'unsigned char nissy_number(void);\nint main(void) { return nissy_number(); }\n' > "$room/seven.c" &&
+            aarch64-linux-gnu-gcc -o "$room/seven" "$room/seven.c" build/aarch64/libnissy.a || return
+        by_qemu "$room/seven"
+        [ $? -eq 7 ]
+    }
+    holds "so are program and library for ARM" make --no-print-directory arm
+    holds "the program runs there" test "$(by_qemu build/aarch64/nissy)" = 7
+    holds "the library is called there" called_on_arm
 fi
 is_refused() { tools/wrong-bodies --show second_is_eight; }
 holds "a wrong body is refused after these" is_refused

@@ -54,6 +54,8 @@ holds "each link of its pages leads to one of them" test -z "$(dead_links "$pack
 block() { sed -n "/^\`\`\`$1\$/,/^\`\`\`\$/p" "$package/README.md" | sed '1d;/^```$/,$d'; } # KIND: the first block of this kind on its page
 example() { block js > "$user/example.mjs" && cmp <(block text) <(in_folder node example.mjs) && rm "$user/example.mjs"; }
 holds "the example of its page prints what the page says" example
+holds "they speak of nothing that only the repository has" refuses grep -nE '\bmake (all|lib|page|dist|test|install|build)|repository|tools/|web/' \
+    "$package"/{README,MANUAL,COOKBOOK}.md
 holds "it names no licence" refuses grep -q '"license"' "$package/package.json"
 
 # imported, and its types
@@ -62,15 +64,35 @@ answers "its exports" 0 "F2 U R'
 { length: 2, solutions: 4, nodes: 75 }
 [ { moves: \"U' R\", length: 2 }, { moves: \"U' R'\", length: 2 } ]
 true
+EngineMissing: Worker is not defined
+TypeError: what makes the worker is no function
 ERR_PACKAGE_PATH_NOT_EXPORTED
 ERR_PACKAGE_PATH_NOT_EXPORTED\n" '' in_folder node user.mjs
 sed -e 's|"./node.js"|"nissy/node"|' -e 's|"./browser.js"|"nissy/worker"|' -e 's|"./replies.js"|"./node_modules/nissy/replies.js"|' \
     tests/module/types.ts > "$user/user.mts"
 echo 'import { Nissy } from "nissy"; export const wrong = (nissy: Nissy): string => nissy.invert(1);' > "$user/wrong.mts"
-strict=(tsc --strict --noEmit --target es2022 --module nodenext --moduleResolution nodenext)
-holds "tsc reads its types" in_folder "${strict[@]}" user.mts
-is_told() { ! said=$(in_folder "${strict[@]}" wrong.mts) && grep -q "'number' is not assignable to parameter of type 'Text'" <<< "$said"; }
-holds "tsc refuses a wrong call" is_told
+{
+    echo 'import { NissyWorker } from "nissy/worker";'
+    echo 'import "nissy/worker-script";'
+    echo 'import module from "nissy/nissy.wasm";'
+    echo 'export const started = NissyWorker.start(fetch(module), () => new Worker("engine.js"));'
+} > "$user/user2.mts"
+cp "$user/user.mts" "$user/user.ts" && cp "$user/user2.mts" "$user/user2.ts" && cp "$user/wrong.mts" "$user/wrong.ts"
+is_told() { ! said=$(in_folder "${strict[@]}" "$1") && grep -q "'number' is not assignable to parameter of type 'Text'" <<< "$said"; } # FILE
+for resolution in "nodenext nodenext mts" "node16 node16 mts" "es2022 node ts"; do
+    read -r kind way ending <<< "$resolution"
+    strict=(tsc --strict --noEmit --target es2022 --module "$kind" --moduleResolution "$way" --lib "es2022,dom")
+    holds "tsc reads its types by $way" in_folder "${strict[@]}" user.$ending user2.$ending
+    holds "tsc refuses a wrong call by $way" is_told wrong.$ending
+done
+
+# bundled, in a page. Debian's Python has Debian's selenium, whatever other Python comes first
+export SE_OFFLINE=true SE_AVOID_STATS=true
+if missing chromium || missing chromedriver || ! /usr/bin/python3 -c "import selenium" 2> /dev/null; then
+    skips "the package in a page, since chromium, chromedriver or python3-selenium isn't installed"
+else
+    add /usr/bin/python3 tests/npm/bundled.py "$user"
+fi
 
 # its command
 nissy=$user/node_modules/.bin/nissy

@@ -16,6 +16,7 @@ if [ ! -e build/libnissy.a ]; then skips_all "the packages, since there is no li
 copied() {
     mkdir -p "$room/source/build" && cp -R Makefile CHANGELOG.md README.md completions docs include packaging python tools web "$room/source" &&
         cp "$program" "$room/source/build/nissy" && cp build/libnissy.* "$room/source/build" &&
+        if [ -e build/aarch64/nissy ]; then cp -R build/aarch64 "$room/source/build"; fi &&
         if [ -e build/nissy.html ]; then cp build/nissy.html build/nissy.wasm "$room/source/build"; fi
 }
 holds "the files are there" copied
@@ -37,6 +38,9 @@ holds "what is installed" installed
 stands_in() { (cd "$1" && find . ! -type d ! -name README -printf '%m %P\n' | LC_ALL=C sort); }
 holds "is what the archive has" test "$(stands_in "$room/unpacked/$archive")" = "$(stands_in "$room/installed/usr")"
 holds "its README is the one that is kept" cmp "$room/unpacked/$archive/README" docs/archive.txt
+# what nobody has who has a package alone
+of_repository='\bmake (all|lib|page|dist|test|install|build)|repository|(crates|tests|tools|web|bench)/'
+holds "its pages speak of nothing that only the repository has" refuses grep -rnE "$of_repository" "$room/unpacked/$archive"/{README,share}
 holds "the program of the archive runs" test "$("$room/unpacked/$archive/bin/nissy" invert "R U' F2")" = "F2 U R'"
 # what its README says to do as root, with a folder in the place of /usr/local
 by_readme() { # COMMAND: the line that begins so
@@ -58,7 +62,7 @@ cut_archive() { # what the sums say of it
 holds "an archive that was cut is found" cut_archive
 holds "the packages of the program alone are made" tools/dist "$room/alone" program
 holds "with their archive" tar -C "$room/unpacked" -xpf "$room/alone/$archive-program.tar.gz"
-without_library() { sed '/^The library and the Python module/,$d' docs/archive.txt; }
+without_library() { sed '/^The library needs/,$d' docs/archive.txt; }
 holds "its README says nothing of the library" cmp "$room/unpacked/$archive-program/README" <(without_library)
 holds "it has nothing of the library" test "$(stands_in "$room/unpacked/$archive-program")" = \
     "$(stands_in "$room/installed/usr" | grep -vE '(include|lib)/|/EMBEDDING')"
@@ -73,6 +77,8 @@ else
     stands() { find "$room/venv" ! -name '*.pyc' ! -name __pycache__ | sort; }
     before=$(stands)
     holds "the wheel is installed" pip install -q --no-index "$wheel"
+    holds "its page speaks of nothing that only the repository has" refuses grep -nE "$of_repository" \
+        "$room"/venv/lib/python3*/site-packages/nissy-*.dist-info/METADATA
     says() { grep -qxF "$1" "$room"/venv/lib/python3*/site-packages/nissy-*.dist-info/WHEEL; }
     holds "it isn't of Python alone" says "Root-Is-Purelib: false"
     for platform in manylinux_2_17 manylinux2014; do holds "it is for $platform" says "Tag: py3-none-${platform}_x86_64"; done
@@ -84,8 +90,9 @@ else
         holds "and seen where they don't fit" refuses env -C / mypy --strict --cache-dir "$room/mypy" --python-executable "$room/venv/bin/python" "$room/untyped.py"
     fi
     other=${wheel//x86_64/aarch64}
-    holds "a wheel for another processor" cp "$wheel" "$room/${other##*/}"
-    holds "isn't installed" refuses pip install --no-index --force-reinstall "$room/${other##*/}"
+    mkdir "$room/other"
+    if [ -e "$other" ]; then cp "$other" "$room/other"; else cp "$wheel" "$room/other/${other##*/}"; fi
+    holds "a wheel for another processor isn't installed" refuses pip install --no-index --force-reinstall "$room/other/${other##*/}"
     head -c 20000 "$wheel" > "$room/${wheel##*/}"
     holds "a wheel that was cut isn't installed" refuses pip install --no-index --force-reinstall "$room/${wheel##*/}"
     holds "the wheel is taken away" pip uninstall -q -y nissy
@@ -97,7 +104,7 @@ fi
 # the Debian packages, unpacked as they would be installed
 if ! ls "$made"/*.deb > /dev/null 2>&1; then skips "the Debian packages, which weren't made"; else
     root=$room/root
-    unpacks() { for package in "$made"/*.deb; do dpkg-deb -x "$package" "$root" || return; done; }
+    unpacks() { for package in "$made"/*_{amd64,all}.deb; do dpkg-deb -x "$package" "$root" || return; done; }
     mkdir "$root"
     holds "the Debian packages are unpacked" unpacks
     libraries=$root/usr/lib/x86_64-linux-gnu
@@ -113,6 +120,7 @@ if ! ls "$made"/*.deb > /dev/null 2>&1; then skips "the Debian packages, which w
         done
     }
     holds "each link of their pages leads to one of them" test -z "$(dead_pages)"
+    holds "they speak of nothing that only the repository has" refuses grep -rnE "$of_repository" "$root/usr/share/doc" --include='*.md'
     holds "their program runs" test "$("$root/usr/bin/nissy" invert "R U' F2")" = "F2 U R'"
     holds "their library is stripped" refuses grep -q '\.symtab' <(readelf -SW "$libraries/libnissy.so.1")
     holds "their module is found" test "$(cd / && LD_LIBRARY_PATH=$libraries PYTHONPATH=$root/usr/lib/python3/dist-packages \
@@ -130,6 +138,38 @@ if ! ls "$made"/*.deb > /dev/null 2>&1; then skips "the Debian packages, which w
     fi
 fi
 
+# what is for ARM, by an emulator
+by_qemu() { qemu-aarch64 -L /usr/aarch64-linux-gnu "$@"; }
+if [ ! -e build/aarch64/nissy ]; then skips "the packages for ARM, since make arm built nothing"; elif missing qemu-aarch64 || [ ! -e /usr/aarch64-linux-gnu ]; then
+    skips "the packages for ARM, since qemu-user or libc6-arm64-cross isn't installed"
+else
+    arm=nissy-$version-aarch64-linux
+    holds "the archive for ARM is unpacked" tar -C "$room/unpacked" -xpf "$made/$arm.tar.gz"
+    holds "it has the files of the other" test "$(stands_in "$room/unpacked/$arm")" = "$(stands_in "$room/installed/usr")"
+    holds "its README says what it is for" grep -q 'on Linux on 64-bit ARM (aarch64) with glibc: the program with 2.34' "$room/unpacked/$arm/README"
+    holds "and no more of x86-64" refuses grep -q 'x86' "$room/unpacked/$arm/README"
+    holds "its program runs" test "$(by_qemu "$room/unpacked/$arm/bin/nissy" invert "R U' F2")" = "F2 U R'"
+    if [ ! -e "$wheel" ]; then skips "the wheel for ARM, which wasn't made"; else
+        holds "the wheel for ARM has its name" test -e "${wheel//x86_64/aarch64}"
+        holds "and is unpacked" python3 -m zipfile -e "${wheel//x86_64/aarch64}" "$room/wheel"
+        holds "its library is that of ARM" cmp "$room/wheel/nissy/libnissy.so.1" build/aarch64/libnissy.so.1
+        for platform in manylinux_2_17 manylinux2014; do
+            holds "it is for $platform" grep -qxF "Tag: py3-none-${platform}_aarch64" "$room"/wheel/nissy-*.dist-info/WHEEL
+        done
+    fi
+    if ! ls "$made"/*_arm64.deb > /dev/null 2>&1; then skips "the Debian packages for ARM, which weren't made"; else
+        names() { find "$made" -name "*_$1.deb" -printf '%f\n' | sed "s/_$1//" | sort; }
+        holds "each Debian package for a processor is there for ARM" test "$(names arm64)" = "$(names amd64)"
+        of_arm() { for package in "$made"/*_arm64.deb; do dpkg-deb -x "$package" "$room/arm" || return; done; }
+        holds "they are unpacked" of_arm
+        holds "their program runs" test "$(by_qemu "$room/arm/usr/bin/nissy" invert "R U' F2")" = "F2 U R'"
+        holds "their library is stripped" refuses grep -q '\.symtab' <(readelf -SW "$room/arm/usr/lib/aarch64-linux-gnu/libnissy.so.1")
+        needs() { dpkg-deb -f "$made/$1_${version}_arm64.deb" Depends; }
+        holds "the program names the C library that it needs" test "$(needs nissy)" = "libc6 (>= 2.34)"
+        holds "so does the library" test "$(needs libnissy1)" = "libc6 (>= 2.17)"
+    fi
+fi
+
 # what can't be made
 mkdir "$room/few"
 for tool in bash dirname realpath; do ln -s "$(command -v $tool)" "$room/few"; done
@@ -139,7 +179,8 @@ if [ -e build/nissy.html ]; then
     fails_to_pack() { printf '#!/bin/sh\necho "there is no npm here" >&2\nexit %s\n' "$1" > tools/npm-package; } # STATUS
     leaves_out() {
         fails_to_pack 69 && said=$(tools/dist "$room/less" program) &&
-            grep -qx 'left out: the package for npm, since there is no npm here' <<< "$said" && [ "$(wc -l < "$room/less/SHA256SUMS")" -eq 2 ]
+            grep -qx 'left out: the package for npm, since there is no npm here' <<< "$said" &&
+            [ "$(grep -cvE 'linux-program.tar.gz$' "$room/less/SHA256SUMS")" -eq 1 ]
     }
     holds "a package whose tool isn't here is left out, and named" leaves_out
     stops_at() {

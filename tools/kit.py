@@ -125,8 +125,18 @@ def check_words(crate: str, kept: str, functions: list[str]) -> list[str]:
 
 def build_archive(crate: str, archive: str, target: str) -> None:
     """Proves a crate that crates.txt lists as a static library, and compiles it for a target."""
-    words = [f"{kit()}/bin/rattle", "build", *words_on(crate, build_below(crate), kit()), "--jobs", "2", "--crate-type", "staticlib", "--target", target]
-    words += ["--toolchain", f"{kit()}/toolchain", "--backend", "llvm", "-o", archive]
+    build_for(crate, archive, target, "--crate-type", "staticlib")
+
+
+def build_program(crate: str, made: str, target: str) -> None:
+    """Proves a crate that is a program, and compiles it for a target as an object."""
+    build_for(crate, made, target)
+
+
+def build_for(crate: str, made: str, target: str, *kind: str) -> None:
+    """Proves a crate for a target, and compiles it."""
+    words = [f"{kit()}/bin/rattle", "build", *words_on(crate, build_below(crate), kit()), "--jobs", "2", *kind, "--target", target]
+    words += ["--toolchain", f"{kit()}/toolchain", "--backend", "llvm", "-o", made]
     with tempfile.TemporaryDirectory() as kept:
         words += ["--incremental", kept]
         ran = subprocess.run(words, cwd=f"{TOP}/crates/{crate}", stdout=subprocess.PIPE, stderr=subprocess.STDOUT, text=True, check=False)

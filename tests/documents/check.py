@@ -26,7 +26,7 @@ MOST_LINES = 125
 MOST_COLUMNS = 120
 # pages of which each name of code in backquotes must be there, and pages of which each path must
 WITH_NAMES = ("README.md", "docs/ARCHITECTURE.md", "docs/PROMISES.md", "docs/DECISIONS.md")
-WITH_PATHS = ("CONTRIBUTING.md", *WITH_NAMES, "docs/EMBEDDING.md", "bench/README.md", "web/module/README.md")
+WITH_PATHS = ("CONTRIBUTING.md", *WITH_NAMES, "bench/README.md", "web/module/README.md")
 CODE_NAME = r"`([A-Za-z_0-9:]+|[a-z_]*/?(src|specs|proofs)/[A-Za-z_/]+\.(rt|antt))`"
 PATH = re.compile(r"\b(?:crates|tests|tools|docs|bench|completions|include|python|web)/[A-Za-z0-9_./-]+")
 LIST = r"`[^`]+`(?:(?:, | and )`[^`]+`)*"

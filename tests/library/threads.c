@@ -19,11 +19,27 @@ static int is_sanitized(void) {
 #endif
 }
 
-/* What a thread has: the row that it begins with, another one than its neighbours, and tables that it builds itself. */
+/* The least stack that the system gives a thread, if that is more: on aarch64 it is 128 KiB. */
+static size_t given(void) {
+    long least = sysconf(_SC_THREAD_STACK_MIN);
+    return least > STACK ? (size_t)least : STACK;
+}
+
+/* What a thread has: what it does, the row that it begins with, another one than its neighbours, and tables that it builds itself. */
 typedef struct part {
+    void *(*work)(void *);
     int first;
     nissy_tables own;
 } part;
+
+/* Does a thread's work on what is left of its stack when what is beyond STACK was taken. */
+static void *on_little(void *of) {
+    const part *part = of;
+    volatile uint8_t beyond[1 + given() - STACK];
+    beyond[0] = 0;
+    void *wrong = part->work(of);
+    return beyond[0] ? of : wrong;
+}
 
 /* How many answers of a thread were other ones. */
 static void *call_all(void *of) {
@@ -64,8 +80,9 @@ static int all_threads(void *(*work)(void *), const pthread_attr_t *with) {
     static part parts[THREADS];
     pthread_t threads[THREADS];
     for (int at = 0; at < THREADS; at++) {
+        parts[at].work = work;
         parts[at].first = at * 3;
-        if (pthread_create(&threads[at], with, work, &parts[at])) return 0;
+        if (pthread_create(&threads[at], with, on_little, &parts[at])) return 0;
     }
     for (int at = 0; at < THREADS; at++) {
         void *wrong;
@@ -79,7 +96,7 @@ int main(int count, char **words) {
     pthread_attr_t small;
     if (count > 1) run_rounds = atoi(words[1]);
     if (count > 2) search_rounds = atoi(words[2]);
-    if (pthread_attr_init(&small) || (!is_sanitized() && pthread_attr_setstacksize(&small, STACK))) return 2;
+    if (pthread_attr_init(&small) || (!is_sanitized() && pthread_attr_setstacksize(&small, given()))) return 2;
     for (size_t at = 0; at < SEARCH_COUNT; at++) shared[at] = built(SEARCHES[at].step);
     if (!all_threads(call_all, &small) || !all_threads(search_all, &small)) return 2;
     return ended();

@@ -46,6 +46,6 @@ export class NissyWorker extends WorkerCalls {
    * @returns {Promise<NissyWorker>}
    */
   static async start(source = besideThis()) {
-    return super.start(source, newThread);
+    return super.startBy(source, newThread);
   }
 }

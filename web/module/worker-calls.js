@@ -41,15 +41,17 @@ import { compiled } from "./source.js";
 /**
  * What starts a worker of a browser.
  * @param {() => Worker} made
+ * @param {() => string} [place] where its script is looked for
  * @returns {NewWorker}
  */
-export function listenedTo(made) {
+export function listenedTo(made, place) {
   return (took, failed) => {
     const worker = made();
     worker.addEventListener("message", ({ data }) => took(data));
     worker.addEventListener("error", (event) => {
       event.preventDefault();
-      failed(event.message || "the engine could not be started");
+      // browsers have no message for a script that can't be had
+      failed(event.message || `the worker's script, or one that it imports, can't be loaded${place ? ` from ${place()}` : ""}`);
     });
     return worker;
   };
@@ -96,7 +98,7 @@ export class WorkerCalls {
    * @param {NewWorker} newWorker
    * @returns {Promise<WorkerCalls>}
    */
-  static async start(source, newWorker) {
+  static async startBy(source, newWorker) {
     const calls = new this(await compiled(source), newWorker);
     // one that isn't answered means that the worker can't be started
     await calls.steps();
