@@ -52,7 +52,7 @@ EACH_INSTALLED = set -e; for pair in $(INSTALLED); do \
 		esac; \
 		to="$(DESTDIR)$$to"
 
-.PHONY: all lib page c check test install uninstall wheel npm deb dist clean bench
+.PHONY: all lib page c check test install uninstall wheel npm deb sdist windows dist clean bench
 # what a recipe left in part is no file that a later one takes
 .DELETE_ON_ERROR:
 
@@ -126,7 +126,16 @@ npm: build/nissy.wasm
 deb: build/nissy build/libnissy.a
 	tools/deb build
 
-dist: build/nissy $(if $(LIBRARY_INSTALLED),build/libnissy.a) $(if $(shell command -v wasm-opt),build/nissy.html)
+c: build/nissy.c
+	tools/c-archive build
+
+sdist: build/nissy.c
+	tools/sdist build
+
+windows: build/nissy.c
+	tools/windows build
+
+dist: build/nissy build/nissy.c $(if $(LIBRARY_INSTALLED),build/libnissy.a) $(if $(shell command -v wasm-opt),build/nissy.html)
 	tools/dist build/dist $(if $(LIBRARY_INSTALLED),,program)
 
 bench: build/nissy

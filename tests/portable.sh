@@ -14,7 +14,7 @@ cd "$(dirname "$0")/.." || exit 2
 folder=$(realpath -m -- "${2:-build}")
 if missing python3 || missing gcc; then skips_all "the engine in C, since there is no python3 or no gcc"; fi
 
-typed tests/portable/*.py
+typed tests/portable/*.py python/source/backend.py
 if missing wat2wasm || missing node; then skips "the translator by itself, since there is no wat2wasm (wabt) or no node"; else
     add python3 tests/portable/rows.py 1 60
     add python3 tests/portable/refused.py

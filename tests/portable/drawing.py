@@ -2,6 +2,7 @@
 no address: each is made of locals that hold one, and of a few lowest bits of a number."""
 
 import random
+from collections.abc import Callable
 
 from instructions import COMPARISONS, LOADS, STORES, Tried, on_memory
 
@@ -29,7 +30,7 @@ class Drawing:
         body = " ".join(self.statement(0) for _ in range(self.draw.randrange(2, 6)))
         return on_memory(name, f"{LOCALS} {begin} {body} {self.value('i64', 1)} (global.set 0 (i64.add (local.get {FRAME}) {size}))")
 
-    def number(self, kind: str) -> str:
+    def number(self, kind: str, _: int) -> str:
         """A literal."""
         bits = 32 if kind == "i32" else 64
         number = self.draw.choice(EDGES) if self.draw.random() < 0.6 else self.draw.getrandbits(bits) >> self.draw.randrange(bits)
@@ -42,15 +43,14 @@ class Drawing:
 
     def value(self, kind: str, depth: int) -> str:
         """An expression of a kind."""
-        forms = [self.number, self.read_local]
+        forms: list[Callable[[str, int], str]] = [self.number, self.read_local]
         if depth < MOST_DEPTH:
             forms += [self.plain, self.plain, self.divided, self.chosen, self.loaded, self.teed, self.by_blocks, self.converted, self.of_call]
         if kind == "i32" and depth < MOST_DEPTH:
             forms += [self.compared, self.compared]
-        form = self.draw.choice(forms)
-        return form(kind) if form in (self.number, self.read_local) else form(kind, depth + 1)  # type: ignore[call-arg]
+        return self.draw.choice(forms)(kind, depth + 1)
 
-    def read_local(self, kind: str) -> str:
+    def read_local(self, kind: str, _: int) -> str:
         """A local."""
         return f"(local.get {self.draw.choice(NUMBERS[kind])})"
 
