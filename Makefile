@@ -89,7 +89,7 @@ build/nissy.c: build/niss_page.a include/nissy.h tools/c-file $(wildcard tools/w
 build/nissy.html: build/nissy.wasm tools/page $(wildcard web/page/* web/module/*.js)
 	tools/page web/page build/nissy.wasm build/nissy.html
 
-check: build/nissy $(if $(shell command -v wasm-opt),build/nissy.html) $(if $(filter no,$(LIBRARY)),,$(if $(shell command -v cc),build/libnissy.a))
+check: build/nissy $(if $(shell command -v wasm-opt),build/nissy.html build/nissy.c) $(if $(filter no,$(LIBRARY)),,$(if $(shell command -v cc),build/libnissy.a))
 	tests/run built
 
 test:

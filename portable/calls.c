@@ -11,7 +11,7 @@ uint32_t nissy_version(void) { return NISSY_VERSION_NUMBER; }
 /* --- memory that the engine is lent, and tables in it --- */
 
 /* The engine takes a room as two numbers: where its memory is, and how much. */
-static void put_room(unsigned char *room, const void *block, size_t size) {
+static void put_room(unsigned char *room, void *block, size_t size) {
     store8(address(room), address(block));
     store8(address(room) + 8, size);
 }

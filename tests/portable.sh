@@ -18,6 +18,7 @@ typed tests/portable/*.py python/source/backend.py
 if missing wat2wasm || missing node; then skips "the translator by itself, since there is no wat2wasm (wabt) or no node"; else
     add python3 tests/portable/rows.py 1 60
     add python3 tests/portable/refused.py
+    add python3 tests/portable/calls.py
     add python3 tests/portable/wrong.py
 fi
 if [ ! -e "$folder/nissy.c" ]; then skips "the rest, since there is no nissy.c that make c made" && ended; exit; fi
@@ -104,6 +105,13 @@ for trial in "lines 7" "runs 7" "tables 7" "beside_run 2 1" "fuzz" "threads 0 20
 done
 holds "threads.c is linked with it for races" linked raced threads -fsanitize=thread
 add "$room/raced.threads" 0 20
+in_c_plus_plus() { # the headers in C++ over it
+    g++ -std=c++17 -O1 -g -pthread -Wl,--wrap=malloc,--wrap=realloc,--wrap=free -Iinclude -Itests/library -o "$room/plus" tests/library/nissy.cpp "$room/gcc.o"
+}
+if missing g++; then skips "nissy.hpp over nissy.c, since there is no g++"; else
+    holds "nissy.cpp is linked with it" in_c_plus_plus
+    add "$room/plus"
+fi
 holds "handlers.c is linked with it" linked gcc handlers
 add "$room/gcc.handlers"
 ended

@@ -38,9 +38,15 @@ class Header:
             if "*" not in body:
                 self.structs[name] = self.fields(body)
         self.calls = {name: (result, [" ".join(it.split()) for it in words.split(",")]) for result, name, words in DECLARED.findall(text)}
+        unread = set(re.findall(r"\b(nissy_\w+)\(", text)) - set(self.calls)
+        if unread:
+            raise Refused(f"calls that aren't declared in one form with the others: {', '.join(sorted(unread))}")
 
     def fields(self, body: str) -> list[Field]:
         """Returns the fields of a struct, each at the next place that its size divides, as both the module and C on 64 bits have them."""
+        unread = FIELD.sub("", body).strip()
+        if unread:
+            raise Refused(f"a field of another form: {unread}")
         found: list[Field] = []
         at = 0
         for kind, name, count in FIELD.findall(body):

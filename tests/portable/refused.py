@@ -111,6 +111,10 @@ def main() -> None:
         tally.equal("one with other parameters", why_uncalled(HEADER, room, "(param i64 i64)"), unlike)
         more = HEADER + "uint8_t nissy_two(void);\n"
         tally.equal("one that the module hasn't", why_uncalled(more, room, right), "calls of the header that the module hasn't: nissy_two")
+        pointer = HEADER + "const char *nissy_text(void);\n"
+        tally.equal("one that returns a pointer", why_uncalled(pointer, room, right), "calls that aren't declared in one form with the others: nissy_text")
+        two = HEADER.replace("uint8_t status;", "uint8_t status, fault;")
+        tally.equal("two fields in one", why_uncalled(two, room, right), "a field of another form: uint8_t status, fault;")
         hand = HEADER.replace("const uint8_t *line", "struct other *line")
         why = "nissy_one takes struct other *line: such a call is written by hand, in portable/calls.c"
         tally.equal("one that takes something else", why_uncalled(hand, room, right), why)
