@@ -219,8 +219,10 @@ answers "where there is no debhelper" 69 '' 'there is no dpkg-buildpackage here:
 if [ -e build/nissy.html ]; then
     fails_to_pack() { printf '#!/bin/sh\necho "there is no npm here" >&2\nexit %s\n' "$1" > tools/npm-package; } # STATUS
     leaves_out() {
-        fails_to_pack 69 && said=$(tools/dist "$room/less" program) &&
-            grep -qx 'left out: the package for npm, since there is no npm here' <<< "$said" && [ "$(wc -l < "$room/less/SHA256SUMS")" -eq 2 ]
+        rm -f build/nissy.c && fails_to_pack 69 && said=$(tools/dist "$room/less" program) &&
+            grep -qx 'left out: the package for npm, since there is no npm here' <<< "$said" &&
+            grep -qx 'left out: what is made of the engine in C, since there is no build/nissy.c' <<< "$said" &&
+            [ "$(wc -l < "$room/less/SHA256SUMS")" -eq 2 ]
     }
     holds "a package whose tool isn't here is left out, and named" leaves_out
     stops_at() {
