@@ -104,12 +104,27 @@ class Header:
         """Returns how the module takes a parameter: its kind, and the expression for it."""
         if word == "const nissy_tables *tables":
             return I64, "held_of(tables)"
-        if of := re.fullmatch(r"(?:const )?uint8_t \*(\w+)", word):
-            return I64, f"address({of[1]})"
+        of = re.fullmatch(r"(?:const )?(\w+) \*(\w+)", word)
+        if of and (of[1] == "uint8_t" or word in self.filled(name)):
+            return I64, f"address({of[2]})"
         kind, _, parameter = word.partition(" ")
         if kind not in SIZES:
             raise Refused(f"{name} takes {word}: such a call is written by hand, in portable/calls.c")
         return WIDTHS[SIZES[kind]], parameter
+
+    def filled(self, name: str) -> dict[str, tuple[str, str]]:
+        """Returns the parameters of a call that are arrays of structs, each with its type and name: the call fills as many as the field `lines` of what it
+        returns says."""
+        result, words = self.calls[name]
+        if not any(field.name == "lines" for field in self.structs.get(result, [])):
+            return {}
+        of = {word: re.fullmatch(r"(\w+) \*(\w+)", word) for word in words}
+        return {word: (it[1], it[2]) for word, it in of.items() if it and it[1] in self.structs}
+
+    def read_again(self, kind: str, name: str) -> list[str]:
+        """Returns the statements that give an array that the module filled the form that it has in C."""
+        same = f'    _Static_assert(sizeof({kind}) == {self.size(kind)}, "{kind} has the size that it has in the engine");'
+        return [same, f"    for (uint64_t at = 0; at < said.lines; at += 1) {name}[at] = {kind}_at(address({name} + at));"]
 
     def call(self, name: str, of: FunctionType) -> list[str]:
         """Returns a call over the module's function, which has this type."""
@@ -125,15 +140,21 @@ class Header:
         if not is_struct:
             return [*lines, f"    return ({result}){said};", "}", ""]
         lines.append(f"    _Alignas({ALIGNMENT}) unsigned char answer[{self.size(result)}];")
-        return [*lines, f"    {said};", f"    return {result}_at(address(answer));", "}", ""]
+        again = [line for kind, parameter in self.filled(name).values() for line in self.read_again(kind, parameter)]
+        if not again:
+            return [*lines, f"    {said};", f"    return {result}_at(address(answer));", "}", ""]
+        return [*lines, f"    {said};", f"    {result} said = {result}_at(address(answer));", *again, "    return said;", "}", ""]
 
 
 def calls(header: str, by_hand: str, types: dict[str, FunctionType]) -> str:
-    """Returns the calls of a header over the functions of a module, with those that are written by hand."""
+    """Returns the calls of a header over the functions of a module, with those that are written by hand; these may call the functions that read structs,
+    which come first."""
     of, defined = Header(header), set(DEFINED.findall(by_hand))
     made = [name for name in of.calls if name not in defined]
     missing = [name for name in made if name not in types]
     if missing:
         raise Refused(f"calls of the header that the module hasn't: {', '.join(missing)}")
-    readers = of.readers([of.calls[name][0] for name in made if of.calls[name][0] in of.structs])
-    return "\n".join([by_hand, *readers, *(line for name in made for line in of.call(name, types[name]))]).rstrip("\n") + "\n"
+    returned = [of.calls[name][0] for name in made] + [name for name in of.structs if f"{name}_at(" in by_hand]
+    returned += [kind for name in made for kind, _ in of.filled(name).values()]
+    readers = of.readers([name for name in returned if name in of.structs])
+    return "\n".join(["/* --- answers, where the engine wrote them --- */", "", *readers, by_hand, *(line for name in made for line in of.call(name, types[name]))]).rstrip("\n") + "\n"

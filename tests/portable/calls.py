@@ -1,6 +1,6 @@
 #!/usr/bin/env python3
-"""Tries how tools/c_calls.py reads what a module's function returns: a struct with numbers of every width, an array of structs and a mark, at places that
-fill every gap. The module writes one byte after another; what C reads of them is reckoned here. By each compiler that is here.
+"""Tries how tools/c_calls.py reads what a module's function returns or fills: a struct with numbers of every width, an array of structs and a mark, at
+places that fill every gap, and an array that the caller has. The module writes one byte after another; what C reads of them is reckoned here. By each compiler that is here.
 
     tests/portable/calls.py
 
@@ -42,6 +42,11 @@ typedef struct nissy_whole {
 nissy_whole nissy_make(const uint8_t *line, size_t length, uint8_t first);
 uint32_t nissy_sum(uint64_t one,
                    uint16_t other);
+typedef struct nissy_filled {
+    uint8_t status;
+    uint64_t lines;
+} nissy_filled;
+nissy_filled nissy_fill(nissy_part *parts, size_t room);
 """
 # one byte after another from the first on, but a mark that isn't set, and at the end the line's length and its second byte
 MODULE = """(module (memory i64 1) (global (mut i64) (i64.const @BEGIN)) (data (i64.const @BEGIN) "x")
@@ -50,6 +55,8 @@ MODULE = """(module (memory i64 1) (global (mut i64) (i64.const @BEGIN)) (data (
     (local.set 4 (i64.add (local.get 4) (i64.const 1))) (br_if 0 (i64.lt_u (local.get 4) (i64.const 48))))
   (i32.store8 offset=33 (local.get 0) (i32.const 0))
   (i64.store offset=40 (local.get 0) (i64.add (local.get 2) (i64.load8_u offset=1 (local.get 1)))))
+(func (export "nissy_fill") (param i64 i64 i64)
+  (i64.store offset=8 (local.get 0) (i64.const 2)) (i64.store offset=0 (local.get 1) (i64.const 0x0807060504030201)))
 (func (export "nissy_sum") (param i64 i32) (result i32) (i32.add (i32.wrap_i64 (local.get 0)) (local.get 1))))"""
 SHOWN = "eight:llx parts[0].a:x parts[0].b:x parts[1].a:x parts[1].b:x parts[2].a:x parts[2].b:x four:x mark:x other:x size:x".split()
 HAND = """/* --- by hand --- */
@@ -69,7 +76,9 @@ def write(room: Path) -> None:
     made = calls(HEADER, HAND, {name: modules[0].type_of(index) for index, name in program.exports.items()})
     shows = "".join(f'    printf(" %{it.split(":")[1]}", {"(unsigned long long)" if "ll" in it else "(unsigned)"}it.{it.split(":")[0]});\n' for it in SHOWN)
     main = f"int main(void) {{\n    nissy_whole it = nissy_make((const uint8_t *)\"ab\", 2, 9);\n    printf(\"%x\", (unsigned)it.one);\n{shows}"
-    main += '    printf(" %x\\n", (unsigned)nissy_sum(0x100000005, 7));\n    return 0;\n}\n'
+    main += '    printf(" %x", (unsigned)nissy_sum(0x100000005, 7));\n    nissy_part parts[3] = {{0, 0}, {0, 0}, {77, 78}};\n'
+    main += '    nissy_filled made = nissy_fill(parts, 3);\n    printf(" %x", (unsigned)made.lines);\n'
+    main += '    for (int at = 0; at < 3; at += 1) printf(" %x %x", (unsigned)parts[at].a, (unsigned)parts[at].b);\n    puts("");\n    return 0;\n}\n'
     (room / "nissy.h").write_text(HEADER)
     includes = '#include "nissy.h"\n#include <stdio.h>\n#include <stdlib.h>\n#include <string.h>\n'
     (room / "it.c").write_text(includes + program.text(made) + main)
@@ -81,7 +90,8 @@ def wanted() -> str:
     places = [(0, 1), (8, 8), (16, 2), (18, 1), (20, 2), (22, 1), (24, 2), (26, 1), (28, 4)]
     numbers = [int.from_bytes(bytes(data[at : at + size]), "little") for at, size in places]
     # two marks, of which the module clears the other one
-    return " ".join(f"{number:x}" for number in [*numbers, 1, 0, 2 + ord("b"), 12]) + "\n"
+    filled = [2, 0x0201, 3, 0x0605, 7, 77, 78]
+    return " ".join(f"{number:x}" for number in [*numbers, 1, 0, 2 + ord("b"), 12, *filled]) + "\n"
 
 
 def main() -> None:
