@@ -30,6 +30,7 @@ REWRITINGS = ("invert", "unniss", "cleanup", "print")
 FAULTS = ["R U\nR (U\nF\n", "(R (U))\n", "R)\n", "Q\n", "R U '2\n", "R " * 257 + "\n", "R'''\n", "U\0R\n", "\n\nR\xff\n", "R U \u2019\n", "R2'' U\n",
           "R\r\nU\r\n", "R\x1aU\n", "\x1a", "U\r"]
 MOST_INPUT = 16777216
+MANY = 20
 WORDS: list[list[str]] = [["steps"], ["scramble", "1", "2", "25", "100"], ["scramble", "18446744073709551615", "0", "256", "20"], ["scramble", "1", "2", "0", "3"],
          ["scramble", "1", "2", "25", "0"], ["scramble", "1", "2", "257", "1"], ["scramble"], [], ["help"], ["solve"], ["solve", "eofb"],
          ["solve", "eofb", "21"], ["solve", "eofb", "x"], ["near", "eofb", "3"], ["near", "eofb", "3", "21"], ["count", "eofbx", "3"], ["solve", "", "3"],
@@ -85,8 +86,8 @@ class Drawing:
         """Runs of every kind."""
         found = [run for command in REWRITINGS for run in self.rewritings(command, count)]
         found += [run for step in STEPS for run in self.searches(step, max(2, count // 10))]
-        # the longest input, and one byte more; on 32 bits, too, a length has room for them
-        found += [(["invert"], b" " * length) for length in (MOST_INPUT, MOST_INPUT + 1)]
+        # the longest input, and one byte more; on 32 bits, too, a length has room for them. With few lines an emulator is tried, which would be slow.
+        found += [(["invert"], b" " * length) for length in (MOST_INPUT, MOST_INPUT + 1) if count >= MANY]
         return found + [(words, b"") for words in WORDS]
 
 
