@@ -106,7 +106,7 @@ done
 holds "threads.c is linked with it for races" linked raced threads -fsanitize=thread
 add "$room/raced.threads" 0 20
 in_c_plus_plus() { # the headers in C++ over it
-    g++ -std=c++17 -O1 -g -pthread -Wl,--wrap=malloc,--wrap=realloc,--wrap=free -Iinclude -Itests/library -o "$room/plus" tests/library/nissy.cpp "$room/gcc.o"
+    g++ -std=c++17 -O1 -g -DNISSY_IN_C -pthread -Wl,--wrap=malloc,--wrap=realloc,--wrap=free -Iinclude -Itests/library -o "$room/plus" tests/library/nissy.cpp "$room/gcc.o"
 }
 if missing g++; then skips "nissy.hpp over nissy.c, since there is no g++"; else
     holds "nissy.cpp is linked with it" in_c_plus_plus
