@@ -53,7 +53,7 @@ each "for Windows" windows x86_64-w64-mingw32-gcc "${strict[@]}"
 each "for 32 bits" i686 i686-linux-gnu-gcc "${strict[@]}" -static
 each "for ARM" aarch64 aarch64-linux-gnu-gcc "${strict[@]}" -static
 each "for s390x, of the other byte order" s390x s390x-linux-gnu-gcc "${strict[@]}" -static
-sanitized=(-std=c11 -O1 -g -fsanitize=address,undefined -fno-sanitize-recover=all)
+sanitized=(-std=c11 -O1 -g "-fsanitize=address,undefined" -fno-sanitize-recover=all)
 each "with the sanitizers" sanitized gcc "${sanitized[@]}"
 each "with the sanitizer for threads" raced gcc -std=c11 -O1 -g -fsanitize=thread
 wait
@@ -94,7 +94,7 @@ fi
 # the library's tests over the file, in place of the library
 linked() { # NAME TEST WORD..: the test of this name with the file as it was compiled
     local wrapped=()
-    [ "$2" = fuzz ] && wrapped=(-Wl,--wrap=malloc,--wrap=realloc,--wrap=free)
+    [ "$2" = fuzz ] && wrapped=("-Wl,--wrap=malloc,--wrap=realloc,--wrap=free")
     gcc -std=c11 -O1 -g "${@:3}" -pthread "${wrapped[@]}" -Iinclude -Itests/library -o "$room/$1.$2" "tests/library/$2.c" "$room/$1.o"
 }
 for trial in "lines 7" "runs 7" "tables 7" "beside_run 2 1" "fuzz" "threads 0 20"; do
