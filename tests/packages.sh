@@ -165,7 +165,8 @@ if [ ! -e "$zip" ]; then skips "what is for Windows, which wasn't made"; else
         export WINEPREFIX=$room/wine WINEDEBUG=-all
         mkdir -p "$WINEPREFIX"
         "$server" -p60 && "$wine" "$windows/nissy.exe" steps > /dev/null 2>&1
-        answers "the program for Windows" 0 "F2 U R'\n" '' "$wine" "$windows/nissy.exe" invert "R U' F2"
+        # what wine says of itself comes beside it
+        holds "the program for Windows" test "$("$wine" "$windows/nissy.exe" invert "R U' F2" 2> /dev/null)" = "F2 U R'"
         calls_library() { # a program that finds the library beside it
             write_caller "$room/one.c" && (cd "$windows" && x86_64-w64-mingw32-gcc "$room/one.c" -I. -L. -lnissy -o one.exe && "$wine" ./one.exe)
             [ $? -eq 4 ]
