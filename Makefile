@@ -1,5 +1,5 @@
 # `make` proves the crates below the program and builds it, `make lib` does so with the library for C and Python, `make page` makes the
-# page for a browser, `make check` tries what is built, `make test` runs the gate and then that.
+# page for a browser, `make c` the engine as one file in C, `make check` tries what is built, `make test` runs the gate and then that.
 PREFIX ?= /usr/local
 DESTDIR ?=
 # where libraries stand; a distribution of several processors has a folder for each
@@ -54,7 +54,7 @@ EACH_INSTALLED = set -e; for pair in $(INSTALLED); do \
 		esac; \
 		to="$(DESTDIR)$$to"
 
-.PHONY: all lib page arm check test install uninstall wheel npm deb dist clean bench
+.PHONY: all lib page c arm check test install uninstall wheel npm deb sdist windows dist clean bench
 # what a recipe left in part is no file that a later one takes
 .DELETE_ON_ERROR:
 
@@ -87,15 +87,22 @@ build/aarch64/libnissy.a: $(OF_ARM) tools/static-library
 	$(NEEDS_KIT)
 	tools/static-library niss_c build/aarch64/libnissy.a $(SONAME) aarch64
 
-build/nissy.wasm: $(SOURCES) tools/web-module tools/kit.py
+# the engine for pages, of which both the module and the C file are made
+build/niss_page.a: $(SOURCES) tools/page-archive tools/kit.py
 	$(NEEDS_KIT)
-	tools/web-module build/nissy.wasm
+	tools/page-archive build/niss_page.a
+
+build/nissy.wasm: build/niss_page.a tools/web-module
+	tools/web-module build/niss_page.a build/nissy.wasm
+
+build/nissy.c: build/niss_page.a include/nissy.h tools/c-file $(wildcard tools/wasm_*.py) tools/c_calls.py $(wildcard portable/*.[ch])
+	tools/c-file build/niss_page.a build/nissy.c
 
 # one file, with the engine's module in it
 build/nissy.html: build/nissy.wasm tools/page $(wildcard web/page/* web/module/*.js)
 	tools/page web/page build/nissy.wasm build/nissy.html
 
-check: build/nissy $(if $(shell command -v wasm-opt),build/nissy.html) $(if $(filter no,$(LIBRARY)),,$(if $(shell command -v cc),build/libnissy.a))
+check: build/nissy $(if $(shell command -v wasm-opt),build/nissy.html build/nissy.c) $(if $(filter no,$(LIBRARY)),,$(if $(shell command -v cc),build/libnissy.a))
 	tests/run built
 
 test:
@@ -132,7 +139,10 @@ npm: build/nissy.wasm
 deb: build/nissy build/libnissy.a
 	tools/deb build
 
-dist: build/nissy $(if $(LIBRARY_INSTALLED),build/libnissy.a) $(if $(shell command -v wasm-opt),build/nissy.html) \
+c: build/nissy.c
+	tools/c-archive build
+
+sdist: build/nissy build/nissy.c $(if $(LIBRARY_INSTALLED),build/libnissy.a) $(if $(shell command -v wasm-opt),build/nissy.html) \
 		$(if $(shell command -v aarch64-linux-gnu-gcc),arm)
 	tools/dist build/dist $(if $(LIBRARY_INSTALLED),,program)
 

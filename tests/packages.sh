@@ -9,15 +9,16 @@ set -u
 . "$(dirname "$0")/shared"
 program=$(program_of "$@") || exit 2
 cd "$(dirname "$0")/.." || exit 2
-version=$(tools/version)
+top=$PWD version=$(tools/version)
 if [ ! -e build/libnissy.a ]; then skips_all "the packages, since there is no library that make lib built"; fi
 
 # what a user's own make would do, in a copy in which nothing is proved
 copied() {
-    mkdir -p "$room/source/build" && cp -R Makefile CHANGELOG.md README.md completions docs include packaging python tools web "$room/source" &&
+    mkdir -p "$room/source/build" && cp -R Makefile CHANGELOG.md README.md completions docs include packaging portable python tools web "$room/source" &&
         cp "$program" "$room/source/build/nissy" && cp build/libnissy.* "$room/source/build" &&
         if [ -e build/aarch64/nissy ]; then cp -R build/aarch64 "$room/source/build"; fi &&
-        if [ -e build/nissy.html ]; then cp build/nissy.html build/nissy.wasm "$room/source/build"; fi
+        if [ -e build/nissy.html ]; then cp build/nissy.html build/nissy.wasm "$room/source/build"; fi &&
+        if [ -e build/nissy.c ]; then cp build/nissy.c "$room/source/build"; fi
 }
 holds "the files are there" copied
 cd "$room/source" || exit 2
@@ -101,6 +102,87 @@ else
     holds "a build without the library says what makes it" needs_library
 fi
 
+# the engine in C, by the words of its README, and without the kit on the PATH
+release=$made/nissy-$version-c.tar.gz
+by_system() { env -i PATH=/usr/bin:/bin HOME="$room" LANG=C.UTF-8 "$@"; }
+if [ ! -e "$release" ]; then skips "the archive in C, which wasn't made"; elif missing cc; then skips "the archive in C, since there is no C compiler"; else
+    holds "the archive in C is unpacked" tar -C "$room/unpacked" -xpf "$release"
+    cd "$room/unpacked/nissy-$version-c" || exit 2
+    mapfile -t commands < <(sed -n 's/^    \(cc .* -o nissy\|\.\/nissy .*\)$/\1/p' README.md)
+    by_its_readme() { [ "${#commands[@]}" -eq 2 ] && by_system bash -c "${commands[0]}" && [ "$(by_system bash -c "${commands[1]}")" = "F2 U R'" ]; }
+    holds "its program is built and runs by its README" by_its_readme
+    holds "each link of its pages leads to one of them" test -z "$(dead_links .)"
+    holds "its header is the library's" cmp nissy.h "$room/source/include/nissy.h"
+    if missing cmake; then skips "CMake isn't installed"; else
+        by_cmake() {
+            by_system cmake -S . -B built -DCMAKE_BUILD_TYPE=Release -DCMAKE_INSTALL_PREFIX="$room/cmade" -DCMAKE_INSTALL_LIBDIR=lib "$@" &&
+                by_system cmake --build built && by_system cmake --install built
+        }
+        uses_it() { # as another project finds it
+            mkdir -p "$room/other" && write_caller "$room/other/one.c" && printf '%s\n' 'cmake_minimum_required(VERSION 3.13)' 'project(other C)' \
+                'find_package(nissy REQUIRED)' 'add_executable(one one.c)' 'target_link_libraries(one nissy::nissy)' > "$room/other/CMakeLists.txt" &&
+                by_system cmake -S "$room/other" -B "$room/other/built" -DCMAKE_PREFIX_PATH="$room/cmade" && by_system cmake --build "$room/other/built" &&
+                { "$room/other/built/one"; [ $? -eq 4 ]; }
+        }
+        holds "CMake builds and installs it" by_cmake -DCMAKE_C_FLAGS=-O1
+        holds "its program runs from there" test "$("$room/cmade/bin/nissy" invert "R U' F2")" = "F2 U R'"
+        holds "another project finds its library" uses_it
+    fi
+    cd "$room/source" || exit 2
+    head -c 60000 "$release" > "$room/cut/${release##*/}"
+    holds "one that was cut isn't unpacked" refuses tar -C "$room/cut" -xzf "$room/cut/${release##*/}"
+    needs_file() { mv build/nissy.c "$room/kept.c" && ! said=$("tools/$1" "$room" 2>&1) && mv "$room/kept.c" build/nissy.c && grep -q 'make c' <<< "$said"; }
+    for tool in c-archive sdist; do holds "tools/$tool without nissy.c says what makes it" needs_file $tool; done
+fi
+
+# the Python package in C, in an environment of its own, by pip and a compiler alone
+source_package=$made/nissy-$version.tar.gz
+if [ ! -e "$source_package" ] || missing cc || ! /usr/bin/python3 -m venv "$room/venv" > /dev/null 2>&1; then
+    skips "the Python package in C, which wasn't made, or has no compiler or no environment here"
+else
+    pip() { by_system "${in_pip[@]}" "$room/venv/bin/python" -m pip --disable-pip-version-check "$@"; }
+    in_venv() { (cd / && by_system "$room/venv/bin/python" "$@"); }
+    in_pip=(CFLAGS=-O1)
+    holds "the Python package in C is installed" pip install -q --no-index "$source_package"
+    says_all='import nissy; print(nissy.invert("R U"), nissy.__version__, nissy.count("eofb", "R U F").solutions, nissy.run(["steps"]).status)'
+    holds "its module finds the library that was compiled" test "$(in_venv -c "$says_all")" = "U' R' $version 2 0"
+    library=$(find "$room/venv" -name libnissy.so.1)
+    for trial in module values; do add env NISSY_LIBRARY="$library" python3 "$top/tests/library/$trial.py"; done
+    holds "it is taken away" pip uninstall -q -y nissy
+    mkdir "$room/none"
+    for tool in bash env sh; do ln -s "$(command -v $tool)" "$room/none"; done
+    tells_compiler() { ! said=$(env -i PATH="$room/none" HOME="$room" "$room/venv/bin/python" -m pip install --no-index "$source_package" 2>&1) && grep -q "$1" <<< "$said"; }
+    holds "without a compiler it says so" tells_compiler 'nissy: there is no C compiler here: install one for C11, or name it by CC'
+    head -c 50000 "$source_package" > "$room/${source_package##*/}"
+    holds "one that was cut isn't installed" refuses pip install --no-index "$room/${source_package##*/}"
+fi
+
+# what is for Windows, by wine, whose first run makes a folder and says so
+zip=$made/nissy-$version-win64.zip
+wine=$(command -v wine64 || command -v wine || ls /usr/lib/wine/wine64 2> /dev/null)
+server=$(command -v wineserver64 || ls /usr/lib/wine/wineserver64 2> /dev/null || command -v wineserver)
+if [ ! -e "$zip" ]; then skips "what is for Windows, which wasn't made"; else
+    unpacks_zip() { python3 -c 'import sys, zipfile; zipfile.ZipFile(sys.argv[1]).extractall(sys.argv[2])' "$zip" "$room/unpacked"; }
+    holds "the zip for Windows is unpacked" unpacks_zip
+    windows=$room/unpacked/nissy-$version-win64
+    in_wheel() { python3 -c 'import sys, zipfile; sys.stdout.buffer.write(zipfile.ZipFile(sys.argv[1]).read("nissy/nissy.dll"))' "$made/nissy-$version-py3-none-win_amd64.whl"; }
+    holds "its wheel has the same library" cmp "$windows/nissy.dll" <(in_wheel)
+    holds "each link of its pages leads to one of them" test -z "$(dead_links "$windows")"
+    if [ -z "$wine" ] || [ -z "$server" ]; then skips "running it, since there is no wine"; else
+        export WINEPREFIX=$room/wine WINEDEBUG=-all
+        mkdir -p "$WINEPREFIX"
+        "$server" -p60 && "$wine" "$windows/nissy.exe" steps > /dev/null 2>&1
+        # what wine says of itself comes beside it
+        holds "the program for Windows" test "$("$wine" "$windows/nissy.exe" invert "R U' F2" 2> /dev/null)" = "F2 U R'"
+        calls_library() { # a program that finds the library beside it
+            write_caller "$room/one.c" && (cd "$windows" && x86_64-w64-mingw32-gcc "$room/one.c" -I. -L. -lnissy -o one.exe && "$wine" ./one.exe)
+            [ $? -eq 4 ]
+        }
+        holds "a program that is linked with its library" calls_library
+        "$server" -k
+    fi
+fi
+
 # the Debian packages, unpacked as they would be installed
 if ! ls "$made"/*.deb > /dev/null 2>&1; then skips "the Debian packages, which weren't made"; else
     root=$room/root
@@ -178,8 +260,9 @@ answers "where there is no debhelper" 69 '' 'there is no dpkg-buildpackage here:
 if [ -e build/nissy.html ]; then
     fails_to_pack() { printf '#!/bin/sh\necho "there is no npm here" >&2\nexit %s\n' "$1" > tools/npm-package; } # STATUS
     leaves_out() {
-        fails_to_pack 69 && said=$(tools/dist "$room/less" program) &&
+        rm -f build/nissy.c && fails_to_pack 69 && said=$(tools/dist "$room/less" program) &&
             grep -qx 'left out: the package for npm, since there is no npm here' <<< "$said" &&
+            grep -qx 'left out: what is made of the engine in C, since there is no build/nissy.c' <<< "$said" &&
             [ "$(grep -cvE 'linux-program.tar.gz$' "$room/less/SHA256SUMS")" -eq 1 ]
     }
     holds "a package whose tool isn't here is left out, and named" leaves_out

@@ -4,6 +4,7 @@ from __future__ import annotations
 import ctypes
 import os
 import struct
+import sys
 from typing import Any, BinaryIO, Callable
 
 MOST_INPUT = 16_777_216
@@ -48,6 +49,10 @@ class CountAnswer(ctypes.Structure):
                 ("solutions", ctypes.c_uint64), ("looks", ctypes.c_uint64)]
 
 
+_NAME = {"win32": "nissy.dll", "cygwin": "nissy.dll", "darwin": "libnissy.1.dylib"}.get(sys.platform, "libnissy.so.1")
+"""What the library is called on this system."""
+
+
 def _place() -> str:
     """Returns where the library is: by NISSY_LIBRARY, in one of the folders in which it stands with this package, or by the system."""
     named = os.environ.get("NISSY_LIBRARY")
@@ -58,10 +63,10 @@ def _place() -> str:
     beside = os.path.join(here, "..", "..", "..") if os.path.basename(os.path.dirname(here)).endswith("-packages") else \
         os.path.join(here, "..", "..", "build")
     for folder in (here, beside):
-        path = os.path.join(folder, "libnissy.so.1")
+        path = os.path.join(folder, _NAME)
         if os.path.exists(path):
             return path
-    return "libnissy.so.1"
+    return _NAME
 
 
 # The sizes of an ELF file's header and of a segment's, of 64 bits. By its first four bytes it is such a file at all, and those that _KIND
@@ -118,14 +123,16 @@ def _loaded(place: str) -> ctypes.CDLL:
         except OSError as error:
             why = str(error)
     told = why if place in why else f"{place}: {why}"
-    raise ImportError(f"nissy's library, which is for Linux on x86-64-v2, can't be loaded: {told}")
+    raise ImportError(f"nissy's library can't be loaded: {told}")
 
 
 LIBRARY = _loaded(_place())
 
-# Numbers that were checked, and places. The library's processor hands each over as a whole register, whatever its width, and ctypes takes an
-# address in half the time of a number.
-_NUMBER = _PLACE = ctypes.c_void_p
+# Places, and numbers that were checked. On 64 bits each is handed over as a whole register or eight bytes of the stack, whatever its width, and ctypes
+# takes an address in half the time of a number. On 32 bits, and for Apple's processors, which pack what no register holds, each has its own width.
+_PLACE = ctypes.c_void_p
+_IS_WIDE = struct.calcsize("P") == 8 and sys.platform != "darwin"
+_BYTE, _HALF, _LONG, _NUMBER = (_PLACE,) * 4 if _IS_WIDE else (ctypes.c_uint8, ctypes.c_uint32, ctypes.c_uint64, ctypes.c_size_t)
 # bytes that a call reads, with their number, and bytes that it writes, by place, with the room that there is
 _READ = (ctypes.c_char_p, _NUMBER)
 _WRITTEN = (_PLACE, _NUMBER)
@@ -146,10 +153,10 @@ nissy_run = _call("nissy_run", RunAnswer, *_READ, *_READ, *_WRITTEN, *_WRITTEN)
 nissy_invert, nissy_unniss, nissy_cleanup, nissy_print = (
     _call(name, LineAnswer, *_READ, *_WRITTEN) for name in ("nissy_invert", "nissy_unniss", "nissy_cleanup", "nissy_print"))
 nissy_build = _call("nissy_build", ctypes.c_uint8, _PLACE, *_READ)
-nissy_solve = _call("nissy_solve", SolveAnswer, _PLACE, *_READ, _NUMBER, _NUMBER, _NUMBER, *_WRITTEN)
-nissy_count = _call("nissy_count", CountAnswer, _PLACE, *_READ, _NUMBER, _NUMBER)
-nissy_scramble = _call("nissy_scramble", LineAnswer, _NUMBER, _NUMBER, _NUMBER, *_WRITTEN)
+nissy_solve = _call("nissy_solve", SolveAnswer, _PLACE, *_READ, _BYTE, _BYTE, _LONG, *_WRITTEN)
+nissy_count = _call("nissy_count", CountAnswer, _PLACE, *_READ, _BYTE, _BYTE)
+nissy_scramble = _call("nissy_scramble", LineAnswer, _LONG, _LONG, _HALF, *_WRITTEN)
 nissy_steps = _call("nissy_steps", LineAnswer, *_WRITTEN)
 nissy_start = _call("nissy_start", LineAnswer, *_READ, *_WRITTEN)
-nissy_fault_text = _call("nissy_fault_text", LineAnswer, _NUMBER, *_WRITTEN)
+nissy_fault_text = _call("nissy_fault_text", LineAnswer, _BYTE, *_WRITTEN)
 nissy_version = _call("nissy_version", ctypes.c_uint32)

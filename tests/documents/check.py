@@ -20,7 +20,7 @@ from repository import Code
 from markdown import NAME, Page, cells, rows
 from tally import Tally
 
-PAGES = ("*.md", "docs/*.md", "bench/*.md", "web/*/*.md")
+PAGES = ("*.md", "docs/*.md", "bench/*.md", "web/*/*.md", "python/*.md", "portable/*.md")
 # most lines that README may have, and most columns that any page may
 MOST_LINES = 125
 MOST_COLUMNS = 120
@@ -28,7 +28,7 @@ MOST_COLUMNS = 120
 WITH_NAMES = ("README.md", "docs/ARCHITECTURE.md", "docs/PROMISES.md", "docs/DECISIONS.md")
 WITH_PATHS = ("CONTRIBUTING.md", *WITH_NAMES, "bench/README.md", "web/module/README.md")
 CODE_NAME = r"`([A-Za-z_0-9:]+|[a-z_]*/?(src|specs|proofs)/[A-Za-z_/]+\.(rt|antt))`"
-PATH = re.compile(r"\b(?:crates|tests|tools|docs|bench|completions|include|python|web)/[A-Za-z0-9_./-]+")
+PATH = re.compile(r"\b(?:crates|tests|tools|docs|bench|completions|include|python|portable|web)/[A-Za-z0-9_./-]+")
 LIST = r"`[^`]+`(?:(?:, | and )`[^`]+`)*"
 # where the examples of crates' first pages stand as programs and tests
 EXAMPLES = ("crates/eo_axes/src/main.rt", "crates/nissy/src/main.rt", "crates/niss_tests/src/examples.rt")

@@ -9,7 +9,7 @@ sys.path.insert(0, str(Path(__file__).resolve().parents[2] / "tools"))
 from bodies import HEAD, NAMED
 
 # where a word that a page gives may stand
-FOLDERS = ("crates", "tests", "tools", "include", "python", "web")
+FOLDERS = ("crates", "tests", "tools", "include", "python", "portable", "web")
 CLAUSE = re.compile(r" *ensures ([a-z_]+) \{")
 # an open function, of a file or of a type
 OPEN = re.compile(r" *pub (?:const )?(?:extern \"C\" )?fn (\w+)")

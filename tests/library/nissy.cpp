@@ -138,7 +138,7 @@ void misuse_is_thrown() {
 }
 
 // Each allocation of the library refused in turn is an exception, with all memory given back, until none is refused.
-template <typename Call> void refuses_each(Call call, const char *of) {
+template <typename Call> void refuses_each(Call call, const char *of, long least = 2) {
     long refusals = 0;
     for (bool is_done = false; !is_done; refusals += !is_done) {
         made = 0, refused_at = refusals + 1, onward = 1, held = 0;
@@ -151,13 +151,19 @@ template <typename Call> void refuses_each(Call call, const char *of) {
         }
     }
     refused_at = 0;
-    holds(refusals > 1, "it takes memory more than once", of);
+    holds(refusals >= least, "it takes memory so often", of);
 }
 
 void refused_memory_is_thrown() {
+    // nissy.c lends a run all of its memory in one block
+#ifdef NISSY_IN_C
+    const long blocks = 1;
+#else
+    const long blocks = 2;
+#endif
     refuses_each([] { nissy::tables("dr-eoud"); }, "the tables of dr-eoud");
     holds(nissy::tables("dr-eoud").count("").length == 0, "the tables are built later", "dr-eoud");
-    refuses_each([] { holds(nissy::scrambles(1, 2, 3, 4).size() == 4, "they are drawn later", "scrambles"); }, "the words of scrambles");
+    refuses_each([] { holds(nissy::scrambles(1, 2, 3, 4).size() == 4, "they are drawn later", "scrambles"); }, "the words of scrambles", blocks);
 }
 
 // Many solutions come whole, in rooms that grow: all that are counted, each of its length.

@@ -1,0 +1,129 @@
+/* --- the calls of nissy.h --- */
+
+enum { SMALL_ROOM = 256, LARGE_ROOM = 2621440, MOST_NAME = 32 };
+
+/* a stack for a call, and its end */
+#define STACK(size) _Alignas(16) unsigned char stack[size]
+#define STACK_END (address(stack) + sizeof stack)
+
+uint32_t nissy_version(void) { return NISSY_VERSION_NUMBER; }
+
+/* --- memory that the engine is lent, and tables in it --- */
+
+/* The engine takes a room as two numbers: where its memory is, and how much. */
+static void put_room(unsigned char *room, void *block, size_t size) {
+    store8(address(room), address(block));
+    store8(address(room) + 8, size);
+}
+
+/* What stays of a build: what the engine holds of its tables, the name of their step, and their memory. */
+struct kept {
+    unsigned char held[16];
+    uint8_t step[MOST_NAME];
+    size_t step_length;
+    void *small, *large;
+};
+
+static struct kept *kept_of(const nissy_tables *tables) { return tables->built ? tables->tables : NULL; }
+
+static uint64_t held_of(const nissy_tables *tables) {
+    static const unsigned char none[16] = {0};
+    const struct kept *kept = kept_of(tables);
+    return address(kept == NULL ? none : kept->held);
+}
+
+/* Tables of a step in so much memory, or none. The engine takes all of it before it fills a table, so a build with too little ends at once. */
+static uint8_t build_in(size_t large, struct kept *kept, const uint8_t *step, size_t step_length) {
+    STACK(STACK_OF_nissy_build);
+    _Alignas(16) unsigned char rooms[2][16];
+    uint8_t status = NISSY_STOPPED;
+    memset(kept->held, 0, sizeof kept->held);
+    kept->small = malloc(SMALL_ROOM);
+    kept->large = malloc(large);
+    if (kept->small != NULL && kept->large != NULL) {
+        put_room(rooms[0], kept->small, SMALL_ROOM);
+        put_room(rooms[1], kept->large, large);
+        status = (uint8_t)w_nissy_build(STACK_END, address(rooms[0]), address(rooms[1]), address(kept->held), address(step), step_length);
+    }
+    if (status != NISSY_DONE) {
+        free(kept->small);
+        free(kept->large);
+    }
+    return status;
+}
+
+/* The same in as little memory as suffices: for an orientation, for all three, for a reduction, or for any step. */
+static uint8_t build_in_least(struct kept *kept, const uint8_t *step, size_t step_length) {
+    static const size_t rooms[] = {120 << 10, 320 << 10, 1300 << 10, LARGE_ROOM};
+    uint8_t status = NISSY_STOPPED;
+    for (size_t at = 0; status == NISSY_STOPPED && at < sizeof rooms / sizeof *rooms; at += 1) {
+        status = build_in(rooms[at], kept, step, step_length);
+    }
+    return status;
+}
+
+uint8_t nissy_build(nissy_tables *tables, const uint8_t *step, size_t step_length) {
+    struct kept *kept = kept_of(tables);
+    if (kept != NULL && kept->step_length == step_length && memcmp(kept->step, step, step_length) == 0) return NISSY_DONE;
+    tables->tables = NULL;
+    tables->built = false;
+    /* no step has so long a name */
+    if (step_length > MOST_NAME) return NISSY_USAGE;
+    kept = malloc(sizeof *kept);
+    uint8_t status = kept == NULL ? NISSY_STOPPED : build_in_least(kept, step, step_length);
+    if (status != NISSY_DONE) {
+        free(kept);
+        return status;
+    }
+    memcpy(kept->step, step, step_length);
+    kept->step_length = step_length;
+    tables->tables = kept;
+    tables->built = true;
+    return NISSY_DONE;
+}
+
+/* --- a run --- */
+
+/* A run in so much memory, on bytes in memory, of which the error text comes into a room of its own. */
+struct run {
+    uint64_t words, words_length, input, input_length, out, out_room;
+    uint8_t err[NISSY_ERROR_ROOM];
+};
+
+/* Makes it, and returns whether there was so much memory. */
+static bool run_in(size_t lent, struct run *run, nissy_run_answer *said) {
+    STACK(STACK_OF_nissy_run);
+    _Alignas(16) unsigned char answer[32], room[16];
+    void *block = lent == 0 ? NULL : malloc(lent);
+    put_room(room, block, block == NULL ? 0 : lent);
+    w_nissy_run(STACK_END, address(answer), address(room), run->words, run->words_length, run->input, run->input_length, run->out, run->out_room,
+                address(run->err), sizeof run->err);
+    free(block);
+    /* the engine has the fields in another order than nissy.h */
+    said->status = (uint8_t)load1(address(answer));
+    said->out_length = (size_t)load8(address(answer) + 8);
+    said->err_length = (size_t)load8(address(answer) + 16);
+    said->out_too_small = load1(address(answer) + 24) != 0;
+    return lent == 0 || block != NULL;
+}
+
+static bool was_refused_memory(const struct run *run, const nissy_run_answer *said) {
+    static const char text[] = "nissy: out of memory\n";
+    return said->err_length == sizeof text - 1 && memcmp(run->err, text, said->err_length) == 0;
+}
+
+nissy_run_answer nissy_run(const uint8_t *words, size_t words_length, const uint8_t *input, size_t input_length, uint8_t *out,
+                           size_t out_room, uint8_t *err, size_t err_room) {
+    struct run run = {address(words), words_length, address(input), input_length, address(out), out_room, {0}};
+    nissy_run_answer said;
+    size_t lent = 0;
+    /* one that is refused memory has written nothing yet: it is made again with some, and with more */
+    while (run_in(lent, &run, &said) && was_refused_memory(&run, &said) && lent < SIZE_MAX / 16) lent = lent == 0 ? 65536 : 8 * lent;
+    said.err_too_small = said.err_length > err_room;
+    if (said.err_too_small) said.err_length = err_room;
+    if (said.err_length > 0) memcpy(err, run.err, (size_t)said.err_length);
+    return said;
+}
+
+/* --- the calls that the engine has as they are --- */
+

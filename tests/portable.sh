@@ -1,0 +1,117 @@
+#!/usr/bin/env bash
+# Tries the engine in C of `make c`, FOLDER/nissy.c, and the program over it, portable/main.c, beside PROGRAM: first the translator by itself, then
+# what each compiler makes of the file, on each system that can be had here.
+#
+#     tests/portable.sh [PROGRAM [FOLDER]]
+#
+# The program is build/nissy if none is named, and the folder build. What needs a tool that isn't here is skipped, and named. The last line is `N
+# passed, M failed`, and the status is 1 if M isn't 0.
+set -u
+# shellcheck source=tests/shared
+. "$(dirname "$0")/shared"
+program=$(program_of "$@") || exit 2
+cd "$(dirname "$0")/.." || exit 2
+folder=$(realpath -m -- "${2:-build}")
+if missing python3 || missing gcc; then skips_all "the engine in C, since there is no python3 or no gcc"; fi
+
+typed tests/portable/*.py python/source/backend.py
+if missing wat2wasm || missing node; then skips "the translator by itself, since there is no wat2wasm (wabt) or no node"; else
+    add python3 tests/portable/rows.py 1 60
+    add python3 tests/portable/refused.py
+    add python3 tests/portable/calls.py
+    add python3 tests/portable/wrong.py
+fi
+if [ ! -e "$folder/nissy.c" ]; then skips "the rest, since there is no nissy.c that make c made" && ended; exit; fi
+again() { tools/c-file "$folder/niss_page.a" "$room/again.c" && cmp "$folder/nissy.c" "$room/again.c"; }
+if missing rt || [ ! -e "$folder/niss_page.a" ]; then skips "writing the file again, since there is no kit or no archive"; else holds "the file has the same bytes again" again; fi
+
+# compilers that refuse it, in a sentence, or have nothing to say
+said_by() { # SENTENCE COMMAND..: it fails with this sentence
+    local said
+    ! said=$("${@:2}" -Iinclude -fsyntax-only "$folder/nissy.c" 2>&1) && grep -q "$1" <<< "$said"
+}
+holds "it tells a compiler for C90 what it needs" said_by 'error.*nissy.c needs a compiler for C11 or later' gcc -std=c90
+holds "and one for C++" said_by 'error.*nissy.c is C: compile it by a C compiler' gcc -x c++
+strict=(-std=c11 -O1 -Wall -Wextra -Wpedantic -Wconversion -Wsign-conversion -Wshadow -Wundef -Wcast-qual -Wstrict-prototypes -Werror)
+made() { # NAME COMPILER WORD..: compiles file and program
+    "${@:2}" -Iinclude -c "$folder/nissy.c" -o "$room/$1.o" && "${@:2}" -Iinclude portable/main.c "$room/$1.o" -o "$room/$1"
+}
+each() { # WHAT COMMAND..: makes the program, unless its compiler isn't here, in the background
+    local what=$1
+    shift
+    if missing "$2"; then skips "nissy.c by $2, which isn't here" && return; fi
+    (holds "$what" made "$@"; echo "$passed $failed") > "$room/$1.made" 2>&1 &
+}
+passed_before=$passed failed_before=$failed
+passed=0 failed=0
+each "gcc compiles it without a warning" gcc gcc "${strict[@]}"
+each "so does clang" clang clang "${strict[@]}" -Wno-cast-qual
+each "so does musl's compiler" musl musl-gcc "${strict[@]}" -static
+each "so does tcc" tcc tcc -std=c11 -Wall -Werror
+each "byte by byte" bytewise gcc "${strict[@]}" -DNISSY_BYTEWISE=1
+each "for Windows" windows x86_64-w64-mingw32-gcc "${strict[@]}"
+each "for 32 bits" i686 i686-linux-gnu-gcc "${strict[@]}" -static
+each "for ARM" aarch64 aarch64-linux-gnu-gcc "${strict[@]}" -static
+each "for s390x, of the other byte order" s390x s390x-linux-gnu-gcc "${strict[@]}" -static
+sanitized=(-std=c11 -O1 -g "-fsanitize=address,undefined" -fno-sanitize-recover=all)
+each "with the sanitizers" sanitized gcc "${sanitized[@]}"
+each "with the sanitizer for threads" raced gcc -std=c11 -O1 -g -fsanitize=thread
+wait
+passed=$passed_before failed=$failed_before
+for made in "$room"/*.made; do
+    sed '$d' "$made"
+    read -r more fewer < <(tail -n 1 "$made")
+    passed=$((passed + more)) failed=$((failed + fewer))
+done
+
+# the program as the proved one is tried, and drawn runs by each compiler
+for trial in answers searches program limits; do add "tests/$trial.sh" "$room/gcc"; done
+add python3 tests/model/against.py "$room/gcc" 1 0.1
+beside() { # LINES NAME [RUNNER..]: drawn runs by the program of a compiler that was here
+    local count=$1 name=$2
+    shift 2
+    [ -e "$room/$name" ] || return
+    if [ $# -gt 0 ] && missing "$1"; then skips "running nissy.c for $name, since there is no $1" && return; fi
+    add python3 tests/portable/beside.py "$program" 1 "$count" "$@" "$room/$name"
+}
+beside 60 gcc
+for name in clang musl tcc bytewise i686; do beside 30 "$name"; done
+beside 20 sanitized
+beside 15 aarch64 qemu-aarch64
+beside 15 s390x qemu-s390x
+# Wine has a server, which is to stay from run to run, and a folder for what Windows would have; the first run says that it makes it.
+wine=$(command -v wine64 || command -v wine || ls /usr/lib/wine/wine64 2> /dev/null)
+server=$(command -v wineserver64 || ls /usr/lib/wine/wineserver64 2> /dev/null || command -v wineserver)
+if [ -z "$wine" ] || [ -z "$server" ]; then skips "running nissy.c for Windows, since there is no wine"; elif [ -e "$room/windows" ] || [ -e "$room/windows.exe" ]; then
+    export WINEPREFIX=$room/wine WINEDEBUG=-all
+    mkdir -p "$WINEPREFIX"
+    "$server" -p60 && "$wine" "$room/windows.exe" steps > /dev/null 2>&1
+    mv "$room/windows.exe" "$room/windows" 2> /dev/null
+    beside 30 windows "$wine"
+    "$server" -k
+fi
+
+# the library's tests over the file, in place of the library
+linked() { # NAME TEST WORD..: the test of this name with the file as it was compiled
+    local wrapped=()
+    [ "$2" = fuzz ] && wrapped=("-Wl,--wrap=malloc,--wrap=realloc,--wrap=free")
+    gcc -std=c11 -O1 -g "${@:3}" -pthread "${wrapped[@]}" -Iinclude -Itests/library -o "$room/$1.$2" "tests/library/$2.c" "$room/$1.o"
+}
+for trial in "lines 7" "runs 7" "tables 7" "beside_run 2 1" "fuzz" "threads 0 20"; do
+    name=${trial%% *} words=()
+    [ "$name" = "$trial" ] || read -ra words <<< "${trial#* }"
+    holds "$name.c is linked with nissy.c" linked sanitized "$name" "${sanitized[@]:2}"
+    add "$room/sanitized.$name" "${words[@]}"
+done
+holds "threads.c is linked with it for races" linked raced threads -fsanitize=thread
+add "$room/raced.threads" 0 20
+in_c_plus_plus() { # the headers in C++ over it
+    g++ -std=c++17 -O1 -g -DNISSY_IN_C -pthread -Wl,--wrap=malloc,--wrap=realloc,--wrap=free -Iinclude -Itests/library -o "$room/plus" tests/library/nissy.cpp "$room/gcc.o"
+}
+if missing g++; then skips "nissy.hpp over nissy.c, since there is no g++"; else
+    holds "nissy.cpp is linked with it" in_c_plus_plus
+    add "$room/plus"
+fi
+holds "handlers.c is linked with it" linked gcc handlers
+add "$room/gcc.handlers"
+ended
