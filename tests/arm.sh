@@ -58,8 +58,10 @@ holds "so does the archive" test "$(exported --defined-only "$folder/libnissy.a"
 by_qemu=(qemu-aarch64 -L "/usr/$cross")
 printf '#!/bin/sh\nexec %s "%s/nissy" "$@"\n' "${by_qemu[*]}" "$folder" > "$room/nissy"
 chmod +x "$room/nissy"
-for script in answers searches; do add "tests/$script.sh" "$room/nissy"; done
-if missing python3; then skips "drawn runs, since there is no python3 here"; else add python3 tests/arm/beside_program.py "$program" "$room/nissy" 1 0.05; fi
+if missing python3; then skips "rows and drawn runs, since there is no python3 here"; else
+    add python3 tests/runs.py "$room/nissy"
+    add python3 tests/arm/beside_program.py "$program" "$room/nissy" 1 0.05
+fi
 
 # the library
 linked() { # NAME: what the test is linked with
@@ -70,18 +72,20 @@ linked() { # NAME: what the test is linked with
 }
 compiled() { # NAME
     # shellcheck disable=SC2046 # no word or one
-    $cross-gcc "${strict[@]}" -Iinclude -Itests/library $(linked "$1") -o "$room/$1" "tests/library/$1.c" "$folder/libnissy.a"
+    $cross-gcc "${strict[@]}" -Iinclude -Itests/library -I"$room/rows" $(linked "$1") -o "$room/$1" "tests/library/$1.c" "$folder/libnissy.a"
 }
-# emulated, each byte takes many times as long: of the rooms one of seven, and few rounds
-declare -A fewer=([runs]=7 [tables]=7 [beside_run]="2 1" [threads]="1 40" [fuzz]="1 5" [broken_rules]=2)
-for name in lines runs tables beside_run memory threads handlers fuzz broken_rules; do
+# emulated, each byte takes many times as long
+declare -A fewer=([calls]=few [threads]="1 40" [fuzz]="1 5" [broken_rules]=2)
+mkdir "$room/rows"
+runs_in_c "$room/rows/runs.inc"
+for name in calls memory threads handlers fuzz broken_rules; do
     holds "$name.c compiles for ARM" compiled "$name"
     # shellcheck disable=SC2086 # words
     add "${by_qemu[@]}" "$room/$name" ${fewer[$name]-}
 done
-shared_one() { $cross-gcc "${strict[@]}" -Iinclude -Itests/library -o "$room/shared_runs" tests/library/runs.c -L"$folder" -lnissy; }
-holds "runs.c compiles against the shared object" shared_one
-add "${by_qemu[@]}" -E LD_LIBRARY_PATH="$folder" "$room/shared_runs" 7
+shared_one() { $cross-gcc "${strict[@]}" -Iinclude -Itests/library -I"$room/rows" -o "$room/shared_calls" tests/library/calls.c -L"$folder" -lnissy; }
+holds "calls.c compiles against the shared object" shared_one
+add "${by_qemu[@]}" -E LD_LIBRARY_PATH="$folder" "$room/shared_calls" few
 if missing $cross-g++; then skips "the library in C++, since g++-$cross isn't installed"; else
     in_cpp() {
         $cross-g++ -std=c++17 "${strict[@]:1}" -Iinclude -Itests/library -pthread -Wl,--wrap=malloc,--wrap=realloc,--wrap=free -o "$room/cpp" \

@@ -37,10 +37,7 @@ holds "so does the archive" names_level "$folder/libnissy.a"
 made=$room/made
 mkdir "$made" "$room/rows"
 strict=(-O1 -g -Wall -Wextra -Wpedantic -Werror -Iinclude -Itests/library "-I$room/rows")
-awk -F '\t' '!/^#/ {
-    gsub(/\|/, "\\000", $2)
-    printf "{\"%s\", %s, \"%s\", %s, \"%s\", \"%s\", %s},\n", $2, $2 == "" ? 0 : "sizeof \"" $2 "\"", $3, $1, $4, $5, $6 == "-" ? -1 : $6
-}' tests/runs.tsv > "$room/rows/runs.inc"
+runs_in_c "$room/rows/runs.inc"
 sanitized=("-fsanitize=address,undefined" -fno-sanitize-recover=all)
 wrapped=-Wl,--wrap=malloc,--wrap=realloc,--wrap=free
 linked() { # NAME: what the test is linked with

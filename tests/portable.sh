@@ -65,7 +65,8 @@ for made in "$room"/*.made; do
 done
 
 # the program as the proved one is tried, and drawn runs by each compiler
-for trial in answers searches program limits; do add "tests/$trial.sh" "$room/gcc"; done
+add python3 tests/runs.py "$room/gcc"
+for trial in program limits; do add "tests/$trial.sh" "$room/gcc"; done
 add python3 tests/model/against.py "$room/gcc" 1 0.1
 beside() { # LINES NAME [RUNNER..]: drawn runs by the program of a compiler that was here
     local count=$1 name=$2
@@ -95,9 +96,11 @@ fi
 linked() { # NAME TEST WORD..: the test of this name with the file as it was compiled
     local wrapped=()
     [ "$2" = fuzz ] && wrapped=("-Wl,--wrap=malloc,--wrap=realloc,--wrap=free")
-    gcc -std=c11 -O1 -g "${@:3}" -pthread "${wrapped[@]}" -Iinclude -Itests/library -o "$room/$1.$2" "tests/library/$2.c" "$room/$1.o"
+    gcc -std=c11 -O1 -g "${@:3}" -pthread "${wrapped[@]}" -Iinclude -Itests/library -I"$room/rows" -o "$room/$1.$2" "tests/library/$2.c" "$room/$1.o"
 }
-for trial in "lines 7" "runs 7" "tables 7" "beside_run 2 1" "fuzz" "threads 0 20"; do
+mkdir "$room/rows"
+runs_in_c "$room/rows/runs.inc"
+for trial in "calls few" "fuzz" "threads 0 20"; do
     name=${trial%% *} words=()
     [ "$name" = "$trial" ] || read -ra words <<< "${trial#* }"
     holds "$name.c is linked with nissy.c" linked sanitized "$name" "${sanitized[@]:2}"
