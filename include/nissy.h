@@ -1,9 +1,10 @@
 /* nissy for other programs: moves and searches of the 3x3x3 cube, by bytes in memory.
  *
  * Memory. The caller owns every buffer: no call keeps a pointer to one after it returned. A pointer comes with the bytes that it may
- * reach: so many bytes (below 2^63) are there, and if these are 0, it may be null. No alignment is asked for. Buffers that are written
- * (`out`, `err`) overlap no other buffer of the call; those that are read may overlap each other. No text ends with a zero byte. Bytes
- * may be anything: none makes a call crash, or reach beyond a buffer. A pointer to a nissy_tables isn't null.
+ * reach: so many bytes (below 2^63) are there, and if these are 0, it may be null. Bytes need no alignment; `tables` and `answers` need
+ * that of their types. Buffers that are written (`out`, `err`, `answers`) overlap no other buffer of the call; those that are read may
+ * overlap each other. No text ends with a zero byte. Bytes may be anything: none makes a call crash, or reach beyond a buffer. A pointer to
+ * a nissy_tables isn't null.
  *
  * Threads. The one state between calls is that of the tables which a caller has built (nissy_tables below). Any threads may call at the
  * same time, with written buffers of their own.
@@ -11,16 +12,19 @@
  * Stack and signals. nissy_run and nissy_build need 64 KiB of stack and take memory: neither is to be called from a signal handler, or in a
  * forked child of a process with threads. All other calls need 16 KiB and take none, and may be called there too.
  *
+ * Answers. Each is a struct of numbers of 8, 16, 32 or 64 bits, so that it lies the same on every machine, and begins with `status`. If a
+ * line may have a fault, `fault` is the second byte and `column` the second four bytes. A field that says yes or no is 1 or 0. What isn't
+ * named for a status is 0 after it.
+ *
  * Link with -lnissy (pkg-config: nissy). EMBEDDING.md (docs/, or share/doc/nissy/) has examples. nissy.hpp is for C++17 and later. */
 #ifndef NISSY_H
 #define NISSY_H
 
 /* The version of this header and of the library that it comes with; and as one number, such as 10200 for 1.2.0, for #if. nissy_version
  * returns that of the library that runs. */
-#define NISSY_VERSION "1.5.0"
-#define NISSY_VERSION_NUMBER 10500
+#define NISSY_VERSION "2.0.0"
+#define NISSY_VERSION_NUMBER 20000
 
-#include <stdbool.h>
 #include <stddef.h>
 #include <stdint.h>
 
@@ -35,7 +39,8 @@ enum nissy_status {
     NISSY_USAGE = 2,   /* the words are no command; there is no such step or number; no tables were built */
     NISSY_STOPPED = 3, /* a line or an input has more than NISSY_MOST_INPUT bytes, or memory was refused; nissy_run also: the room was too
                           small */
-    NISSY_ROOM = 4     /* all calls but nissy_run: the room is too small */
+    NISSY_ROOM = 4,    /* all calls but nissy_run: the room is too small */
+    NISSY_CUT = 5      /* a search alone: it would look at more positions than it may (nissy_solve, `most_nodes`) */
 };
 
 /* What is wrong with a line. */
@@ -46,7 +51,7 @@ enum nissy_fault {
     NISSY_UNOPENED = 3,   /* a bracket closed that was not opened */
     NISSY_UNCLOSED = 4,   /* a bracket not closed; the column is that of the bracket */
     NISSY_TOO_LONG = 5,   /* more than 256 moves; the column is that of the 257th */
-    NISSY_START = 6       /* nissy_solve and nissy_count alone: the step may not start on the cube of the line; there is no column */
+    NISSY_START = 6       /* a search alone: the step may not start on the cube of the line; there is no column */
 };
 
 /* The most bytes of a line or of an input. */
@@ -56,16 +61,16 @@ enum nissy_fault {
 #define NISSY_LINE_ROOM 2048
 #define NISSY_ERROR_ROOM 128
 
-/* What a call on one line returns. */
+/* What a call returns that writes a short text. */
 typedef struct nissy_line_answer {
-    uint16_t status; /* NISSY_DONE, NISSY_FAULT, NISSY_STOPPED or NISSY_ROOM; NISSY_USAGE of the calls that take no line alone */
-    uint16_t fault;  /* one of nissy_fault */
-    uint32_t column; /* the place of the fault in bytes, from 1; 0 if there is none */
-    size_t length;   /* after NISSY_DONE the bytes written, after NISSY_ROOM the bytes that there are to write; else 0 */
+    uint8_t status;  /* NISSY_DONE, NISSY_FAULT, NISSY_STOPPED or NISSY_ROOM; NISSY_USAGE of the calls that take no line alone */
+    uint8_t fault;   /* after NISSY_FAULT one of nissy_fault, never NISSY_START */
+    uint32_t column; /* after NISSY_FAULT the place of the fault in bytes, from 1 */
+    uint64_t length; /* after NISSY_DONE the bytes written, after NISSY_ROOM the bytes that there are to write */
 } nissy_line_answer;
 
-/* The calls on one line write to `out` what the program's command of the same name writes of it, without the line feed. They take no
- * memory. After every status but NISSY_DONE `out` is as it was, and behind what is written it is so too. */
+/* The calls on one line write to `out` what the program's command of the same name writes of it (`print` for nissy_facelets), without the
+ * line feed. They take no memory. After every status but NISSY_DONE `out` is as it was, and behind what is written it is so too. */
 
 /* the inverse of the moves */
 nissy_line_answer nissy_invert(const uint8_t *line, size_t line_length, uint8_t *out, size_t out_room);
@@ -74,15 +79,72 @@ nissy_line_answer nissy_unniss(const uint8_t *line, size_t line_length, uint8_t 
 /* the moves without wide turns, slices and neighbours that join */
 nissy_line_answer nissy_cleanup(const uint8_t *line, size_t line_length, uint8_t *out, size_t out_room);
 /* the 54 facelet letters of the cube after the moves */
-nissy_line_answer nissy_print(const uint8_t *line, size_t line_length, uint8_t *out, size_t out_room);
+nissy_line_answer nissy_facelets(const uint8_t *line, size_t line_length, uint8_t *out, size_t out_room);
+
+/* The axes of the cube, in the order of the first three steps: of the faces F and B, of R and L, and of U and D. */
+enum nissy_axis { NISSY_FB = 0, NISSY_RL = 1, NISSY_UD = 2 };
+
+/* What solvers choose by, on one axis: how many pieces are bad there, and where they stand. Bit i of a mask (1 << i) is the place i: of
+ * the edges UR UF UL UB DR DF DL DB FR FL BL BR, of the corners URF UFL ULB UBR DFR DLF DBL DRB. A mask has as many bits as the number
+ * beside it says. */
+typedef struct nissy_axis_facts {
+    uint16_t bad_edge_places;
+    uint16_t bad_corner_places;
+    uint16_t misplaced_edge_places;
+    uint8_t bad_edges;       /* of 12: edges that aren't oriented on the axis; an even number, 0 exactly if the step eofb, eorl or eoud
+                                holds */
+    uint8_t bad_corners;     /* of 8: corners whose sticker of the axis's two faces is on another face; never 1 */
+    uint8_t misplaced_edges; /* at most 8, even: edges on the wrong side of the axis's slice, those of the slice outside it and the others
+                                in it. The case of a domino reduction is bad_corners and misplaced_edges: 4 and 4 are 4c4e */
+} nissy_axis_facts;
+
+/* What nissy_facts returns. */
+typedef struct nissy_facts_answer {
+    uint8_t status;           /* NISSY_DONE, NISSY_FAULT or NISSY_STOPPED */
+    uint8_t fault;            /* after NISSY_FAULT one of nissy_fault, never NISSY_START */
+    uint8_t solved;           /* the cube is solved, however it is held */
+    uint32_t column;          /* after NISSY_FAULT the place of the fault in bytes, from 1 */
+    uint16_t moves;           /* as written: turns of faces and of outer blocks count one each, slice turns two, rotations none */
+    uint16_t clean_moves;     /* how many face turns the line's one sequence (nissy_unniss) has once it is cleaned */
+    uint16_t holds;           /* bit i: the cube has reached the step i of nissy_steps */
+    nissy_axis_facts axes[3]; /* by nissy_axis */
+} nissy_facts_answer;
+
+/* What is seen of the cube of a line without a search. Its axes are those of its centres. It takes no memory. */
+nissy_facts_answer nissy_facts(const uint8_t *line, size_t line_length);
+
+/* Forms of moves that the WCA's notation for solutions hasn't. */
+enum nissy_form {
+    NISSY_SLICES = 1,     /* M, E or S */
+    NISSY_LOWER_CASE = 2, /* u, d, r, l, f or b for a turn of an outer block */
+    NISSY_BRACKETS = 4,   /* moves on the inverse scramble, or brackets without moves */
+    NISSY_APOSTROPHE = 8, /* U+2019 in place of ' */
+    NISSY_HALF_PRIME = 16 /* 2' or 2 and U+2019 for a half turn */
+};
+
+/* What nissy_check returns. */
+typedef struct nissy_check_answer {
+    uint8_t status;       /* NISSY_DONE, NISSY_FAULT or NISSY_STOPPED */
+    uint8_t fault;        /* after NISSY_FAULT one of nissy_fault, never NISSY_START */
+    uint8_t line;         /* after NISSY_FAULT and NISSY_STOPPED which line has it: 1 the scramble, 2 the solution; the first one is told */
+    uint8_t solved;       /* the solution's moves after the scramble's solve the cube, however it is held then */
+    uint32_t column;      /* after NISSY_FAULT the place of the fault in bytes, from 1 */
+    uint16_t moves;       /* the solution's moves as nissy_facts counts them */
+    uint16_t clean_moves; /* the same once it is cleaned */
+    uint8_t forms;        /* the forms of nissy_form that the solution has, added */
+} nissy_check_answer;
+
+/* Whether a solution solves a scramble. Both lines may have brackets, and stand for the sequences that nissy_unniss writes of them. It
+ * takes no memory. */
+nissy_check_answer nissy_check(const uint8_t *scramble, size_t scramble_length, const uint8_t *solution, size_t solution_length);
 
 /* What nissy_run returns. The bytes of `out` and `err` behind those that are written are as they were. */
 typedef struct nissy_run_answer {
-    uint8_t status;     /* the exit status of the program: NISSY_DONE, NISSY_FAULT, NISSY_USAGE or NISSY_STOPPED */
-    bool out_too_small; /* the output is longer than `out`, which holds a beginning of it; the status is NISSY_STOPPED */
-    bool err_too_small; /* the error text is longer than `err`, which holds a beginning of it */
-    size_t out_length;  /* how many bytes of `out` are written */
-    size_t err_length;  /* how many bytes of `err` are written */
+    uint8_t status;        /* the exit status of the program: NISSY_DONE, NISSY_FAULT, NISSY_USAGE or NISSY_STOPPED */
+    uint8_t out_too_small; /* the output is longer than `out`, which holds a beginning of it; the status is NISSY_STOPPED */
+    uint8_t err_too_small; /* the error text is longer than `err`, which holds a beginning of it */
+    uint64_t out_length;   /* how many bytes of `out` are written */
+    uint64_t err_length;   /* how many bytes of `err` are written */
 } nissy_run_answer;
 
 /* Does what the program does with these words after its name, if its input is `input`: its output goes to `out`, its error text to
@@ -95,20 +157,20 @@ nissy_run_answer nissy_run(const uint8_t *words, size_t words_length, const uint
                            size_t out_room, uint8_t *err, size_t err_room);
 
 /* The tables of a step, or none. Its fields are the library's: begin with NISSY_NO_TABLES (all bytes 0 is the same), let nissy_build alone
- * write to it, and copy it as you like: a copy has the same tables. Any threads may ask it and its copies (nissy_solve, nissy_count) at
- * the same time. While nissy_build runs on a struct, no other call and no copy may read or write that struct; its copies may be asked.
- * What no call can see is undefined: fields that something else wrote, and a struct into which another thread builds meanwhile. Such a
- * call may find no tables, use those of either step, or end the program by a signal.
+ * write to it, and copy it as you like: a copy has the same tables. Any threads may ask it and its copies (nissy_solve, nissy_count,
+ * nissy_count_lines) at the same time. While nissy_build runs on a struct, no other call and no copy may read or write that struct; its
+ * copies may be asked. What no call can see is undefined: fields that something else wrote, and a struct into which another thread builds
+ * meanwhile. Such a call may find no tables, use those of either step, or end the program by a signal.
  *
  * Tables stay for as long as the process runs: there is no release, and so no use after one. So build those of a step once, and keep
  * them: a nissy_build into a struct without them takes their memory anew, 0.1 million bytes for an edge orientation, 1.2 million for a
  * domino reduction, and as much for each axis of a step that has several (all thirteen steps together: some 15 million). */
 typedef struct nissy_tables {
     void *tables;
-    bool built;
+    uint8_t built;
 } nissy_tables;
 
-#define NISSY_NO_TABLES {NULL, false}
+#define NISSY_NO_TABLES {NULL, 0}
 
 /* Builds the tables of the step of this name, such as "dr-eofb" (7 bytes; nissy_steps writes all names). It takes memory from the
  * program's malloc, as nissy_run does.
@@ -118,42 +180,60 @@ typedef struct nissy_tables {
  * had of another step aren't given back; copies of the struct from before still have them. */
 uint8_t nissy_build(nissy_tables *tables, const uint8_t *step, size_t step_length);
 
-/* What nissy_solve returns. What isn't named for a status is 0 or false after it. */
-typedef struct nissy_solve_answer {
-    uint8_t status;     /* NISSY_DONE, NISSY_FAULT, NISSY_USAGE, NISSY_STOPPED, or NISSY_ROOM: the next solution doesn't fit into `out` */
+/* As `most` or `most_nodes`: as many as there are. */
+#define NISSY_ALL UINT64_MAX
+
+/* What a search on a line returns. A number of 2^64 or more is told as 2^64 - 1. */
+typedef struct nissy_search_answer {
+    uint8_t status;     /* NISSY_DONE, NISSY_FAULT, NISSY_USAGE, NISSY_STOPPED, NISSY_CUT; nissy_solve also NISSY_ROOM: the next solution
+                           doesn't fit into `out` */
     uint8_t fault;      /* after NISSY_FAULT one of nissy_fault */
-    uint8_t least;      /* after NISSY_DONE and NISSY_ROOM the turns of the shortest solution, 0 if there is none */
-    bool more;          /* after NISSY_DONE and NISSY_ROOM: there are solutions beyond those that are written */
+    uint8_t least;      /* after NISSY_DONE, NISSY_ROOM and NISSY_CUT the turns of the shortest solution, 0 if none is known */
+    uint8_t more;       /* after NISSY_DONE and NISSY_ROOM: there are solutions beyond those that are told; 1 after NISSY_CUT, when there
+                           may be more or none */
     uint32_t column;    /* after NISSY_FAULT the place of the fault in bytes, from 1; 0 of NISSY_START */
-    size_t out_length;  /* after NISSY_DONE and NISSY_ROOM how many bytes of `out` are written: whole solutions */
-    uint64_t solutions; /* after NISSY_DONE and NISSY_ROOM how many solutions are written */
-    uint64_t looks;     /* after NISSY_DONE and NISSY_ROOM at how many positions the search looked, until it ended or was stopped */
-} nissy_solve_answer;
+    uint64_t length;    /* after NISSY_DONE, NISSY_ROOM and NISSY_CUT how many bytes of `out` are written: whole solutions; 0 of a count */
+    uint64_t solutions; /* after these how many solutions are written, or were counted */
+    uint64_t nodes;     /* after these at how many positions the search looked, until it ended or was stopped */
+} nissy_search_answer;
 
 /* Writes the solutions of a line's cube by the step of the tables: those of at most `limit` turns that are at most `slack` turns longer
  * than the shortest (0: the shortest alone), by length and then in turn order, but no more than `most` of them. Each is a line as the
  * program's `near` writes it, such as "F B' (2)" and a line feed, of at most 65 bytes: a room of 65 bytes for each of `most` is never too
- * small. If there are none, nothing is written: then `solutions` is 0 and `more` false. What is behind those that are written is as it was.
+ * small. If there are none, nothing is written: then `solutions` is 0 and `more` 0. What is behind those that are written is as it was.
  * It takes no memory.
+ *
+ * It looks at no more than `most_nodes` positions, unless this is NISSY_ALL: before it would look at more, it ends with NISSY_CUT, which
+ * happens only if the whole search, that of all solutions, looks at more. What is written then is a beginning of the list. So no line can
+ * hold a service for long that asks with 1,000,000.
  *
  * NISSY_USAGE: the struct has no tables, or `limit` or `slack` is above 20. NISSY_STOPPED: the line has more than NISSY_MOST_INPUT
  * bytes. NISSY_FAULT: the line has a fault, or NISSY_START. The first of these that holds is told, in this order. */
-nissy_solve_answer nissy_solve(const nissy_tables *tables, const uint8_t *line, size_t line_length, uint8_t limit, uint8_t slack,
-                               uint64_t most, uint8_t *out, size_t out_room);
+nissy_search_answer nissy_solve(const nissy_tables *tables, const uint8_t *line, size_t line_length, uint8_t limit, uint8_t slack,
+                                uint64_t most, uint64_t most_nodes, uint8_t *out, size_t out_room);
 
-/* What nissy_count returns. What isn't named for a status is 0 after it. */
-typedef struct nissy_count_answer {
-    uint8_t status;     /* NISSY_DONE, NISSY_FAULT, NISSY_USAGE or NISSY_STOPPED, as nissy_solve has them */
-    uint8_t fault;      /* after NISSY_FAULT one of nissy_fault */
-    uint8_t least;      /* the turns of the shortest solution; 0 too if there is none, and `solutions` is 0 */
-    uint32_t column;    /* after NISSY_FAULT the place of the fault in bytes, from 1; 0 of NISSY_START */
-    uint64_t solutions; /* how many solutions there are */
-    uint64_t looks;     /* at how many positions the search looked */
-} nissy_count_answer;
+/* Does what nissy_solve does with room enough, but writes nothing: it counts the solutions, and no more than `most` of them. With `most`
+ * 1 it ends at the first one, and so tells the least length soonest. With NISSY_ALL twice and the slack 0 these are the numbers of the
+ * program's `count`. It takes no memory. */
+nissy_search_answer nissy_count(const nissy_tables *tables, const uint8_t *line, size_t line_length, uint8_t limit, uint8_t slack,
+                                uint64_t most, uint64_t most_nodes);
 
-/* Counts the solutions that nissy_solve writes if neither `most` nor its room stops it. With the slack 0 these are the numbers of the
- * program's `count`. A number of 2^64 or more is told as 2^64 - 1, here and in nissy_solve_answer. It takes no memory. */
-nissy_count_answer nissy_count(const nissy_tables *tables, const uint8_t *line, size_t line_length, uint8_t limit, uint8_t slack);
+/* What a call on many lines returns. It takes the lines of a text, those that a line feed ends and a last one without it if it has a
+ * byte, one after another, as long as there is room for an answer to each. A line's fault is in its answer, and ends nothing. Behind the
+ * answers written the room is as it was. To go on, call again with what is behind the bytes that were taken. */
+typedef struct nissy_lines_answer {
+    uint8_t status; /* NISSY_DONE; NISSY_USAGE of nissy_count_lines: the struct has no tables */
+    uint64_t lines; /* how many lines were taken, and answers written */
+    uint64_t bytes; /* how many bytes of the text these lines are, with their line feeds: all if lines is less than the room */
+} nissy_lines_answer;
+
+/* What nissy_count returns of each line of a text; `most` and `most_nodes` are for each line anew, and `room` counts answers. It takes no
+ * memory. */
+nissy_lines_answer nissy_count_lines(const nissy_tables *tables, const uint8_t *text, size_t text_length, uint8_t limit, uint8_t slack,
+                                     uint64_t most, uint64_t most_nodes, nissy_search_answer *answers, size_t room);
+
+/* What nissy_facts returns of each line of a text. It takes no memory. */
+nissy_lines_answer nissy_facts_lines(const uint8_t *text, size_t text_length, nissy_facts_answer *answers, size_t room);
 
 /* The calls below write to `out` as those on one line do, and take no memory. They return NISSY_DONE or NISSY_ROOM, or NISSY_USAGE with a
  * length of 0; NISSY_LINE_ROOM is enough for each. */
