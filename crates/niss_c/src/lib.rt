@@ -1,17 +1,19 @@
 //! The library for C: what other programs call. `include/nissy.h` says the same in the words of C.
 #![tactic(auto)]
 
+mod check_calls;
 mod run_call;
 mod table_calls;
 mod text_calls;
 mod version;
 
-pub use niss_embed::{CountAnswer, LineAnswer, SolveAnswer};
+pub use check_calls::{nissy_check, nissy_facts, nissy_facts_lines};
+pub use niss_embed::{AxisFacts, CheckAnswer, FactsAnswer, LineAnswer, LinesAnswer, SearchAnswer};
 pub use niss_kept::Held;
 pub use run_call::{RunAnswer, nissy_run};
-pub use table_calls::{nissy_build, nissy_count, nissy_solve};
+pub use table_calls::{nissy_build, nissy_count, nissy_count_lines, nissy_solve};
 pub use text_calls::{
-    nissy_cleanup, nissy_fault_text, nissy_invert, nissy_print, nissy_scramble, nissy_start,
+    nissy_cleanup, nissy_facelets, nissy_fault_text, nissy_invert, nissy_scramble, nissy_start,
     nissy_steps, nissy_unniss,
 };
 pub use version::nissy_version;

@@ -2,11 +2,14 @@
 ghost use Rattle.std.specs.Prelude.{◌≡◌, true};
 ghost use Rattle.niss_cube.specs.Steps.{name_of};
 ghost use Rattle.niss_embed.specs.Memory.{memory};
-ghost use Rattle.niss_embed.specs.LineSearch.{Builds, SolvesWith, CountsWith};
+ghost use Rattle.niss_embed.specs.LineSearch.{Builds, SolvesWith, CountsWith, wanted};
+ghost use Rattle.niss_embed.specs.ManyLines.{CountsLinesWith};
 
 use niss_cube::Step;
 use niss_cube::laws::names_differ;
-use niss_embed::{CountAnswer, SolveAnswer, Status, Wanted, count_line, solve_line};
+use niss_embed::{
+    LinesAnswer, SearchAnswer, Status, Wanted, count_line, count_lines, solve_line,
+};
 use niss_kept::Held;
 use std::alloc::Global;
 
@@ -39,24 +42,74 @@ pub extern "C" fn nissy_solve(
     limit: u8,
     slack: u8,
     most: u64,
+    most_nodes: u64,
     out: &mut [u8],
-) -> SolveAnswer
-    ensures { SolvesWith tables.now.built tables.now.kept.step limit slack most line.now
+) -> SearchAnswer
+    ensures { SolvesWith tables.now.built tables.now.kept.step (wanted limit slack most most_nodes) line.now
         (memory out.old out.new) result }
 {
+    let wanted = Wanted {
+        limit,
+        slack,
+        most,
+        most_nodes,
+    };
     match tables.tables() {
-        Some(tables) => solve_line(tables, line, Wanted { limit, slack, most }, out),
-        None => SolveAnswer::misused(),
+        Some(tables) => solve_line(tables, line, wanted, out),
+        None => SearchAnswer::misused(),
     }
 }
 
 /// Counts the solutions for a line by the tables, as `count_line` of `niss_embed`.
 #[unsafe(no_mangle)]
-pub extern "C" fn nissy_count(tables: &Held, line: &[u8], limit: u8, slack: u8) -> CountAnswer
-    ensures { CountsWith tables.now.built tables.now.kept.step limit slack line.now result }
+pub extern "C" fn nissy_count(
+    tables: &Held,
+    line: &[u8],
+    limit: u8,
+    slack: u8,
+    most: u64,
+    most_nodes: u64,
+) -> SearchAnswer
+    ensures { CountsWith tables.now.built tables.now.kept.step (wanted limit slack most most_nodes) line.now result }
 {
+    let wanted = Wanted {
+        limit,
+        slack,
+        most,
+        most_nodes,
+    };
     match tables.tables() {
-        Some(tables) => count_line(tables, line, limit, slack),
-        None => CountAnswer::misused(),
+        Some(tables) => count_line(tables, line, wanted),
+        None => SearchAnswer::misused(),
+    }
+}
+
+/// Counts the solutions for each line of a text by the tables, as `count_lines` of `niss_embed`.
+#[unsafe(no_mangle)]
+pub extern "C" fn nissy_count_lines(
+    tables: &Held,
+    text: &[u8],
+    limit: u8,
+    slack: u8,
+    most: u64,
+    most_nodes: u64,
+    answers: &mut [SearchAnswer],
+) -> LinesAnswer
+    ensures { CountsLinesWith tables.now.built tables.now.kept.step (wanted limit slack most most_nodes) text.now
+        answers.old answers.new result }
+{
+    let wanted = Wanted {
+        limit,
+        slack,
+        most,
+        most_nodes,
+    };
+    match tables.tables() {
+        Some(tables) => count_lines(tables, text, wanted, answers),
+        None => LinesAnswer {
+            status: Status::Usage.number(),
+            lines: 0,
+            bytes: 0,
+        },
     }
 }

@@ -38,7 +38,7 @@ pub extern "C" fn nissy_cleanup(line: &[u8], out: &mut [u8]) -> LineAnswer
 
 /// Writes the 54 facelet letters of the cube after a line.
 #[unsafe(no_mangle)]
-pub extern "C" fn nissy_print(line: &[u8], out: &mut [u8]) -> LineAnswer
+pub extern "C" fn nissy_facelets(line: &[u8], out: &mut [u8]) -> LineAnswer
     ensures does { Rewrites Print line.now out.old out.new result }
     ensures room { 2048 ≤ length out.old → result.status ≢ status_number NoRoom }
 {

@@ -3,3 +3,5 @@ pub mod TargetLemmas
 pub mod RunLemmas
 pub mod SolveLemmas
 pub mod TextLemmas
+pub mod ManyLemmas
+pub mod CountLemmas

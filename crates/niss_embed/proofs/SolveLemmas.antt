@@ -1,5 +1,5 @@
 -- From what a search did to its lines in memory to what it answers.
-use Rattle.std.proofs.Common.{◌≡◌, ◌⊎◌, inl, inr, ℕ, suc, ◌+◌, ◌<◌, ◌≤◌, min, Bool, true, false, cond, Option, Some, None, Result, Ok, Err, List, [], ◌∷◌, ◌++◌}
+use Rattle.std.proofs.Common.{◌≡◌, ◌⊎◌, inl, inr, ℕ, zero, suc, ◌+◌, ◌<◌, ◌≤◌, min, Bool, true, false, cond, Option, Some, None, Result, Ok, Err, List, [], ◌∷◌, ◌++◌}
 use Rattle.std.proofs.Common.{take, drop, length, length-append, append_assoc, append-nil, refl, sym, ap, ◌∙◌, subst, arith, unwrap_or}
 use Rattle.std.specs.Prelude.{◌*◌, ◌==◌, if◌then◌else◌, codes, decimal, nat_lt, flat_map, is_err, option_map, slice_get, OnOk, OnErr}
 use Rattle.std.specs.Option.{option_or}
@@ -14,7 +14,10 @@ use Rattle.niss_moves.specs.declared.turn.Power.{Power}
 use Rattle.niss_moves.specs.declared.turn.Power.TheVariants.{Quarter, Half, Counter}
 use Rattle.niss_shell.specs.Lines.{line_feed, space}
 use Rattle.niss_moves.specs.Places.{Place}
-use Rattle.niss_search.specs.Delivery.{WentThrough, StoppedIn}
+use Rattle.niss_search.specs.Delivery.{WentThrough, StoppedIn, WentInto, EndedIn}
+use Rattle.niss_search.specs.Budgets.{is_cut_in}
+use Rattle.niss_search.specs.declared.budget.Stopped.{Stopped as Ending}
+use Rattle.niss_search.specs.declared.budget.Stopped.TheVariants as ending
 use Rattle.niss_search.specs.Laws.{FirstIsLeast}
 use Rattle.niss_search.specs.Cubes.{near_solutions_of, near_looks_of, least_length_of, cubes}
 use Rattle.niss_search.specs.declared.searching.Outcome.{Outcome}
@@ -22,17 +25,20 @@ use Rattle.niss_shell.specs.Names.{Turn, Step}
 use Rattle.niss_shell.specs.Output.{turns_text, solution_line}
 use Rattle.niss_embed.specs.declared.line_search.SolutionLines.{SolutionLines}
 use Rattle.niss_embed.specs.declared.line_search.Refused.{Refused}
-use Rattle.niss_embed.specs.declared.answer.SolveAnswer.{SolveAnswer}
+use Rattle.niss_embed.specs.declared.line_search.Wanted.{Wanted}
+use Rattle.niss_embed.specs.declared.search_answer.SearchAnswer.{SearchAnswer}
 use Rattle.niss_embed.specs.Memory.{memory, Puts}
-use Rattle.niss_embed.specs.LineSearch.{LinesState, lines_state, Takes, Refuses, most_of_line, Hands, HandedOut, SolvesCube, first_lines, capped}
+use Rattle.niss_embed.specs.LineSearch.{LinesState, lines_state, Takes, Refuses, most_of_line, Hands, Ended, SolvesCube, FindsOf, first_lines, capped, is_cut}
+use Rattle.niss_embed.specs.LineSearch.{all_found, looks_for_all}
+use Rattle.std.specs.Prelude.{◌≢◌, IfErr}
 use Rattle.niss_embed.proofs.TargetLemmas.{puts_whole, no_front, all_left}
 
 -- how many turns the first of some solutions has, if none came before or one did
-abbrev first_of : Option ℕ → List (List Turn) → Option ℕ
+abbrev pub first_of : Option ℕ → List (List Turn) → Option ℕ
 first_of o [] = o
 first_of o (p ∷ ps) = option_or o (Some (length p))
 
-first_of-more : (o : Option ℕ) (p : List Turn) (ps : List (List Turn)) → first_of (option_or o (Some (length p))) ps ≡ option_or o (Some (length p))
+pub first_of-more : (o : Option ℕ) (p : List Turn) (ps : List (List Turn)) → first_of (option_or o (Some (length p))) ps ≡ option_or o (Some (length p))
 first_of-more o p [] = refl
 first_of-more None p (q ∷ qs) = refl
 first_of-more (Some k) p (q ∷ qs) = refl
@@ -175,6 +181,19 @@ stop [] a b h = absurd h
 stop (p ∷ ps) a b (inl h) = stopped_here p ps (state_of a) (state_of b) h
 stop (p ∷ ps) a b (inr h) = stopped_later p ps (state_of a) (state_of h.0) (state_of b) h.1.0 (stop ps h.0 b h.1.1)
 
+-- Some of the first solutions were written, and no other came.
+record Into (ps : List (List Turn)) (old new : LinesState) : Type 0 where
+  count : ℕ
+  within : count ≤ length ps
+  took : Took (take count ps) old new
+
+into : (ps : List (List Turn)) (a b : SolutionLines) → WentInto TakesPath a ps b → Into ps (state_of a) (state_of b)
+into [] a b h = record { count = 0; within = omega arith; took = subst (λ k. Took [] (state_of a) (state_of k)) h (took_none (state_of a)) }
+into (p ∷ ps) a b (inl h) = record { count = 0; within = omega arith; took = subst (λ k. Took [] (state_of a) (state_of k)) h (took_none (state_of a)) }
+into (p ∷ ps) a b (inr h) =
+    let r = into ps h.0 b h.1.1 in
+    record { count = suc r.count; within = omega (arith, r.within); took = took_more p (take r.count ps) (state_of a) (state_of h.0) (state_of b) h.1.0 r.took }
+
 -- The lines before a search and after it.
 pub record Lines : Type 0 where
   pub before : List ℕ
@@ -196,33 +215,46 @@ begun l = lines_state l.before l.reference 0 0 l.most None false
 abbrev pub ended : Lines → LinesState
 ended l = lines_state l.after l.reference_now l.written l.solutions l.most_now l.first l.too_small
 
--- what is answered of it
-abbrev pub solve_answer : Lines → (more : Bool) → (looks : ℕ) → SolveAnswer
-solve_answer l more looks = record {
-  status = cond l.too_small 4 0;
+-- what is answered of a search, by how many solutions came, the first one, and how it ended
+abbrev pub status_for : (cut too_small : Bool) → ℕ
+status_for cut too_small = cond cut 5 (cond too_small 4 0)
+
+abbrev pub told_of : (cut too_small more : Bool) → (first : Option ℕ) → (written solutions nodes : ℕ) → SearchAnswer
+told_of cut too_small more first written solutions nodes = record {
+  status = status_for cut too_small;
   fault = 0;
-  least = unwrap_or l.first 0;
+  least = unwrap_or first 0;
   more = more;
   column = 0;
-  out_length = l.written;
-  solutions = l.solutions;
-  looks = looks;
+  length = written;
+  solutions = solutions;
+  nodes = nodes;
 }
+
+abbrev pub solve_answer : Lines → (cut more : Bool) → (nodes : ℕ) → SearchAnswer
+solve_answer l cut more nodes = told_of cut l.too_small more l.first l.written l.solutions nodes
 
 less_min : (k a b : ℕ) → k < a → k < b → k < min a b
 less_min k a b h l = grind (arith, common_steps, h, l)
 
-min_is_left : (a b : ℕ) → a ≤ b → a ≡ min a b
+pub at_most_min : (k a b : ℕ) → k ≤ a → k ≤ b → k ≤ min a b
+at_most_min k a b h l = grind (arith, common_steps, h, l)
+
+pub min_is_left : (a b : ℕ) → a ≤ b → a ≡ min a b
 min_is_left a b h = grind (arith, common_steps, h)
 
-min_is_right : (a b : ℕ) → b ≤ a → b ≡ min a b
+pub min_is_right : (a b : ℕ) → b ≤ a → b ≡ min a b
 min_is_right a b h = grind (arith, common_steps, h)
 
-is_less : (a b : ℕ) → a < b → true ≡ nat_lt a b
+pub is_less : (a b : ℕ) → a < b → true ≡ nat_lt a b
 is_less a b h = grind (arith, common_steps)
 
-is_not_less : (a b : ℕ) → b ≤ a → false ≡ nat_lt a b
+pub is_not_less : (a b : ℕ) → b ≤ a → false ≡ nat_lt a b
 is_not_less a b h = grind (arith, common_steps)
+
+no_cut : (b : Bool) → cond {A = ℕ} b 4 0 ≡ 5 → ⊥
+no_cut true h = absurd (omega arith)
+no_cut false h = absurd (omega arith)
 
 module _ (l : Lines) where
   -- what was written stands at the beginning of the memory
@@ -233,34 +265,30 @@ module _ (l : Lines) where
       puts_whole l.before l.after text l.written (held ∙ ap (λ v. v ++ text) (no_front l.before))
       (free ∙ ap (λ v. drop (length text) v) (all_left l.before)) (omega (arith, fits, ap (length {A = ℕ}) (all_left l.before))) l.within
 
-  hands_all : (all : List (List Turn)) (looks : ℕ) → Took all (begun l) (ended l)
-      → Hands all l.most (memory l.before l.after) (solve_answer l false looks)
-  hands_all all looks w =
+  hands_all : (all : List (List Turn)) (nodes : ℕ) → Took all (begun l) (ended l)
+      → Hands all l.most (memory l.before l.after) (solve_answer l false false nodes)
+  hands_all all nodes w =
       let count : l.solutions ≡ length all = omega (arith, w.counted) in
       let whole : take l.solutions all ≡ all = take_all l.solutions all (omega (arith, count)) in
+      let done : status_for false l.too_small ≡ 0 = ap (λ b. cond b 4 0) w.same_room in
       record {
         text = subst (λ (q : List (List Turn)). Puts (flat_map solution_line q) (memory l.before l.after) l.written false) (sym whole)
             (puts all (flat_map solution_line all) w.held w.free w.fits);
-        more = is_not_less l.solutions (length all) (omega (arith, count));
-        room = λ enough. ap (λ b. cond b 4 0) w.same_room;
-        handed = inl (
-          ap (λ b. cond b 4 0) w.same_room,
-          count ∙ min_is_right l.most (length all) (omega (arith, count, l.few, w.same_most)),
-        );
+        room = λ enough full. let wrong : 0 ≡ 4 = sym done ∙ full in absurd (omega arith);
+        ended = inl (done, count ∙ min_is_right l.most (length all) (omega (arith, count, l.few, w.same_most)));
       }
 
-  hands_some : (all : List (List Turn)) (looks : ℕ) → Stopped all (begun l) (ended l)
-      → Hands all l.most (memory l.before l.after) (solve_answer l true looks)
-  hands_some all looks s =
+  hands_some : (all : List (List Turn)) (nodes : ℕ) → Stopped all (begun l) (ended l)
+      → Hands all l.most (memory l.before l.after) (solve_answer l false true nodes)
+  hands_some all nodes s =
       let taken : length (take s.count all) ≡ s.count = length-take-le s.count all (omega (arith, s.within)) in
       let count : s.count ≡ l.solutions = omega (arith, taken, s.took.counted, s.refused.same_count) in
       let text = first_lines s.count all in
       record {
         text = subst (λ n. Puts (first_lines n all) (memory l.before l.after) l.written false) count
             (puts (take s.count all) text (s.refused.held ∙ s.took.held) (s.refused.free ∙ s.took.free) s.took.fits);
-        more = is_less l.solutions (length all) (omega (arith, count, s.within));
-        room = λ enough. enough_room taken enough s.refused.why;
-        handed = why count s.refused.why;
+        room = λ enough full. let wrong : 0 ≡ 4 = sym (enough_room taken enough s.refused.why) ∙ full in absurd (omega arith);
+        ended = why count s.refused.why;
       }
     where
       enough_room : length (take s.count all) ≡ s.count → l.most * most_of_line ≤ length l.before
@@ -277,7 +305,7 @@ module _ (l : Lines) where
       why : s.count ≡ l.solutions
           → ((s.between.solutions ≡ s.between.most) × (l.too_small ≡ s.between.too_small))
           ⊎ ((s.between.solutions < s.between.most) × (length s.between.free < length (solution_line s.next)) × (l.too_small ≡ true))
-          → HandedOut all l.most (memory l.before l.after) (solve_answer l true looks)
+          → Ended all l.most (length l.before) (solve_answer l false true nodes)
       why count (inl h) =
           let full : l.solutions ≡ l.most = omega (arith, h.0, s.refused.same_count, s.took.same_most) in
           inl (
@@ -291,63 +319,148 @@ module _ (l : Lines) where
           let free : length s.between.free ≡ length (drop 0 l.before) - length (first_lines s.count all) =
           ap (length {A = ℕ}) s.took.free ∙ length-drop (length (first_lines s.count all)) (drop 0 l.before) in
           let room : length (drop 0 l.before) ≡ length l.before = ap (length {A = ℕ}) (all_left l.before) in
-          inr (
+          inr (inl (
             ap (λ b. cond b 4 0) h.2,
             less_min l.solutions l.most (length all) (omega (arith, h.0, s.refused.same_count, s.took.same_most)) (omega (arith, count, s.within)),
             subst (λ n. length l.before < length (first_lines n all)) next (omega (arith, long, free, room, h.1, s.took.fits)),
-          )
+          ))
+
+  hands_cut : (all : List (List Turn)) (nodes : ℕ) → Into all (begun l) (ended l)
+      → Hands all l.most (memory l.before l.after) (solve_answer l true true nodes)
+  hands_cut all nodes w =
+      let taken : length (take w.count all) ≡ w.count = length-take-le w.count all w.within in
+      let count : w.count ≡ l.solutions = omega (arith, taken, w.took.counted) in
+      record {
+        text = subst (λ n. Puts (first_lines n all) (memory l.before l.after) l.written false) count
+            (puts (take w.count all) (first_lines w.count all) w.took.held w.took.free w.took.fits);
+        room = λ enough full. absurd (omega arith);
+        ended = inr (inr (refl, at_most_min l.solutions l.most (length all) (omega (arith, l.few, w.took.same_most)) (omega (arith, count, w.within))));
+      }
 
 -- the least length is that of the first solution that came
 first_is : (ps : List (List Turn)) → first_of None ps ≡ option_map (length {A = Turn}) (slice_get ps 0)
 first_is [] = refl
 first_is (p ∷ ps) = refl
 
-capped_le : (a b : ℕ) → a ≤ b → capped a ≤ capped b
+first_front : (n : ℕ) (ps : List (List Turn)) → 0 < n → first_of None (take n ps) ≡ first_of None ps
+first_front zero ps h = absurd (omega arith)
+first_front (suc n) [] h = refl
+first_front (suc n) (p ∷ ps) h = refl
+
+first_none : (n : ℕ) (ps : List (List Turn)) → n ≡ 0 → first_of None (take n ps) ≡ None
+first_none n ps h = ap (λ m. first_of None (take m ps)) h ∙ nothing ps
+  where
+    nothing : (ps : List (List Turn)) → first_of None (take 0 ps) ≡ None
+    nothing [] = refl
+    nothing (p ∷ ps) = refl
+
+pub capped_le : (a b : ℕ) → a ≤ b → capped a ≤ capped b
 capped_le a b h = grind (arith, common_steps, h)
 
+-- what a search tells of what it found, by how many solutions came and how it ended
+module _ (step : Step) (w : Wanted) (e : Place → Place) (least : FirstIsLeast) (first : Option ℕ) (written solutions looks : ℕ)
+    (at_most : looks ≤ looks_for_all step w e) (within : capped looks ≤ w.most_nodes) where
+  abbrev all : List (List Turn)
+  all = all_found step w e
+
+  least_is : first ≡ first_of None all → unwrap_or first 0 ≡ unwrap_or (least_length_of step e w.limit) 0
+  least_is h = ap (λ o. unwrap_or o 0) (h ∙ first_is all ∙ sym (least.0 _ (cubes step) e w.limit w.slack))
+
+  pub finds_all : (too_small : Bool) → too_small ≡ false → solutions ≡ length all → first ≡ first_of None all → looks ≡ looks_for_all step w e
+      → FindsOf step w e (told_of false too_small false first written solutions (capped looks))
+  finds_all too_small works count f looked = record {
+    more = λ n. is_not_less solutions (length all) (omega (arith, count));
+    maybe_more = λ c. absurd (no_cut too_small c);
+    least = λ n. least_is f;
+    least_of_some = λ s. least_is f;
+    least_of_none = λ c n. absurd (no_cut too_small c);
+    looked = λ done. ap capped looked;
+    looks_at_most = capped_le looks (looks_for_all step w e) at_most;
+    within = within;
+    cut = λ c. absurd (no_cut too_small c);
+    no_fault = refl;
+    no_column = refl;
+  }
+
+  pub finds_some : (too_small : Bool) → solutions < length all → first ≡ first_of None all
+      → FindsOf step w e (told_of false too_small true first written solutions (capped looks))
+  finds_some too_small count f = record {
+    more = λ n. is_less solutions (length all) count;
+    maybe_more = λ c. refl;
+    least = λ n. least_is f;
+    least_of_some = λ s. least_is f;
+    least_of_none = λ c n. absurd (no_cut too_small c);
+    looked = λ done. absurd (cc done);
+    looks_at_most = capped_le looks (looks_for_all step w e) at_most;
+    within = within;
+    cut = λ c. absurd (no_cut too_small c);
+    no_fault = refl;
+    no_column = refl;
+  }
+
+  pub finds_cut : (too_small : Bool) → (count : ℕ) → solutions ≡ count → first ≡ first_of None (take count all) → w.most_nodes < looks_for_all step w e
+      → FindsOf step w e (told_of true too_small true first written solutions (capped looks))
+  finds_cut too_small count is f cut = record {
+    more = λ n. absurd (n refl);
+    maybe_more = λ c. refl;
+    least = λ n. absurd (n refl);
+    least_of_some = λ s. least_is (f ∙ first_front count all (omega (arith, s, is)));
+    least_of_none = λ c n. ap (λ o. unwrap_or o 0) (f ∙ first_none count all (omega (arith, n, is)));
+    looked = λ done. absurd (cc done);
+    looks_at_most = capped_le looks (looks_for_all step w e) at_most;
+    within = within;
+    cut = λ c. cut;
+    no_fault = refl;
+    no_column = refl;
+  }
+
+abbrev pub Found : Type 0
+Found = Result Outcome (Ending Refused)
+
 -- a search from a cube, by what it did to its lines
-module _ (step : Step) (n slack : ℕ) (e : Place → Place) (a b : SolutionLines) (r : Result Outcome Refused)
-    (ok : OnOk r (WentThrough TakesPath a (near_solutions_of step e n slack) b))
-    (err : OnErr r (StoppedIn TakesPath RefusesPath a (near_solutions_of step e n slack) b)) where
+module _ (step : Step) (w : Wanted) (e : Place → Place) (a b : SolutionLines) (r : Found)
+    (ok : OnOk r (WentThrough TakesPath a (all_found step w e) b))
+    (err : IfErr r (λ stop. EndedIn TakesPath RefusesPath (is_cut_in stop) a (all_found step w e) b)) where
   pub same_memory : b.bytes.ghost_name ≡ a.bytes.ghost_name
   same_memory = by_result r ok err where
-    by_result : (r : Result Outcome Refused) → OnOk r (WentThrough TakesPath a (near_solutions_of step e n slack) b)
-        → OnErr r (StoppedIn TakesPath RefusesPath a (near_solutions_of step e n slack) b) → b.bytes.ghost_name ≡ a.bytes.ghost_name
-    by_result (Ok o) h k = (went (near_solutions_of step e n slack) a b h).same_reference
-    by_result (Err x) h k =
-        let s = stop (near_solutions_of step e n slack) a b k in
+    by_result : (r : Found) → OnOk r (WentThrough TakesPath a (all_found step w e) b)
+        → IfErr r (λ stop. EndedIn TakesPath RefusesPath (is_cut_in stop) a (all_found step w e) b) → b.bytes.ghost_name ≡ a.bytes.ghost_name
+    by_result (Ok o) h k = (went (all_found step w e) a b h).same_reference
+    by_result (Err (ending.Refused x)) h k =
+        let s = stop (all_found step w e) a b k in
         s.refused.same_reference ∙ s.took.same_reference
+    by_result (Err ending.Cut) h k = (into (all_found step w e) a b k).took.same_reference
 
-  pub solves : (l : Lines) {looks : ℕ} (looks_now : ℕ) → state_of a ≡ begun l → state_of b ≡ ended l → FirstIsLeast → looks ≡ 0
-      → OnOk r (looks_now ≡ looks + near_looks_of step e n slack) → looks_now ≤ looks + near_looks_of step e n slack
-      → SolvesCube step n slack l.most e (memory l.before l.after) (solve_answer l (is_err r) (capped looks_now))
-  solves l {looks} looks_now p q least none looked at_most = by_result r ok err looked where
+  pub solves : (l : Lines) (looks : ℕ) → l.most ≡ w.most → state_of a ≡ begun l → state_of b ≡ ended l → FirstIsLeast
+      → OnOk r (looks ≡ looks_for_all step w e) → looks ≤ looks_for_all step w e → capped looks ≤ w.most_nodes
+      → IfErr r (λ stop. is_cut_in stop ≡ true → w.most_nodes < looks_for_all step w e)
+      → SolvesCube step w e (memory l.before l.after) (solve_answer l (is_cut r) (is_err r) (capped looks))
+  solves l looks most p q least looked at_most within cut = by_result r ok err looked cut where
     all : List (List Turn)
-    all = near_solutions_of step e n slack
+    all = all_found step w e
 
-    least_is : l.first ≡ first_of None all → unwrap_or l.first 0 ≡ unwrap_or (least_length_of step e n) 0
-    least_is h = ap (λ o. unwrap_or o 0) (h ∙ first_is all ∙ sym (least.0 _ (cubes step) e n slack))
-
-    by_result : (r : Result Outcome Refused) → OnOk r (WentThrough TakesPath a all b) → OnErr r (StoppedIn TakesPath RefusesPath a all b)
-        → OnOk r (looks_now ≡ looks + near_looks_of step e n slack)
-        → SolvesCube step n slack l.most e (memory l.before l.after) (solve_answer l (is_err r) (capped looks_now))
-    by_result (Ok o) h k looked =
-        let w : Took all (begun l) (ended l) = subst (λ s. Took all s (ended l)) p (subst (λ s. Took all (state_of a) s) q (went all a b h)) in
+    by_result : (r : Found) → OnOk r (WentThrough TakesPath a all b) → IfErr r (λ stop. EndedIn TakesPath RefusesPath (is_cut_in stop) a all b)
+        → OnOk r (looks ≡ looks_for_all step w e) → IfErr r (λ stop. is_cut_in stop ≡ true → w.most_nodes < looks_for_all step w e)
+        → SolvesCube step w e (memory l.before l.after) (solve_answer l (is_cut r) (is_err r) (capped looks))
+    by_result (Ok o) h k looked cut =
+        let t : Took all (begun l) (ended l) = subst (λ s. Took all s (ended l)) p (subst (λ s. Took all (state_of a) s) q (went all a b h)) in
         record {
-          hands = hands_all l all (capped looks_now) w;
-          least = least_is w.first;
-          looked = λ done. ap capped {x = looks_now} {y = near_looks_of step e n slack} (omega (arith, looked, none));
-          looks_at_most = capped_le looks_now (near_looks_of step e n slack) (omega (arith, at_most, none));
-          no_fault = refl;
-          no_column = refl;
+          hands = subst (λ m. Hands all m (memory l.before l.after) (solve_answer l false false (capped looks))) most (hands_all l all (capped looks) t);
+          finds = finds_all step w e least l.first l.written l.solutions looks at_most within l.too_small t.same_room (omega (arith, t.counted)) t.first looked;
         }
-    by_result (Err x) h k looked =
+    by_result (Err (ending.Refused x)) h k looked cut =
         let s : Stopped all (begun l) (ended l) = subst (λ s. Stopped all s (ended l)) p (subst (λ s. Stopped all (state_of a) s) q (stop all a b k)) in
+        let taken : length (take s.count all) ≡ s.count = length-take-le s.count all (omega (arith, s.within)) in
         record {
-          hands = hands_some l all (capped looks_now) s;
-          least = least_is s.first;
-          looked = λ done. absurd (cc done);
-          looks_at_most = capped_le looks_now (near_looks_of step e n slack) (omega (arith, at_most, none));
-          no_fault = refl;
-          no_column = refl;
+          hands = subst (λ m. Hands all m (memory l.before l.after) (solve_answer l false true (capped looks))) most (hands_some l all (capped looks) s);
+          finds = finds_some step w e least l.first l.written l.solutions looks at_most within l.too_small
+              (omega (arith, taken, s.took.counted, s.refused.same_count, s.within)) s.first;
+        }
+    by_result (Err ending.Cut) h k looked cut =
+        let t : Into all (begun l) (ended l) = subst (λ s. Into all s (ended l)) p (subst (λ s. Into all (state_of a) s) q (into all a b k)) in
+        let taken : length (take t.count all) ≡ t.count = length-take-le t.count all t.within in
+        record {
+          hands = subst (λ m. Hands all m (memory l.before l.after) (solve_answer l true true (capped looks))) most (hands_cut l all (capped looks) t);
+          finds = finds_cut step w e least l.first l.written l.solutions looks at_most within l.too_small t.count
+              (omega (arith, taken, t.took.counted)) t.took.first (cut refl);
         }

@@ -3,3 +3,5 @@ pub mod Memory
 pub mod Run
 pub mod LineCalls
 pub mod LineSearch
+pub mod LineFacts
+pub mod ManyLines

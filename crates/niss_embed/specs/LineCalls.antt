@@ -25,6 +25,7 @@ status_number status.Fault = 1
 status_number status.Usage = 2
 status_number status.Stopped = 3
 status_number status.NoRoom = 4
+status_number status.Cut = 5
 
 -- how a call that writes a short text can end
 pub data Outcome : Type 0 where

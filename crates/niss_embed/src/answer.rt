@@ -1,12 +1,10 @@
-//! What calls return, in numbers, since C and pages know no enums.
+//! What calls return that write text, in numbers, since C and pages know no enums.
 ghost use Rattle.std.specs.Prelude.{◌≡◌, ◌≤◌, length};
 ghost use Rattle.niss_embed.specs.LineCalls.{status_number, fault_number, plain_answer, answer_for};
 ghost use Rattle.niss_embed.specs.LineCalls.{Does, Unread, TooLong, Misused, outcome_of_text};
-ghost use Rattle.niss_embed.specs.LineSearch.{number_of_fault, column_of_fault, unsolved, uncounted};
-ghost use Rattle.niss_embed.specs.declared.answer.Status.TheVariants.{Done, Fault, Usage, Stopped};
+ghost use Rattle.niss_embed.specs.declared.answer.Status.TheVariants.{Done};
 
 use niss_moves::ReadFault;
-use niss_shell::LineFault;
 
 /// How a call ended. The first four numbers are those of the program's exit statuses.
 #[derive(Clone, Copy, Debug, PartialEq, Eq)]
@@ -21,6 +19,8 @@ pub enum Status {
     Stopped,
     /// 4: the text, or the next solution, has no room.
     NoRoom,
+    /// 5: the search would look at more positions than it may.
+    Cut,
 }
 
 impl Status {
@@ -34,6 +34,7 @@ impl Status {
             Status::Usage => 2,
             Status::Stopped => 3,
             Status::NoRoom => 4,
+            Status::Cut => 5,
         }
     }
 }
@@ -59,57 +60,17 @@ pub struct Answer {
 #[derive(Clone, Copy, Debug, PartialEq, Eq)]
 pub struct LineAnswer {
     /// The number of a `Status`.
-    pub status: u16,
+    pub status: u8,
     /// What is wrong with the line, 1 to 5 in the order of `ReadFault`; 0 if nothing is.
-    pub fault: u16,
+    pub fault: u8,
     /// The column of the fault in bytes, from 1; 0 if there is none.
     pub column: u32,
     /// The bytes of the text, written or not; 0 if there is none.
     pub length: usize,
 }
 
-/// What a search on one line returns that hands its solutions out.
-#[repr(C)]
-#[derive(Clone, Copy, Debug, PartialEq, Eq)]
-pub struct SolveAnswer {
-    /// The number of a `Status`.
-    pub status: u8,
-    /// What is wrong with the line, 1 to 5 in the order of `ReadFault`; 6 if the step may not start there; else 0.
-    pub fault: u8,
-    /// The least length of a solution, or 0 if there is none.
-    pub least: u8,
-    /// There are more solutions than were handed out.
-    pub more: bool,
-    /// The column of the fault in bytes, from 1; 0 if it has none.
-    pub column: u32,
-    /// How many bytes were written, from the beginning of the memory.
-    pub out_length: usize,
-    /// How many solutions were written.
-    pub solutions: u64,
-    /// How often the search looked at a position, or 2^64 - 1 if more often.
-    pub looks: u64,
-}
-
-/// What a search on one line returns that counts its solutions.
-#[repr(C)]
-#[derive(Clone, Copy, Debug, PartialEq, Eq)]
-pub struct CountAnswer {
-    /// The number of a `Status`, but never that of `NoRoom`.
-    pub status: u8,
-    /// As in `SolveAnswer`.
-    pub fault: u8,
-    /// The least length of a solution, or 0 if there is none.
-    pub least: u8,
-    /// As in `SolveAnswer`.
-    pub column: u32,
-    /// How many solutions there are, or 2^64 - 1 if there are more.
-    pub solutions: u64,
-    /// As in `SolveAnswer`.
-    pub looks: u64,
-}
-
 /// The number of a fault in reading moves.
-fn fault_number(fault: ReadFault) -> u8
+pub(crate) fn fault_number(fault: ReadFault) -> u8
     ensures { result ≡ fault_number fault }
 {
     match fault {
@@ -121,24 +82,13 @@ fn fault_number(fault: ReadFault) -> u8
     }
 }
 
-/// The number of a line's fault, and its column, or 0 if it has none.
-fn number_and_column(fault: LineFault) -> (u8, u32)
-    ensures number { result.0 ≡ number_of_fault fault }
-    ensures column { result.1 ≡ column_of_fault fault }
-{
-    match fault {
-        LineFault::Unread(fault) => (fault_number(fault), fault.column()),
-        LineFault::NoStart(_) => (6, 0),
-    }
-}
-
 impl LineAnswer {
     /// The answer of a call that tells of no fault.
     fn plain(status: Status, length: usize) -> LineAnswer
         ensures { result ≡ plain_answer status length }
     {
         LineAnswer {
-            status: status.number() as u16,
+            status: status.number(),
             fault: 0,
             column: 0,
             length,
@@ -150,8 +100,8 @@ impl LineAnswer {
         ensures { result ≡ answer_for (Unread fault) }
     {
         LineAnswer {
-            status: Status::Fault.number() as u16,
-            fault: fault_number(fault) as u16,
+            status: Status::Fault.number(),
+            fault: fault_number(fault),
             column: fault.column(),
             length: 0,
         }
@@ -182,83 +132,5 @@ impl LineAnswer {
         }
         out[..length].copy_from_slice(text);
         LineAnswer::plain(Status::Done, length)
-    }
-}
-
-impl SolveAnswer {
-    /// An answer that tells of no search.
-    fn unsolved(status: Status, fault: u8, column: u32) -> SolveAnswer
-        ensures { result ≡ unsolved status fault column }
-    {
-        SolveAnswer {
-            status: status.number(),
-            fault,
-            least: 0,
-            more: false,
-            column,
-            out_length: 0,
-            solutions: 0,
-            looks: 0,
-        }
-    }
-
-    /// The answer if there is no such search.
-    pub fn misused() -> SolveAnswer
-        ensures { result ≡ unsolved Usage 0 0 }
-    {
-        SolveAnswer::unsolved(Status::Usage, 0, 0)
-    }
-
-    /// The answer to a line of too many bytes.
-    pub(crate) fn too_long() -> SolveAnswer
-        ensures { result ≡ unsolved Stopped 0 0 }
-    {
-        SolveAnswer::unsolved(Status::Stopped, 0, 0)
-    }
-
-    /// The answer to a line with this fault.
-    pub(crate) fn faulty(fault: LineFault) -> SolveAnswer
-        ensures { result ≡ unsolved Fault (number_of_fault fault) (column_of_fault fault) }
-    {
-        let (number, column) = number_and_column(fault);
-        SolveAnswer::unsolved(Status::Fault, number, column)
-    }
-}
-
-impl CountAnswer {
-    /// An answer that tells of no search.
-    fn uncounted(status: Status, fault: u8, column: u32) -> CountAnswer
-        ensures { result ≡ uncounted status fault column }
-    {
-        CountAnswer {
-            status: status.number(),
-            fault,
-            least: 0,
-            column,
-            solutions: 0,
-            looks: 0,
-        }
-    }
-
-    /// The answer if there is no such search.
-    pub fn misused() -> CountAnswer
-        ensures { result ≡ uncounted Usage 0 0 }
-    {
-        CountAnswer::uncounted(Status::Usage, 0, 0)
-    }
-
-    /// The answer to a line of too many bytes.
-    pub(crate) fn too_long() -> CountAnswer
-        ensures { result ≡ uncounted Stopped 0 0 }
-    {
-        CountAnswer::uncounted(Status::Stopped, 0, 0)
-    }
-
-    /// The answer to a line with this fault.
-    pub(crate) fn faulty(fault: LineFault) -> CountAnswer
-        ensures { result ≡ uncounted Fault (number_of_fault fault) (column_of_fault fault) }
-    {
-        let (number, column) = number_and_column(fault);
-        CountAnswer::uncounted(Status::Fault, number, column)
     }
 }

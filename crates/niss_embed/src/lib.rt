@@ -12,21 +12,30 @@
 //! // `answer.status` is 0, and `out[..answer.out_length]` is `F2 U R'` and a line feed
 //! ```
 //!
-//! `solve_line` and `count_line` search for one line by tables that the caller keeps, and take no memory:
+//! `solve_line` and `count_line` search for one line by tables that the caller keeps, and take no memory;
+//! `facts_of_line` and `check_line` need no tables, and `count_lines` and `facts_of_lines` answer each line of a text:
 //!
 //! ```
-//! let wanted = Wanted { limit: 20, slack: 0, most: 10 };
+//! let wanted = Wanted { limit: 20, slack: 0, most: 10, most_nodes: 1_000_000 };
 //! let answer = solve_line(&tables, b"R U' F2", wanted, &mut out);
 //! ```
 #![tactic(auto)]
 
 mod answer;
 mod call;
+mod fact_answers;
+mod line_facts;
 mod line_search;
 mod line_texts;
+mod many_lines;
 mod memory;
+mod search_answer;
 
-pub use answer::{Answer, CountAnswer, LineAnswer, SolveAnswer, Status};
+pub use answer::{Answer, LineAnswer, Status};
 pub use call::run_bytes;
+pub use fact_answers::{AxisFacts, CheckAnswer, FactsAnswer, LinesAnswer};
+pub use line_facts::{check_line, facts_of_line};
 pub use line_search::{Wanted, count_line, solve_line};
 pub use line_texts::{fault_text, rewrite_line, scramble, start_name, step_names};
+pub use many_lines::{count_lines, facts_of_lines};
+pub use search_answer::SearchAnswer;

@@ -1,24 +1,29 @@
 //! A search on one line, by tables that the caller keeps.
-ghost use Rattle.std.specs.Prelude.{◌≡◌, ◌⊎◌, ◌≤◌, ◌<◌, if◌then◌else◌, Ok, Err, None, false, MatchOption, MatchResult};
-ghost use Rattle.std.specs.Prelude.{length};
+ghost use Rattle.std.specs.Prelude.{◌≡◌, ◌⊎◌, ◌≤◌, ◌<◌, if◌then◌else◌, Ok, Err, None, false, true, MatchOption, MatchResult};
+ghost use Rattle.std.specs.Prelude.{length, OnOk, IfErr};
 ghost use Rattle.niss_moves.specs.Places.{Place};
 ghost use Rattle.niss_moves.specs.Reader.{read_line};
-ghost use Rattle.niss_search.specs.Cubes.{IsPosition, HasPosition};
+ghost use Rattle.niss_search.specs.Budgets.{is_cut_in};
+ghost use Rattle.niss_search.specs.Cubes.{IsPosition, HasPosition, near_solutions_of, near_looks_of};
+ghost use Rattle.niss_search.specs.Delivery.{WentThrough, EndedIn, at_limit};
 ghost use Rattle.niss_shell.specs.Output.{solution_line, start_cube};
 ghost use Rattle.niss_shell.specs.Words.{most_bytes, most_limit};
 ghost use Rattle.niss_embed.specs.Memory.{memory};
 ghost use Rattle.niss_embed.specs.LineCalls.{status_number};
-ghost use Rattle.niss_embed.specs.LineSearch.{most_of_line, lines_state, Takes, Refuses, capped, SolvesCube};
-ghost use Rattle.niss_embed.specs.LineSearch.{SolvesLine, count_at, CountsLine};
-ghost use Rattle.niss_embed.specs.declared.answer.Status.TheVariants.{Done, NoRoom};
+ghost use Rattle.niss_embed.specs.LineSearch.{most_of_line, lines_state, Takes, Refuses, capped, SolvesCube, is_cut};
+ghost use Rattle.niss_embed.specs.LineSearch.{SolvesLine, CountsCube, CountsLine, count_state, Counts, CountsNoMore};
+ghost use Rattle.niss_embed.specs.declared.answer.Status.TheVariants.{Done, NoRoom, Cut};
 
-use crate::answer::{CountAnswer, SolveAnswer, Status};
+use crate::answer::Status;
 use crate::line_texts::feed_line;
 use crate::memory::put;
+use crate::search_answer::SearchAnswer;
 use niss_moves::{LineReader, LineText, Turn};
 use niss_search::laws::first_is_least;
-use niss_search::{Limit, Meter, Position, Sink, Tables, TurnPath, search};
-use niss_shell::{LineFault, MOST_BYTES, count_solutions, set_solution, start_position};
+use niss_search::{
+    Limit, Meter, Outcome, Position, Sink, Stopped, Tables, TurnPath, search, search_within,
+};
+use niss_shell::{LineFault, MOST_BYTES, set_solution, start_position};
 use std::alloc::Allocator;
 
 /// Which solutions are asked for, in numbers that a caller may give in any way.
@@ -28,8 +33,10 @@ pub struct Wanted {
     pub limit: u8,
     /// How many turns more than the least one: 20 or fewer.
     pub slack: u8,
-    /// How many are handed out at most.
+    /// How many are handed out or counted at most.
     pub most: u64,
+    /// At how many positions the search looks at most.
+    pub most_nodes: u64,
 }
 
 /// How far a search goes.
@@ -160,74 +167,177 @@ fn begin<A: Allocator>(tables: &Tables<A>, line: &[u8]) -> Result<Position, Line
     }
 }
 
-/// The status of a search, by whether a solution had no room.
-fn status_of(too_small: bool) -> u8
-    ensures { result ≡ (if too_small then status_number NoRoom else status_number Done) }
+/// Searches as `search_within` of `niss_search`, with as many looks as a number of 64 bits says; the greatest one, which no
+/// search reaches in a lifetime, costs nothing.
+fn search_at_most<K: Sink, A: Allocator>(
+    tables: &Tables<A>,
+    position: &Position,
+    bounds: Bounds,
+    looks: &mut Meter,
+    sink: &mut K,
+    most_nodes: u64,
+) -> Result<Outcome, Stopped<K::Fault>>
+    requires position { IsPosition tables.now position.now }
+    requires meter { looks.old ≡ 0 }
+    ensures ok { (e : Place → Place) → HasPosition tables.now e position.now
+        → OnOk result (WentThrough (at_limit K.took bounds.limit)
+        sink.old (near_solutions_of tables.now e bounds.limit bounds.slack) sink.new) }
+    ensures err { (e : Place → Place) → HasPosition tables.now e position.now
+        → IfErr result (λ stop. EndedIn (at_limit K.took bounds.limit) (at_limit K.refused bounds.limit)
+        (is_cut_in stop) sink.old (near_solutions_of tables.now e bounds.limit bounds.slack) sink.new) }
+    ensures cut { (e : Place → Place) → HasPosition tables.now e position.now
+        → IfErr result (λ stop. is_cut_in stop ≡ true
+        → most_nodes < near_looks_of tables.now e bounds.limit bounds.slack) }
+    ensures looks { (e : Place → Place) → HasPosition tables.now e position.now
+        → OnOk result (looks.new ≡ near_looks_of tables.now e bounds.limit bounds.slack) }
+    ensures looks_at_most { (e : Place → Place) → HasPosition tables.now e position.now
+        → looks.new ≤ near_looks_of tables.now e bounds.limit bounds.slack }
+    ensures within { capped looks.new ≤ most_nodes }
 {
-    if too_small {
+    let mut path = TurnPath::new(bounds.limit);
+    if most_nodes == u64::MAX {
+        let found = search(tables, position, bounds.slack, &mut path, looks, sink);
+        return match found {
+            Ok(outcome) => Ok(outcome),
+            Err(fault) => Err(Stopped::Refused(fault)),
+        };
+    }
+    let most = u128::from(most_nodes);
+    search_within(
+        tables,
+        position,
+        bounds.slack,
+        &mut path,
+        looks,
+        sink,
+        most,
+    )
+}
+
+/// The status of a search, by whether it was cut and whether a solution had no room.
+fn status_of(cut: bool, too_small: bool) -> u8
+    ensures { result ≡ (if cut then status_number Cut
+        else (if too_small then status_number NoRoom else status_number Done)) }
+{
+    if cut {
+        Status::Cut.number()
+    } else if too_small {
         Status::NoRoom.number()
     } else {
         Status::Done.number()
     }
 }
 
-/// Hands out the solutions from a position, at most so many.
+/// Whether a search was cut.
+fn was_cut<F>(found: &Result<Outcome, Stopped<F>>) -> bool
+    ensures { result ≡ is_cut found.now }
+{
+    matches!(found, Err(Stopped::Cut))
+}
+
+/// Hands out the solutions from a position.
 fn solve_position<A: Allocator>(
     tables: &Tables<A>,
     position: &Position,
     bounds: Bounds,
-    most: u64,
+    wanted: Wanted,
     out: &mut [u8],
-) -> SolveAnswer
-    requires { IsPosition tables.now position.now }
+) -> SearchAnswer
+    requires position { IsPosition tables.now position.now }
+    requires limit { bounds.limit ≡ wanted.limit }
+    requires slack { bounds.slack ≡ wanted.slack }
     ensures { (e : Place → Place) → HasPosition tables.now e position.now →
-        SolvesCube tables.now bounds.limit bounds.slack most e (memory out.old out.new) result }
+        SolvesCube tables.now wanted e (memory out.old out.new) result }
 {
     // so the first solution tells the least length, also if the search is stopped
     first_is_least();
-    let mut path = TurnPath::new(bounds.limit);
     let mut looks = Meter::new();
-    let mut lines = SolutionLines::new(out, most);
-    let found = search(
+    let mut lines = SolutionLines::new(out, wanted.most);
+    let found = search_at_most(
         tables,
         position,
-        bounds.slack,
-        &mut path,
+        bounds,
         &mut looks,
         &mut lines,
+        wanted.most_nodes,
     );
-    SolveAnswer {
-        status: status_of(lines.too_small),
+    SearchAnswer {
+        status: status_of(was_cut(&found), lines.too_small),
         fault: 0,
         least: lines.first.unwrap_or(0),
         more: found.is_err(),
         column: 0,
-        out_length: lines.written,
+        length: lines.written,
         solutions: lines.solutions,
-        looks: capped(looks.count()),
+        nodes: capped(looks.count()),
     }
 }
 
 /// Writes the solutions for a line, by tables that the caller keeps: those of at most `limit` turns that are at most
 /// `slack` turns longer than the least, and at most `most` of them, each on a line as `near` and `solve` write it. One
-/// that has no room ends it, and nothing of it is written.
+/// that has no room ends it, and nothing of it is written. Before it would look at more than `most_nodes` positions it
+/// is cut.
 pub fn solve_line<A: Allocator>(
     tables: &Tables<A>,
     line: &[u8],
     wanted: Wanted,
     out: &mut [u8],
-) -> SolveAnswer
-    ensures { SolvesLine tables.now wanted.limit wanted.slack wanted.most line.now (memory out.old out.new) result }
+) -> SearchAnswer
+    ensures { SolvesLine tables.now wanted line.now (memory out.old out.new) result }
 {
     let Some(bounds) = Bounds::new(wanted.limit, wanted.slack) else {
-        return SolveAnswer::misused();
+        return SearchAnswer::misused();
     };
     if line.len() > MOST_BYTES {
-        return SolveAnswer::too_long();
+        return SearchAnswer::too_long();
     }
     match begin(tables, line) {
-        Ok(position) => solve_position(tables, &position, bounds, wanted.most, out),
-        Err(fault) => SolveAnswer::faulty(fault),
+        Ok(position) => solve_position(tables, &position, bounds, wanted, out),
+        Err(fault) => SearchAnswer::faulty(fault),
+    }
+}
+
+/// Solutions that are counted, at most so many.
+#[derive(Drop)]
+struct CountedSolutions {
+    solutions: u64,
+    most: u64,
+    /// How many turns the first solution has that was taken or refused.
+    first: Option<u8>,
+    ghost few: { solutions ≤ most },
+}
+
+impl CountedSolutions {
+    /// No solution yet, and at most so many.
+    fn new(most: u64) -> CountedSolutions
+        ensures none { result.solutions ≡ 0 }
+        ensures most { result.most ≡ most }
+        ensures first { result.first ≡ None }
+    {
+        CountedSolutions {
+            solutions: 0,
+            most,
+            first: None,
+        }
+    }
+}
+
+impl Sink for CountedSolutions {
+    type Fault = Refused;
+
+    ghost took = { λ old path new. Counts path.turns (count_state old.solutions old.most old.first)
+        (count_state new.solutions new.most new.first) };
+
+    ghost refused = { λ old path new. CountsNoMore path.turns (count_state old.solutions old.most old.first)
+        (count_state new.solutions new.most new.first) };
+
+    fn take(&mut self, path: &TurnPath) -> Result<(), Refused> {
+        self.first = self.first.or(Some(path.turns().len() as u8));
+        if self.solutions == self.most {
+            return Err(Refused);
+        }
+        self.solutions += 1;
+        Ok(())
     }
 }
 
@@ -236,40 +346,49 @@ fn count_position<A: Allocator>(
     tables: &Tables<A>,
     position: &Position,
     bounds: Bounds,
-) -> CountAnswer
-    requires { IsPosition tables.now position.now }
+    wanted: Wanted,
+) -> SearchAnswer
+    requires position { IsPosition tables.now position.now }
+    requires limit { bounds.limit ≡ wanted.limit }
+    requires slack { bounds.slack ≡ wanted.slack }
     ensures { (e : Place → Place) → HasPosition tables.now e position.now →
-        result ≡ count_at (Ok e) tables.now bounds.limit bounds.slack }
+        CountsCube tables.now wanted e result }
 {
+    first_is_least();
     let mut looks = Meter::new();
-    let found = count_solutions(tables, position, bounds.limit, bounds.slack, &mut looks);
-    CountAnswer {
-        status: Status::Done.number(),
+    let mut counted = CountedSolutions::new(wanted.most);
+    let found = search_at_most(
+        tables,
+        position,
+        bounds,
+        &mut looks,
+        &mut counted,
+        wanted.most_nodes,
+    );
+    SearchAnswer {
+        status: status_of(was_cut(&found), false),
         fault: 0,
-        least: found.length.unwrap_or(0),
+        least: counted.first.unwrap_or(0),
+        more: found.is_err(),
         column: 0,
-        solutions: capped(found.solutions),
-        looks: capped(looks.count()),
+        length: 0,
+        solutions: counted.solutions,
+        nodes: capped(looks.count()),
     }
 }
 
-/// Counts the solutions for a line that `solve_line` writes if it may write all of them.
-pub fn count_line<A: Allocator>(
-    tables: &Tables<A>,
-    line: &[u8],
-    limit: u8,
-    slack: u8,
-) -> CountAnswer
-    ensures { CountsLine tables.now limit slack line.now result }
+/// Counts the solutions for a line that `solve_line` writes if it has room for all, at most `most` of them.
+pub fn count_line<A: Allocator>(tables: &Tables<A>, line: &[u8], wanted: Wanted) -> SearchAnswer
+    ensures { CountsLine tables.now wanted line.now result }
 {
-    let Some(bounds) = Bounds::new(limit, slack) else {
-        return CountAnswer::misused();
+    let Some(bounds) = Bounds::new(wanted.limit, wanted.slack) else {
+        return SearchAnswer::misused();
     };
     if line.len() > MOST_BYTES {
-        return CountAnswer::too_long();
+        return SearchAnswer::too_long();
     }
     match begin(tables, line) {
-        Ok(position) => count_position(tables, &position, bounds),
-        Err(fault) => CountAnswer::faulty(fault),
+        Ok(position) => count_position(tables, &position, bounds, wanted),
+        Err(fault) => SearchAnswer::faulty(fault),
     }
 }

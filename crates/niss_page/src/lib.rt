@@ -2,6 +2,7 @@
 #![tactic(auto)]
 
 mod arena;
+mod check_calls;
 mod held;
 mod one_block;
 mod room;
@@ -9,11 +10,12 @@ mod run_call;
 mod table_calls;
 mod text_calls;
 
+pub use check_calls::{nissy_check, nissy_facts, nissy_facts_lines};
 pub use held::{Held, Kept};
 pub use room::{Block, Room};
 pub use run_call::nissy_run;
-pub use table_calls::{nissy_build, nissy_count, nissy_solve};
+pub use table_calls::{nissy_build, nissy_count, nissy_count_lines, nissy_solve};
 pub use text_calls::{
-    nissy_cleanup, nissy_fault_text, nissy_invert, nissy_print, nissy_scramble, nissy_start,
+    nissy_cleanup, nissy_facelets, nissy_fault_text, nissy_invert, nissy_scramble, nissy_start,
     nissy_steps, nissy_unniss,
 };

@@ -1,0 +1,33 @@
+//! The calls that judge lines without a search: by what solvers choose among them, and whether a solution solves a
+//! scramble.
+ghost use Rattle.std.specs.Prelude.{◌≡◌};
+ghost use Rattle.niss_embed.specs.LineFacts.{facts_of, check_of};
+ghost use Rattle.niss_embed.specs.ManyLines.{AnswersLines, TellsFacts};
+
+use niss_embed::{
+    CheckAnswer, FactsAnswer, LinesAnswer, check_line, facts_of_line, facts_of_lines,
+};
+
+/// Tells what is seen of the cube of a line, as `facts_of_line` of `niss_embed`.
+#[unsafe(no_mangle)]
+pub extern "C" fn nissy_facts(line: &[u8]) -> FactsAnswer
+    ensures { result ≡ facts_of line.now }
+{
+    facts_of_line(line)
+}
+
+/// Tells the same of each line of a text, as long as there is room.
+#[unsafe(no_mangle)]
+pub extern "C" fn nissy_facts_lines(text: &[u8], answers: &mut [FactsAnswer]) -> LinesAnswer
+    ensures { AnswersLines TellsFacts text.now answers.old answers.new result }
+{
+    facts_of_lines(text, answers)
+}
+
+/// Tells whether a solution solves a scramble, however the cube is held then, and how many moves it counts.
+#[unsafe(no_mangle)]
+pub extern "C" fn nissy_check(scramble: &[u8], solution: &[u8]) -> CheckAnswer
+    ensures { result ≡ check_of scramble.now solution.now }
+{
+    check_line(scramble, solution)
+}
