@@ -7,9 +7,7 @@ ghost use Rattle.niss_embed.specs.ManyLines.{CountsLinesWith};
 
 use niss_cube::Step;
 use niss_cube::laws::names_differ;
-use niss_embed::{
-    LinesAnswer, SearchAnswer, Status, Wanted, count_line, count_lines, solve_line,
-};
+use niss_embed::{LinesAnswer, SearchAnswer, Status, Wanted, count_line, count_lines, solve_line};
 use niss_kept::Held;
 use std::alloc::Global;
 

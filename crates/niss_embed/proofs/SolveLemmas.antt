@@ -1,28 +1,21 @@
 -- From what a search did to its lines in memory to what it answers.
 use Rattle.std.proofs.Common.{◌≡◌, ◌⊎◌, inl, inr, ℕ, zero, suc, ◌+◌, ◌<◌, ◌≤◌, min, Bool, true, false, cond, Option, Some, None, Result, Ok, Err, List, [], ◌∷◌, ◌++◌}
 use Rattle.std.proofs.Common.{take, drop, length, length-append, append_assoc, append-nil, refl, sym, ap, ◌∙◌, subst, arith, unwrap_or}
-use Rattle.std.specs.Prelude.{◌*◌, ◌==◌, if◌then◌else◌, codes, decimal, nat_lt, flat_map, is_err, option_map, slice_get, OnOk, OnErr}
+use Rattle.std.specs.Prelude.{◌*◌, nat_lt, flat_map, is_err, option_map, slice_get, OnOk}
 use Rattle.std.specs.Option.{option_or}
 use Rattle.std.proofs.Common.{◌-◌}
 use Rattle.std.proofs.lemmas.List.{take_all, drop-drop, length-drop, length-take-le}
-use Rattle.std.proofs.lemmas.Fmt.{length-decimal-le}
 use Rattle.std.proofs.lemmas.Grind.{common_steps}
-use Rattle.niss_moves.specs.Facelets.{face_letter}
-use Rattle.niss_moves.specs.Text.{power_bytes, gap_after, gap, with_words}
-use Rattle.niss_moves.specs.Text.{turn_words}
-use Rattle.niss_moves.specs.declared.turn.Power.{Power}
-use Rattle.niss_moves.specs.declared.turn.Power.TheVariants.{Quarter, Half, Counter}
-use Rattle.niss_shell.specs.Lines.{line_feed, space}
 use Rattle.niss_moves.specs.Places.{Place}
 use Rattle.niss_search.specs.Delivery.{WentThrough, StoppedIn, WentInto, EndedIn}
 use Rattle.niss_search.specs.Budgets.{is_cut_in}
 use Rattle.niss_search.specs.declared.budget.Stopped.{Stopped as Ending}
 use Rattle.niss_search.specs.declared.budget.Stopped.TheVariants as ending
 use Rattle.niss_search.specs.Laws.{FirstIsLeast}
-use Rattle.niss_search.specs.Cubes.{near_solutions_of, near_looks_of, least_length_of, cubes}
+use Rattle.niss_search.specs.Cubes.{least_length_of, cubes}
 use Rattle.niss_search.specs.declared.searching.Outcome.{Outcome}
 use Rattle.niss_shell.specs.Names.{Turn, Step}
-use Rattle.niss_shell.specs.Output.{turns_text, solution_line}
+use Rattle.niss_shell.specs.Output.{solution_line}
 use Rattle.niss_embed.specs.declared.line_search.SolutionLines.{SolutionLines}
 use Rattle.niss_embed.specs.declared.line_search.Refused.{Refused}
 use Rattle.niss_embed.specs.declared.line_search.Wanted.{Wanted}
@@ -30,7 +23,7 @@ use Rattle.niss_embed.specs.declared.search_answer.SearchAnswer.{SearchAnswer}
 use Rattle.niss_embed.specs.Memory.{memory, Puts}
 use Rattle.niss_embed.specs.LineSearch.{LinesState, lines_state, Takes, Refuses, most_of_line, Hands, Ended, SolvesCube, FindsOf, first_lines, capped, is_cut}
 use Rattle.niss_embed.specs.LineSearch.{all_found, looks_for_all}
-use Rattle.std.specs.Prelude.{◌≢◌, IfErr}
+use Rattle.std.specs.Prelude.{IfErr}
 use Rattle.niss_embed.proofs.TargetLemmas.{puts_whole, no_front, all_left}
 
 -- how many turns the first of some solutions has, if none came before or one did
@@ -42,46 +35,6 @@ pub first_of-more : (o : Option ℕ) (p : List Turn) (ps : List (List Turn)) →
 first_of-more o p [] = refl
 first_of-more None p (q ∷ qs) = refl
 first_of-more (Some k) p (q ∷ qs) = refl
-
--- how long a line of a solution is
-
-short_gap : (b : Option ℕ) → length (gap_after b) ≤ 1
-short_gap None = omega arith
-short_gap (Some b) = by_test (b == 40) where
-  by_test : (t : Bool) → length {A = ℕ} (if t then [] else 32 ∷ []) ≤ 1
-  by_test true = omega arith
-  by_test false = omega arith
-
-short_power : (p : Power) → length (power_bytes p) ≤ 1
-short_power Quarter = omega arith
-short_power Half = omega arith
-short_power Counter = omega arith
-
-short_words : (text : List ℕ) (turns : List Turn) → length (with_words text (turn_words turns)) ≤ length text + 3 * length turns
-short_words text [] = omega arith
-short_words text (t ∷ ts) =
-    let w : List ℕ = face_letter t.face ∷ power_bytes t.power in
-    let spaced = length-append text (gap text) in
-    let whole = length-append (text ++ gap text) w in
-    omega (arith, spaced, whole, short_gap (slice_get text (length text - 1)), short_power t.power, short_words (text ++ gap text ++ w) ts)
-
-short_turns : (turns : List Turn) → length (turns_text turns) ≤ 3 * length turns
-short_turns [] = omega arith
-short_turns (t ∷ ts) =
-    let first : List ℕ = face_letter t.face ∷ power_bytes t.power in
-    let whole = length-append (with_words first (turn_words ts)) (space ∷ []) in
-    omega (arith, whole, short_power t.power, short_words first ts)
-
-pub short_line : (turns : List Turn) → length turns ≤ 20 → length (solution_line turns) ≤ most_of_line
-short_line turns h =
-    let moves = turns_text turns in
-    let number = decimal (length turns) in
-    let open_bracket = length-append moves (codes "(") in
-    let counted = length-append (moves ++ codes "(") number in
-    let bracket = length-append (moves ++ codes "(" ++ number) (codes ")") in
-    let whole = length-append (moves ++ codes "(" ++ number ++ codes ")") (line_feed ∷ []) in
-    let digits : length number ≤ 2 = length-decimal-le 2 (length turns) (omega arith) (omega (arith, h)) (omega (arith, h)) in
-    omega (arith, open_bracket, counted, bracket, whole, digits, short_turns turns, h)
 
 -- Some solutions were written one after another.
 record Took (ps : List (List Turn)) (old new : LinesState) : Type 0 where

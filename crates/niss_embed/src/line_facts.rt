@@ -106,8 +106,7 @@ fn is_small_letter(byte: u8) -> bool
     ensures { result ≡ is_small_letter byte }
 {
     byte == b'u'
-        || (byte == b'd'
-            || (byte == b'r' || (byte == b'l' || (byte == b'f' || byte == b'b'))))
+        || (byte == b'd' || (byte == b'r' || (byte == b'l' || (byte == b'f' || byte == b'b'))))
 }
 
 /// Whether an apostrophe is first.

@@ -60,7 +60,7 @@ impl Bounds {
 }
 
 /// The line of a solution isn't longer than that of 20 turns.
-#[tactic(auto, using(crate::proofs::SolveLemmas::short_line))]
+#[tactic(auto, using(crate::proofs::LineLengths::short_line))]
 fn line_is_short(turns: &[Turn])
     requires { length turns.now ≤ 20 }
     ensures { length (solution_line turns.now) ≤ most_of_line }
@@ -203,15 +203,7 @@ fn search_at_most<K: Sink, A: Allocator>(
         };
     }
     let most = u128::from(most_nodes);
-    search_within(
-        tables,
-        position,
-        bounds.slack,
-        &mut path,
-        looks,
-        sink,
-        most,
-    )
+    search_within(tables, position, bounds.slack, &mut path, looks, sink, most)
 }
 
 /// The status of a search, by whether it was cut and whether a solution had no room.

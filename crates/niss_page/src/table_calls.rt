@@ -9,9 +9,7 @@ ghost use Rattle.niss_embed.specs.ManyLines.{CountsLinesWith};
 use crate::held::Held;
 use crate::room::Room;
 use niss_cube::Step;
-use niss_embed::{
-    LinesAnswer, SearchAnswer, Status, Wanted, count_line, count_lines, solve_line,
-};
+use niss_embed::{LinesAnswer, SearchAnswer, Status, Wanted, count_line, count_lines, solve_line};
 use std::mem::replace;
 
 /// Builds the tables of the step of this name in two rooms, the small one of 256 bytes. `Done`: there are tables of

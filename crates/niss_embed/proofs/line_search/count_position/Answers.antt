@@ -1,4 +1,4 @@
-use Rattle.std.proofs.Common.{false, ◌≡◌, ◌<◌, ◌≤◌, refl, cond, sym, true, ap, ◌∙◌, subst, Bool, ℕ}
+use Rattle.std.proofs.Common.{false, ◌≡◌, ◌<◌, ◌≤◌, cond, sym, true, ap, ◌∙◌, subst, Bool, ℕ}
 use Rattle.std.specs.Prelude.{OnOk, IfErr, is_err}
 use Rattle.niss_search.specs.Budgets.{is_cut_in}
 use Rattle.niss_search.specs.Cubes.{near_solutions_of, near_looks_of}

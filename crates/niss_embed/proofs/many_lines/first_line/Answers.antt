@@ -18,10 +18,10 @@ returns-in-Some c =
       omega (arith, ap length rest, length-drop (at + 1) text, c.in-Some.ensures.0),
       rest ∙ ap (λ k. drop k text) (left (ap length rest)),
     )
-    where
-      left : length (take (length c.args.text.now - (c.in-Some.at + 1)) (drop (c.in-Some.at + 1) c.args.text.now)) ≡ length (drop (c.in-Some.at + 1) c.args.text.now) →
-          c.in-Some.at + 1 ≡ length c.args.text.now - length (take (length c.args.text.now - (c.in-Some.at + 1)) (drop (c.in-Some.at + 1) c.args.text.now))
-      left same = omega (arith, same, length-drop (c.in-Some.at + 1) c.args.text.now, c.in-Some.ensures.0)
+  where
+    left : length (take (length c.args.text.now - (c.in-Some.at + 1)) (drop (c.in-Some.at + 1) c.args.text.now)) ≡ length (drop (c.in-Some.at + 1) c.args.text.now) →
+        c.in-Some.at + 1 ≡ length c.args.text.now - length (take (length c.args.text.now - (c.in-Some.at + 1)) (drop (c.in-Some.at + 1) c.args.text.now))
+    left same = omega (arith, same, length-drop (c.in-Some.at + 1) c.args.text.now, c.in-Some.ensures.0)
 
 not_none : (n : ℕ) → (n == 0) ≡ false → 0 < n
 not_none n e = elim (eqb_tells n 0) [ inl w ↦ absurd (let both : true ≡ false = sym w.0 ∙ e in cc) | inr w ↦ grind (arith, w.1) ]
