@@ -36,7 +36,7 @@ const WRITES: &[Writes] = &[
         pieces: &[b"F2 U R'\n"],
     },
     Writes {
-        given: Words(&["solve", "eofb", "5", "F B"]),
+        given: Words(&["solve", "eofb", "5", "F", "B"]),
         most_read: 1,
         pieces: &[
             b"F B (2)\n",
