@@ -43,15 +43,15 @@ if missing qemu-aarch64 || missing $cross-gcc; then left_out "qemu-user or gcc-$
 
 # what the program and the library are
 is_for_arm() { readelf -hW "$1" | grep -q 'Machine: *AArch64'; }
-for file in nissy libnissy.so.1; do holds "$file is for ARM" is_for_arm "$folder/$file"; done
+for file in nissy libnissy.so.2; do holds "$file is for ARM" is_for_arm "$folder/$file"; done
 needed() { $cross-objdump -p "$1" | awk '$1 == "NEEDED" && $2 !~ /^ld-linux-/ { print $2 }'; }
-for file in nissy libnissy.so.1; do holds "$file needs the C library alone" test "$(needed "$folder/$file")" = libc.so.6; done
+for file in nissy libnissy.so.2; do holds "$file needs the C library alone" test "$(needed "$folder/$file")" = libc.so.6; done
 newest() { $cross-objdump -T "$1" | grep -oE 'GLIBC_[0-9.]+' | sort -Vu | tail -n 1; }
-holds "the library needs its version 2.17" test "$(newest "$folder/libnissy.so.1")" = GLIBC_2.17
+holds "the library needs its version 2.17" test "$(newest "$folder/libnissy.so.2")" = GLIBC_2.17
 holds "the program 2.34" test "$(newest "$folder/nissy")" = GLIBC_2.34
 exported() { $cross-nm "$@" | awk '$2 ~ /[A-Z]/ && $2 != "U" && $2 != "w" { print $3 }' | sort; }
 declared() { grep -oE '\bnissy_[a-z_]+\(' include/nissy.h | tr -d '(' | sort -u; }
-holds "the shared object exports what the header declares" test "$(exported -D --defined-only "$folder/libnissy.so.1")" = "$(declared)"
+holds "the shared object exports what the header declares" test "$(exported -D --defined-only "$folder/libnissy.so.2")" = "$(declared)"
 holds "so does the archive" test "$(exported --defined-only "$folder/libnissy.a" | grep .)" = "$(declared)"
 
 # the program
