@@ -49,7 +49,7 @@ static line_call *call_named(const char *name) {
     static const struct {
         const char *name;
         line_call *call;
-    } CALLS[] = {{"invert", nissy_invert}, {"unniss", nissy_unniss}, {"cleanup", nissy_cleanup}, {"print", nissy_print}};
+    } CALLS[] = {{"invert", nissy_invert}, {"unniss", nissy_unniss}, {"cleanup", nissy_cleanup}, {"print", nissy_facelets}};
     for (size_t at = 0; at < sizeof CALLS / sizeof *CALLS; at++)
         if (strcmp(CALLS[at].name, name) == 0) return CALLS[at].call;
     fprintf(stderr, "calls: there is no call %s\n", name);
@@ -105,14 +105,14 @@ static void build(size_t none) {
 static void solve_each(size_t count) {
     for (size_t at = 0; at < count; at++) {
         const uint8_t *line = input + begins[at];
-        nissy_solve_answer got = nissy_solve(&tables, line, begins[at + 1] - begins[at] - 1, LIMIT, 0, UINT64_MAX, out, sizeof out);
+        nissy_search_answer got = nissy_solve(&tables, line, begins[at + 1] - begins[at] - 1, LIMIT, 0, NISSY_ALL, NISSY_ALL, out, sizeof out);
         end_unless(got.status == NISSY_DONE);
     }
 }
 
 static void count_each(size_t count) {
     for (size_t at = 0; at < count; at++) {
-        nissy_count_answer got = nissy_count(&tables, input + begins[at], begins[at + 1] - begins[at] - 1, LIMIT, 0);
+        nissy_search_answer got = nissy_count(&tables, input + begins[at], begins[at + 1] - begins[at] - 1, LIMIT, 0, NISSY_ALL, NISSY_ALL);
         end_unless(got.status == NISSY_DONE);
     }
 }

@@ -184,7 +184,7 @@ static nissy_line_answer call(line_call *of, text line, size_t room, uint32_t si
 
 /* A line by its call in rooms of three sizes, and the same line by a run. */
 static void try_line(text line) {
-    static line_call *const calls[] = {nissy_invert, nissy_unniss, nissy_cleanup, nissy_print};
+    static line_call *const calls[] = {nissy_invert, nissy_unniss, nissy_cleanup, nissy_facelets};
     static const char *const faults[] = {"", "not a move", "bracket inside a bracket", "bracket closed that was not opened",
                                          "bracket not closed", "more than 256 moves"};
     static uint8_t first[NISSY_LINE_ROOM + 1], other[NISSY_LINE_ROOM + 1];
@@ -228,27 +228,78 @@ static nissy_line_answer before_search(const nissy_tables *tables, text line, ui
     return nissy_invert(line.bytes, line.size, unused, sizeof unused);
 }
 
-/* A search of a line and a count, by tables or by none. A count of a great slack would take long. */
-static void try_search(text line) {
-    const nissy_tables *tables = &searched[draw(4)];
-    uint8_t limit = (uint8_t)(draw(9) ? draw(21) : draw(256)), slack = (uint8_t)(draw(4) ? draw(2) : draw(9) ? draw(21) : draw(256));
-    uint64_t most = draw(3) ? draw(12) : UINT64_MAX;
-    uint32_t sides = draw(4);
-    slice read = read_slice(INPUT_AREA, line, sides & 1), out = written_slice(OUT_AREA, draw(2) ? ROOM : draw(200), sides & 2);
-    nissy_line_answer first = before_search(tables, line, limit, slack);
+/* What a search is asked: a count of a great slack would take long, but a list has little room. */
+typedef struct question {
+    const nissy_tables *tables;
+    uint8_t limit, slack;
+    uint64_t most, most_nodes;
+    size_t room;
+} question;
+
+static question drawn_question(void) {
+    question made_here = {&searched[draw(4)], 0, 0, 0, 0, draw(2) ? ROOM : draw(200)};
+    made_here.limit = (uint8_t)(draw(9) ? draw(21) : draw(256));
+    made_here.slack = (uint8_t)(draw(4) ? draw(2) : draw(9) ? draw(21) : draw(256));
+    made_here.most = draw(3) ? draw(12) : NISSY_ALL;
+    made_here.most_nodes = draw(2) ? NISSY_ALL : draw(draw(2) ? 60 : 5000);
+    return made_here;
+}
+
+/* A search by these words, which takes no memory, and its solutions. */
+static nissy_search_answer solve(question of, text line, uint32_t sides, uint8_t *to) {
+    slice read = read_slice(INPUT_AREA, line, sides & 1), out = written_slice(OUT_AREA, of.room, sides & 2);
     made = 0, refused_at = 1, onward = 1;
-    nissy_solve_answer is = nissy_solve(tables, read.bytes, read.size, limit, slack, most, out.bytes, out.size);
-    was_read(read, line), was_written(out, is.out_length);
-    nissy_count_answer told = nissy_count(tables, read.bytes, read.size, limit, slack > 20 ? slack : slack & 1);
+    nissy_search_answer is = nissy_solve(of.tables, read.bytes, read.size, of.limit, of.slack, of.most, of.most_nodes, out.bytes, out.size);
     refused_at = 0;
     is_so(made == 0, "a search takes no memory");
-    int is_start = first.status == NISSY_DONE && is.fault == NISSY_START;
-    is_so(is_start || is.status == first.status || (is.status == NISSY_ROOM && is.more), "the status of a search");
-    is_so(is_start ? is.status == NISSY_FAULT && is.column == 0 : is.fault == first.fault && is.column == first.column, "its fault");
-    is_so(told.status == (is.status == NISSY_ROOM ? NISSY_DONE : is.status) && told.fault == is.fault, "a count ends as a search does");
-    is_so(told.column == is.column && told.least == is.least, "its column, and its least length");
-    is_so(is.solutions <= most && (is.solutions > 0) == (is.out_length > 0), "as many solutions as may be");
-    is_so(is.status == NISSY_DONE || is.status == NISSY_ROOM || is.looks == 0, "nothing is looked at without a search");
+    was_read(read, line), was_written(out, is.length);
+    if (is.length <= ROOM) memcpy(to, out.bytes, is.length);
+    return is;
+}
+
+static nissy_search_answer count_of(question of, text line) {
+    slice read = read_slice(INPUT_AREA, line, 0);
+    made = 0, refused_at = 1, onward = 1;
+    nissy_search_answer is = nissy_count(of.tables, read.bytes, read.size, of.limit, of.slack, of.most, of.most_nodes);
+    refused_at = 0;
+    is_so(made == 0, "a count takes no memory");
+    was_read(read, line);
+    return is;
+}
+
+static int is_same(nissy_search_answer one, nissy_search_answer other) {
+    return one.status == other.status && one.fault == other.fault && one.column == other.column && one.least == other.least &&
+           one.more == other.more && one.solutions == other.solutions && one.nodes == other.nodes;
+}
+
+/* A search that was cut: what it wrote is a beginning, and only one that looks more often is cut. */
+static void was_cut(question of, nissy_search_answer is, const uint8_t *bytes, nissy_search_answer all, const uint8_t *all_bytes) {
+    is_so(is.more == 1 && is.nodes <= of.most_nodes && of.most_nodes != NISSY_ALL, "a search that is cut keeps its bound");
+    is_so(is.length <= all.length && (is.length == 0 || memcmp(bytes, all_bytes, is.length) == 0), "what it wrote is a beginning");
+    is_so(is.least == (is.solutions ? all.least : is.least) && (is.least == 0 || is.least == all.least), "its least length, if it is known");
+    is_so(all.status == NISSY_ROOM || all.more || all.nodes > of.most_nodes, "the whole search looks more often");
+}
+
+/* A search of a line with a bound, without one, and counts, by tables or by none. */
+static void try_search(text line) {
+    static uint8_t bytes[ROOM], all_bytes[ROOM];
+    question of = drawn_question(), whole_of = of;
+    uint32_t sides = draw(16);
+    nissy_line_answer first = before_search(of.tables, line, of.limit, of.slack);
+    whole_of.most_nodes = NISSY_ALL;
+    nissy_search_answer is = solve(of, line, sides, bytes), all = solve(whole_of, line, ~sides, all_bytes);
+    int is_start = first.status == NISSY_DONE && all.fault == NISSY_START;
+    is_so(is_start || all.status == first.status || (all.status == NISSY_ROOM && all.more), "the status of a search");
+    is_so(is_start ? all.status == NISSY_FAULT && all.column == 0 : all.fault == first.fault && all.column == first.column, "its fault");
+    is_so(all.solutions <= of.most && (all.solutions > 0) == (all.length > 0), "as many solutions as may be");
+    is_so(all.status == NISSY_DONE || all.status == NISSY_ROOM || all.nodes == 0, "nothing is looked at without a search");
+    if (is.status == NISSY_CUT) was_cut(of, is, bytes, all, all_bytes);
+    else is_so(is_same(is, all) && is_text(bytes, is.length, all_bytes, all.length), "a bound that is kept changes nothing");
+    if (is.status != NISSY_ROOM) is_so(is_same(is, count_of(of, line)), "a count says what a search says");
+    whole_of.most = NISSY_ALL, whole_of.slack = of.slack > 20 ? of.slack : of.slack & 1;
+    nissy_search_answer told = count_of(whole_of, line);
+    is_so(told.status == (all.status == NISSY_ROOM ? NISSY_DONE : all.status) && told.fault == all.fault, "a count ends as a search does");
+    is_so(told.column == all.column && told.least == all.least, "its column, and its least length");
 }
 
 static void try_draw(unsigned long number) {

@@ -39,7 +39,7 @@ static int are_lines(void) {
     return is_text(nissy_invert(line, 10, out, sizeof out), out, "U F' D' R'") &&
            is_text(nissy_unniss(line, 10, out, sizeof out), out, "R D F U'") &&
            is_text(nissy_cleanup((const uint8_t *)"Rw U", 4, out, sizeof out), out, "L F x") &&
-           is_text(nissy_print((const uint8_t *)"R", 1, out, sizeof out), out, cube) &&
+           is_text(nissy_facelets((const uint8_t *)"R", 1, out, sizeof out), out, cube) &&
            is_text(nissy_scramble(42, 54, 6, out, sizeof out), out, "L' D' F' R2 F' L'") &&
            is_text(nissy_start((const uint8_t *)"dr-eofb", 7, out, sizeof out), out, "eofb") &&
            is_text(nissy_fault_text(NISSY_START, out, sizeof out), out, "does not hold") &&

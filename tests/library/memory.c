@@ -79,8 +79,8 @@ static void builds_nothing(const char *step, nissy_tables tables, long number, i
     refused_at = 0;
     holds(status == NISSY_STOPPED, "refused memory stops a build", step);
     holds(held == 0, "all memory is given back", step);
-    holds(nissy_count(&tables, NULL, 0, 20, 0).status == NISSY_USAGE, "there are no tables to ask", step);
-    holds(nissy_solve(&tables, NULL, 0, 20, 0, 1, out, sizeof out).status == NISSY_USAGE, "nor to search by", step);
+    holds(nissy_count(&tables, NULL, 0, 20, 0, NISSY_ALL, NISSY_ALL).status == NISSY_USAGE, "there are no tables to ask", step);
+    holds(nissy_solve(&tables, NULL, 0, 20, 0, 1, NISSY_ALL, out, sizeof out).status == NISSY_USAGE, "nor to search by", step);
 }
 
 /* A build takes memory once, and what asks its tables takes none. */
@@ -97,9 +97,9 @@ static void builds(const search_row *row, nissy_tables before) {
     }
     made = 0, refused_at = 1, onward = 1;
     holds(nissy_build(&tables, step, strlen(row->step)) == NISSY_DONE && made == 0, "they aren't built again", row->step);
-    nissy_solve_answer got = nissy_solve(&copy, line, strlen(row->line), row->limit, row->slack, UINT64_MAX, out, sizeof out);
-    holds(got.status == NISSY_DONE && got.out_length == strlen(row->text) && made == 0, "a search takes no memory", row->step);
-    nissy_count_answer counted = nissy_count(&tables, line, strlen(row->line), row->limit, row->slack);
+    nissy_search_answer got = nissy_solve(&copy, line, strlen(row->line), row->limit, row->slack, NISSY_ALL, NISSY_ALL, out, sizeof out);
+    holds(got.status == NISSY_DONE && got.length == strlen(row->text) && made == 0, "a search takes no memory", row->step);
+    nissy_search_answer counted = nissy_count(&tables, line, strlen(row->line), row->limit, row->slack, NISSY_ALL, NISSY_ALL);
     holds(counted.status == NISSY_DONE && made == 0, "nor does a count", row->step);
     refused_at = 0;
 }
@@ -109,7 +109,7 @@ static void all_builds(void) {
     nissy_tables before = built("eoud");
     for (size_t at = 0; at < SEARCH_COUNT; at++)
         if (at == 0 || strcmp(SEARCHES[at].step, SEARCHES[at - 1].step) != 0) builds(&SEARCHES[at], before);
-    holds(nissy_count(&before, (const uint8_t *)"U", 1, 20, 0).least == 1, "a copy has what it had", "eoud");
+    holds(nissy_count(&before, (const uint8_t *)"U", 1, 20, 0, NISSY_ALL, NISSY_ALL).least == 1, "a copy has what it had", "eoud");
 }
 
 /* The calls on one line, and those without one, take no memory. */
@@ -118,7 +118,7 @@ static void others_take_none(void) {
     const uint8_t *line = (const uint8_t *)"R U";
     made = 0, refused_at = 1, onward = 1;
     holds(nissy_invert(line, 3, out, sizeof out).status == NISSY_DONE, "it needs no memory", "nissy_invert");
-    holds(nissy_print(line, 3, out, sizeof out).status == NISSY_DONE, "it needs no memory", "nissy_print");
+    holds(nissy_facelets(line, 3, out, sizeof out).status == NISSY_DONE, "it needs no memory", "nissy_facelets");
     holds(nissy_scramble(1, 2, 256, out, sizeof out).status == NISSY_DONE, "it needs no memory", "nissy_scramble");
     holds(nissy_steps(out, sizeof out).status == NISSY_DONE, "it needs no memory", "nissy_steps");
     holds(nissy_start(line, 3, out, sizeof out).status == NISSY_USAGE, "it needs no memory", "nissy_start");

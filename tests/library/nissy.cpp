@@ -25,11 +25,11 @@ void solves(const nissy::tables &tables, const search_row &row) {
         holds(first.size() == std::min<std::size_t>(most, found.size()), "how many there are at most", row.line);
         holds(whole.compare(0, text_of(first).size(), text_of(first)) == 0, "they are the first", row.line);
     }
-    const nissy::count counted = tables.count(row.line, row.limit, row.slack);
+    const nissy::count counted = tables.count(row.line, {row.limit, row.slack});
     holds(counted.solutions == found.size(), "how many are counted", row.line);
     holds(counted.length.has_value() == !found.empty(), "there is a least length if there are solutions", row.line);
     if (counted.length) holds(*counted.length == row.least && found.front().length == row.least, "the least length", row.line);
-    if (row.looks) holds(counted.nodes == row.looks, "the positions looked at", row.line);
+    if (row.nodes) holds(counted.nodes == row.nodes, "the positions looked at", row.line);
 }
 
 // A call throws this exception, and one that says something.
@@ -110,8 +110,8 @@ void misuse_is_thrown() {
     for (int number : {-1, 21, 256, 276, std::numeric_limits<int>::min(), std::numeric_limits<int>::max()}) {
         throws<std::out_of_range>([&] { tables.solve("F", {number}); }, "a limit");
         throws<std::out_of_range>([&] { tables.solve("F", {20, number}); }, "a slack");
-        throws<std::out_of_range>([&] { tables.count("F", number); }, "a limit");
-        throws<std::out_of_range>([&] { tables.count("F", 20, number); }, "a slack");
+        throws<std::out_of_range>([&] { tables.count("F", {number}); }, "a limit");
+        throws<std::out_of_range>([&] { tables.count("F", {20, number}); }, "a slack");
     }
     // of these the last 32 bits alone are in the range
     for (const std::int64_t number : {std::int64_t{1} << 32, (std::int64_t{1} << 32) + 1, std::numeric_limits<std::int64_t>::min()}) {
@@ -119,8 +119,8 @@ void misuse_is_thrown() {
         far.limit = number, wide.slack = number;
         throws<std::out_of_range>([&] { tables.solve("F", far); }, "a limit of 64 bits");
         throws<std::out_of_range>([&] { tables.solve("F", wide); }, "a slack of 64 bits");
-        throws<std::out_of_range>([&] { tables.count("F", number); }, "a limit of 64 bits");
-        throws<std::out_of_range>([&] { tables.count("F", 20, number); }, "a slack of 64 bits");
+        throws<std::out_of_range>([&] { tables.count("F", {number}); }, "a limit of 64 bits");
+        throws<std::out_of_range>([&] { tables.count("F", {20, number}); }, "a slack of 64 bits");
         const auto length = static_cast<std::uint64_t>(number);
         throws<std::out_of_range>([&] { nissy::scramble(1, 2, length); }, "a length of 64 bits");
         throws<std::out_of_range>([&] { nissy::scrambles(1, 2, length, 1); }, "a length of 64 bits");
@@ -170,7 +170,7 @@ void refused_memory_is_thrown() {
 void many_are_whole() {
     const nissy::tables tables("eofb");
     const auto found = tables.solve("F R U B", {20, 2});
-    holds(found.size() > 4096 && found.size() == tables.count("F R U B", 20, 2).solutions, "all are given", "eofb, slack 2");
+    holds(found.size() > 4096 && found.size() == tables.count("F R U B", {20, 2}).solutions, "all are given", "eofb, slack 2");
     for (const nissy::solution &one : found) {
         const auto turns = one.length ? std::count(one.moves.begin(), one.moves.end(), ' ') + 1 : 0;
         holds(turns == one.length, "a solution has its length", one.moves.c_str());
