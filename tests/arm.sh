@@ -66,7 +66,7 @@ fi
 # the library
 linked() { # NAME: what the test is linked with
     case $1 in
-        memory | fuzz) echo -Wl,--wrap=malloc,--wrap=realloc,--wrap=free ;;
+        memory | fuzz | fuzz_facts) echo -Wl,--wrap=malloc,--wrap=realloc,--wrap=free ;;
         threads | broken_rules) echo -pthread ;;
     esac
 }
@@ -75,10 +75,10 @@ compiled() { # NAME
     $cross-gcc "${strict[@]}" -Iinclude -Itests/library -I"$room/rows" $(linked "$1") -o "$room/$1" "tests/library/$1.c" "$folder/libnissy.a"
 }
 # emulated, each byte takes many times as long
-declare -A fewer=([calls]=few [threads]="1 40" [fuzz]="1 5" [broken_rules]=2)
+declare -A fewer=([calls]=few [facts]=few [threads]="1 40" [fuzz]="1 5" [fuzz_facts]="1 5" [broken_rules]=2)
 mkdir "$room/rows"
 runs_in_c "$room/rows/runs.inc"
-for name in calls memory threads handlers fuzz broken_rules; do
+for name in calls facts memory threads handlers fuzz fuzz_facts broken_rules; do
     holds "$name.c compiles for ARM" compiled "$name"
     # shellcheck disable=SC2086 # words
     add "${by_qemu[@]}" "$room/$name" ${fewer[$name]-}

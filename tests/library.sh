@@ -42,7 +42,7 @@ sanitized=("-fsanitize=address,undefined" -fno-sanitize-recover=all)
 wrapped=-Wl,--wrap=malloc,--wrap=realloc,--wrap=free
 linked() { # NAME: what the test is linked with
     case $1 in
-        memory | fuzz) echo $wrapped ;;
+        memory | fuzz | fuzz_facts) echo $wrapped ;;
         threads | broken_rules) echo -pthread ;;
     esac
 }
@@ -76,15 +76,15 @@ tried() { # NAME: the test in C of this name
     fi
     case $name in
         # valgrind's own malloc takes no wraps, helgrind tells the races that are meant, and a handler's small stack isn't for either
-        memory | fuzz | broken_rules | handlers) ;;
+        memory | fuzz | fuzz_facts | broken_rules | handlers) ;;
         # unlike the sanitizer it sees what the library itself reads and writes; searches alone, since a run takes it seconds
         threads) valgrinds --tool=helgrind "$made/$name" 0 20 ;;
         # it makes each byte thirty times as slow
-        calls) valgrinds --leak-check=full "$made/$name" few ;;
+        calls | facts) valgrinds --leak-check=full "$made/$name" few ;;
     esac
     ended
 }
-for name in calls threads fuzz memory handlers broken_rules; do part tried $name; done
+for name in calls facts threads fuzz fuzz_facts memory handlers broken_rules; do part tried $name; done
 
 # the headers in C++, by each compiler that is here
 compiled_by() { # COMPILER PROGRAM WORD..: compiles the test in C++, with these words too

@@ -5,66 +5,9 @@
  * The draws are numbered from SEED on, for two seconds if none are said; `fuzz N 0` makes draw N alone. At the top of the repository:
  *
  *     cc -Iinclude -Itests/library -Wl,--wrap=malloc,--wrap=realloc,--wrap=free -o build/fuzz tests/library/fuzz.c build/libnissy.a */
-#include "refused.h"
-#include "trial.h"
+#include "questions.h"
 
-#include "drawn.h"
-
-#include <signal.h>
-#include <time.h>
-
-enum { AREA = 1 << 17, ROOM = 1 << 16, MARGIN = 64, BLOCK = 4096, UNTOUCHED = '#', SLOW_SHARE = 40 };
-
-static char draw_name[64];
-
-static void is_so(int holding, const char *what) {
-    holds(holding, what, draw_name);
-}
-
-/* A page that can't be touched was touched: what was passed and failed until then isn't told. */
-static void on_fault(int number) {
-    static const char what[] = ": a byte beside a buffer was touched\n";
-    (void)number;
-    _exit(write(STDOUT_FILENO, draw_name, strlen(draw_name)) < 0 || write(STDOUT_FILENO, what, strlen(what)) < 0 ? 2 : 1);
-}
-
-/* A slice of an area: at its front, behind a page that can't be touched, or at its end, before one. */
-typedef struct slice {
-    uint8_t *bytes, *margin;
-    size_t size;
-} slice;
-
-static guarded areas[4];
-enum area { WORDS_AREA, INPUT_AREA, OUT_AREA, ERR_AREA };
-
-static slice slice_of(enum area area, size_t size, int is_front) {
-    uint8_t *from = areas[area].bytes, *bytes = is_front ? from : from + AREA - size;
-    slice made_here = {bytes, is_front ? bytes + size : bytes - MARGIN, size};
-    memset(made_here.margin, UNTOUCHED, MARGIN);
-    return made_here;
-}
-
-static slice read_slice(enum area area, text of, int is_front) {
-    slice made_here = slice_of(area, of.size, is_front);
-    if (of.size) memcpy(made_here.bytes, of.bytes, of.size);
-    return made_here;
-}
-
-static slice written_slice(enum area area, size_t size, int is_front) {
-    slice made_here = slice_of(area, size, is_front);
-    memset(made_here.bytes, UNTOUCHED, size);
-    return made_here;
-}
-
-static void was_read(slice of, text was) {
-    is_so(was.size == 0 || memcmp(of.bytes, was.bytes, was.size) == 0, "what is read stays as it was");
-    is_so(are_all(of.margin, MARGIN, UNTOUCHED), "so does what is beside it");
-}
-
-static void was_written(slice of, size_t size) {
-    is_so(size <= of.size && are_all(of.bytes + size, of.size - size, UNTOUCHED), "behind what is written a buffer is as it was");
-    is_so(are_all(of.margin, MARGIN, UNTOUCHED), "so is what is beside it");
-}
+enum { SLOW_SHARE = 40 };
 
 /* What a run answered, with its texts. */
 typedef struct answer {
@@ -83,10 +26,6 @@ static void run(answer *to, text words, text input, size_t out_room, size_t err_
     is_so(held == 0, "all memory is given back");
     was_read(w, words), was_read(i, input), was_written(out, to->is.out_length), was_written(err, to->is.err_length);
     memcpy(to->out, out.bytes, to->is.out_length), memcpy(to->err, err.bytes, to->is.err_length);
-}
-
-static int is_text(const uint8_t *bytes, size_t size, const void *wanted, size_t wanted_size) {
-    return size == wanted_size && (size == 0 || memcmp(bytes, wanted, size) == 0);
 }
 
 static size_t least(size_t one, size_t other) {
@@ -210,39 +149,12 @@ static void try_line(text line) {
     is_so(is_text(got.err, got.is.err_length, fault, is.status ? (size_t)fault_length : 0), "a run has the fault of the call on its line");
 }
 
-/* The tables of three steps, and none. */
-static nissy_tables searched[4];
-
-static void build_searched(void) {
-    static const char *const names[] = {"eofb", "eo", "drud-eofb"};
-    snprintf(draw_name, sizeof draw_name, "no draw");
-    for (size_t at = 0; at < 3; at++)
-        is_so(nissy_build(&searched[at], (const uint8_t *)names[at], strlen(names[at])) == NISSY_DONE, "tables are built");
-}
-
 /* What a search of a line is to be told before it begins: a status, and with it a fault and its column. */
 static nissy_line_answer before_search(const nissy_tables *tables, text line, uint8_t limit, uint8_t slack) {
     static uint8_t unused[NISSY_LINE_ROOM];
     nissy_line_answer usage = {NISSY_USAGE, NISSY_NO_FAULT, 0, 0};
     if (tables == &searched[3] || limit > 20 || slack > 20) return usage;
     return nissy_invert(line.bytes, line.size, unused, sizeof unused);
-}
-
-/* What a search is asked: a count of a great slack would take long, but a list has little room. */
-typedef struct question {
-    const nissy_tables *tables;
-    uint8_t limit, slack;
-    uint64_t most, most_nodes;
-    size_t room;
-} question;
-
-static question drawn_question(void) {
-    question made_here = {&searched[draw(4)], 0, 0, 0, 0, draw(2) ? ROOM : draw(200)};
-    made_here.limit = (uint8_t)(draw(9) ? draw(21) : draw(256));
-    made_here.slack = (uint8_t)(draw(4) ? draw(2) : draw(9) ? draw(21) : draw(256));
-    made_here.most = draw(3) ? draw(12) : NISSY_ALL;
-    made_here.most_nodes = draw(2) ? NISSY_ALL : draw(draw(2) ? 60 : 5000);
-    return made_here;
 }
 
 /* A search by these words, which takes no memory, and its solutions. */
@@ -255,21 +167,6 @@ static nissy_search_answer solve(question of, text line, uint32_t sides, uint8_t
     was_read(read, line), was_written(out, is.length);
     if (is.length <= ROOM) memcpy(to, out.bytes, is.length);
     return is;
-}
-
-static nissy_search_answer count_of(question of, text line) {
-    slice read = read_slice(INPUT_AREA, line, 0);
-    made = 0, refused_at = 1, onward = 1;
-    nissy_search_answer is = nissy_count(of.tables, read.bytes, read.size, of.limit, of.slack, of.most, of.most_nodes);
-    refused_at = 0;
-    is_so(made == 0, "a count takes no memory");
-    was_read(read, line);
-    return is;
-}
-
-static int is_same(nissy_search_answer one, nissy_search_answer other) {
-    return one.status == other.status && one.fault == other.fault && one.column == other.column && one.least == other.least &&
-           one.more == other.more && one.solutions == other.solutions && one.nodes == other.nodes;
 }
 
 /* A search that was cut: what it wrote is a beginning, and only one that looks more often is cut. */
@@ -303,10 +200,9 @@ static void try_search(text line) {
 }
 
 static void try_draw(unsigned long number) {
+    (void)number;
     static uint8_t word_bytes[BLOCK], line_bytes[4 * BLOCK];
     text words = {word_bytes, 0, sizeof word_bytes}, lines = {line_bytes, 0, sizeof line_bytes};
-    snprintf(draw_name, sizeof draw_name, "draw %lu", number);
-    begin_drawing(number);
     if (draw(3) == 0) {
         add_line(&lines, drawn_moves(), draw(3) == 0);
         try_line(lines);
@@ -319,13 +215,6 @@ static void try_draw(unsigned long number) {
 }
 
 int main(int count, char **words) {
-    unsigned long number = count > 1 ? strtoul(words[1], NULL, 10) : 1;
-    time_t seconds = count > 2 ? (time_t)strtoul(words[2], NULL, 10) : 2;
-    for (int at = 0; at < 4; at++) areas[at] = guard(AREA);
-    signal(SIGSEGV, on_fault);
     build_searched();
-    clock_t end = clock() + (clock_t)seconds * CLOCKS_PER_SEC;
-    do try_draw(number++);
-    while (clock() < end);
-    return ended();
+    return tries(count, words, try_draw);
 }
