@@ -17,7 +17,6 @@
 #include <bitset>
 #include <cstddef>
 #include <cstdint>
-#include <limits>
 #include <map>
 #include <mutex>
 #include <new>
@@ -33,7 +32,7 @@ namespace nissy {
 // A line that can't be read, or on whose cube a step may not start. what() says both place and fault.
 class fault : public std::runtime_error {
 public:
-    // by the program's words for it, such as "not a move", and if the call has several lines, which it is
+    // by the program's words for it, such as "not a move"; `line` is said before the column
     fault(nissy_fault code, std::size_t column, const std::string &text, const std::string &line = "")
         : std::runtime_error(place_of(column, line) + text), code_(code), column_(column), place_(place_of(column, line).size()) {}
 
@@ -53,8 +52,7 @@ public:
 
 private:
     static std::string place_of(std::size_t column, const std::string &line) {
-        const std::string place = line + (line.empty() || !column ? "" : ", ") + (column ? "column " + std::to_string(column) : "");
-        return "nissy: " + place + (place.empty() ? "" : ": ");
+        return "nissy: " + line + (column ? "column " + std::to_string(column) + ": " : "");
     }
 
     nissy_fault code_;
@@ -63,14 +61,9 @@ private:
 };
 
 // A search that would have looked at more positions than it may.
-class cut : public std::runtime_error {
-public:
-    explicit cut(std::uint64_t nodes) : std::runtime_error("nissy: cut off after " + std::to_string(nodes) + " positions"), nodes_(nodes) {}
-    // at how many positions it looked
-    std::uint64_t nodes() const noexcept { return nodes_; }
-
-private:
-    std::uint64_t nodes_;
+struct cut : std::runtime_error {
+    explicit cut(std::uint64_t looked) : std::runtime_error("nissy: cut after " + std::to_string(looked) + " positions"), nodes(looked) {}
+    std::uint64_t nodes; // the positions that it looked at
 };
 
 // One solution.
@@ -115,12 +108,9 @@ struct search {
 
 // What solvers choose by, on one axis of the cube; nissy.h says more of each. A place is a bit, by the order of nissy.h.
 struct axis_facts {
-    int bad_edges;
-    int bad_corners;
-    int misplaced_edges;
-    std::bitset<12> bad_edge_places;
+    int bad_edges, bad_corners, misplaced_edges;
+    std::bitset<12> bad_edge_places, misplaced_edge_places;
     std::bitset<8> bad_corner_places;
-    std::bitset<12> misplaced_edge_places;
 
     // the case of a domino reduction, as solvers write it, such as "4c4e"
     std::string dr_case() const { return std::to_string(bad_corners) + "c" + std::to_string(misplaced_edges) + "e"; }
@@ -128,10 +118,10 @@ struct axis_facts {
 
 // What is seen of the cube of a line without a search.
 struct line_facts {
-    bool solved;      // however it is held
-    int moves;        // as written: turns of faces and of outer blocks one each, slice turns two, rotations none
-    int clean_moves;  // as one sequence that is cleaned
-    std::bitset<16> held; // by the order of steps()
+    bool solved;                    // however it is held
+    int moves;                      // as written: turns of faces and of outer blocks one each, slice turns two, rotations none
+    int clean_moves;                // as one sequence that is cleaned
+    std::bitset<16> held;           // by the order of steps()
     std::array<axis_facts, 3> axes; // by nissy_axis
 
     const axis_facts &fb() const noexcept { return axes[NISSY_FB]; }
@@ -143,22 +133,16 @@ struct line_facts {
 
 // What a solution does to a scramble.
 struct verdict {
-    bool solved;     // however the cube is held then
-    int moves;       // as line_facts counts them
-    int clean_moves;
-    unsigned forms;  // the forms of nissy_form that it has, added: 0 if the WCA's notation for solutions has all of it
+    bool solved;            // however the cube is held then
+    int moves, clean_moves; // as line_facts counts them
+    unsigned forms;         // the forms of nissy_form that it has, added: 0 if the WCA's notation for solutions has all of it
 };
 
 // What the calls of this header share. Its names are no part of the interface.
 namespace detail {
 
-inline const std::uint8_t *bytes(std::string_view text) {
-    return reinterpret_cast<const std::uint8_t *>(text.data());
-}
-
-inline std::uint8_t *bytes(std::string &text) {
-    return reinterpret_cast<std::uint8_t *>(text.data());
-}
+inline const std::uint8_t *bytes(std::string_view text) { return reinterpret_cast<const std::uint8_t *>(text.data()); }
+inline std::uint8_t *bytes(std::string &text) { return reinterpret_cast<std::uint8_t *>(text.data()); }
 
 // The text of a call that writes one into so much room, and that nothing can be wrong with.
 template <typename Call> std::string text_of(Call call) {
@@ -168,28 +152,20 @@ template <typename Call> std::string text_of(Call call) {
     return out;
 }
 
-inline std::string text_of(nissy_fault code) {
-    return text_of([code](std::uint8_t *out, std::size_t room) { return nissy_fault_text(static_cast<std::uint8_t>(code), out, room); });
-}
-
 // The program's words for a fault, also if this step may not start.
-inline std::string text_of(nissy_fault code, std::string_view step) {
-    if (code != NISSY_START) return text_of(code);
+inline std::string text_of(std::uint8_t code, std::string_view step) {
+    const auto words = [code](std::uint8_t *out, std::size_t room) { return nissy_fault_text(code, out, room); };
     const auto start = [step](std::uint8_t *out, std::size_t room) { return nissy_start(bytes(step), step.size(), out, room); };
-    return text_of(start) + " " + text_of(code);
+    return code == NISSY_START ? text_of(start) + " " + text_of(words) : text_of(words);
 }
 
-// Throws what is wrong with a line, of a search by this step, and of a call on several lines by this name.
-inline void end_unless_read(int status, int code, std::size_t column, std::string_view step = {}, const std::string &line = "") {
+// Throws what is wrong with a line, of a search by this step, and of a call on several lines behind this name.
+inline void end_unless_read(int status, std::uint8_t code, std::size_t column, std::string_view step = {}, const std::string &line = "") {
     if (status == NISSY_STOPPED) throw std::length_error("nissy: line longer than 16777216 bytes");
-    if (status != NISSY_FAULT) return;
-    const auto fault_code = static_cast<nissy_fault>(code);
-    throw fault(fault_code, column, text_of(fault_code, step), line);
+    if (status == NISSY_FAULT) throw fault(static_cast<nissy_fault>(code), column, text_of(code, step), line);
 }
 
-using line_call = nissy_line_answer(const std::uint8_t *, std::size_t, std::uint8_t *, std::size_t);
-
-inline std::string rewritten(line_call *call, std::string_view line) {
+inline std::string rewritten(decltype(nissy_invert) *call, std::string_view line) {
     std::string out(NISSY_LINE_ROOM, '\0');
     const nissy_line_answer answer = call(bytes(line), line.size(), bytes(out), out.size());
     end_unless_read(answer.status, answer.fault, answer.column);
@@ -254,14 +230,24 @@ inline count counted(const nissy_search_answer &answer) {
     return {is_known ? std::optional<int>(answer.least) : std::nullopt, answer.solutions, answer.nodes, answer.more != 0, is_cut};
 }
 
-inline axis_facts seen(const nissy_axis_facts &axis) {
-    return {axis.bad_edges,       axis.bad_corners,       axis.misplaced_edges,
-            axis.bad_edge_places, axis.bad_corner_places, axis.misplaced_edge_places};
+inline axis_facts seen(const nissy_axis_facts &it) {
+    return {it.bad_edges, it.bad_corners, it.misplaced_edges, it.bad_edge_places, it.misplaced_edge_places, it.bad_corner_places};
 }
 
-inline line_facts seen(const nissy_facts_answer &answer) {
-    return {answer.solved != 0, answer.moves, answer.clean_moves, answer.holds,
-            {seen(answer.axes[NISSY_FB]), seen(answer.axes[NISSY_RL]), seen(answer.axes[NISSY_UD])}};
+inline line_facts seen(const nissy_facts_answer &it) {
+    return {it.solved != 0, it.moves, it.clean_moves, it.holds, {seen(it.axes[0]), seen(it.axes[1]), seen(it.axes[2])}};
+}
+
+// All lines of a text in pieces: `call` takes as many as it has room for, and `value` makes an answer of what is said of one.
+template <typename Said, typename Call, typename Make> auto all_lines(std::string_view text, Call call, Make make) {
+    std::vector<decltype(make(std::declval<Said>()))> answers;
+    std::vector<Said> said(std::min<std::size_t>(text.size(), 256));
+    while (!text.empty()) {
+        const nissy_lines_answer taken = call(bytes(text), text.size(), said.data(), said.size());
+        for (std::uint64_t at = 0; at < taken.lines; at++) answers.push_back(make(said[at]));
+        text.remove_prefix(taken.bytes);
+    }
+    return answers;
 }
 
 } // namespace detail
@@ -293,23 +279,6 @@ private:
     std::string_view step_; // of tables that stay
 };
 
-// What calls on many lines share, whose names are no part of the interface either.
-namespace detail {
-
-// All lines of a text in pieces: `call` takes as many as it has room for, and `value` makes an answer of what is said of one.
-template <typename Said, typename Call, typename Make> auto all_lines(std::string_view text, Call call, Make make) {
-    std::vector<decltype(make(std::declval<Said>()))> answers;
-    std::vector<Said> said(std::min<std::size_t>(text.size(), 256));
-    while (!text.empty()) {
-        const nissy_lines_answer taken = call(bytes(text), text.size(), said.data(), said.size());
-        for (std::uint64_t at = 0; at < taken.lines; at++) answers.push_back(make(said[at]));
-        text.remove_prefix(taken.bytes);
-    }
-    return answers;
-}
-
-} // namespace detail
-
 // The inverse of a line's moves.
 inline std::string invert(std::string_view line) { return detail::rewritten(nissy_invert, line); }
 // A line's moves as one sequence: those in brackets inverted at the end.
@@ -335,7 +304,7 @@ inline std::vector<answer<line_facts>> facts_all(std::string_view text) {
 // Whether a solution solves a scramble. The what() of a fault also says which of the two lines has it.
 inline verdict check(std::string_view scramble, std::string_view solution) {
     const nissy_check_answer answer = nissy_check(detail::bytes(scramble), scramble.size(), detail::bytes(solution), solution.size());
-    detail::end_unless_read(answer.status, answer.fault, answer.column, {}, answer.line == 1 ? "scramble" : "solution");
+    detail::end_unless_read(answer.status, answer.fault, answer.column, {}, answer.line == 1 ? "scramble, " : "solution, ");
     return {answer.solved != 0, answer.moves, answer.clean_moves, answer.forms};
 }
 
