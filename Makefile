@@ -12,7 +12,7 @@ BUILD ?= build
 LIBRARY ?= yes
 # asked for by `make dist` alone
 VERSION = $(shell tools/version)
-SONAME := libnissy.so.1
+SONAME := libnissy.so.2
 # What is built is proved first: if the kit isn't there, a build says so.
 NEEDS_KIT = @command -v rt > /dev/null || { echo "no rt on the PATH: nissy is built by the Rattle kit that README.md names" >&2; exit 1; }
 

@@ -3,10 +3,11 @@
  *     calls line NAME FILE             one of the calls on a line, for each line of the file
  *     calls run FILE WORD..            nissy_run with these words, for each line of the file, and once for all of them
  *     calls tables NAME STEP FILE      nissy_solve or nissy_count by tables that are there, for each line, and nissy_run beside it
+ *     calls lines STEP FILE            nissy_count and nissy_facts of each line, and of all lines by one call
  *
  * It prints the nanoseconds of processor time a line, the least of several rounds: by a call each, and for `run` by one call for all. For
  * `tables` these are: of nissy_build, of a call by tables, of a run of one line, of a run of 1,000 lines, and of a run of all lines without
- * the time of a run of no line. */
+ * the time of a run of no line. For `lines`: of a count, of one among all, of facts, and of those among all. */
 #define _GNU_SOURCE
 #include <stdio.h>
 #include <stdlib.h>
@@ -49,7 +50,7 @@ static line_call *call_named(const char *name) {
     static const struct {
         const char *name;
         line_call *call;
-    } CALLS[] = {{"invert", nissy_invert}, {"unniss", nissy_unniss}, {"cleanup", nissy_cleanup}, {"print", nissy_print}};
+    } CALLS[] = {{"invert", nissy_invert}, {"unniss", nissy_unniss}, {"cleanup", nissy_cleanup}, {"print", nissy_facelets}};
     for (size_t at = 0; at < sizeof CALLS / sizeof *CALLS; at++)
         if (strcmp(CALLS[at].name, name) == 0) return CALLS[at].call;
     fprintf(stderr, "calls: there is no call %s\n", name);
@@ -105,14 +106,14 @@ static void build(size_t none) {
 static void solve_each(size_t count) {
     for (size_t at = 0; at < count; at++) {
         const uint8_t *line = input + begins[at];
-        nissy_solve_answer got = nissy_solve(&tables, line, begins[at + 1] - begins[at] - 1, LIMIT, 0, UINT64_MAX, out, sizeof out);
+        nissy_search_answer got = nissy_solve(&tables, line, begins[at + 1] - begins[at] - 1, LIMIT, 0, NISSY_ALL, NISSY_ALL, out, sizeof out);
         end_unless(got.status == NISSY_DONE);
     }
 }
 
 static void count_each(size_t count) {
     for (size_t at = 0; at < count; at++) {
-        nissy_count_answer got = nissy_count(&tables, input + begins[at], begins[at + 1] - begins[at] - 1, LIMIT, 0);
+        nissy_search_answer got = nissy_count(&tables, input + begins[at], begins[at + 1] - begins[at] - 1, LIMIT, 0, NISSY_ALL, NISSY_ALL);
         end_unless(got.status == NISSY_DONE);
     }
 }
@@ -136,6 +137,30 @@ static double quickest(void (*round)(size_t), size_t count, int rounds) {
         if (at == 0 || took < best) best = took;
     }
     return best;
+}
+
+static nissy_search_answer counts[MOST_LINES];
+static nissy_facts_answer facts[MOST_LINES];
+
+static void count_lines(size_t count) {
+    nissy_lines_answer got = nissy_count_lines(&tables, input, begins[count], LIMIT, 0, NISSY_ALL, NISSY_ALL, counts, count);
+    end_unless(got.status == NISSY_DONE && got.lines == count);
+}
+
+static void judge_each(size_t count) {
+    for (size_t at = 0; at < count; at++) end_unless(nissy_facts(input + begins[at], begins[at + 1] - begins[at] - 1).status == NISSY_DONE);
+}
+
+static void judge_lines(size_t count) {
+    nissy_lines_answer got = nissy_facts_lines(input, begins[count], facts, count);
+    end_unless(got.status == NISSY_DONE && got.lines == count);
+}
+
+/* Counts and facts of all lines, by a call each and by one. */
+static void time_lines(void) {
+    static void (*const ROUNDS_OF[])(size_t) = {count_each, count_lines, judge_each, judge_lines};
+    build(0);
+    for (size_t at = 0; at < 4; at++) printf("%.0f%c", quickest(ROUNDS_OF[at], lines, TABLE_ROUNDS) / (double)lines, at < 3 ? ' ' : '\n');
 }
 
 static size_t at_most(size_t count) {
@@ -164,6 +189,12 @@ int main(int count, char **arguments) {
         step = arguments[3];
         read_lines(arguments[4]);
         time_tables(arguments[2]);
+        return 0;
+    }
+    if (count == 4 && strcmp(arguments[1], "lines") == 0) {
+        step = arguments[2];
+        read_lines(arguments[3]);
+        time_lines();
         return 0;
     }
     if (count < 4 || strcmp(arguments[1], "run") != 0) return 2;

@@ -12,9 +12,9 @@
  * Stack and signals. nissy_run and nissy_build need 64 KiB of stack and take memory: neither is to be called from a signal handler, or in a
  * forked child of a process with threads. All other calls need 16 KiB and take none, and may be called there too.
  *
- * Answers. Each is a struct of numbers of 8, 16, 32 or 64 bits, so that it lies the same on every machine, and begins with `status`. If a
- * line may have a fault, `fault` is the second byte and `column` the second four bytes. A field that says yes or no is 1 or 0. What isn't
- * named for a status is 0 after it.
+ * Answers. Each is a struct of numbers of 8, 16, 32 or 64 bits, so that it lies the same on every machine that aligns these to their size,
+ * as those of 64 bits do, and begins with `status`. If a line may have a fault, `fault` is the second byte and `column` the second four
+ * bytes. A field that says yes or no is 1 or 0. What isn't named for a status is 0 after it.
  *
  * Link with -lnissy (pkg-config: nissy). EMBEDDING.md (docs/, or share/doc/nissy/) has examples. nissy.hpp is for C++17 and later. */
 #ifndef NISSY_H

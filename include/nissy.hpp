@@ -2,7 +2,7 @@
 //
 // A line with a fault is a nissy::fault; an unknown step is a std::invalid_argument, a number beyond its range a std::out_of_range, a line
 // of more than NISSY_MOST_INPUT bytes a std::length_error, and refused memory a std::bad_alloc. Any threads may call at the same time, also
-// on one object. Nothing is read of a line behind its end, and it may hold any bytes.
+// on one object. Nothing is read of a line behind its end, and it may hold any bytes. In a text of many lines a line feed ends each.
 #ifndef NISSY_HPP
 #define NISSY_HPP
 
@@ -13,9 +13,10 @@
 #include "nissy.h"
 
 #include <algorithm>
+#include <array>
+#include <bitset>
 #include <cstddef>
 #include <cstdint>
-#include <limits>
 #include <map>
 #include <mutex>
 #include <new>
@@ -31,24 +32,38 @@ namespace nissy {
 // A line that can't be read, or on whose cube a step may not start. what() says both place and fault.
 class fault : public std::runtime_error {
 public:
-    // by the program's words for it, such as "not a move"
-    fault(nissy_fault code, std::size_t column, const std::string &text)
-        : std::runtime_error(place_of(column) + text), code_(code), column_(column), place_(place_of(column).size()) {}
+    // by the program's words for it, such as "not a move"; `line` is said before the column
+    fault(nissy_fault code, std::size_t column, const std::string &text, const std::string &line = "")
+        : std::runtime_error(place_of(column, line) + text), code_(code), column_(column), place_(place_of(column, line).size()) {}
 
     nissy_fault code() const noexcept { return code_; }
     // the place of the fault in bytes, from 1; 0 of NISSY_START
     std::size_t column() const noexcept { return column_; }
+    // the same in characters of the line, which is in UTF-8
+    std::size_t character(std::string_view line) const noexcept {
+        const auto begins = [](char byte) { return (static_cast<unsigned char>(byte) & 0xc0) != 0x80; };
+        const std::string_view before = line.substr(0, column_ ? column_ - 1 : 0);
+        return column_ ? static_cast<std::size_t>(std::count_if(before.begin(), before.end(), begins)) + 1 : 0;
+    }
     // what is wrong, without the place; a view into what()
     std::string_view text() const noexcept { return std::string_view(what()).substr(place_); }
     // the step that would have to hold, with which text() begins; empty but of NISSY_START
     std::string_view start() const noexcept { return code_ == NISSY_START ? text().substr(0, text().find(' ')) : std::string_view(); }
 
 private:
-    static std::string place_of(std::size_t column) { return column ? "nissy: column " + std::to_string(column) + ": " : "nissy: "; }
+    static std::string place_of(std::size_t column, const std::string &line) {
+        return "nissy: " + line + (column ? "column " + std::to_string(column) + ": " : "");
+    }
 
     nissy_fault code_;
     std::size_t column_;
     std::size_t place_; // where text() begins in what(): a copy of an exception mustn't throw, as that of a string of its own may
+};
+
+// A search that would have looked at more positions than it may.
+struct cut : std::runtime_error {
+    explicit cut(std::uint64_t looked) : std::runtime_error("nissy: cut after " + std::to_string(looked) + " positions"), nodes(looked) {}
+    std::uint64_t nodes; // the positions that it looked at
 };
 
 // One solution.
@@ -62,34 +77,72 @@ struct solution {
 
 // How many solutions there are.
 struct count {
-    std::optional<int> length; // that of the shortest
+    std::optional<int> length; // that of the shortest, if one is known
     std::uint64_t solutions;
-    std::uint64_t nodes; // the positions that the search looked at
+    std::uint64_t nodes;       // the positions that the search looked at
+    bool more = false;         // there are others beyond `most`; if it was cut, there may be
+    bool is_cut = false;       // it would have looked at more positions than it may: what it says is a beginning
 
     friend bool operator==(const count &one, const count &other) {
-        return one.length == other.length && one.solutions == other.solutions && one.nodes == other.nodes;
+        return one.length == other.length && one.solutions == other.solutions && one.nodes == other.nodes && one.more == other.more &&
+               one.is_cut == other.is_cut;
     }
     friend bool operator!=(const count &one, const count &other) { return !(one == other); }
 };
 
-// Which solutions a search is for: those of at most `limit` turns that are at most `slack` turns longer than the shortest, and no more than
-// `most` of them. Numbers are wide, here and below, so that one out of its range is told and not cut to one that is in it.
+// The solutions of a search, and what is said of them.
+struct found {
+    std::vector<solution> solutions;
+    nissy::count count;
+};
+
+// Which solutions a search is for: those of at most `limit` turns that are at most `slack` turns longer than the shortest, no more than
+// `most` of them, and looking at no more than `nodes` positions. Numbers are wide, here and below, so that one out of its range is told and
+// not cut to one that is in it.
 struct search {
     std::int64_t limit = 20;
     std::int64_t slack = 0;
-    std::uint64_t most = std::numeric_limits<std::uint64_t>::max();
+    std::uint64_t most = NISSY_ALL;
+    std::uint64_t nodes = NISSY_ALL;
+};
+
+// What solvers choose by, on one axis of the cube; nissy.h says more of each. A place is a bit, by the order of nissy.h.
+struct axis_facts {
+    int bad_edges, bad_corners, misplaced_edges;
+    std::bitset<12> bad_edge_places, misplaced_edge_places;
+    std::bitset<8> bad_corner_places;
+
+    // the case of a domino reduction, as solvers write it, such as "4c4e"
+    std::string dr_case() const { return std::to_string(bad_corners) + "c" + std::to_string(misplaced_edges) + "e"; }
+};
+
+// What is seen of the cube of a line without a search.
+struct line_facts {
+    bool solved;                    // however it is held
+    int moves;                      // as written: turns of faces and of outer blocks one each, slice turns two, rotations none
+    int clean_moves;                // as one sequence that is cleaned
+    std::bitset<16> held;           // by the order of steps()
+    std::array<axis_facts, 3> axes; // by nissy_axis
+
+    const axis_facts &fb() const noexcept { return axes[NISSY_FB]; }
+    const axis_facts &rl() const noexcept { return axes[NISSY_RL]; }
+    const axis_facts &ud() const noexcept { return axes[NISSY_UD]; }
+    // the names of the steps that the cube has reached
+    std::vector<std::string> holds() const;
+};
+
+// What a solution does to a scramble.
+struct verdict {
+    bool solved;            // however the cube is held then
+    int moves, clean_moves; // as line_facts counts them
+    unsigned forms;         // the forms of nissy_form that it has, added: 0 if the WCA's notation for solutions has all of it
 };
 
 // What the calls of this header share. Its names are no part of the interface.
 namespace detail {
 
-inline const std::uint8_t *bytes(std::string_view text) {
-    return reinterpret_cast<const std::uint8_t *>(text.data());
-}
-
-inline std::uint8_t *bytes(std::string &text) {
-    return reinterpret_cast<std::uint8_t *>(text.data());
-}
+inline const std::uint8_t *bytes(std::string_view text) { return reinterpret_cast<const std::uint8_t *>(text.data()); }
+inline std::uint8_t *bytes(std::string &text) { return reinterpret_cast<std::uint8_t *>(text.data()); }
 
 // The text of a call that writes one into so much room, and that nothing can be wrong with.
 template <typename Call> std::string text_of(Call call) {
@@ -99,20 +152,20 @@ template <typename Call> std::string text_of(Call call) {
     return out;
 }
 
-inline std::string text_of(nissy_fault code) {
-    return text_of([code](std::uint8_t *out, std::size_t room) { return nissy_fault_text(static_cast<std::uint8_t>(code), out, room); });
+// The program's words for a fault, also if this step may not start.
+inline std::string text_of(std::uint8_t code, std::string_view step) {
+    const auto words = [code](std::uint8_t *out, std::size_t room) { return nissy_fault_text(code, out, room); };
+    const auto start = [step](std::uint8_t *out, std::size_t room) { return nissy_start(bytes(step), step.size(), out, room); };
+    return code == NISSY_START ? text_of(start) + " " + text_of(words) : text_of(words);
 }
 
-inline void end_unless_read(int status, int code, std::size_t column) {
+// Throws what is wrong with a line, of a search by this step, and of a call on several lines behind this name.
+inline void end_unless_read(int status, std::uint8_t code, std::size_t column, std::string_view step = {}, const std::string &line = "") {
     if (status == NISSY_STOPPED) throw std::length_error("nissy: line longer than 16777216 bytes");
-    if (status != NISSY_FAULT) return;
-    const auto fault_code = static_cast<nissy_fault>(code);
-    throw fault(fault_code, column, text_of(fault_code));
+    if (status == NISSY_FAULT) throw fault(static_cast<nissy_fault>(code), column, text_of(code, step), line);
 }
 
-using line_call = nissy_line_answer(const std::uint8_t *, std::size_t, std::uint8_t *, std::size_t);
-
-inline std::string rewritten(line_call *call, std::string_view line) {
+inline std::string rewritten(decltype(nissy_invert) *call, std::string_view line) {
     std::string out(NISSY_LINE_ROOM, '\0');
     const nissy_line_answer answer = call(bytes(line), line.size(), bytes(out), out.size());
     end_unless_read(answer.status, answer.fault, answer.column);
@@ -141,12 +194,13 @@ inline const kept_tables::value_type &kept(std::string_view step) {
     static auto &built = *new kept_tables;
     const std::lock_guard<std::mutex> alone(mutex);
     if (const auto found = built.find(step); found != built.end()) return *found;
-    nissy_tables tables = NISSY_NO_TABLES;
-    switch (nissy_build(&tables, bytes(step), step.size())) {
-    case NISSY_DONE: return *built.emplace(step, tables).first;
-    case NISSY_STOPPED: throw std::bad_alloc();
-    default: throw std::invalid_argument("nissy: no step has this name: " + std::string(step));
-    }
+    // its place first: tables that were built are never given back
+    const auto place = built.emplace(step, nissy_tables NISSY_NO_TABLES).first;
+    const std::uint8_t status = nissy_build(&place->second, bytes(step), step.size());
+    if (status == NISSY_DONE) return *place;
+    built.erase(place);
+    if (status == NISSY_STOPPED) throw std::bad_alloc();
+    throw std::invalid_argument("nissy: no step has this name: " + std::string(step));
 }
 
 // The lines of a text in which a line feed ends each.
@@ -171,7 +225,59 @@ inline std::vector<solution> solutions_of(std::string_view text, std::uint64_t c
     return found;
 }
 
+inline count counted(const nissy_search_answer &answer) {
+    const bool is_cut = answer.status == NISSY_CUT, is_known = answer.solutions || (answer.more && !is_cut);
+    return {is_known ? std::optional<int>(answer.least) : std::nullopt, answer.solutions, answer.nodes, answer.more != 0, is_cut};
+}
+
+inline axis_facts seen(const nissy_axis_facts &it) {
+    return {it.bad_edges, it.bad_corners, it.misplaced_edges, it.bad_edge_places, it.misplaced_edge_places, it.bad_corner_places};
+}
+
+inline line_facts seen(const nissy_facts_answer &it) {
+    return {it.solved != 0, it.moves, it.clean_moves, it.holds, {seen(it.axes[0]), seen(it.axes[1]), seen(it.axes[2])}};
+}
+
+// All lines of a text in pieces: `call` takes as many as it has room for, and `value` makes an answer of what is said of one.
+template <typename Said, typename Call, typename Make> auto all_lines(std::string_view text, Call call, Make make) {
+    std::vector<decltype(make(std::declval<Said>()))> answers;
+    std::vector<Said> said(std::min<std::size_t>(text.size(), 256));
+    while (!text.empty()) {
+        const nissy_lines_answer taken = call(bytes(text), text.size(), said.data(), said.size());
+        for (std::uint64_t at = 0; at < taken.lines; at++) answers.push_back(make(said[at]));
+        text.remove_prefix(taken.bytes);
+    }
+    return answers;
+}
+
 } // namespace detail
+
+// The answer to one of many lines: a value, or what is wrong with that line.
+template <typename Value> class answer {
+public:
+    // what a call of nissy.h said of the line, by this step if it was a search
+    template <typename Said>
+    answer(const Said &said, const Value &value, std::string_view step = {})
+        : status_(said.status), code_(said.fault), column_(said.column), value_(value), step_(step) {}
+
+    explicit operator bool() const noexcept { return status_ == NISSY_DONE || status_ == NISSY_CUT; }
+    // NISSY_FAULT, or NISSY_STOPPED of a line that is too long; NISSY_DONE, or NISSY_CUT, if there is a value
+    nissy_status status() const noexcept { return static_cast<nissy_status>(status_); }
+    nissy_fault code() const noexcept { return static_cast<nissy_fault>(code_); }
+    // as that of fault
+    std::size_t column() const noexcept { return column_; }
+    // throws what the call on this line alone throws, if there is no value
+    const Value &value() const {
+        detail::end_unless_read(status_, code_, column_, step_);
+        return value_;
+    }
+
+private:
+    std::uint8_t status_, code_;
+    std::uint32_t column_;
+    Value value_;
+    std::string_view step_; // of tables that stay
+};
 
 // The inverse of a line's moves.
 inline std::string invert(std::string_view line) { return detail::rewritten(nissy_invert, line); }
@@ -180,7 +286,27 @@ inline std::string unniss(std::string_view line) { return detail::rewritten(niss
 // A line's moves without wide turns, slices and neighbours that join.
 inline std::string cleanup(std::string_view line) { return detail::rewritten(nissy_cleanup, line); }
 // The 54 facelet letters of the cube after a line's moves.
-inline std::string facelets(std::string_view line) { return detail::rewritten(nissy_print, line); }
+inline std::string facelets(std::string_view line) { return detail::rewritten(nissy_facelets, line); }
+
+// What is seen of the cube of a line without a search.
+inline line_facts facts(std::string_view line) {
+    const nissy_facts_answer answer = nissy_facts(detail::bytes(line), line.size());
+    detail::end_unless_read(answer.status, answer.fault, answer.column);
+    return detail::seen(answer);
+}
+
+// The same of each line of a text.
+inline std::vector<answer<line_facts>> facts_all(std::string_view text) {
+    const auto make = [](const nissy_facts_answer &said) { return answer<line_facts>(said, detail::seen(said)); };
+    return detail::all_lines<nissy_facts_answer>(text, nissy_facts_lines, make);
+}
+
+// Whether a solution solves a scramble. The what() of a fault also says which of the two lines has it.
+inline verdict check(std::string_view scramble, std::string_view solution) {
+    const nissy_check_answer answer = nissy_check(detail::bytes(scramble), scramble.size(), detail::bytes(solution), solution.size());
+    detail::end_unless_read(answer.status, answer.fault, answer.column, {}, answer.line == 1 ? "scramble, " : "solution, ");
+    return {answer.solved != 0, answer.moves, answer.clean_moves, answer.forms};
+}
 
 // The first scramble of this length, at most 256 turns, of the generator that begins with this state and stream: what `scrambles` begins with.
 inline std::string scramble(std::uint64_t state, std::uint64_t stream, std::uint64_t length) {
@@ -204,6 +330,13 @@ inline std::vector<std::string> scrambles(std::uint64_t state, std::uint64_t str
 // The names of the steps.
 inline std::vector<std::string> steps() { return detail::lines_of(detail::text_of(nissy_steps)); }
 
+inline std::vector<std::string> line_facts::holds() const {
+    std::vector<std::string> names = steps(), those;
+    for (std::size_t at = 0; at < names.size(); at++)
+        if (held[at]) those.push_back(std::move(names[at]));
+    return those;
+}
+
 // The version of the library that runs: 10200 for 1.2.0.
 inline std::uint32_t version() { return nissy_version(); }
 
@@ -215,39 +348,48 @@ public:
 
     const std::string &step() const noexcept { return kept_->first; }
 
-    // The solutions of a line's cube, by length and then in turn order.
+    // The solutions of a line's cube, by length and then in turn order. A search that would look at more than `nodes` positions throws a cut.
     std::vector<solution> solve(std::string_view line, const search &which = {}) const {
+        found all = find(line, which);
+        if (all.count.is_cut) throw cut(all.count.nodes);
+        return std::move(all.solutions);
+    }
+
+    // The same with what is said of them; one that is cut has a beginning of the solutions.
+    found find(std::string_view line, const search &which = {}) const {
         const std::uint8_t limit = detail::turns(which.limit, "limit"), slack = detail::turns(which.slack, "slack");
         // a search that a room stopped is made again with eight times as much
         for (std::uint64_t room = 64;; room *= 8) {
             std::string out(std::min(which.most, room) * MOST_OF_ONE, '\0');
-            const nissy_solve_answer answer =
-                nissy_solve(&kept_->second, detail::bytes(line), line.size(), limit, slack, which.most, detail::bytes(out), out.size());
+            const nissy_search_answer answer = nissy_solve(&kept_->second, detail::bytes(line), line.size(), limit, slack, which.most,
+                                                           which.nodes, detail::bytes(out), out.size());
             if (answer.status == NISSY_ROOM) continue;
-            end_unless_searched(answer.status, answer.fault, answer.column);
-            return detail::solutions_of(std::string_view(out).substr(0, answer.out_length), answer.solutions);
+            detail::end_unless_read(answer.status, answer.fault, answer.column, step());
+            const std::string_view text = std::string_view(out).substr(0, answer.length);
+            return {detail::solutions_of(text, answer.solutions), detail::counted(answer)};
         }
     }
 
-    // How many solutions solve gives if there is no `most`. A number above 2^64 - 1 is told as that.
-    nissy::count count(std::string_view line, std::int64_t limit = 20, std::int64_t slack = 0) const {
-        const nissy_count_answer answer = nissy_count(&kept_->second, detail::bytes(line), line.size(), detail::turns(limit, "limit"),
-                                                      detail::turns(slack, "slack"));
-        end_unless_searched(answer.status, answer.fault, answer.column);
-        const auto length = answer.solutions ? std::optional<int>(answer.least) : std::nullopt;
-        return {length, answer.solutions, answer.looks};
+    // What find says of the solutions. A number above 2^64 - 1 is told as that. One that is cut says so, and throws nothing.
+    nissy::count count(std::string_view line, const search &which = {}) const {
+        const nissy_search_answer answer = nissy_count(&kept_->second, detail::bytes(line), line.size(), detail::turns(which.limit, "limit"),
+                                                       detail::turns(which.slack, "slack"), which.most, which.nodes);
+        detail::end_unless_read(answer.status, answer.fault, answer.column, step());
+        return detail::counted(answer);
+    }
+
+    // The same of each line of a text: `most` and `nodes` are for each anew.
+    std::vector<answer<nissy::count>> count_all(std::string_view text, const search &which = {}) const {
+        const std::uint8_t limit = detail::turns(which.limit, "limit"), slack = detail::turns(which.slack, "slack");
+        const auto call = [&](const std::uint8_t *lines, std::size_t length, nissy_search_answer *answers, std::size_t room) {
+            return nissy_count_lines(&kept_->second, lines, length, limit, slack, which.most, which.nodes, answers, room);
+        };
+        const auto make = [this](const nissy_search_answer &said) { return answer<nissy::count>(said, detail::counted(said), step()); };
+        return detail::all_lines<nissy_search_answer>(text, call, make);
     }
 
 private:
     static constexpr std::uint64_t MOST_OF_ONE = 65; // bytes of a solution
-
-    void end_unless_searched(int status, int code, std::size_t column) const {
-        if (status != NISSY_FAULT || code != NISSY_START) return detail::end_unless_read(status, code, column);
-        const std::string start = detail::text_of([this](std::uint8_t *out, std::size_t room) {
-            return nissy_start(detail::bytes(std::string_view(step())), step().size(), out, room);
-        });
-        throw fault(NISSY_START, 0, start + " " + detail::text_of(NISSY_START));
-    }
 
     const detail::kept_tables::value_type *kept_; // never null
 };

@@ -66,7 +66,7 @@ uint8_t nissy_build(nissy_tables *tables, const uint8_t *step, size_t step_lengt
     struct kept *kept = kept_of(tables);
     if (kept != NULL && kept->step_length == step_length && memcmp(kept->step, step, step_length) == 0) return NISSY_DONE;
     tables->tables = NULL;
-    tables->built = false;
+    tables->built = 0;
     /* no step has so long a name */
     if (step_length > MOST_NAME) return NISSY_USAGE;
     kept = malloc(sizeof *kept);
@@ -78,7 +78,7 @@ uint8_t nissy_build(nissy_tables *tables, const uint8_t *step, size_t step_lengt
     memcpy(kept->step, step, step_length);
     kept->step_length = step_length;
     tables->tables = kept;
-    tables->built = true;
+    tables->built = 1;
     return NISSY_DONE;
 }
 
@@ -101,8 +101,8 @@ static bool run_in(size_t lent, struct run *run, nissy_run_answer *said) {
     free(block);
     /* the engine has the fields in another order than nissy.h */
     said->status = (uint8_t)load1(address(answer));
-    said->out_length = (size_t)load8(address(answer) + 8);
-    said->err_length = (size_t)load8(address(answer) + 16);
+    said->out_length = load8(address(answer) + 8);
+    said->err_length = load8(address(answer) + 16);
     said->out_too_small = load1(address(answer) + 24) != 0;
     return lent == 0 || block != NULL;
 }

@@ -12,6 +12,7 @@
 #endif
 #include "nissy.h"
 
+#include <stdbool.h>
 #include <stdlib.h>
 #include <string.h>
 

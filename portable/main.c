@@ -8,6 +8,7 @@
 
 #include <inttypes.h>
 #include <signal.h>
+#include <stdbool.h>
 #include <stdio.h>
 #include <stdlib.h>
 #include <string.h>
@@ -115,31 +116,31 @@ static bool stop_at(uint32_t number, uint8_t fault, uint32_t column) {
 static bool rewrite(const uint8_t *line, size_t length, uint32_t number) {
     uint8_t out[NISSY_LINE_ROOM];
     nissy_line_answer answer = command.rewrite(line, length, out, sizeof out);
-    if (answer.status == NISSY_FAULT) return stop_at(number, (uint8_t)answer.fault, answer.column);
+    if (answer.status == NISSY_FAULT) return stop_at(number, answer.fault, answer.column);
     if (answer.status != NISSY_DONE) return too_long();
-    return put(out, answer.length) && put_text("\n");
+    return put(out, (size_t)answer.length) && put_text("\n");
 }
 
 static bool count(const uint8_t *line, size_t length, uint32_t number) {
     char text[128];
-    nissy_count_answer answer = nissy_count(&command.tables, line, length, command.limit, command.slack);
+    nissy_search_answer answer = nissy_count(&command.tables, line, length, command.limit, command.slack, NISSY_ALL, NISSY_ALL);
     if (answer.status == NISSY_FAULT) return stop_at(number, answer.fault, answer.column);
     if (answer.status != NISSY_DONE) return too_long();
     char least[8] = "none";
     if (answer.solutions > 0) snprintf(least, sizeof least, "%u", (unsigned)answer.least);
-    snprintf(text, sizeof text, "length %s solutions %" PRIu64 " nodes %" PRIu64 "\n", least, answer.solutions, answer.looks);
+    snprintf(text, sizeof text, "length %s solutions %" PRIu64 " nodes %" PRIu64 "\n", least, answer.solutions, answer.nodes);
     return put_text(text);
 }
 
 static bool solve(const uint8_t *line, size_t length, uint32_t number) {
     size_t written = 0;
     for (;;) {
-        nissy_solve_answer answer = nissy_solve(&command.tables, line, length, command.limit, command.slack, UINT64_MAX, command.room,
-                                                command.room_length);
+        nissy_search_answer answer = nissy_solve(&command.tables, line, length, command.limit, command.slack, NISSY_ALL, NISSY_ALL,
+                                                 command.room, command.room_length);
         if (answer.status == NISSY_FAULT) return stop_at(number, answer.fault, answer.column);
         if (answer.status != NISSY_DONE && answer.status != NISSY_ROOM) return too_long();
-        if (!put(command.room + written, answer.out_length - written)) return false;
-        written = answer.out_length;
+        if (!put(command.room + written, (size_t)answer.length - written)) return false;
+        written = (size_t)answer.length;
         if (answer.status == NISSY_DONE) break;
         /* what there was no room for is found again */
         size_t wider = command.room_length <= SIZE_MAX / 8 ? 8 * command.room_length : 0;
@@ -252,7 +253,7 @@ static bool turns_of(const char *word, uint8_t *turns) {
 /* How many words say a command on lines, or 0 if they say none. */
 static int command_of(int count, char **words) {
     static const struct { const char *name; rewriting *does; } rewritings[] = {
-        {"invert", nissy_invert}, {"unniss", nissy_unniss}, {"cleanup", nissy_cleanup}, {"print", nissy_print}};
+        {"invert", nissy_invert}, {"unniss", nissy_unniss}, {"cleanup", nissy_cleanup}, {"print", nissy_facelets}};
     if (count == 0) return 0;
     for (size_t at = 0; at < sizeof rewritings / sizeof *rewritings; at += 1) {
         if (strcmp(words[0], rewritings[at].name) != 0) continue;
@@ -322,7 +323,7 @@ static bool run(int count, char **words) {
         nissy_run_answer answer = nissy_run(text, length, NULL, 0, out, room, err, sizeof err - 1);
         if (answer.out_too_small) continue;
         err[answer.err_length] = 0;
-        done = put(out, answer.out_length) && (answer.status == NISSY_DONE || stop(answer.status, (const char *)err));
+        done = put(out, (size_t)answer.out_length) && (answer.status == NISSY_DONE || stop(answer.status, (const char *)err));
         break;
     }
     free(out);

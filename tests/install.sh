@@ -51,8 +51,8 @@ if [ $library = yes ]; then
 644 lib/cmake/nissy/nissy-config-version.cmake packaging/cmake/nissy-config-version.cmake
 644 lib/cmake/nissy/nissy-config.cmake packaging/cmake/nissy-config.cmake
 644 lib/libnissy.a build/libnissy.a
-777 lib/libnissy.so build/libnissy.so.1
-755 lib/libnissy.so.1 build/libnissy.so.1
+777 lib/libnissy.so build/libnissy.so.2
+755 lib/libnissy.so.2 build/libnissy.so.2
 644 lib/pkgconfig/nissy.pc include/nissy.pc
 $(cd python && find nissy \( -name '*.py' -o -name py.typed \) -printf '644 lib/python3/dist-packages/%p python/%p\n')
 644 share/doc/nissy/EMBEDDING.md docs/EMBEDDING.md"
@@ -69,7 +69,7 @@ holds "the installed program runs" test "$("$usr/bin/nissy" invert "R U' F2")" =
 if [ $library = yes ]; then
     if ! missing python3; then
         by_module() { PYTHONPATH=$1/lib/python3/dist-packages python3 -B -c 'import nissy; print(nissy.invert("R U"), nissy._library.LIBRARY._name)'; }
-        found=$(realpath "$usr/lib/libnissy.so.1")
+        found=$(realpath "$usr/lib/libnissy.so.2")
         holds "the installed module finds the library beside it" test "$(realpath -- "$(by_module "$usr" | cut -d ' ' -f 3-)")" = "$found"
     else
         skips "there is no python3 here"
@@ -118,7 +118,7 @@ if [ $library = yes ]; then
     # as on Debian, where each kind of processor has a folder for its libraries
     multiarch=lib/x86_64-linux-gnu
     holds "make install takes a folder for libraries" by_make install DESTDIR="$room/multiarch" PREFIX=/usr LIBDIR=/usr/$multiarch PYTHONDIR=/usr/lib/python3
-    holds "the libraries stand there" test -e "$room/multiarch/usr/$multiarch/libnissy.so.1"
+    holds "the libraries stand there" test -e "$room/multiarch/usr/$multiarch/libnissy.so.2"
     holds "and the module in the folder for Python" test -e "$room/multiarch/usr/lib/python3/nissy/__init__.py"
     if ! missing pkg-config; then
         flags() { PKG_CONFIG_PATH="$room/multiarch/usr/$multiarch/pkgconfig" pkg-config "$@" nissy; }

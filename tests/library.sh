@@ -13,23 +13,23 @@ set -u
 program=$(program_of "$@") || exit 2
 cd "$(dirname "$0")/.." || exit 2
 folder=$(realpath -- "${2:-build}")
-export NISSY_LIBRARY=$folder/libnissy.so.1
+export NISSY_LIBRARY=$folder/libnissy.so.2
 
 if missing cc || [ ! -e "$folder/libnissy.a" ]; then skips_all "there is no C compiler here, or no library that make lib built"; fi
-holds "the library has its files" test -s "$folder/libnissy.a" -a -s "$folder/libnissy.so.1" -a -s "$folder/libnissy.so"
+holds "the library has its files" test -s "$folder/libnissy.a" -a -s "$folder/libnissy.so.2" -a -s "$folder/libnissy.so"
 
 # what it shows to others
 exported() { nm "$@" | awk '$2 ~ /[A-Z]/ && $2 != "U" && $2 != "w" { print $3 }' | sort; }
 declared() { grep -oE '\bnissy_[a-z_]+\(' include/nissy.h | tr -d '(' | sort -u; }
-holds "the shared object exports what the header declares" test "$(exported -D --defined-only "$folder/libnissy.so.1")" = "$(declared)"
+holds "the shared object exports what the header declares" test "$(exported -D --defined-only "$folder/libnissy.so.2")" = "$(declared)"
 holds "so does the archive" test "$(exported --defined-only "$folder/libnissy.a" | grep .)" = "$(declared)"
-holds "its soname" test "$(objdump -p "$folder/libnissy.so.1" | awk '$1 == "SONAME" { print $2 }')" = libnissy.so.1
-needed() { objdump -p "$folder/libnissy.so.1" | awk '$1 == "NEEDED" { print $2 }'; }
+holds "its soname" test "$(objdump -p "$folder/libnissy.so.2" | awk '$1 == "SONAME" { print $2 }')" = libnissy.so.2
+needed() { objdump -p "$folder/libnissy.so.2" | awk '$1 == "NEEDED" { print $2 }'; }
 holds "it needs the C library alone" test "$(needed)" = libc.so.6
-has_no_runnable_stack() { objdump -p "$folder/libnissy.so.1" | grep -A 1 STACK | grep -q 'flags rw-$'; }
+has_no_runnable_stack() { objdump -p "$folder/libnissy.so.2" | grep -A 1 STACK | grep -q 'flags rw-$'; }
 holds "it asks for no stack that can be run" has_no_runnable_stack
 names_level() { readelf -n "$1" | grep -q 'x86 ISA needed: .*x86-64-v2'; }
-holds "it names the processors that it is for" names_level "$folder/libnissy.so.1"
+holds "it names the processors that it is for" names_level "$folder/libnissy.so.2"
 holds "so does the archive" names_level "$folder/libnissy.a"
 
 # each test in C, plain by the archive and by the shared object, with the sanitizers, and by valgrind
@@ -42,7 +42,7 @@ sanitized=("-fsanitize=address,undefined" -fno-sanitize-recover=all)
 wrapped=-Wl,--wrap=malloc,--wrap=realloc,--wrap=free
 linked() { # NAME: what the test is linked with
     case $1 in
-        memory | fuzz) echo $wrapped ;;
+        memory | fuzz | fuzz_facts) echo $wrapped ;;
         threads | broken_rules) echo -pthread ;;
     esac
 }
@@ -76,15 +76,15 @@ tried() { # NAME: the test in C of this name
     fi
     case $name in
         # valgrind's own malloc takes no wraps, helgrind tells the races that are meant, and a handler's small stack isn't for either
-        memory | fuzz | broken_rules | handlers) ;;
+        memory | fuzz | fuzz_facts | broken_rules | handlers) ;;
         # unlike the sanitizer it sees what the library itself reads and writes; searches alone, since a run takes it seconds
         threads) valgrinds --tool=helgrind "$made/$name" 0 20 ;;
         # it makes each byte thirty times as slow
-        calls) valgrinds --leak-check=full "$made/$name" few ;;
+        calls | facts) valgrinds --leak-check=full "$made/$name" few ;;
     esac
     ended
 }
-for name in calls threads fuzz memory handlers broken_rules; do part tried $name; done
+for name in calls facts threads fuzz fuzz_facts memory handlers broken_rules; do part tried $name; done
 
 # the headers in C++, by each compiler that is here
 compiled_by() { # COMPILER PROGRAM WORD..: compiles the test in C++, with these words too

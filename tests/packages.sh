@@ -98,7 +98,7 @@ else
     holds "a wheel that was cut isn't installed" refuses pip install --no-index --force-reinstall "$room/${wheel##*/}"
     holds "the wheel is taken away" pip uninstall -q -y nissy
     holds "without a trace" test "$(stands)" = "$before"
-    needs_library() { rm build/libnissy.so.1 && ! said=$(tools/wheel "$room" 2>&1) && grep -q 'make lib' <<< "$said"; }
+    needs_library() { rm build/libnissy.so.2 && ! said=$(tools/wheel "$room" 2>&1) && grep -q 'make lib' <<< "$said"; }
     holds "a build without the library says what makes it" needs_library
 fi
 
@@ -146,7 +146,7 @@ else
     holds "the Python package in C is installed" pip install -q --no-index "$source_package"
     says_all='import nissy; print(nissy.invert("R U"), nissy.__version__, nissy.count("eofb", "R U F").solutions, nissy.run(["steps"]).status)'
     holds "its module finds the library that was compiled" test "$(in_venv -c "$says_all")" = "U' R' $version 2 0"
-    library=$(find "$room/venv" -name libnissy.so.1)
+    library=$(find "$room/venv" -name libnissy.so.2)
     for trial in module values; do add env NISSY_LIBRARY="$library" python3 "$top/tests/library/$trial.py"; done
     holds "it is taken away" pip uninstall -q -y nissy
     mkdir "$room/none"
@@ -204,7 +204,7 @@ if ! ls "$made"/*.deb > /dev/null 2>&1; then skips "the Debian packages, which w
     holds "each link of their pages leads to one of them" test -z "$(dead_pages)"
     holds "they speak of nothing that only the repository has" refuses grep -rnE "$of_repository" "$root/usr/share/doc" --include='*.md'
     holds "their program runs" test "$("$root/usr/bin/nissy" invert "R U' F2")" = "F2 U R'"
-    holds "their library is stripped" refuses grep -q '\.symtab' <(readelf -SW "$libraries/libnissy.so.1")
+    holds "their library is stripped" refuses grep -q '\.symtab' <(readelf -SW "$libraries/libnissy.so.2")
     holds "their module is found" test "$(cd / && LD_LIBRARY_PATH=$libraries PYTHONPATH=$root/usr/lib/python3/dist-packages \
         /usr/bin/python3 -B -c 'import nissy; print(nissy.invert("R U"))')" = "U' R'"
     compiled() {
@@ -234,7 +234,7 @@ else
     if [ ! -e "$wheel" ]; then skips "the wheel for ARM, which wasn't made"; else
         holds "the wheel for ARM has its name" test -e "${wheel//x86_64/aarch64}"
         holds "and is unpacked" python3 -m zipfile -e "${wheel//x86_64/aarch64}" "$room/wheel"
-        holds "its library is that of ARM" cmp "$room/wheel/nissy/libnissy.so.1" build/aarch64/libnissy.so.1
+        holds "its library is that of ARM" cmp "$room/wheel/nissy/libnissy.so.2" build/aarch64/libnissy.so.2
         for platform in manylinux_2_17 manylinux2014; do
             holds "it is for $platform" grep -qxF "Tag: py3-none-${platform}_aarch64" "$room"/wheel/nissy-*.dist-info/WHEEL
         done
@@ -245,10 +245,10 @@ else
         of_arm() { for package in "$made"/*_arm64.deb; do dpkg-deb -x "$package" "$room/arm" || return; done; }
         holds "they are unpacked" of_arm
         holds "their program runs" test "$(by_qemu "$room/arm/usr/bin/nissy" invert "R U' F2")" = "F2 U R'"
-        holds "their library is stripped" refuses grep -q '\.symtab' <(readelf -SW "$room/arm/usr/lib/aarch64-linux-gnu/libnissy.so.1")
+        holds "their library is stripped" refuses grep -q '\.symtab' <(readelf -SW "$room/arm/usr/lib/aarch64-linux-gnu/libnissy.so.2")
         needs() { dpkg-deb -f "$made/$1_${version}_arm64.deb" Depends; }
         holds "the program names the C library that it needs" test "$(needs nissy)" = "libc6 (>= 2.34)"
-        holds "so does the library" test "$(needs libnissy1)" = "libc6 (>= 2.17)"
+        holds "so does the library" test "$(needs libnissy2)" = "libc6 (>= 2.17)"
     fi
 fi
 

@@ -95,12 +95,12 @@ fi
 # the library's tests over the file, in place of the library
 linked() { # NAME TEST WORD..: the test of this name with the file as it was compiled
     local wrapped=()
-    [ "$2" = fuzz ] && wrapped=("-Wl,--wrap=malloc,--wrap=realloc,--wrap=free")
+    [[ $2 == fuzz* ]] && wrapped=("-Wl,--wrap=malloc,--wrap=realloc,--wrap=free")
     gcc -std=c11 -O1 -g "${@:3}" -pthread "${wrapped[@]}" -Iinclude -Itests/library -I"$room/rows" -o "$room/$1.$2" "tests/library/$2.c" "$room/$1.o"
 }
 mkdir "$room/rows"
 runs_in_c "$room/rows/runs.inc"
-for trial in "calls few" "fuzz" "threads 0 20"; do
+for trial in "calls few" "facts few" "fuzz" "fuzz_facts" "threads 0 20"; do
     name=${trial%% *} words=()
     [ "$name" = "$trial" ] || read -ra words <<< "${trial#* }"
     holds "$name.c is linked with nissy.c" linked sanitized "$name" "${sanitized[@]:2}"

@@ -21,13 +21,13 @@ const char *__asan_default_options(void);
 const char *__asan_default_options(void) { return "handle_segv=0:handle_sigbus=0:detect_leaks=0"; }
 
 /* Whether a count of `F` is that of no tables, of eofb (F and F'), or of eorl (no turn). */
-static int is_one_of(nissy_count_answer got) {
-    if (got.status == NISSY_USAGE) return got.least == 0 && got.solutions == 0 && got.looks == 0;
+static int is_one_of(nissy_search_answer got) {
+    if (got.status == NISSY_USAGE) return got.least == 0 && got.solutions == 0 && got.nodes == 0;
     return got.status == NISSY_DONE && ((got.least == 1 && got.solutions == 2) || (got.least == 0 && got.solutions == 1));
 }
 
 static void asks(const nissy_tables *tables) {
-    if (!is_one_of(nissy_count(tables, (const uint8_t *)"F", 1, 20, 0))) _exit(NO_SENSE);
+    if (!is_one_of(nissy_count(tables, (const uint8_t *)"F", 1, 20, 0, NISSY_ALL, NISSY_ALL))) _exit(NO_SENSE);
 }
 
 static void *builds(void *of) {
@@ -59,7 +59,7 @@ static void shares_a_struct(int number) {
 
 /* A struct whose tables something else wrote: by the number none, or a place without memory. */
 static void has_other_fields(int number) {
-    nissy_tables tables = {number % 2 ? (void *)(uintptr_t)16 : NULL, true};
+    nissy_tables tables = {number % 2 ? (void *)(uintptr_t)16 : NULL, 1};
     asks(&tables);
 }
 
@@ -67,8 +67,8 @@ static void has_other_fields(int number) {
 static void has_no_flag(int number) {
     nissy_tables tables = NISSY_NO_TABLES;
     if (nissy_build(&tables, (const uint8_t *)STEPS[number % 2], 4) != NISSY_DONE) _exit(NO_SENSE);
-    tables.built = false;
-    if (nissy_count(&tables, (const uint8_t *)"F", 1, 20, 0).status != NISSY_USAGE) _exit(NO_SENSE);
+    tables.built = 0;
+    if (nissy_count(&tables, (const uint8_t *)"F", 1, 20, 0, NISSY_ALL, NISSY_ALL).status != NISSY_USAGE) _exit(NO_SENSE);
 }
 
 /* Runs a caller in processes of their own, and counts how they end. */

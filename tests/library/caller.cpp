@@ -43,9 +43,9 @@ std::string solved(const nissy::tables &tables, std::string_view line, const nis
     return text;
 }
 
-std::string counted(const nissy::tables &tables, std::string_view line, int limit, int slack) {
-    const auto [length, solutions, nodes] = tables.count(line, limit, slack);
-    return (length ? std::to_string(*length) : "none") + " " + std::to_string(solutions) + " " + std::to_string(nodes);
+std::string counted(const nissy::tables &tables, std::string_view line, const nissy::search &which) {
+    const nissy::count told = tables.count(line, {which.limit, which.slack});
+    return (told.length ? std::to_string(*told.length) : "none") + " " + std::to_string(told.solutions) + " " + std::to_string(told.nodes);
 }
 
 std::string searched(const std::string &call, std::istream &asked) {
@@ -54,7 +54,7 @@ std::string searched(const std::string &call, std::istream &asked) {
     asked >> step >> which.limit >> which.slack >> which.most >> hex;
     const exact line(hex), name(step);
     const nissy::tables tables(name.view());
-    return call == "solve" ? solved(tables, line.view(), which) : counted(tables, line.view(), which.limit, which.slack);
+    return call == "solve" ? solved(tables, line.view(), which) : counted(tables, line.view(), which);
 }
 
 std::string drawn(std::istream &asked) {

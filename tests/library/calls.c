@@ -23,7 +23,7 @@ static const line_row READ[] = {
     {nissy_unniss, "R (U F') D", "R D F U'"},
     {nissy_cleanup, "Rw U", "L F x"},
     {nissy_cleanup, "R (U U) R'", "(U2)"},
-    {nissy_print, "R", "UUFUUFUUFRRRRRRRRRFFDFFDFFDDDBDDBDDBLLLLLLLLLUBBUBBUBB"},
+    {nissy_facelets, "R", "UUFUUFUUFRRRRRRRRRFFDFFDFFDDDBDDBDDBLLLLLLLLLUBBUBBUBB"},
 };
 
 static guarded untouched(size_t size) {
@@ -66,7 +66,7 @@ static void reads_lines(void) {
         const fault_row *row = &UNREAD[at];
         guarded line = copied(row->line, strlen(row->line)), out = untouched(40);
         is_refused(nissy_invert(line.bytes, line.size, out.bytes, 40), out, NISSY_FAULT, row->fault, row->column, row->line);
-        is_refused(nissy_print(line.bytes, line.size, out.bytes, 40), out, NISSY_FAULT, row->fault, row->column, row->line);
+        is_refused(nissy_facelets(line.bytes, line.size, out.bytes, 40), out, NISSY_FAULT, row->fault, row->column, row->line);
         let_go(line), let_go(out);
     }
 }
@@ -96,40 +96,96 @@ static void runs(int step) {
     }
 }
 
-/* One search that is to write the first solutions of the row: of all that there are a count says the same. */
+/* A search of a row by which the first solutions are to be written. */
+static nissy_search_answer solve(const nissy_tables *tables, const search_row *row, uint64_t most, uint64_t most_nodes, guarded out) {
+    return nissy_solve(tables, (const uint8_t *)row->line, strlen(row->line), row->limit, row->slack, most, most_nodes, out.bytes, out.size);
+}
+
+static nissy_search_answer count_of(const nissy_tables *tables, const search_row *row, uint64_t most, uint64_t most_nodes) {
+    return nissy_count(tables, (const uint8_t *)row->line, strlen(row->line), row->limit, row->slack, most, most_nodes);
+}
+
+/* Whether two searches that wrote as many solutions say the same of them. */
+static int is_same(nissy_search_answer one, nissy_search_answer other) {
+    return one.status == other.status && one.fault == other.fault && one.column == other.column && one.least == other.least &&
+           one.more == other.more && one.solutions == other.solutions && one.nodes == other.nodes;
+}
+
+/* What is written is a beginning of the row's text, of whole solutions, and nothing stands behind it. */
+static void is_beginning(nissy_search_answer got, guarded out, const search_row *row) {
+    size_t feeds = 0;
+    for (size_t at = 0; at < got.length; at++) feeds += out.bytes[at] == '\n';
+    holds(memcmp(out.bytes, row->text, got.length) == 0 && feeds == got.solutions, "the first of them", row->line);
+    holds(are_all(out.bytes + got.length, out.size - got.length, UNTOUCHED), "nothing is written behind them", row->line);
+}
+
+/* A byte of room too few, or one solution fewer at most. */
+static void solves_fewer(const nissy_tables *tables, const search_row *row, uint64_t solutions) {
+    guarded out = untouched(strlen(row->text) - 1);
+    nissy_search_answer cut = solve(tables, row, NISSY_ALL, NISSY_ALL, out);
+    holds(cut.status == NISSY_ROOM && cut.more == 1 && cut.solutions == solutions - 1, "a byte of room too few", row->line);
+    is_beginning(cut, out, row);
+    let_go(out);
+    out = untouched(strlen(row->text));
+    cut = solve(tables, row, solutions - 1, NISSY_ALL, out);
+    holds(cut.status == NISSY_DONE && cut.more == 1 && cut.solutions == solutions - 1, "one fewer at most", row->line);
+    is_beginning(cut, out, row);
+    holds(is_same(cut, count_of(tables, row, solutions - 1, NISSY_ALL)), "a count of one fewer", row->line);
+    let_go(out);
+    out = untouched(0);
+    cut = solve(tables, row, solutions - 1, NISSY_ALL, out);
+    holds(cut.more == 1 && cut.status == (solutions > 1 ? NISSY_ROOM : NISSY_DONE) && cut.length == 0, "one fewer, without room", row->line);
+    let_go(out);
+}
+
+/* A bound that the whole search keeps changes nothing; by any that is lower the search is cut, and never looks more often. */
+static void is_bounded(const nissy_tables *tables, const search_row *row, nissy_search_answer whole) {
+    guarded out = untouched(strlen(row->text));
+    holds(is_same(whole, solve(tables, row, NISSY_ALL, whole.nodes, out)), "as many positions as it looks at", row->line);
+    holds(is_same(whole, count_of(tables, row, NISSY_ALL, whole.nodes)), "a count that looks at as many", row->line);
+    let_go(out);
+    for (uint64_t bound = 0; bound < whole.nodes; bound++) {
+        out = untouched(strlen(row->text));
+        nissy_search_answer cut = solve(tables, row, NISSY_ALL, bound, out), told = count_of(tables, row, NISSY_ALL, bound);
+        holds(cut.status == NISSY_CUT && cut.more == 1 && cut.nodes <= bound && !cut.fault && !cut.column, "a lower bound cuts it", row->line);
+        holds(cut.least == (cut.solutions ? row->least : 0), "the least length, if it is known", row->line);
+        holds(is_same(cut, told) && told.length == 0, "a count that is cut", row->line);
+        is_beginning(cut, out, row);
+        let_go(out);
+    }
+}
+
+/* One search that is to write the solutions of the row: of all that there are a count says the same. */
 static void solves(const nissy_tables *tables, const search_row *row) {
     guarded line = copied(row->line, strlen(row->line)), out = untouched(strlen(row->text));
-    nissy_solve_answer got = nissy_solve(tables, line.bytes, line.size, row->limit, row->slack, UINT64_MAX, out.bytes, out.size);
+    nissy_search_answer got = nissy_solve(tables, line.bytes, line.size, row->limit, row->slack, NISSY_ALL, NISSY_ALL, out.bytes, out.size);
     holds(got.status == NISSY_DONE && got.fault == 0 && got.column == 0 && !got.more, "its status", row->line);
-    holds(holds_beginning(out, got.out_length, row->text) && got.least == row->least, "the solutions", row->line);
-    if (row->looks) holds(got.looks == row->looks, "the positions looked at", row->line);
-    nissy_count_answer told = nissy_count(tables, line.bytes, line.size, row->limit, row->slack);
-    holds(told.status == NISSY_DONE && told.fault == 0 && told.column == 0, "the status of a count", row->line);
-    holds(told.solutions == got.solutions && told.least == row->least && told.looks == got.looks, "a count", row->line);
-    let_go(out);
-    if (got.solutions) {
-        out = untouched(got.out_length - 1);
-        nissy_solve_answer cut = nissy_solve(tables, line.bytes, line.size, row->limit, row->slack, UINT64_MAX, out.bytes, out.size);
-        holds(cut.status == NISSY_ROOM && cut.more && cut.solutions == got.solutions - 1, "a byte of room too few", row->line);
-        holds(memcmp(out.bytes, row->text, cut.out_length) == 0, "the first of them", row->line);
-        holds(are_all(out.bytes + cut.out_length, out.size - cut.out_length, UNTOUCHED), "nothing is written behind them", row->line);
-        let_go(out);
-        cut = nissy_solve(tables, line.bytes, line.size, row->limit, row->slack, got.solutions - 1, NULL, 0);
-        holds(cut.more && cut.status == (got.solutions > 1 ? NISSY_ROOM : NISSY_DONE) && cut.out_length == 0, "one fewer at most", row->line);
-    }
-    let_go(line);
+    holds(holds_beginning(out, got.length, row->text) && got.least == row->least, "the solutions", row->line);
+    if (row->nodes) holds(got.nodes == row->nodes, "the positions looked at", row->line);
+    nissy_search_answer told = nissy_count(tables, line.bytes, line.size, row->limit, row->slack, NISSY_ALL, NISSY_ALL);
+    holds(is_same(got, told) && told.length == 0, "a count", row->line);
+    let_go(out), let_go(line);
+    if (got.solutions) solves_fewer(tables, row, got.solutions);
+    is_bounded(tables, row, got);
+}
+
+/* Whether a search says this and nothing else. */
+static int says_alone(nissy_search_answer got, int status, int fault, unsigned column) {
+    return got.status == status && got.fault == fault && got.column == column && !got.length && !got.solutions && !got.least &&
+           !got.nodes && !got.more;
 }
 
 /* Both searches of a line answer this and write nothing. */
 static void refuses(const nissy_tables *tables, const char *line, uint8_t limit, uint8_t slack, int status, int fault, unsigned column) {
     guarded read = copied(line, strlen(line)), out = untouched(100);
-    nissy_solve_answer got = nissy_solve(tables, read.bytes, read.size, limit, slack, UINT64_MAX, out.bytes, out.size);
-    holds(got.status == status && got.fault == fault && got.column == column, "its status and fault", line);
-    holds(!got.out_length && !got.solutions && !got.least && !got.looks && !got.more, "nothing else", line);
-    holds(are_all(out.bytes, out.size, UNTOUCHED), "nothing is written", line);
-    nissy_count_answer told = nissy_count(tables, read.bytes, read.size, limit, slack);
-    holds(told.status == status && told.fault == fault && told.column == column, "a count's status and fault", line);
-    holds(!told.solutions && !told.least && !told.looks, "nothing else of a count", line);
+    for (uint64_t bound = 0; bound < 3; bound++) {
+        uint64_t most_nodes = bound ? NISSY_ALL - bound + 1 : 0;
+        nissy_search_answer got = nissy_solve(tables, read.bytes, read.size, limit, slack, NISSY_ALL, most_nodes, out.bytes, out.size);
+        holds(says_alone(got, status, fault, column), "its status and fault, and nothing else", line);
+        holds(are_all(out.bytes, out.size, UNTOUCHED), "nothing is written", line);
+        got = nissy_count(tables, read.bytes, read.size, limit, slack, NISSY_ALL, most_nodes);
+        holds(says_alone(got, status, fault, column), "a count's status and fault", line);
+    }
     let_go(read), let_go(out);
 }
 
@@ -159,18 +215,18 @@ static void copies_stay(void) {
     solves(&copy, &SEARCHES[0]);
     holds(nissy_build(&tables, (const uint8_t *)"eorl", 4) == NISSY_DONE, "another step is built", "a struct with tables");
     solves(&copy, &SEARCHES[0]);
-    holds(nissy_count(&tables, (const uint8_t *)"F", 1, MOST, 0).least == 0, "it asks the step that was built last", "F of eorl");
+    holds(nissy_count(&tables, (const uint8_t *)"F", 1, MOST, 0, NISSY_ALL, NISSY_ALL).least == 0, "it asks the step that was built last", "F of eorl");
 }
 
 /* A null pointer to no byte is as good as another. */
 static void null_is_empty(void) {
     nissy_tables tables = built("eofb");
     uint8_t out[NISSY_LINE_ROOM], err[NISSY_ERROR_ROOM];
-    nissy_solve_answer got = nissy_solve(&tables, NULL, 0, MOST, 0, UINT64_MAX, out, sizeof out);
-    holds(got.status == NISSY_DONE && got.out_length == 4 && memcmp(out, "(0)\n", 4) == 0, "a null line is empty", "nissy_solve");
-    got = nissy_solve(&tables, NULL, 0, MOST, 0, UINT64_MAX, NULL, 0);
-    holds(got.status == NISSY_ROOM && got.out_length == 0 && got.more, "a null room is too small", "nissy_solve");
-    holds(nissy_count(&tables, NULL, 0, MOST, 0).solutions == 1, "a null line is empty", "nissy_count");
+    nissy_search_answer got = nissy_solve(&tables, NULL, 0, MOST, 0, NISSY_ALL, NISSY_ALL, out, sizeof out);
+    holds(got.status == NISSY_DONE && got.length == 4 && memcmp(out, "(0)\n", 4) == 0, "a null line is empty", "nissy_solve");
+    got = nissy_solve(&tables, NULL, 0, MOST, 0, NISSY_ALL, NISSY_ALL, NULL, 0);
+    holds(got.status == NISSY_ROOM && got.length == 0 && got.more, "a null room is too small", "nissy_solve");
+    holds(nissy_count(&tables, NULL, 0, MOST, 0, NISSY_ALL, NISSY_ALL).solutions == 1, "a null line is empty", "nissy_count");
     line_call *const on_a_line[] = {nissy_invert, nissy_unniss, nissy_cleanup};
     for (size_t at = 0; at < sizeof on_a_line / sizeof *on_a_line; at++) {
         nissy_line_answer is = on_a_line[at](NULL, 0, NULL, 0);
@@ -178,7 +234,7 @@ static void null_is_empty(void) {
         is = on_a_line[at]((const uint8_t *)"R", 1, NULL, 0);
         holds(is.status == NISSY_ROOM && is.length > 0, "a null room is too small", "a call on a line");
     }
-    holds(nissy_print(NULL, 0, out, sizeof out).length == 54, "a null line is the solved cube", "nissy_print");
+    holds(nissy_facelets(NULL, 0, out, sizeof out).length == 54, "a null line is the solved cube", "nissy_facelets");
     holds(nissy_start(NULL, 0, NULL, 0).status == NISSY_USAGE, "a null name is none", "nissy_start");
     nissy_run_answer run = nissy_run((const uint8_t *)"invert", 6, NULL, 0, NULL, 0, NULL, 0);
     holds(run.status == NISSY_DONE && run.out_length == 0 && !run.out_too_small, "null input, output and error text", "nissy_run");
@@ -226,8 +282,8 @@ static void limits_are_kept(void) {
     nissy_line_answer read = nissy_invert(blanks.bytes + 1, NISSY_MOST_INPUT, out.bytes, 8);
     holds(read.status == NISSY_DONE && read.length == 0, "its inverse", "16,777,216 blanks");
     nissy_tables tables = built("eofb");
-    holds(nissy_count(&tables, blanks.bytes, blanks.size, MOST, 0).status == NISSY_STOPPED, "its count", "16,777,217 blanks");
-    holds(nissy_count(&tables, blanks.bytes + 1, NISSY_MOST_INPUT, MOST, 0).solutions == 1, "its count", "16,777,216 blanks");
+    holds(nissy_count(&tables, blanks.bytes, blanks.size, MOST, 0, NISSY_ALL, NISSY_ALL).status == NISSY_STOPPED, "its count", "16,777,217 blanks");
+    holds(nissy_count(&tables, blanks.bytes + 1, NISSY_MOST_INPUT, MOST, 0, NISSY_ALL, NISSY_ALL).solutions == 1, "its count", "16,777,216 blanks");
     nissy_run_answer run = nissy_run((const uint8_t *)"invert", 6, blanks.bytes, blanks.size, out.bytes, 8, NULL, 0);
     holds(run.status == NISSY_STOPPED && run.out_length == 0, "a run", "16,777,217 blanks");
     let_go(blanks), let_go(out);

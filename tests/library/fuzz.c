@@ -5,66 +5,9 @@
  * The draws are numbered from SEED on, for two seconds if none are said; `fuzz N 0` makes draw N alone. At the top of the repository:
  *
  *     cc -Iinclude -Itests/library -Wl,--wrap=malloc,--wrap=realloc,--wrap=free -o build/fuzz tests/library/fuzz.c build/libnissy.a */
-#include "refused.h"
-#include "trial.h"
+#include "questions.h"
 
-#include "drawn.h"
-
-#include <signal.h>
-#include <time.h>
-
-enum { AREA = 1 << 17, ROOM = 1 << 16, MARGIN = 64, BLOCK = 4096, UNTOUCHED = '#', SLOW_SHARE = 40 };
-
-static char draw_name[64];
-
-static void is_so(int holding, const char *what) {
-    holds(holding, what, draw_name);
-}
-
-/* A page that can't be touched was touched: what was passed and failed until then isn't told. */
-static void on_fault(int number) {
-    static const char what[] = ": a byte beside a buffer was touched\n";
-    (void)number;
-    _exit(write(STDOUT_FILENO, draw_name, strlen(draw_name)) < 0 || write(STDOUT_FILENO, what, strlen(what)) < 0 ? 2 : 1);
-}
-
-/* A slice of an area: at its front, behind a page that can't be touched, or at its end, before one. */
-typedef struct slice {
-    uint8_t *bytes, *margin;
-    size_t size;
-} slice;
-
-static guarded areas[4];
-enum area { WORDS_AREA, INPUT_AREA, OUT_AREA, ERR_AREA };
-
-static slice slice_of(enum area area, size_t size, int is_front) {
-    uint8_t *from = areas[area].bytes, *bytes = is_front ? from : from + AREA - size;
-    slice made_here = {bytes, is_front ? bytes + size : bytes - MARGIN, size};
-    memset(made_here.margin, UNTOUCHED, MARGIN);
-    return made_here;
-}
-
-static slice read_slice(enum area area, text of, int is_front) {
-    slice made_here = slice_of(area, of.size, is_front);
-    if (of.size) memcpy(made_here.bytes, of.bytes, of.size);
-    return made_here;
-}
-
-static slice written_slice(enum area area, size_t size, int is_front) {
-    slice made_here = slice_of(area, size, is_front);
-    memset(made_here.bytes, UNTOUCHED, size);
-    return made_here;
-}
-
-static void was_read(slice of, text was) {
-    is_so(was.size == 0 || memcmp(of.bytes, was.bytes, was.size) == 0, "what is read stays as it was");
-    is_so(are_all(of.margin, MARGIN, UNTOUCHED), "so does what is beside it");
-}
-
-static void was_written(slice of, size_t size) {
-    is_so(size <= of.size && are_all(of.bytes + size, of.size - size, UNTOUCHED), "behind what is written a buffer is as it was");
-    is_so(are_all(of.margin, MARGIN, UNTOUCHED), "so is what is beside it");
-}
+enum { SLOW_SHARE = 40 };
 
 /* What a run answered, with its texts. */
 typedef struct answer {
@@ -83,10 +26,6 @@ static void run(answer *to, text words, text input, size_t out_room, size_t err_
     is_so(held == 0, "all memory is given back");
     was_read(w, words), was_read(i, input), was_written(out, to->is.out_length), was_written(err, to->is.err_length);
     memcpy(to->out, out.bytes, to->is.out_length), memcpy(to->err, err.bytes, to->is.err_length);
-}
-
-static int is_text(const uint8_t *bytes, size_t size, const void *wanted, size_t wanted_size) {
-    return size == wanted_size && (size == 0 || memcmp(bytes, wanted, size) == 0);
 }
 
 static size_t least(size_t one, size_t other) {
@@ -184,7 +123,7 @@ static nissy_line_answer call(line_call *of, text line, size_t room, uint32_t si
 
 /* A line by its call in rooms of three sizes, and the same line by a run. */
 static void try_line(text line) {
-    static line_call *const calls[] = {nissy_invert, nissy_unniss, nissy_cleanup, nissy_print};
+    static line_call *const calls[] = {nissy_invert, nissy_unniss, nissy_cleanup, nissy_facelets};
     static const char *const faults[] = {"", "not a move", "bracket inside a bracket", "bracket closed that was not opened",
                                          "bracket not closed", "more than 256 moves"};
     static uint8_t first[NISSY_LINE_ROOM + 1], other[NISSY_LINE_ROOM + 1];
@@ -210,16 +149,6 @@ static void try_line(text line) {
     is_so(is_text(got.err, got.is.err_length, fault, is.status ? (size_t)fault_length : 0), "a run has the fault of the call on its line");
 }
 
-/* The tables of three steps, and none. */
-static nissy_tables searched[4];
-
-static void build_searched(void) {
-    static const char *const names[] = {"eofb", "eo", "drud-eofb"};
-    snprintf(draw_name, sizeof draw_name, "no draw");
-    for (size_t at = 0; at < 3; at++)
-        is_so(nissy_build(&searched[at], (const uint8_t *)names[at], strlen(names[at])) == NISSY_DONE, "tables are built");
-}
-
 /* What a search of a line is to be told before it begins: a status, and with it a fault and its column. */
 static nissy_line_answer before_search(const nissy_tables *tables, text line, uint8_t limit, uint8_t slack) {
     static uint8_t unused[NISSY_LINE_ROOM];
@@ -228,34 +157,52 @@ static nissy_line_answer before_search(const nissy_tables *tables, text line, ui
     return nissy_invert(line.bytes, line.size, unused, sizeof unused);
 }
 
-/* A search of a line and a count, by tables or by none. A count of a great slack would take long. */
-static void try_search(text line) {
-    const nissy_tables *tables = &searched[draw(4)];
-    uint8_t limit = (uint8_t)(draw(9) ? draw(21) : draw(256)), slack = (uint8_t)(draw(4) ? draw(2) : draw(9) ? draw(21) : draw(256));
-    uint64_t most = draw(3) ? draw(12) : UINT64_MAX;
-    uint32_t sides = draw(4);
-    slice read = read_slice(INPUT_AREA, line, sides & 1), out = written_slice(OUT_AREA, draw(2) ? ROOM : draw(200), sides & 2);
-    nissy_line_answer first = before_search(tables, line, limit, slack);
+/* A search by these words, which takes no memory, and its solutions. */
+static nissy_search_answer solve(question of, text line, uint32_t sides, uint8_t *to) {
+    slice read = read_slice(INPUT_AREA, line, sides & 1), out = written_slice(OUT_AREA, of.room, sides & 2);
     made = 0, refused_at = 1, onward = 1;
-    nissy_solve_answer is = nissy_solve(tables, read.bytes, read.size, limit, slack, most, out.bytes, out.size);
-    was_read(read, line), was_written(out, is.out_length);
-    nissy_count_answer told = nissy_count(tables, read.bytes, read.size, limit, slack > 20 ? slack : slack & 1);
+    nissy_search_answer is = nissy_solve(of.tables, read.bytes, read.size, of.limit, of.slack, of.most, of.most_nodes, out.bytes, out.size);
     refused_at = 0;
     is_so(made == 0, "a search takes no memory");
-    int is_start = first.status == NISSY_DONE && is.fault == NISSY_START;
-    is_so(is_start || is.status == first.status || (is.status == NISSY_ROOM && is.more), "the status of a search");
-    is_so(is_start ? is.status == NISSY_FAULT && is.column == 0 : is.fault == first.fault && is.column == first.column, "its fault");
-    is_so(told.status == (is.status == NISSY_ROOM ? NISSY_DONE : is.status) && told.fault == is.fault, "a count ends as a search does");
-    is_so(told.column == is.column && told.least == is.least, "its column, and its least length");
-    is_so(is.solutions <= most && (is.solutions > 0) == (is.out_length > 0), "as many solutions as may be");
-    is_so(is.status == NISSY_DONE || is.status == NISSY_ROOM || is.looks == 0, "nothing is looked at without a search");
+    was_read(read, line), was_written(out, is.length);
+    if (is.length <= ROOM) memcpy(to, out.bytes, is.length);
+    return is;
+}
+
+/* A search that was cut: what it wrote is a beginning, and only one that looks more often is cut. */
+static void was_cut(question of, nissy_search_answer is, const uint8_t *bytes, nissy_search_answer all, const uint8_t *all_bytes) {
+    is_so(is.more == 1 && is.nodes <= of.most_nodes && of.most_nodes != NISSY_ALL, "a search that is cut keeps its bound");
+    is_so(is.length <= all.length && (is.length == 0 || memcmp(bytes, all_bytes, is.length) == 0), "what it wrote is a beginning");
+    is_so(is.least == (is.solutions ? all.least : is.least) && (is.least == 0 || is.least == all.least), "its least length, if it is known");
+    is_so(all.status == NISSY_ROOM || all.more || all.nodes > of.most_nodes, "the whole search looks more often");
+}
+
+/* A search of a line with a bound, without one, and counts, by tables or by none. */
+static void try_search(text line) {
+    static uint8_t bytes[ROOM], all_bytes[ROOM];
+    question of = drawn_question(), whole_of = of;
+    uint32_t sides = draw(16);
+    nissy_line_answer first = before_search(of.tables, line, of.limit, of.slack);
+    whole_of.most_nodes = NISSY_ALL;
+    nissy_search_answer is = solve(of, line, sides, bytes), all = solve(whole_of, line, ~sides, all_bytes);
+    int is_start = first.status == NISSY_DONE && all.fault == NISSY_START;
+    is_so(is_start || all.status == first.status || (all.status == NISSY_ROOM && all.more), "the status of a search");
+    is_so(is_start ? all.status == NISSY_FAULT && all.column == 0 : all.fault == first.fault && all.column == first.column, "its fault");
+    is_so(all.solutions <= of.most && (all.solutions > 0) == (all.length > 0), "as many solutions as may be");
+    is_so(all.status == NISSY_DONE || all.status == NISSY_ROOM || all.nodes == 0, "nothing is looked at without a search");
+    if (is.status == NISSY_CUT) was_cut(of, is, bytes, all, all_bytes);
+    else is_so(is_same(is, all) && is_text(bytes, is.length, all_bytes, all.length), "a bound that is kept changes nothing");
+    if (is.status != NISSY_ROOM) is_so(is_same(is, count_of(of, line)), "a count says what a search says");
+    whole_of.most = NISSY_ALL, whole_of.slack = of.slack > 20 ? of.slack : of.slack & 1;
+    nissy_search_answer told = count_of(whole_of, line);
+    is_so(told.status == (all.status == NISSY_ROOM ? NISSY_DONE : all.status) && told.fault == all.fault, "a count ends as a search does");
+    is_so(told.column == all.column && told.least == all.least, "its column, and its least length");
 }
 
 static void try_draw(unsigned long number) {
+    (void)number;
     static uint8_t word_bytes[BLOCK], line_bytes[4 * BLOCK];
     text words = {word_bytes, 0, sizeof word_bytes}, lines = {line_bytes, 0, sizeof line_bytes};
-    snprintf(draw_name, sizeof draw_name, "draw %lu", number);
-    begin_drawing(number);
     if (draw(3) == 0) {
         add_line(&lines, drawn_moves(), draw(3) == 0);
         try_line(lines);
@@ -268,13 +215,6 @@ static void try_draw(unsigned long number) {
 }
 
 int main(int count, char **words) {
-    unsigned long number = count > 1 ? strtoul(words[1], NULL, 10) : 1;
-    time_t seconds = count > 2 ? (time_t)strtoul(words[2], NULL, 10) : 2;
-    for (int at = 0; at < 4; at++) areas[at] = guard(AREA);
-    signal(SIGSEGV, on_fault);
     build_searched();
-    clock_t end = clock() + (clock_t)seconds * CLOCKS_PER_SEC;
-    do try_draw(number++);
-    while (clock() < end);
-    return ended();
+    return tries(count, words, try_draw);
 }

@@ -79,8 +79,8 @@ static void builds_nothing(const char *step, nissy_tables tables, long number, i
     refused_at = 0;
     holds(status == NISSY_STOPPED, "refused memory stops a build", step);
     holds(held == 0, "all memory is given back", step);
-    holds(nissy_count(&tables, NULL, 0, 20, 0).status == NISSY_USAGE, "there are no tables to ask", step);
-    holds(nissy_solve(&tables, NULL, 0, 20, 0, 1, out, sizeof out).status == NISSY_USAGE, "nor to search by", step);
+    holds(nissy_count(&tables, NULL, 0, 20, 0, NISSY_ALL, NISSY_ALL).status == NISSY_USAGE, "there are no tables to ask", step);
+    holds(nissy_solve(&tables, NULL, 0, 20, 0, 1, NISSY_ALL, out, sizeof out).status == NISSY_USAGE, "nor to search by", step);
 }
 
 /* A build takes memory once, and what asks its tables takes none. */
@@ -97,9 +97,9 @@ static void builds(const search_row *row, nissy_tables before) {
     }
     made = 0, refused_at = 1, onward = 1;
     holds(nissy_build(&tables, step, strlen(row->step)) == NISSY_DONE && made == 0, "they aren't built again", row->step);
-    nissy_solve_answer got = nissy_solve(&copy, line, strlen(row->line), row->limit, row->slack, UINT64_MAX, out, sizeof out);
-    holds(got.status == NISSY_DONE && got.out_length == strlen(row->text) && made == 0, "a search takes no memory", row->step);
-    nissy_count_answer counted = nissy_count(&tables, line, strlen(row->line), row->limit, row->slack);
+    nissy_search_answer got = nissy_solve(&copy, line, strlen(row->line), row->limit, row->slack, NISSY_ALL, NISSY_ALL, out, sizeof out);
+    holds(got.status == NISSY_DONE && got.length == strlen(row->text) && made == 0, "a search takes no memory", row->step);
+    nissy_search_answer counted = nissy_count(&tables, line, strlen(row->line), row->limit, row->slack, NISSY_ALL, NISSY_ALL);
     holds(counted.status == NISSY_DONE && made == 0, "nor does a count", row->step);
     refused_at = 0;
 }
@@ -109,16 +109,23 @@ static void all_builds(void) {
     nissy_tables before = built("eoud");
     for (size_t at = 0; at < SEARCH_COUNT; at++)
         if (at == 0 || strcmp(SEARCHES[at].step, SEARCHES[at - 1].step) != 0) builds(&SEARCHES[at], before);
-    holds(nissy_count(&before, (const uint8_t *)"U", 1, 20, 0).least == 1, "a copy has what it had", "eoud");
+    holds(nissy_count(&before, (const uint8_t *)"U", 1, 20, 0, NISSY_ALL, NISSY_ALL).least == 1, "a copy has what it had", "eoud");
 }
 
 /* The calls on one line, and those without one, take no memory. */
 static void others_take_none(void) {
     uint8_t out[NISSY_LINE_ROOM];
     const uint8_t *line = (const uint8_t *)"R U";
+    nissy_facts_answer facts;
+    nissy_search_answer counted;
+    nissy_tables tables = built("eofb");
     made = 0, refused_at = 1, onward = 1;
     holds(nissy_invert(line, 3, out, sizeof out).status == NISSY_DONE, "it needs no memory", "nissy_invert");
-    holds(nissy_print(line, 3, out, sizeof out).status == NISSY_DONE, "it needs no memory", "nissy_print");
+    holds(nissy_facelets(line, 3, out, sizeof out).status == NISSY_DONE, "it needs no memory", "nissy_facelets");
+    holds(nissy_facts(line, 3).status == NISSY_DONE, "it needs no memory", "nissy_facts");
+    holds(nissy_check(line, 3, line, 3).status == NISSY_DONE, "it needs no memory", "nissy_check");
+    holds(nissy_facts_lines(line, 3, &facts, 1).lines == 1, "it needs no memory", "nissy_facts_lines");
+    holds(nissy_count_lines(&tables, line, 3, 20, 0, 1, 9, &counted, 1).lines == 1, "it needs no memory", "nissy_count_lines");
     holds(nissy_scramble(1, 2, 256, out, sizeof out).status == NISSY_DONE, "it needs no memory", "nissy_scramble");
     holds(nissy_steps(out, sizeof out).status == NISSY_DONE, "it needs no memory", "nissy_steps");
     holds(nissy_start(line, 3, out, sizeof out).status == NISSY_USAGE, "it needs no memory", "nissy_start");

@@ -6,6 +6,7 @@
 #include "refused.h"
 #include "searches.h"
 
+#include <limits>
 #include <thread>
 
 namespace {
@@ -25,11 +26,11 @@ void solves(const nissy::tables &tables, const search_row &row) {
         holds(first.size() == std::min<std::size_t>(most, found.size()), "how many there are at most", row.line);
         holds(whole.compare(0, text_of(first).size(), text_of(first)) == 0, "they are the first", row.line);
     }
-    const nissy::count counted = tables.count(row.line, row.limit, row.slack);
+    const nissy::count counted = tables.count(row.line, {row.limit, row.slack});
     holds(counted.solutions == found.size(), "how many are counted", row.line);
     holds(counted.length.has_value() == !found.empty(), "there is a least length if there are solutions", row.line);
     if (counted.length) holds(*counted.length == row.least && found.front().length == row.least, "the least length", row.line);
-    if (row.looks) holds(counted.nodes == row.looks, "the positions looked at", row.line);
+    if (row.nodes) holds(counted.nodes == row.nodes, "the positions looked at", row.line);
 }
 
 // A call throws this exception, and one that says something.
@@ -65,6 +66,102 @@ template <typename Call> void has_words(Call call, const char *text, const char 
         const nissy::fault copy = thrown;
         holds(copy.text() == text, "its text", of);
         holds(copy.start() == start, "its start", of);
+    }
+}
+
+// What is seen of lines: rows that guides for solvers have, and one whose places a hand finds.
+void lines_are_judged() {
+    for (const auto &[line, wanted] : {std::pair{"R", "4c4e"}, {"R U2 R", "4c2e"}, {"R U R", "3c2e"}, {"", "0c0e"}})
+        holds(nissy::facts(line).ud().dr_case() == wanted, "its case", line);
+    const nissy::line_facts facts = nissy::facts("R"), none = nissy::facts("x y");
+    holds(facts.moves == 1 && facts.clean_moves == 1 && !facts.solved && none.solved && none.moves == 0, "moves, and whether it is solved", "R");
+    holds(facts.rl().bad_edges == 4 && facts.rl().bad_edge_places == 0x911 && facts.fb().bad_edges == 0, "its bad edges", "R");
+    holds(facts.ud().bad_corner_places == 0x99 && facts.ud().misplaced_edge_places == 0x911, "its places", "R");
+    holds(facts.ud().bad_corners == 4 && facts.ud().misplaced_edges == 4 && facts.axes[NISSY_UD].bad_edges == 0, "its numbers", "R");
+    const std::vector<std::string> held = {"eofb", "eoud", "drrl-eofb", "drrl-eoud", "eo", "dr-eofb", "dr-eoud"};
+    holds(facts.holds() == held && none.holds() == nissy::steps(), "the steps that hold", "R");
+    for (const fault_row &row : UNREAD) has_fault([&] { nissy::facts(row.line); }, row.fault, row.column, nullptr, row.line);
+}
+
+void solutions_are_checked() {
+    const nissy::verdict solved = nissy::check("R U", "U' R' x"), other = nissy::check("R", "(M u2')");
+    holds(solved.solved && solved.moves == 2 && solved.clean_moves == 2 && solved.forms == 0, "it solves", "R U");
+    const unsigned forms = NISSY_SLICES + NISSY_LOWER_CASE + NISSY_BRACKETS + NISSY_HALF_PRIME;
+    holds(!other.solved && other.moves == 3 && other.forms == forms, "it doesn't", "R");
+    holds(nissy::check({}, {}).solved, "no moves solve a solved cube", "");
+    has_fault([] { nissy::check("R q", "("); }, NISSY_NOT_A_MOVE, 3, "nissy: scramble, column 3: not a move", "R q");
+    has_fault([] { nissy::check("R", "(U"); }, NISSY_UNCLOSED, 1, "nissy: solution, column 1: bracket not closed", "(U");
+    has_words([] { nissy::check("R", "(U"); }, "bracket not closed", "", "(U");
+    const std::string blanks(NISSY_MOST_INPUT + 1, ' ');
+    throws<std::length_error>([&] { nissy::check("R", blanks); }, "a solution of 16,777,217 blanks");
+    throws<std::length_error>([&] { nissy::facts(blanks); }, "16,777,217 blanks");
+}
+
+// Each line of a text has a value, or throws what the call on it alone throws.
+void many_lines_are_answered() {
+    const nissy::tables tables("eofb"), reduction("dr-eofb");
+    const auto counts = tables.count_all("F\nR q\n\nF B");
+    holds(counts.size() == 4 && counts[0].value() == nissy::count{1, 2, 20} && counts[2].value().length == 0, "the counts", "four lines");
+    holds(counts[3] && counts[3].value() == tables.count("F B") && counts[3].status() == NISSY_DONE, "the last one", "four lines");
+    holds(!counts[1] && counts[1].status() == NISSY_FAULT && counts[1].code() == NISSY_NOT_A_MOVE && counts[1].column() == 3, "a fault", "R q");
+    has_fault([&] { counts[1].value(); }, NISSY_NOT_A_MOVE, 3, "nissy: column 3: not a move", "R q");
+    const auto starts = reduction.count_all("F\n");
+    holds(starts.size() == 1, "one line", "F");
+    has_words([&] { starts[0].value(); }, "eofb does not hold", "eofb", "F");
+    const auto cut = tables.count_all("F B\nF", {20, 0, NISSY_ALL, 74});
+    holds(cut.size() == 2 && cut[0] && cut[0].status() == NISSY_CUT && cut[0].value().is_cut && !cut[1].value().is_cut, "75 positions", "F B");
+    const auto facts = nissy::facts_all("R\n(\nR U R\n");
+    holds(facts.size() == 3 && facts[0].value().ud().dr_case() == "4c4e" && facts[2].value().ud().dr_case() == "3c2e", "facts", "three lines");
+    has_fault([&] { facts[1].value(); }, NISSY_UNCLOSED, 1, nullptr, "(");
+    holds(tables.count_all("").empty() && nissy::facts_all({}).empty(), "no line", "no text");
+    std::string many;
+    for (int at = 0; at < 1000; at++) many += at % 3 ? "F\n" : "\n";
+    const auto all = tables.count_all(many);
+    long wrong = all.size() != 1000;
+    for (std::size_t at = 0; at < all.size(); at++) wrong += all[at].value().solutions != (at % 3 ? 2 : 1);
+    holds(wrong == 0, "a thousand lines, in their order", "count_all");
+    for (const int number : {-1, 21}) throws<std::out_of_range>([&] { tables.count_all("F", {number}); }, "a limit");
+    const std::string blanks(NISSY_MOST_INPUT + 1, ' ');
+    throws<std::length_error>([&] { nissy::facts_all(blanks)[0].value(); }, "16,777,217 blanks");
+}
+
+// A search with a bound on positions that it would pass, as the manual has its 75.
+void searches_are_cut() {
+    const nissy::tables tables("eofb");
+    nissy::search bounded;
+    bounded.nodes = 74;
+    throws<nissy::cut>([&] { tables.solve("F B", bounded); }, "F B");
+    const nissy::found found = tables.find("F B", bounded);
+    const auto whole = tables.solve("F B");
+    holds(found.count.is_cut && found.count.more && found.count.nodes <= 74 && found.count.solutions == found.solutions.size(), "it is cut", "F B");
+    holds(std::equal(found.solutions.begin(), found.solutions.end(), whole.begin()), "it has a beginning", "F B");
+    holds(tables.count("F B", bounded) == found.count, "so is a count", "F B");
+    bounded.nodes = 0;
+    const nissy::count none = tables.count("F B", bounded);
+    holds(none.is_cut && !none.length && none.solutions == 0 && none.nodes == 0, "no position", "F B");
+    try {
+        tables.solve("F B", bounded);
+    } catch (const nissy::cut &cut) {
+        holds(cut.nodes == 0 && std::string_view(cut.what()) == "nissy: cut after 0 positions", "what a cut says", "F B");
+    }
+    bounded.nodes = 75;
+    holds(tables.solve("F B", bounded) == whole && tables.find("F B", bounded).count == tables.count("F B"), "as many as it needs", "F B");
+    const nissy::found first = tables.find("F B", {20, 0, 1});
+    holds(first.solutions.size() == 1 && first.count.more && first.count.length == 2 && !first.count.is_cut, "the first alone", "F B");
+    holds(tables.count("F B", {20, 0, 0}).length == 2 && tables.count("F", {0}).length == std::nullopt, "a length that is known", "F B");
+}
+
+// Columns in characters, for programs that show lines.
+void columns_are_told() {
+    try {
+        nissy::invert("R\xe2\x80\x99 U\xe2\x80\x99 q");
+    } catch (const nissy::fault &thrown) {
+        holds(thrown.column() == 11 && thrown.character("R\xe2\x80\x99 U\xe2\x80\x99 q") == 7, "bytes and characters", "R’ U’ q");
+    }
+    try {
+        nissy::tables("dr-eofb").solve("F");
+    } catch (const nissy::fault &thrown) {
+        holds(thrown.column() == 0 && thrown.character("F") == 0, "no column", "F");
     }
 }
 
@@ -110,8 +207,8 @@ void misuse_is_thrown() {
     for (int number : {-1, 21, 256, 276, std::numeric_limits<int>::min(), std::numeric_limits<int>::max()}) {
         throws<std::out_of_range>([&] { tables.solve("F", {number}); }, "a limit");
         throws<std::out_of_range>([&] { tables.solve("F", {20, number}); }, "a slack");
-        throws<std::out_of_range>([&] { tables.count("F", number); }, "a limit");
-        throws<std::out_of_range>([&] { tables.count("F", 20, number); }, "a slack");
+        throws<std::out_of_range>([&] { tables.count("F", {number}); }, "a limit");
+        throws<std::out_of_range>([&] { tables.count("F", {20, number}); }, "a slack");
     }
     // of these the last 32 bits alone are in the range
     for (const std::int64_t number : {std::int64_t{1} << 32, (std::int64_t{1} << 32) + 1, std::numeric_limits<std::int64_t>::min()}) {
@@ -119,8 +216,8 @@ void misuse_is_thrown() {
         far.limit = number, wide.slack = number;
         throws<std::out_of_range>([&] { tables.solve("F", far); }, "a limit of 64 bits");
         throws<std::out_of_range>([&] { tables.solve("F", wide); }, "a slack of 64 bits");
-        throws<std::out_of_range>([&] { tables.count("F", number); }, "a limit of 64 bits");
-        throws<std::out_of_range>([&] { tables.count("F", 20, number); }, "a slack of 64 bits");
+        throws<std::out_of_range>([&] { tables.count("F", {number}); }, "a limit of 64 bits");
+        throws<std::out_of_range>([&] { tables.count("F", {20, number}); }, "a slack of 64 bits");
         const auto length = static_cast<std::uint64_t>(number);
         throws<std::out_of_range>([&] { nissy::scramble(1, 2, length); }, "a length of 64 bits");
         throws<std::out_of_range>([&] { nissy::scrambles(1, 2, length, 1); }, "a length of 64 bits");
@@ -170,7 +267,7 @@ void refused_memory_is_thrown() {
 void many_are_whole() {
     const nissy::tables tables("eofb");
     const auto found = tables.solve("F R U B", {20, 2});
-    holds(found.size() > 4096 && found.size() == tables.count("F R U B", 20, 2).solutions, "all are given", "eofb, slack 2");
+    holds(found.size() > 4096 && found.size() == tables.count("F R U B", {20, 2}).solutions, "all are given", "eofb, slack 2");
     for (const nissy::solution &one : found) {
         const auto turns = one.length ? std::count(one.moves.begin(), one.moves.end(), ' ') + 1 : 0;
         holds(turns == one.length, "a solution has its length", one.moves.c_str());
@@ -228,6 +325,11 @@ int main() {
     threads_agree();
     for (const search_row &row : SEARCHES) solves(nissy::tables(row.step), row);
     lines_are_rewritten();
+    lines_are_judged();
+    solutions_are_checked();
+    many_lines_are_answered();
+    searches_are_cut();
+    columns_are_told();
     faults_are_thrown();
     values_are_compared();
     misuse_is_thrown();

@@ -9,7 +9,7 @@ typedef struct search_row {
     uint8_t limit, slack;
     const char *text;
     uint8_t least;
-    uint64_t looks; /* 0: none are named */
+    uint64_t nodes; /* 0: none are named */
 } search_row;
 
 /* those of the manual, and others that a hand finds */
@@ -49,11 +49,11 @@ static inline nissy_tables built(const char *step) {
 static inline int is_answered(const search_row *row, const nissy_tables *tables) {
     uint8_t out[256];
     const uint8_t *line = (const uint8_t *)row->line;
-    nissy_solve_answer got = nissy_solve(tables, line, strlen(row->line), row->limit, row->slack, UINT64_MAX, out, sizeof out);
-    nissy_count_answer told = nissy_count(tables, line, strlen(row->line), row->limit, row->slack);
-    return got.status == NISSY_DONE && got.out_length == strlen(row->text) && memcmp(out, row->text, got.out_length) == 0 &&
+    nissy_search_answer got = nissy_solve(tables, line, strlen(row->line), row->limit, row->slack, NISSY_ALL, NISSY_ALL, out, sizeof out);
+    nissy_search_answer told = nissy_count(tables, line, strlen(row->line), row->limit, row->slack, NISSY_ALL, NISSY_ALL);
+    return got.status == NISSY_DONE && got.length == strlen(row->text) && memcmp(out, row->text, got.length) == 0 &&
            got.least == row->least && told.status == NISSY_DONE && told.least == row->least && told.solutions == got.solutions &&
-           told.looks == got.looks;
+           told.nodes == got.nodes;
 }
 
 #endif
