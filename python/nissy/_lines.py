@@ -62,7 +62,7 @@ def cleanup(line: Text) -> str:
 
 def facelets(line: Text) -> str:
     """The 54 facelet letters of the cube after a line's moves, as `nissy print` shows them. Raises LineFault."""
-    return _of_line(_library.nissy_print, line)
+    return _of_line(_library.nissy_facelets, line)
 
 
 def drawing(state: int, stream: int, length: int) -> Tuple[int, int, int]:

@@ -119,14 +119,14 @@ class Tables:
         """Returns the solutions of a line, by numbers that were checked."""
         data = bytes_of(line, "the line")
         room = _rooms.take()
-        answer = _library.nissy_solve(self._tables, data, len(data), limit, slack, most, room.address, room.size)
-        out = room.memory[:answer.out_length]
+        answer = _library.nissy_solve(self._tables, data, len(data), limit, slack, most, MOST_WORD, room.address, room.size)
+        out = room.memory[:answer.length]
         _rooms.put_back(room)
         # it stopped as soon as the room was full, so little is searched twice
         while answer.status == ROOM:
             room = _rooms.larger(room)
-            answer = _library.nissy_solve(self._tables, data, len(data), limit, slack, most, room.address, room.size)
-            out = room.memory[:answer.out_length] if answer.status == DONE else b""
+            answer = _library.nissy_solve(self._tables, data, len(data), limit, slack, most, MOST_WORD, room.address, room.size)
+            out = room.memory[:answer.length] if answer.status == DONE else b""
         if answer.status:
             self._refuse(answer)
         return _solutions(out.decode("ascii"), answer.least)
@@ -134,10 +134,10 @@ class Tables:
     def _count(self, limit: int, slack: int, line: Text) -> Count:
         """Returns how many solutions a line has, by numbers that were checked."""
         data = bytes_of(line, "the line")
-        answer = _library.nissy_count(self._tables, data, len(data), limit, slack)
+        answer = _library.nissy_count(self._tables, data, len(data), limit, slack, MOST_WORD, MOST_WORD)
         if answer.status:
             self._refuse(answer)
-        return Count(answer.least if answer.solutions else None, answer.solutions, answer.looks)
+        return Count(answer.least if answer.solutions else None, answer.solutions, answer.nodes)
 
     def _refuse(self, answer: Any) -> NoReturn:
         """Raises what a search told of its line in place of an answer."""

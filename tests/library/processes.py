@@ -268,7 +268,7 @@ def libraries(tally: Tally) -> None:
         tally.equal("bytes behind a library do no harm", of_process("import nissy; print(nissy.invert('R'))",
                                                                     NISSY_LIBRARY=f"{room}/longer.so"), "R'\n")
         said_last = of_process(NAMES_LIBRARY, NISSY_LIBRARY="", PYTHONPATH=room)
-        tally.holds("nor has the system one", f"{NO_LIBRARY}libnissy.so.1: " in said_last or said_last == "libnissy.so.1\n")
+        tally.holds("nor has the system one", f"{NO_LIBRARY}libnissy.so.2: " in said_last or said_last == "libnissy.so.2\n")
     said_last = of_process("import nissy", NISSY_LIBRARY="libc.so.6")
     tally.holds("one without the calls is named",
                 said_last.endswith("ImportError: libc.so.6 has no nissy_run: it is older than this module\n"))
@@ -278,10 +278,10 @@ def libraries(tally: Tally) -> None:
             package = Path(room, place)
             shutil.copytree(TOP / "python/nissy", package, ignore=shutil.ignore_patterns("__pycache__"))
             beside = Path(room, "lib") if "packages" in place else package
-            shutil.copy(library, beside / "libnissy.so.1")
+            shutil.copy(library, beside / "libnissy.so.2")
             code = f"import sys; sys.path.insert(0, {str(package.parent)!r}); {NAMES_LIBRARY}"
             found = of_process(code, NISSY_LIBRARY="").strip()
-            tally.equal(f"the library that stands with {place}", os.path.realpath(found), os.path.realpath(beside / "libnissy.so.1"))
+            tally.equal(f"the library that stands with {place}", os.path.realpath(found), os.path.realpath(beside / "libnissy.so.2"))
 
 
 def types(tally: Tally) -> None:
