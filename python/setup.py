@@ -12,7 +12,7 @@ except ImportError:
     from wheel.bdist_wheel import bdist_wheel
 
 HERE = Path(__file__).resolve().parent
-LIBRARY = "libnissy.so.1"
+LIBRARY = "libnissy.so.2"
 # the processors, by the number that a library gives of its own at this place
 MACHINES = {62: "x86_64", 183: "aarch64"}
 MACHINE_AT = 18

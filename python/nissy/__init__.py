@@ -7,29 +7,33 @@ r"""nissy for Python: moves and searches of the 3x3x3 cube, by the proved librar
     ['F', "F'"]
     >>> nissy.count("eofb", "R U F")
     Count(length=1, solutions=2, nodes=20)
+    >>> nissy.facts("R U2 R").case["ud"]
+    '4c2e'
     >>> nissy.cleanup("R Q")
     Traceback (most recent call last):
     nissy.LineFault: column 3: not a move
 
+Of many lines `count_all`, `facts_all` and `solve_all` return an answer each; one that has a fault has that for an answer, and ends nothing.
 The first search of a step builds its tables, which stay for the next ones (class Tables). A call lets go of Python's lock, so calls of
 several threads run side by side. The library is the file that NISSY_LIBRARY names, else the one that was installed or built with this
 package, else the system's.
 """
+from ._facts import Axis as Axis, Case, Check, Facts, Pieces, check, facts, facts_all
 from ._given import Step as Step, Text as Text
 from ._library import DONE, FAULT, MOST_INPUT, STOPPED, USAGE
 from ._lines import cleanup, facelets, invert, scramble, steps, unniss, version
 from ._runs import run, scrambles
 from ._searches import Tables, count, count_all, near, solve, solve_all
-from ._values import Answer, Count, LineFault, Solution, StartFault
+from ._values import Answer, Count, Cut, Fault, LineFault, Solution, Solutions, StartFault, raising
 
-__all__ = ["DONE", "FAULT", "MOST_INPUT", "STOPPED", "USAGE", "Answer", "Count", "LineFault", "Solution", "StartFault", "Tables",
-           "cleanup", "count", "count_all", "facelets", "invert", "near", "run", "scramble", "scrambles", "solve", "solve_all", "steps",
-           "unniss"]
+__all__ = ["DONE", "FAULT", "MOST_INPUT", "STOPPED", "USAGE", "Answer", "Case", "Check", "Count", "Cut", "Facts", "Fault", "LineFault",
+           "Pieces", "Solution", "Solutions", "StartFault", "Tables", "check", "cleanup", "count", "count_all", "facelets", "facts",
+           "facts_all", "invert", "near", "raising", "run", "scramble", "scrambles", "solve", "solve_all", "steps", "unniss"]
 
 __version__ = version()
 del version
 
 # what others see of these, as in a traceback or in what was pickled, is named by the package
-for _public in (Answer, Count, LineFault, Solution, StartFault, Tables):
+for _public in (Answer, Case, Check, Count, Cut, Facts, Fault, LineFault, Pieces, Solution, Solutions, StartFault, Tables):
     _public.__module__ = __name__
 del _public

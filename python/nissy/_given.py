@@ -52,16 +52,16 @@ def _with_halves(text: str) -> bytes:
         return str.encode(text, "utf-8", "surrogatepass")
 
 
-def number_of(value: int, what: str, most: int) -> int:
-    """Returns a number from 0 to `most`, of an int or of what stands for one. The library would read another one modulo a power of two."""
+def number_of(value: int, what: str, most: int, least: int = 0) -> int:
+    """Returns a number from `least` to `most`, of an int or of what stands for one. The library would read another one modulo a power of two."""
     if type(value) is not int:
         try:
             # before Python 3.10 an index may be of a class made of int, with comparisons of its own
             value = int.__add__(operator.index(value), 0)
         except TypeError:
             raise TypeError(f"{what} is an int, not {_kind(value)}") from None
-    if not 0 <= value <= most:
-        raise ValueError(f"{what} is a number from 0 to {most:,}")
+    if not least <= value <= most:
+        raise ValueError(f"{what} is a number from {least} to {most:,}")
     return value
 
 

@@ -10,9 +10,9 @@ from typing import Any, BinaryIO, Callable
 MOST_INPUT = 16_777_216
 """The most bytes of a line or of an input."""
 
-DONE, FAULT, USAGE, STOPPED, ROOM = range(5)
-"""The statuses: all is written; a line has a fault; the words are no command; the run could not go on. The last one says that the room of a
-call is too small: no caller of this module sees it."""
+DONE, FAULT, USAGE, STOPPED, ROOM, CUT = range(6)
+"""The statuses: all is written; a line has a fault; the words are no command; the run could not go on. The last two no caller of this module
+sees as numbers: the room of a call is too small, and a search would look at more positions than it may."""
 
 NOT_START = 6
 """The fault of a line on whose cube a step may not start. Those below it are faults of lines."""
@@ -23,33 +23,54 @@ ERROR_ROOM = 128
 
 class LineAnswer(ctypes.Structure):
     """`nissy_line_answer` of nissy.h."""
-    _fields_ = [("status", ctypes.c_uint16), ("fault", ctypes.c_uint16), ("column", ctypes.c_uint32), ("length", ctypes.c_size_t)]
+    _fields_ = [("status", ctypes.c_uint8), ("fault", ctypes.c_uint8), ("column", ctypes.c_uint32), ("length", ctypes.c_uint64)]
 
 
 class RunAnswer(ctypes.Structure):
     """`nissy_run_answer` of nissy.h."""
-    _fields_ = [("status", ctypes.c_uint8), ("out_too_small", ctypes.c_bool), ("err_too_small", ctypes.c_bool),
-                ("out_length", ctypes.c_size_t), ("err_length", ctypes.c_size_t)]
+    _fields_ = [("status", ctypes.c_uint8), ("out_too_small", ctypes.c_uint8), ("err_too_small", ctypes.c_uint8),
+                ("out_length", ctypes.c_uint64), ("err_length", ctypes.c_uint64)]
 
 
 class KeptTables(ctypes.Structure):
     """`nissy_tables` of nissy.h: the tables of a step, or none."""
-    _fields_ = [("tables", ctypes.c_void_p), ("built", ctypes.c_bool)]
+    _fields_ = [("tables", ctypes.c_void_p), ("built", ctypes.c_uint8)]
 
 
-class SolveAnswer(ctypes.Structure):
-    """`nissy_solve_answer` of nissy.h."""
-    _fields_ = [("status", ctypes.c_uint8), ("fault", ctypes.c_uint8), ("least", ctypes.c_uint8), ("more", ctypes.c_bool),
-                ("column", ctypes.c_uint32), ("out_length", ctypes.c_size_t), ("solutions", ctypes.c_uint64), ("looks", ctypes.c_uint64)]
+class SearchAnswer(ctypes.Structure):
+    """`nissy_search_answer` of nissy.h."""
+    _fields_ = [("status", ctypes.c_uint8), ("fault", ctypes.c_uint8), ("least", ctypes.c_uint8), ("more", ctypes.c_uint8),
+                ("column", ctypes.c_uint32), ("length", ctypes.c_uint64), ("solutions", ctypes.c_uint64), ("nodes", ctypes.c_uint64)]
 
 
-class CountAnswer(ctypes.Structure):
-    """`nissy_count_answer` of nissy.h."""
-    _fields_ = [("status", ctypes.c_uint8), ("fault", ctypes.c_uint8), ("least", ctypes.c_uint8), ("column", ctypes.c_uint32),
-                ("solutions", ctypes.c_uint64), ("looks", ctypes.c_uint64)]
+class AxisFacts(ctypes.Structure):
+    """`nissy_axis_facts` of nissy.h."""
+    _fields_ = [("bad_edge_places", ctypes.c_uint16), ("bad_corner_places", ctypes.c_uint16), ("misplaced_edge_places", ctypes.c_uint16),
+                ("bad_edges", ctypes.c_uint8), ("bad_corners", ctypes.c_uint8), ("misplaced_edges", ctypes.c_uint8)]
 
 
-_NAME = {"win32": "nissy.dll", "cygwin": "nissy.dll", "darwin": "libnissy.1.dylib"}.get(sys.platform, "libnissy.so.1")
+class FactsAnswer(ctypes.Structure):
+    """`nissy_facts_answer` of nissy.h."""
+    _fields_ = [("status", ctypes.c_uint8), ("fault", ctypes.c_uint8), ("solved", ctypes.c_uint8), ("column", ctypes.c_uint32),
+                ("moves", ctypes.c_uint16), ("clean_moves", ctypes.c_uint16), ("holds", ctypes.c_uint16), ("axes", AxisFacts * 3)]
+
+
+class CheckAnswer(ctypes.Structure):
+    """`nissy_check_answer` of nissy.h."""
+    _fields_ = [("status", ctypes.c_uint8), ("fault", ctypes.c_uint8), ("line", ctypes.c_uint8), ("solved", ctypes.c_uint8),
+                ("column", ctypes.c_uint32), ("moves", ctypes.c_uint16), ("clean_moves", ctypes.c_uint16), ("forms", ctypes.c_uint8)]
+
+
+class LinesAnswer(ctypes.Structure):
+    """`nissy_lines_answer` of nissy.h."""
+    _fields_ = [("status", ctypes.c_uint8), ("lines", ctypes.c_uint64), ("bytes", ctypes.c_uint64)]
+
+
+# The fields of two structs that come in great number, in the order of the header: ctypes would take as long to read them as the search.
+SEARCH_ANSWER = struct.Struct("=4BI3Q")
+FACTS_ANSWER = struct.Struct("=3BxI3H" + 3 * "3H3Bx")
+
+_NAME = {"win32": "nissy.dll", "cygwin": "nissy.dll", "darwin": "libnissy.2.dylib"}.get(sys.platform, "libnissy.so.2")
 """What the library is called on this system."""
 
 
@@ -150,11 +171,15 @@ def _call(name: str, returned: Any, *taken: Any) -> Callable[..., Any]:
 
 
 nissy_run = _call("nissy_run", RunAnswer, *_READ, *_READ, *_WRITTEN, *_WRITTEN)
-nissy_invert, nissy_unniss, nissy_cleanup, nissy_print = (
-    _call(name, LineAnswer, *_READ, *_WRITTEN) for name in ("nissy_invert", "nissy_unniss", "nissy_cleanup", "nissy_print"))
+nissy_invert, nissy_unniss, nissy_cleanup, nissy_facelets = (
+    _call(name, LineAnswer, *_READ, *_WRITTEN) for name in ("nissy_invert", "nissy_unniss", "nissy_cleanup", "nissy_facelets"))
 nissy_build = _call("nissy_build", ctypes.c_uint8, _PLACE, *_READ)
-nissy_solve = _call("nissy_solve", SolveAnswer, _PLACE, *_READ, _BYTE, _BYTE, _LONG, *_WRITTEN)
-nissy_count = _call("nissy_count", CountAnswer, _PLACE, *_READ, _BYTE, _BYTE)
+nissy_solve = _call("nissy_solve", SearchAnswer, _PLACE, *_READ, _BYTE, _BYTE, _LONG, _LONG, *_WRITTEN)
+nissy_count = _call("nissy_count", SearchAnswer, _PLACE, *_READ, _BYTE, _BYTE, _LONG, _LONG)
+nissy_count_lines = _call("nissy_count_lines", LinesAnswer, _PLACE, *_READ, _BYTE, _BYTE, _LONG, _LONG, *_WRITTEN)
+nissy_facts = _call("nissy_facts", FactsAnswer, *_READ)
+nissy_facts_lines = _call("nissy_facts_lines", LinesAnswer, *_READ, *_WRITTEN)
+nissy_check = _call("nissy_check", CheckAnswer, *_READ, *_READ)
 nissy_scramble = _call("nissy_scramble", LineAnswer, _LONG, _LONG, _HALF, *_WRITTEN)
 nissy_steps = _call("nissy_steps", LineAnswer, *_WRITTEN)
 nissy_start = _call("nissy_start", LineAnswer, *_READ, *_WRITTEN)

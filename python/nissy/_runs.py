@@ -34,7 +34,7 @@ class _Run:
         self._room, self._err = room, ctypes.create_string_buffer(ERROR_ROOM)
         self._told = _library.nissy_run(words, len(words), data, len(data), room.address, room.size,
                                         ctypes.addressof(self._err), ERROR_ROOM)
-        self.full: bool = self._told.out_too_small
+        self.full = bool(self._told.out_too_small)
 
     def answer(self) -> Answer:
         """Returns the answer, with the output copied from the room."""

@@ -1,71 +1,30 @@
-"""Searches of one line, by tables that stay."""
+"""Searches of lines, by tables that stay."""
 from __future__ import annotations
 
 import ctypes
-import os
-import threading
-from functools import partial
-from typing import Any, Callable, Dict, Iterable, Iterator, List, NoReturn, Optional, Tuple, TypeVar
+from typing import Any, Dict, Iterable, Iterator, List, NamedTuple, Optional, Tuple, Union
 
 from . import _library, _rooms
-from ._given import Step, Text, bytes_of, each_of, number_of
-from ._library import DONE, FAULT, NOT_START, ROOM, KeptTables
-from ._lines import MOST_WORD, fault_text, refuse, start_of, steps
-from ._values import Count, LineFault, Solution, StartFault
+from ._given import Step, Text, bytes_of, number_of
+from ._library import CUT, FAULT, NOT_START, ROOM, SEARCH_ANSWER
+from ._lines import MOST_WORD, fault_of, fault_text, start_of
+from ._many import Asking, Piece, answers
+from ._places import place_of
+from ._values import Count, Cut, Fault, Solution, Solutions, StartFault
 
 _MOST_TURNS = 20
 # what stands behind a solution of each length
 _ENDS = ("(0)\n", *(f" ({length})\n" for length in range(1, _MOST_TURNS + 1)))
-Value = TypeVar("Value")
 
 
-class _Place:
-    """Where the tables of one step stand, once they are built."""
+class _Asked(NamedTuple):
+    """The numbers of a search, as the library takes them, and whether what was found until a cut is an answer."""
 
-    def __init__(self, step: Step) -> None:
-        self.step: Step = step
-        # a signal's handler, called while its own thread builds, builds tables of its own and doesn't wait without end
-        self.lock = threading.RLock()
-        self.tables: Optional[KeptTables] = None
-
-    def built(self) -> KeptTables:
-        """Returns the tables, which are built by the first call and stay: the library gives none back."""
-        tables = self.tables
-        if tables is None:
-            with self.lock:
-                tables = self.tables or self._build()
-        return tables
-
-    def _build(self) -> KeptTables:
-        """Builds the tables, keeps them and returns them."""
-        tables, name = KeptTables(), self.step.encode()
-        if _library.nissy_build(ctypes.addressof(tables), name, len(name)) != DONE:
-            raise MemoryError(f"no memory for the tables of {self.step}")
-        self.tables = tables
-        return tables
-
-
-# one for each step, and no more, whatever names callers bring
-_places: Dict[str, _Place] = {name: _Place(name) for name in steps()}
-
-
-def _renew_locks() -> None:
-    """Makes new locks in a forked child, where nobody is left to open one that another thread held. Tables that are whole stay."""
-    for place in _places.values():
-        place.lock = threading.RLock()
-
-
-os.register_at_fork(after_in_child=_renew_locks)
-
-
-def _place_of(step: Step) -> _Place:
-    """Returns the place of a step's tables."""
-    given: object = step
-    if not isinstance(given, str):
-        raise TypeError(f"the step is a str, not {'None' if given is None else type(given).__name__}")
-    if step not in _places:
-        raise ValueError(f"no step has this name; the steps are {', '.join(_places)}")
-    return _places[step]
+    limit: int
+    slack: int
+    most: int
+    nodes: int
+    partial: bool
 
 
 class Tables:
@@ -80,7 +39,7 @@ class Tables:
     __slots__ = ("_step", "_kept", "_tables")
 
     def __init__(self, step: Step) -> None:
-        place = _place_of(step)
+        place = place_of(step)
         self._kept = place.built()
         self._tables = ctypes.addressof(self._kept)
         self._step: Step = place.step
@@ -97,54 +56,105 @@ class Tables:
         """What a copy is made of: tables stay in their process, and another one builds its own."""
         return type(self), (self.step,)
 
-    def solve(self, line: Text, limit: int = 20, slack: int = 0, most: Optional[int] = None) -> List[Solution]:
+    def solve(self, line: Text, limit: int = 20, slack: int = 0, most: Optional[int] = None, nodes: Optional[int] = None,
+              partial: bool = False) -> Solutions:
         """The solutions of a line, as the function `solve` returns them."""
-        limit, slack = _numbers(limit, slack)
-        return self._solve(limit, slack, _most(most), line)
-
-    def count(self, line: Text, limit: int = 20, slack: int = 0) -> Count:
-        """How many solutions a line has, as the function `count` returns it."""
-        limit, slack = _numbers(limit, slack)
-        return self._count(limit, slack, line)
-
-    def solve_all(self, lines: Iterable[Text], limit: int = 20, slack: int = 0, most: Optional[int] = None) -> Iterator[List[Solution]]:
-        """The solutions of each line, as the function `solve_all` returns them."""
-        return _each(lines, partial(self._solve, *_numbers(limit, slack), _most(most)))
-
-    def count_all(self, lines: Iterable[Text], limit: int = 20, slack: int = 0) -> Iterator[Count]:
-        """How many solutions each line has, as the function `count_all` returns it."""
-        return _each(lines, partial(self._count, *_numbers(limit, slack)))
-
-    def _solve(self, limit: int, slack: int, most: int, line: Text) -> List[Solution]:
-        """Returns the solutions of a line, by numbers that were checked."""
+        asked = _asked(limit, slack, most, nodes, partial)
         data = bytes_of(line, "the line")
-        room = _rooms.take()
-        answer = _library.nissy_solve(self._tables, data, len(data), limit, slack, most, room.address, room.size)
-        out = room.memory[:answer.out_length]
+        answer, out = self._written(asked, data)
+        if answer.status not in (0, CUT):
+            raise self._fault(answer.status, answer.fault, answer.column, data)
+        is_cut = answer.status == CUT
+        found = Solutions(_solutions(out.decode("ascii"), answer.least), bool(answer.more), answer.nodes, is_cut)
+        if is_cut and not partial:
+            raise Cut(Count(answer.least if found else None, len(found), answer.nodes, True), found)
+        return found
+
+    def count(self, line: Text, limit: int = 20, slack: int = 0, most: Optional[int] = None, nodes: Optional[int] = None,
+              partial: bool = False) -> Count:
+        """How many solutions a line has, as the function `count` returns it."""
+        asked = _asked(limit, slack, most, nodes, partial)
+        data = bytes_of(line, "the line")
+        answer = _library.nissy_count(self._tables, data, len(data), *asked[:4])
+        status, found = answer.status, answer.solutions
+        if status not in (0, CUT):
+            raise self._fault(status, answer.fault, answer.column, data)
+        count = Count(answer.least if found else None, found, answer.nodes, status == CUT)
+        if status and not partial:
+            raise Cut(count)
+        return count
+
+    def solve_all(self, lines: Iterable[Text], limit: int = 20, slack: int = 0, most: Optional[int] = None, nodes: Optional[int] = None,
+                  partial: bool = False, threads: int = 1) -> Iterator[Union[Solutions, Fault, Cut]]:
+        """The solutions of each line, as the function `solve_all` returns them."""
+        asked = _asked(limit, slack, most, nodes, partial)
+
+        def ask(piece: Piece) -> List[Union[Solutions, Fault, Cut]]:
+            return [self._solved(asked, *piece.line(at)) for at in range(len(piece.lines))]
+
+        def told(_: Piece, found: List[Union[Solutions, Fault, Cut]]) -> List[Union[Solutions, Fault, Cut]]:
+            return found
+
+        return answers(lines, Asking(ask, told), threads, 1)
+
+    def count_all(self, lines: Iterable[Text], limit: int = 20, slack: int = 0, most: Optional[int] = None, nodes: Optional[int] = None,
+                  partial: bool = False, threads: int = 1) -> Iterator[Union[Count, Fault, Cut]]:
+        """How many solutions each line has, as the function `count_all` returns it."""
+        asked = _asked(limit, slack, most, nodes, partial)
+
+        def ask(piece: Piece) -> bytes:
+            room, size = _rooms.take(), SEARCH_ANSWER.size * len(piece.lines)
+            _library.nissy_count_lines(self._tables, piece.text, len(piece.text), *asked[:4], room.address, len(piece.lines))
+            told = room.memory[:size]
+            _rooms.put_back(room)
+            return told
+
+        return answers(lines, Asking(ask, lambda piece, told: self._counts(asked, piece, told)), threads)
+
+    def _written(self, asked: _Asked, data: bytes) -> Tuple[Any, bytes]:
+        """Returns what a search tells, and the solutions that it wrote to a room that is large enough."""
+        room, numbers = _rooms.take(), asked[:4]
+        answer = _library.nissy_solve(self._tables, data, len(data), *numbers, room.address, room.size)
+        out = room.memory[:answer.length]
         _rooms.put_back(room)
         # it stopped as soon as the room was full, so little is searched twice
         while answer.status == ROOM:
             room = _rooms.larger(room)
-            answer = _library.nissy_solve(self._tables, data, len(data), limit, slack, most, room.address, room.size)
-            out = room.memory[:answer.out_length] if answer.status == DONE else b""
-        if answer.status:
-            self._refuse(answer)
-        return _solutions(out.decode("ascii"), answer.least)
+            answer = _library.nissy_solve(self._tables, data, len(data), *numbers, room.address, room.size)
+            out = room.memory[:answer.length] if answer.status != ROOM else b""
+        return answer, out
 
-    def _count(self, limit: int, slack: int, line: Text) -> Count:
-        """Returns how many solutions a line has, by numbers that were checked."""
-        data = bytes_of(line, "the line")
-        answer = _library.nissy_count(self._tables, data, len(data), limit, slack)
-        if answer.status:
-            self._refuse(answer)
-        return Count(answer.least if answer.solutions else None, answer.solutions, answer.looks)
+    def _solved(self, asked: _Asked, number: int, data: bytes) -> Union[Solutions, Fault, Cut]:
+        """Returns the solutions of one of many lines, or why there are none."""
+        try:
+            return self.solve(data, *asked)
+        except (Fault, Cut) as fault:
+            fault.line = number
+            return fault.with_traceback(None)
 
-    def _refuse(self, answer: Any) -> NoReturn:
-        """Raises what a search told of its line in place of an answer."""
-        if answer.status == FAULT and answer.fault == NOT_START:
+    def _counts(self, asked: _Asked, piece: Piece, told: bytes) -> List[Union[Count, Fault, Cut]]:
+        """Returns the counts of a piece's lines, or why there are none."""
+        # the tuple's own way to make one takes half the time
+        new = tuple.__new__
+        return [new(Count, (least if found else None, found, nodes, False)) if not status
+                else self._not_counted(asked, piece, at, (status, fault, least, column, found, nodes))
+                for at, (status, fault, least, _, column, _, found, nodes) in enumerate(SEARCH_ANSWER.iter_unpack(told))]
+
+    def _not_counted(self, asked: _Asked, piece: Piece, at: int, told: Tuple[int, ...]) -> Union[Count, Fault, Cut]:
+        """Returns what is told of a line that wasn't counted to the end."""
+        status, fault, least, column, found, nodes = told
+        number, data = piece.line(at)
+        if status != CUT:
+            return self._fault(status, fault, column, data, number)
+        count = Count(least if found else None, found, nodes, True)
+        return count if asked.partial else Cut(count, (), number)
+
+    def _fault(self, status: int, fault: int, column: int, data: bytes, line: Optional[int] = None) -> Fault:
+        """Returns what a search told of a line in place of an answer."""
+        if status == FAULT and fault == NOT_START:
             start = start_of(self.step)
-            raise StartFault(self.step, start, f"{start} {fault_text(NOT_START)}")
-        refuse(answer)
+            return StartFault(self.step, start, f"{start} {fault_text(NOT_START)}", line)
+        return fault_of(status, fault, column, data, line)
 
 
 def _solutions(text: str, length: int) -> List[Solution]:
@@ -163,71 +173,61 @@ def _solutions(text: str, length: int) -> List[Solution]:
     return found
 
 
-def _numbers(limit: int, slack: int) -> Tuple[int, int]:
-    """Returns the two numbers of turns, checked."""
-    return number_of(limit, "the limit", _MOST_TURNS), number_of(slack, "the slack", _MOST_TURNS)
+def _asked(limit: int, slack: int, most: Optional[int], nodes: Optional[int], partial: bool) -> _Asked:
+    """Returns the numbers of a search, checked. The library's own greatest number stands for all solutions, and for any number of nodes."""
+    return _Asked(number_of(limit, "the limit", _MOST_TURNS), number_of(slack, "the slack", _MOST_TURNS),
+                  MOST_WORD if most is None else number_of(most, "most", MOST_WORD),
+                  MOST_WORD if nodes is None else number_of(nodes, "nodes", MOST_WORD), bool(partial))
 
 
-def _most(most: Optional[int]) -> int:
-    """Returns the greatest number of solutions as the library takes it: its own greatest one stands for all."""
-    return MOST_WORD if most is None else number_of(most, "most", MOST_WORD)
-
-
-def _each(lines: Iterable[Text], ask: Callable[[Text], Value]) -> Iterator[Value]:
-    """Returns an iterator of the answers to lines, each of which is taken when its answer is asked for."""
-    return _answers(each_of(lines, "the lines"), ask)
-
-
-def _answers(lines: Iterator[Text], ask: Callable[[Text], Value]) -> Iterator[Value]:
-    """Yields the answer to each line. What is raised of one has its number."""
-    for number, line in enumerate(lines, 1):
-        try:
-            answer = ask(line)
-        except (LineFault, StartFault) as fault:
-            fault.line = number
-            raise
-        except (TypeError, ValueError) as error:
-            raise (TypeError if isinstance(error, TypeError) else ValueError)(f"line {number}: {error}") from None
-        yield answer
-
-
-_asked: Dict[str, Tables] = {}
+_last: Dict[str, Tables] = {}
 
 
 def _tables(step: Step) -> Tables:
     """Returns the tables of a step, those of the last call if there was one."""
     try:
-        return _asked[step]
+        return _last[step]
     except (KeyError, TypeError):
         tables = Tables(step)
-        return _asked.setdefault(tables.step, tables)
+        return _last.setdefault(tables.step, tables)
 
 
-def solve(step: Step, line: Text, limit: int = 20, slack: int = 0, most: Optional[int] = None) -> List[Solution]:
+def solve(step: Step, line: Text, limit: int = 20, slack: int = 0, most: Optional[int] = None, nodes: Optional[int] = None,
+          partial: bool = False) -> Solutions:
     """The solutions of a line: those that have at most `limit` turns and at most `slack` more than the shortest, by length and then in turn
     order, as `nissy near` writes them (`nissy solve` with slack 0). With `most` no more than so many of them, and the search ends there.
-    Raises LineFault and StartFault.
+    With `nodes` the search looks at no more than so many positions: if it would look at more, Cut is raised, or with `partial` what was
+    found until then is returned. Raises LineFault, StartFault and Cut.
     """
-    return _tables(step).solve(line, limit, slack, most)
+    return _tables(step).solve(line, limit, slack, most, nodes, partial)
 
 
-def near(step: Step, line: Text, limit: int, slack: int, most: Optional[int] = None) -> List[Solution]:
+def near(step: Step, line: Text, limit: int, slack: int, most: Optional[int] = None, nodes: Optional[int] = None,
+         partial: bool = False) -> Solutions:
     """The solutions of a line up to `slack` turns longer than the shortest: `solve` by another name, which is the program's."""
-    return _tables(step).solve(line, limit, slack, most)
+    return _tables(step).solve(line, limit, slack, most, nodes, partial)
 
 
-def count(step: Step, line: Text, limit: int = 20, slack: int = 0) -> Count:
-    """How many solutions `solve` returns of a line, of which length the shortest are, and how many positions the search looks at. Raises
-    LineFault and StartFault."""
-    return _tables(step).count(line, limit, slack)
+def count(step: Step, line: Text, limit: int = 20, slack: int = 0, most: Optional[int] = None, nodes: Optional[int] = None,
+          partial: bool = False) -> Count:
+    """How many solutions `solve` returns of a line, of which length the shortest are, and how many positions the search looks at. With
+    `most=1` it ends at the first one, and so tells the length soonest. Takes `nodes` and `partial` as `solve` does. Raises LineFault,
+    StartFault and Cut."""
+    return _tables(step).count(line, limit, slack, most, nodes, partial)
 
 
-def solve_all(step: Step, lines: Iterable[Text], limit: int = 20, slack: int = 0, most: Optional[int] = None) -> Iterator[List[Solution]]:
-    """The solutions of each line in turn, as `solve` returns them. A line is taken from the iterable when its answer is asked for. The
-    first line with a fault ends the iterator: `line` of the fault is its number, from 1."""
-    return _tables(step).solve_all(lines, limit, slack, most)
+def solve_all(step: Step, lines: Iterable[Text], limit: int = 20, slack: int = 0, most: Optional[int] = None, nodes: Optional[int] = None,
+              partial: bool = False, threads: int = 1) -> Iterator[Union[Solutions, Fault, Cut]]:
+    """The solutions of each line in turn, as `solve` returns them; of a line for which `solve` raises, what it raises, with the line's
+    number, from 1, as `line` (`raising` raises it). A line is taken from the iterable when its answer is asked for. With `threads` so many
+    lines are asked side by side, and more are taken ahead; the answers come in the same order."""
+    return _tables(step).solve_all(lines, limit, slack, most, nodes, partial, threads)
 
 
-def count_all(step: Step, lines: Iterable[Text], limit: int = 20, slack: int = 0) -> Iterator[Count]:
-    """How many solutions each line has in turn, as `count` returns it, and as `solve_all` takes the lines."""
-    return _tables(step).count_all(lines, limit, slack)
+def count_all(step: Step, lines: Iterable[Text], limit: int = 20, slack: int = 0, most: Optional[int] = None, nodes: Optional[int] = None,
+              partial: bool = False, threads: int = 1) -> Iterator[Union[Count, Fault, Cut]]:
+    """How many solutions each line has in turn, as `count` returns it; of a line for which `count` raises, what it raises, with the line's
+    number, from 1, as `line` (`raising` raises it). Lines are taken from the iterable in pieces, the first of one line and later ones of up
+    to 16,384, which the library counts in one call each. With `threads` so many pieces are counted side by side; the answers come in
+    the same order."""
+    return _tables(step).count_all(lines, limit, slack, most, nodes, partial, threads)

@@ -1,6 +1,8 @@
 """What the calls return and raise. Types stand here as they are and not as texts, for those who ask a class of the package for them."""
 from dataclasses import dataclass
-from typing import Any, Optional, Tuple
+from typing import Any, Iterable, Iterator, List, NamedTuple, Optional, Tuple, TypeVar, Union
+
+Value = TypeVar("Value")
 
 
 @dataclass(frozen=True)
@@ -25,8 +27,18 @@ class Solution(str):
         return self.count(" ") + 1 if self else 0
 
 
-@dataclass(frozen=True)
-class Count:
+class Solutions(List[Solution]):
+    """The solutions of a line, as a list. `more` says whether there are others beyond `most`, `nodes` how many positions the search looked
+    at, and `cut` whether it ended at its bound: then the list is a beginning of that of all, and `more` is true."""
+
+    __slots__ = ("more", "nodes", "cut")
+
+    def __init__(self, found: Iterable[Solution] = (), more: bool = False, nodes: int = 0, cut: bool = False) -> None:
+        super().__init__(found)
+        self.more, self.nodes, self.cut = more, nodes, cut
+
+
+class Count(NamedTuple):
     """How many solutions there are. A number that is 2^64 - 1 stands for all numbers above it too."""
 
     length: Optional[int]
@@ -34,35 +46,19 @@ class Count:
     solutions: int
     nodes: int
     """How many positions the search looked at."""
+    cut: bool = False
+    """Whether the search ended at its bound: then there may be more solutions, and if `length` is None, it isn't known."""
+
+    def __repr__(self) -> str:
+        return f"Count(length={self.length}, solutions={self.solutions}, nodes={self.nodes}{', cut=True' if self.cut else ''})"
 
 
-class LineFault(ValueError):
-    """A line that spells no moves: `column`, in bytes of UTF-8 from 1, and `text`, what is wrong there. If it is one of many lines, `line`
-    is its number, from 1."""
+class Fault(ValueError):
+    """What is wrong with a line: `text`. If it is one of many lines, `line` is its number, from 1. A LineFault or a StartFault; neither, if
+    the line has too many bytes."""
 
-    def __init__(self, column: int, text: str, line: Optional[int] = None) -> None:
-        super().__init__(f"column {column}: {text}")
-        self.column = column
-        self.text = text
-        self.line = line
-
-    def __str__(self) -> str:
-        return f"{_place(self.line, ', ')}column {self.column}: {self.text}"
-
-    def __reduce__(self) -> Tuple[Any, ...]:
-        """What a copy is made of, as for another process: an exception is made again of its message, if nothing else is said. With it go its
-        attributes, among which are notes of others."""
-        return type(self), (self.column, self.text, self.line), self.__dict__
-
-
-class StartFault(ValueError):
-    """A line on whose cube a step may not start: `step`, `start`, the step that would have to hold, and `text`, which says so. If it is one
-    of many lines, `line` is its number, from 1."""
-
-    def __init__(self, step: str, start: str, text: str, line: Optional[int] = None) -> None:
+    def __init__(self, text: str, line: Optional[int] = None) -> None:
         super().__init__(text)
-        self.step = step
-        self.start = start
         self.text = text
         self.line = line
 
@@ -70,8 +66,66 @@ class StartFault(ValueError):
         return f"{_place(self.line, ': ')}{self.text}"
 
     def __reduce__(self) -> Tuple[Any, ...]:
-        """What a copy is made of, as of a LineFault."""
+        """What a copy is made of, as for another process: an exception is made again of its message, if nothing else is said. With it go
+        its attributes, among which are notes of others."""
+        return type(self), (self.text, self.line), self.__dict__
+
+
+class LineFault(Fault):
+    """A line that spells no moves: `column`, in bytes of UTF-8 from 1, `character`, the same in characters, and `text`, what is wrong
+    there. If it is one of many lines, `line` is its number, from 1."""
+
+    def __init__(self, column: int, text: str, line: Optional[int] = None, character: Optional[int] = None) -> None:
+        super().__init__(text, line)
+        self.column = column
+        self.character = column if character is None else character
+
+    def __str__(self) -> str:
+        return f"{_place(self.line, ', ')}column {self.column}: {self.text}"
+
+    def __reduce__(self) -> Tuple[Any, ...]:
+        """What a copy is made of, as of a Fault."""
+        return type(self), (self.column, self.text, self.line, self.character), self.__dict__
+
+
+class StartFault(Fault):
+    """A line on whose cube a step may not start: `step`, `start`, the step that would have to hold, and `text`, which says so. If it is one
+    of many lines, `line` is its number, from 1."""
+
+    def __init__(self, step: str, start: str, text: str, line: Optional[int] = None) -> None:
+        super().__init__(text, line)
+        self.step = step
+        self.start = start
+
+    def __reduce__(self) -> Tuple[Any, ...]:
+        """What a copy is made of, as of a Fault."""
         return type(self), (self.step, self.start, self.text, self.line), self.__dict__
+
+
+class Cut(RuntimeError):
+    """A search that would look at more positions than it may: `count`, what it found until then, and of a search that writes them the
+    `solutions`, a beginning of the list. If it is one of many lines, `line` is its number, from 1."""
+
+    def __init__(self, count: Count, solutions: Iterable[Solution] = (), line: Optional[int] = None) -> None:
+        super().__init__(count)
+        self.count = count
+        self.solutions = list(solutions)
+        self.line = line
+
+    def __str__(self) -> str:
+        return f"{_place(self.line, ': ')}the search was cut after {self.count.nodes:,} nodes"
+
+    def __reduce__(self) -> Tuple[Any, ...]:
+        """What a copy is made of, as of a Fault."""
+        return type(self), (self.count, self.solutions, self.line), self.__dict__
+
+
+def raising(answers: Iterable[Union[Value, Fault, Cut]]) -> Iterator[Value]:
+    """The answers to many lines, such as those of `count_all`; the first fault or cut among them is raised, and ends them."""
+    for answer in answers:
+        if isinstance(answer, (Fault, Cut)):
+            raise answer
+        yield answer
 
 
 def _place(line: Optional[int], then: str) -> str:

@@ -55,7 +55,7 @@ def metadata() -> bytes:
 
 def library_name() -> str:
     """Returns what nissy/_library.py looks for on this system."""
-    return "nissy.dll" if WINDOWS else "libnissy.1.dylib" if MACOS else "libnissy.so.1"
+    return "nissy.dll" if WINDOWS else "libnissy.2.dylib" if MACOS else "libnissy.so.2"
 
 
 def compilers() -> List[List[str]]:

@@ -148,17 +148,17 @@ class BesideLibrary(Beside):
         step, limit, slack = search_in(words)
         formed = map(self.formed, lines_in(data))
         if words[0] == "count":
-            got = answered(nissy.count_all(step, formed, limit), written_count)
+            got = answered(nissy.raising(nissy.count_all(step, formed, limit, threads=self.rooms.choice([1, 3]))), written_count)
             self.check("values: count_all", words, data, got, expected)
             self.compare_caller("count", words, data, expected, lambda text: "length %s solutions %s nodes %s\n" % tuple(text.split()))
             return
-        found: list[list[nissy.Solution]] = []
+        found: list[nissy.Solutions] = []
 
-        def written(solutions: list[nissy.Solution]) -> str:
+        def written(solutions: nissy.Solutions) -> str:
             found.append(solutions)
             return paragraph_of(lines_of(solutions), limit)
 
-        got = answered(nissy.solve_all(step, formed, limit, slack), written)
+        got = answered(nissy.raising(nissy.solve_all(step, formed, limit, slack)), written)
         self.check("values: solve_all", words, data, got, expected)
         self.compare_caller("solve", words, data, expected, lambda text: paragraph_of(text, limit))
         self.compare_parts(words, data, found, self.rooms.choice([0, 1, 2, 10, 100, 2**64 - 1]))
@@ -171,7 +171,7 @@ class BesideLibrary(Beside):
             got = answered((caller.ask(call, *search, line) for line in lines_in(data)), written)
             self.check("nissy.hpp: " + call, words, data, got, expected)
 
-    def compare_parts(self, words: list[str], data: bytes, found: list[list[nissy.Solution]], most: int) -> None:
+    def compare_parts(self, words: list[str], data: bytes, found: list[nissy.Solutions], most: int) -> None:
         """How many solutions each line has, and at most so many of them."""
         step, limit, slack = search_in(words)
         lines, first = lines_in(data)[:len(found)], [solutions[:most] for solutions in found]

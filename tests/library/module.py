@@ -92,7 +92,7 @@ def names():
     del brought["__builtins__"]
     wanted = {"invert", "unniss", "cleanup", "facelets", "run", "Answer", "LineFault", "MOST_INPUT", "DONE", "FAULT", "USAGE", "STOPPED",
               "solve", "solve_all", "near", "count", "count_all", "scramble", "scrambles", "steps", "Tables", "Solution", "Count",
-              "StartFault"}
+              "StartFault", "Fault", "Cut", "Solutions", "raising", "facts", "facts_all", "check", "Facts", "Check", "Case", "Pieces"}
     holds("an import of all brings what the module is for, and no more", set(brought) == wanted)
 
 
@@ -162,10 +162,10 @@ def threads():
 
 def library():
     """The library that isn't there."""
-    named = dict(os.environ, NISSY_LIBRARY="/nowhere/libnissy.so.1", PYTHONPATH=PYTHON)
+    named = dict(os.environ, NISSY_LIBRARY="/nowhere/libnissy.so.2", PYTHONPATH=PYTHON)
     done = subprocess.run([sys.executable, "-c", "import nissy"], capture_output=True, env=named, check=False)
     holds("a library that isn't there is an ImportError that names it", done.stderr.splitlines()[-1].startswith(b"ImportError: ") and
-          b": /nowhere/libnissy.so.1: " in done.stderr.splitlines()[-1])
+          b": /nowhere/libnissy.so.2: " in done.stderr.splitlines()[-1])
 
 
 def main():

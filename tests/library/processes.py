@@ -185,8 +185,30 @@ from typing import Iterator, List, Optional
 import nissy
 
 def best(lines: List[str]) -> Iterator[str]:
-    for found in nissy.solve_all("eofb", lines, most=1):
+    for found in nissy.raising(nissy.solve_all("eofb", lines, most=1)):
         yield found[0] + " " if found else "none"
+
+def of_lines(lines: List[str]) -> Iterator[Optional[int]]:
+    for count in nissy.count_all("eofb", lines, nodes=1000, threads=2):
+        yield count.length if isinstance(count, nissy.Count) else count.line
+
+def bad(line: str, axis: nissy.Axis) -> str:
+    facts = nissy.facts(line)
+    edges: int = facts.bad_edges[axis]
+    return f"{edges} {facts.bad_edges[axis].places[0]} {facts.case['ud'].corners} {'eofb' in facts.holds} {facts.solved}"
+
+def is_right(scramble: str, solution: bytes) -> bool:
+    solved, moves, *others = nissy.check(scramble, solution)
+    return solved and moves < 80 and not nissy.check(scramble, solution).forms
+
+def of_all_lines(lines: List[str]) -> List[str]:
+    return [it.case["ud"] for it in nissy.raising(nissy.facts_all(lines))]
+
+def bounded(line: str) -> int:
+    try:
+        return len(nissy.solve("eofb", line, slack=9, nodes=1000, partial=True))
+    except nissy.Cut as cut:
+        return cut.count.nodes
 
 def shortest(line: bytes) -> Optional[int]:
     try:
@@ -218,7 +240,9 @@ ELF_OF_ARM = b"\x7fELF\x02\x01\x01" + bytes(9) + b"\x03\0\xb7\0\x01\0\0\0" + byt
 WRONG_USES = ('nissy.solve("eofb", 3)', 'nissy.solve(3, "R")', 'nissy.count("eofb", "R").length + 1', 'nissy.near("eofb", "R", 3)',
               'nissy.solve("eofb", "R", "20")', 'nissy.solve_all("eofb", 3)', 'nissy.invert(["R"])', 'nissy.run(["steps"]).text',
               'nissy.nothing', 'nissy.solve("eofb", "R")[0].moves', 'nissy.solve("eofd", "R")', 'nissy.count_all("htr", [])',
-              'nissy.Tables("eo fb")', 'nissy.Tables("eofb").step = "eorl"')
+              'nissy.Tables("eo fb")', 'nissy.Tables("eofb").step = "eorl"',
+              'next(nissy.count_all("eofb", [])).length', 'nissy.facts("R").bad_edges["x"]', 'nissy.facts("R").solved = True',
+              'nissy.check("R")', 'nissy.facts_all("R", threads="2").facts', 'nissy.count("eofb", "R", nodes="many")')
 
 
 def of_process(code: str, **named: str) -> str:
@@ -268,7 +292,7 @@ def libraries(tally: Tally) -> None:
         tally.equal("bytes behind a library do no harm", of_process("import nissy; print(nissy.invert('R'))",
                                                                     NISSY_LIBRARY=f"{room}/longer.so"), "R'\n")
         said_last = of_process(NAMES_LIBRARY, NISSY_LIBRARY="", PYTHONPATH=room)
-        tally.holds("nor has the system one", f"{NO_LIBRARY}libnissy.so.1: " in said_last or said_last == "libnissy.so.1\n")
+        tally.holds("nor has the system one", f"{NO_LIBRARY}libnissy.so.2: " in said_last or said_last == "libnissy.so.2\n")
     said_last = of_process("import nissy", NISSY_LIBRARY="libc.so.6")
     tally.holds("one without the calls is named",
                 said_last.endswith("ImportError: libc.so.6 has no nissy_run: it is older than this module\n"))
@@ -278,10 +302,10 @@ def libraries(tally: Tally) -> None:
             package = Path(room, place)
             shutil.copytree(TOP / "python/nissy", package, ignore=shutil.ignore_patterns("__pycache__"))
             beside = Path(room, "lib") if "packages" in place else package
-            shutil.copy(library, beside / "libnissy.so.1")
+            shutil.copy(library, beside / "libnissy.so.2")
             code = f"import sys; sys.path.insert(0, {str(package.parent)!r}); {NAMES_LIBRARY}"
             found = of_process(code, NISSY_LIBRARY="").strip()
-            tally.equal(f"the library that stands with {place}", os.path.realpath(found), os.path.realpath(beside / "libnissy.so.1"))
+            tally.equal(f"the library that stands with {place}", os.path.realpath(found), os.path.realpath(beside / "libnissy.so.2"))
 
 
 def types(tally: Tally) -> None:

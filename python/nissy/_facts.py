@@ -1,0 +1,225 @@
+"""What is seen of a cube without a search, and whether a solution solves a scramble."""
+from __future__ import annotations
+
+import sys
+from functools import lru_cache
+from typing import Any, Callable, Dict, FrozenSet, Iterable, Iterator, List, NamedTuple, Tuple, TypeVar, Union
+
+from . import _library, _rooms
+from ._given import Step, Text, bytes_of
+from ._library import FACTS_ANSWER
+from ._lines import fault_of, steps
+from ._many import Asking, Piece, answers
+from ._values import Fault
+
+if sys.version_info >= (3, 8):
+    from typing import Literal
+
+    Axis = Literal["fb", "rl", "ud"]
+else:
+    Axis = str
+
+# the places of edges and of corners, and the forms, by the bits of the library's masks
+_EDGES = ("UR", "UF", "UL", "UB", "DR", "DF", "DL", "DB", "FR", "FL", "BL", "BR")
+_CORNERS = ("URF", "UFL", "ULB", "UBR", "DFR", "DLF", "DBL", "DRB")
+_FORMS = ("slices", "lower_case", "brackets", "apostrophe", "half_prime")
+_AXES: Tuple[Axis, ...] = ("fb", "rl", "ud")
+# where the numbers of the axes begin in the struct, and how many each has
+_FIRST, _EACH = 6, 6
+Named = TypeVar("Named")
+Value = TypeVar("Value")
+
+
+def _chosen(mask: int, names: Iterable[Named]) -> Tuple[Named, ...]:
+    """Returns the names whose bits a mask has."""
+    return tuple(name for bit, name in enumerate(names) if mask >> bit & 1)
+
+
+class Pieces(int):
+    """How many pieces are bad, as an int, and as `places` where they stand, such as ("UF", "DB")."""
+
+    def __new__(cls, places: Iterable[str] = ()) -> Pieces:
+        listed = tuple(places)
+        made = super().__new__(cls, len(listed))
+        made._places = listed
+        return made
+
+    _places: Tuple[str, ...]
+
+    @property
+    def places(self) -> Tuple[str, ...]:
+        """The names of the places, edges in the order UR UF UL UB DR DF DL DB FR FL BL BR, corners URF UFL ULB UBR DFR DLF DBL DRB."""
+        return self._places
+
+    def __reduce__(self) -> Tuple[Any, ...]:
+        """What a copy is made of."""
+        return type(self), (self.places,)
+
+
+class Case(str):
+    """The case of a domino reduction on an axis, as solvers write it: "4c4e"."""
+
+    __slots__ = ()
+
+    @property
+    def corners(self) -> int:
+        """How many corners are misoriented."""
+        return int(self.partition("c")[0])
+
+    @property
+    def edges(self) -> int:
+        """How many edges are on the wrong side of the slice."""
+        return int(self.partition("c")[2][:-1])
+
+
+class Facts:
+    """What is seen of a cube without a search. Its axes "fb", "rl" and "ud" are those of its centres."""
+
+    __slots__ = ("_told",)
+
+    def __init__(self, told: bytes) -> None:
+        self._told = told
+
+    def _numbers(self) -> Tuple[int, ...]:
+        """Returns the numbers of the library's struct."""
+        return FACTS_ANSWER.unpack(self._told)
+
+    @property
+    def solved(self) -> bool:
+        """Whether the cube is solved, however it is held."""
+        return self._numbers()[2] == 1
+
+    @property
+    def moves(self) -> int:
+        """How many moves the line has as it is written: turns of faces and of outer blocks count one each, slice turns two, rotations
+        none."""
+        return self._numbers()[4]
+
+    @property
+    def clean_moves(self) -> int:
+        """How many face turns are left once the line is one sequence and cleaned."""
+        return self._numbers()[5]
+
+    @property
+    def holds(self) -> FrozenSet[Step]:
+        """The steps that the cube has reached."""
+        return _steps_of(self._numbers()[6])
+
+    @property
+    def bad_edges(self) -> Dict[Axis, Pieces]:
+        """The edges that aren't oriented on each axis."""
+        return self._by_axis(lambda places: _edges(places[0]))
+
+    @property
+    def bad_corners(self) -> Dict[Axis, Pieces]:
+        """The corners whose sticker of the axis's two faces is on another face."""
+        return self._by_axis(lambda places: _corners(places[1]))
+
+    @property
+    def misplaced_edges(self) -> Dict[Axis, Pieces]:
+        """The edges on the wrong side of the axis's slice: those of the slice outside it, and the others in it."""
+        return self._by_axis(lambda places: _edges(places[2]))
+
+    @property
+    def case(self) -> Dict[Axis, Case]:
+        """The case of a domino reduction on each axis: misoriented corners, and edges on the wrong side of the slice."""
+        return self._by_axis(lambda numbers: Case(f"{numbers[4]}c{numbers[5]}e"))
+
+    def _by_axis(self, of_axis: Callable[[Tuple[int, ...]], Value]) -> Dict[Axis, Value]:
+        """Returns what each axis's numbers stand for."""
+        numbers = self._numbers()[_FIRST + 1:]
+        return {axis: of_axis(numbers[_EACH * at:_EACH * (at + 1)]) for at, axis in enumerate(_AXES)}
+
+    def __eq__(self, other: object) -> bool:
+        return isinstance(other, Facts) and self._numbers() == other._numbers()
+
+    def __hash__(self) -> int:
+        return hash(self._numbers())
+
+    def __repr__(self) -> str:
+        cases = ", ".join(f"{axis}: {case}" for axis, case in self.case.items())
+        return f"<Facts: {'solved' if self.solved else 'not solved'}, {self.moves} moves, {self.clean_moves} cleaned, {cases}>"
+
+    def __reduce__(self) -> Tuple[Any, ...]:
+        """What a copy is made of."""
+        return type(self), (self._told,)
+
+
+class Check(NamedTuple):
+    """Whether a solution solves a scramble."""
+
+    solved: bool
+    """The solution's moves after the scramble's solve the cube, however it is held then."""
+    moves: int
+    """The solution's moves as Facts counts them."""
+    clean_moves: int
+    """The same once it is cleaned."""
+    forms: Tuple[str, ...]
+    """The forms that the solution has and the WCA's notation for solutions hasn't: "slices", "lower_case", "brackets", "apostrophe"
+    (U+2019 in place of ') and "half_prime" (2' for a half turn)."""
+
+
+@lru_cache(maxsize=None)
+def _edges(mask: int) -> Pieces:
+    """Returns the edges of a mask."""
+    return Pieces(_chosen(mask, _EDGES))
+
+
+@lru_cache(maxsize=None)
+def _corners(mask: int) -> Pieces:
+    """Returns the corners of a mask."""
+    return Pieces(_chosen(mask, _CORNERS))
+
+
+@lru_cache(maxsize=None)
+def _steps_of(mask: int) -> FrozenSet[Step]:
+    """Returns the steps of a mask."""
+    return frozenset(_chosen(mask, steps()))
+
+
+def facts(line: Text) -> Facts:
+    """What is seen of a line's cube without a search: whether it is solved, how many moves the line has, which edges and corners are bad on
+    each axis, the case of a domino reduction there, and which steps hold. Raises LineFault."""
+    data = bytes_of(line, "the line")
+    answer = _library.nissy_facts(data, len(data))
+    if answer.status:
+        raise fault_of(answer.status, answer.fault, answer.column, data)
+    return Facts(bytes(answer))
+
+
+def _ask(piece: Piece) -> bytes:
+    """Returns the library's structs for the lines of a piece."""
+    room, size = _rooms.take(), FACTS_ANSWER.size * len(piece.lines)
+    _library.nissy_facts_lines(piece.text, len(piece.text), room.address, len(piece.lines))
+    told = room.memory[:size]
+    _rooms.put_back(room)
+    return told
+
+
+def _told(piece: Piece, told: bytes) -> List[Union[Facts, Fault]]:
+    """Returns the facts of the lines of a piece, or why there are none."""
+    size = FACTS_ANSWER.size
+    return [_fault(piece, told, at) if told[at] else Facts(told[at:at + size]) for at in range(0, len(told), size)]
+
+
+def _fault(piece: Piece, told: bytes, at: int) -> Fault:
+    """Returns what the struct at this byte tells of a line in place of an answer."""
+    status, fault, _, column = FACTS_ANSWER.unpack_from(told, at)[:4]
+    number, data = piece.line(at // FACTS_ANSWER.size)
+    return fault_of(status, fault, column, data, number)
+
+
+def facts_all(lines: Iterable[Text], threads: int = 1) -> Iterator[Union[Facts, Fault]]:
+    """What is seen of each line in turn, as `facts` returns it; of a line for which `facts` raises, what it raises, with the line's number,
+    from 1, as `line` (`raising` raises it). Takes lines in pieces, and threads, as `count_all` does."""
+    return answers(lines, Asking(_ask, _told), threads)
+
+
+def check(scramble: Text, solution: Text) -> Check:
+    """Whether a solution solves a scramble, how many moves it has, and which forms that the WCA's notation hasn't. Both may have brackets.
+    Raises LineFault, with `line` 1 for the scramble and 2 for the solution."""
+    given = bytes_of(scramble, "the scramble"), bytes_of(solution, "the solution")
+    answer = _library.nissy_check(given[0], len(given[0]), given[1], len(given[1]))
+    if answer.status:
+        raise fault_of(answer.status, answer.fault, answer.column, given[answer.line - 1], answer.line)
+    return Check(answer.solved == 1, answer.moves, answer.clean_moves, _chosen(answer.forms, _FORMS))

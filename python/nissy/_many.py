@@ -1,0 +1,148 @@
+"""Many lines: taken in pieces, each of which goes to the library in one call, one piece after another or several side by side."""
+from __future__ import annotations
+
+from collections import deque
+from itertools import islice
+from time import perf_counter
+from typing import Any, Callable, Deque, Generic, Iterable, Iterator, List, NamedTuple, Optional, Tuple, TypeVar
+
+from ._given import Text, bytes_of, each_of, number_of
+
+Value = TypeVar("Value")
+
+MOST_LINES = 16_384
+"""The most lines of a piece: an ordinary room has an answer to each."""
+
+_MOST_BYTES = 1 << 22
+_MOST_THREADS = 1024
+# A piece takes so many seconds or more, if there are lines enough, and at most twice as many: in between Python hears of signals. Threads
+# have longer ones, since each waits for the lock when it has done one.
+_SHORT, _SHORT_OF_THREADS = 0.005, 0.03
+
+
+class Piece(NamedTuple):
+    """Some lines: the number of the first one, from 1, the lines as they were given, and as a text in which a line feed ends each."""
+
+    first: int
+    lines: List[Text]
+    text: bytes
+
+    def line(self, at: int) -> Tuple[int, bytes]:
+        """Returns the number of a line, and its bytes."""
+        return self.first + at, bytes_of(self.lines[at], "the line")
+
+
+class Asking(Generic[Value]):
+    """How a piece is asked: in a first part that may run in a thread of its own, and in a second one that gives the answers."""
+
+    def __init__(self, ask: Callable[[Piece], Any], told: Callable[[Piece, Any], List[Value]]) -> None:
+        self.ask, self.told = ask, told
+
+    def timed(self, piece: Piece) -> Tuple[Any, float]:
+        """Returns what the first part returns, and the seconds that it took."""
+        begun = perf_counter()
+        return self.ask(piece), perf_counter() - begun
+
+
+class _Taking:
+    """Takes lines in pieces. What ends them before their end is kept until those before it are answered."""
+
+    def __init__(self, lines: Iterator[Text], most: int, short: float) -> None:
+        self._lines, self._most, self._short = lines, most, short
+        self._size, self._next = 1, 1
+        self.error: Optional[Exception] = None
+
+    def __iter__(self) -> Iterator[Piece]:
+        while self.error is None:
+            piece = self._piece()
+            if not piece.lines:
+                break
+            yield piece
+
+    def _piece(self) -> Piece:
+        """Returns the next lines."""
+        lines: List[Text] = []
+        try:
+            # one by one, so what came before an exception is there
+            for line in islice(self._lines, self._size):
+                lines.append(line)
+        except Exception as error:
+            self.error = error
+        text = self._text(lines)
+        piece = Piece(self._next, lines, text)
+        self._next += len(lines)
+        return piece
+
+    def _text(self, lines: List[Text]) -> bytes:
+        """Returns lines as one text. Of those that are no lines, the first one and all behind it are taken off."""
+        try:
+            text = "\n".join(lines + [""]).encode()  # type: ignore[arg-type]
+        except (TypeError, UnicodeEncodeError):
+            text = b""
+        return text if text.count(b"\n") == len(lines) else self._joined(lines)
+
+    def _joined(self, lines: List[Text]) -> bytes:
+        """Returns lines of any form as one text. In place of a line feed in one comes a zero byte, which is no move either."""
+        parts: List[bytes] = []
+        for line in lines:
+            try:
+                parts.append(bytes_of(line, "the line").replace(b"\n", b"\0") + b"\n")
+            except (TypeError, ValueError) as error:
+                kind = TypeError if isinstance(error, TypeError) else ValueError
+                self.error = kind(f"line {self._next + len(parts)}: {error}")
+                break
+        del lines[len(parts):]
+        return b"".join(parts)
+
+    def took(self, piece: Piece, seconds: float) -> None:
+        """Tells how long a piece took, by which the next ones are longer or shorter."""
+        if len(piece.text) > _MOST_BYTES or seconds > 2 * self._short:
+            self._size = max(1, self._size // 2)
+        elif seconds < self._short and len(piece.lines) == self._size:
+            self._size = min(self._most, 2 * self._size)
+
+
+def answers(lines: Iterable[Text], asking: Asking[Value], threads: int = 1, most: int = MOST_LINES) -> Iterator[Value]:
+    """Returns an iterator of the answers to lines, which are taken in pieces of at most so many. The arguments are checked at once."""
+    each = each_of(lines, "the lines")
+    if number_of(threads, "threads", _MOST_THREADS, 1) == 1:
+        return _in_turn(_Taking(each, most, _SHORT), asking)
+    return _side_by_side(_Taking(each, MOST_LINES, _SHORT_OF_THREADS), asking, threads)
+
+
+def _in_turn(taking: _Taking, asking: Asking[Value]) -> Iterator[Value]:
+    """Yields the answers to lines, one piece after another."""
+    for piece in taking:
+        told, seconds = asking.timed(piece)
+        taking.took(piece, seconds)
+        yield from asking.told(piece, told)
+    if taking.error is not None:
+        raise taking.error
+
+
+def _side_by_side(taking: _Taking, asking: Asking[Value], threads: int) -> Iterator[Value]:
+    """Yields the answers to lines, of which so many pieces are asked at the same time, in the order of the lines."""
+    # nobody else waits for this module to be read
+    from concurrent.futures import Future, ThreadPoolExecutor
+    asked: Deque[Tuple[Piece, Future[Tuple[Any, float]]]] = deque()
+
+    def first() -> List[Value]:
+        piece, future = asked.popleft()
+        told, seconds = future.result()
+        taking.took(piece, seconds)
+        return asking.told(piece, told)
+
+    with ThreadPoolExecutor(threads, "nissy") as pool:
+        try:
+            for piece in taking:
+                asked.append((piece, pool.submit(asking.timed, piece)))
+                if len(asked) > 2 * threads:
+                    yield from first()
+            while asked:
+                yield from first()
+        finally:
+            # those that have begun end, and the others need not
+            for _, future in asked:
+                future.cancel()
+    if taking.error is not None:
+        raise taking.error
