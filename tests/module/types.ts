@@ -39,7 +39,7 @@ export function place(fault: unknown): number | null {
 
 // what a worker sends for a line: a value, a fault of the line, or of its cube, which alone has a step that must hold before
 export function said(reply: LineReply | CountReply): string | number {
-  if (reply.status === 0) return "out" in reply ? reply.out : reply.looks;
+  if (reply.status === 0) return "out" in reply ? reply.out : reply.nodes;
   if (reply.status !== 1) return reply.status;
   return reply.fault === 6 ? `${reply.start} ${reply.text}` : reply.column;
 }

@@ -92,9 +92,9 @@ function requestOf({ command, step, limit, slack }, line) {
  * @returns {string | undefined}
  */
 function answerOf({ limit }, reply) {
-  if ("looks" in reply) {
-    const { least, solutions, looks } = reply;
-    return `length ${solutions === 0 ? "none" : least} solutions ${solutions} nodes ${looks}\n`;
+  if ("nodes" in reply) {
+    const { least, solutions, nodes } = reply;
+    return `length ${solutions === 0 ? "none" : least} solutions ${solutions} nodes ${nodes}\n`;
   }
   const { out } = reply;
   if (out === "") return `no solution within ${limit} moves\n\n`;

@@ -16,7 +16,7 @@ import { compiled } from "./source.js";
 /** @typedef {import("./replies.js").Reply} Reply */
 
 /** What the module calls each rewriting. */
-const REWRITINGS = { invert: "nissy_invert", unniss: "nissy_unniss", cleanup: "nissy_cleanup", facelets: "nissy_print" };
+const REWRITINGS = { invert: "nissy_invert", unniss: "nissy_unniss", cleanup: "nissy_cleanup", facelets: "nissy_facelets" };
 
 /**
  * @param {Instance} instance

@@ -12,14 +12,19 @@ export const SOLUTION = 65;
 export const LINE_ROOM = 2_048;
 export const ERROR_ROOM = 128;
 
-/** The room for the module's answer of a call, and how many bytes a column has, and an address, a length or a count. */
+/** The room for the module's answer of a call. */
 export const ANSWER = 32;
+
+/** How many bytes a small number has, such as a status or a yes or no, a column, and an address, a length or a great number. */
+export const BYTE = 1;
 export const COLUMN = 4;
 export const LONG = 8;
 
-/** Where the fields of each struct are; `size`: how many bytes its small ones have, such as a status. */
-export const RUN_ANSWER = { size: 1, status: 0, outLength: 8, errLength: 16, outTooSmall: 24 };
-export const LINE_ANSWER = { size: 2, status: 0, fault: 2, column: 4, length: 8 };
-export const SOLVE_ANSWER = { size: 1, status: 0, fault: 1, column: 4, length: 8 };
-export const COUNT_ANSWER = { size: 1, status: 0, fault: 1, least: 2, column: 4, solutions: 8, looks: 16 };
+/** Where each answer has its status, and if a line may have a fault, where that is, and its column. */
+export const HEAD = { status: 0, fault: 1, column: 4 };
+
+/** Where the other fields of each struct are. */
+export const RUN_ANSWER = { outLength: 8, errLength: 16, outTooSmall: 24 };
+export const LINE_ANSWER = { length: 8 };
+export const SEARCH_ANSWER = { least: 2, more: 3, length: 8, solutions: 16, nodes: 24 };
 export const ROOM = { bytes: 16, block: 0, size: 8 };

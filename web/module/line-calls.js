@@ -1,6 +1,6 @@
 // The calls of the module on one line each, and those that read none: what goes into its memory, and what the answer is read as.
 import { MOST_WIDE } from "./bytes.js";
-import { COLUMN, COUNT_ANSWER, LINE_ANSWER, LINE_ROOM, SOLUTION, SOLVE_ANSWER } from "./layout.js";
+import { BYTE, COLUMN, HEAD, LINE_ANSWER, LINE_ROOM, SEARCH_ANSWER, SOLUTION } from "./layout.js";
 import { aligned, roomFor } from "./memory.js";
 import { wide } from "./natives.js";
 import { START, STATUS } from "./replies.js";
@@ -26,17 +26,16 @@ const outOf = (reply) => (reply.status === STATUS.done ? reply.out : "");
 /**
  * Why a call on a line has no value, or null if it has one.
  * @param {Instance} instance
- * @param {{size: number, status: number, fault: number, column: number}} fields of the module's answer
  * @param {string} [step] which is searched
  * @returns {NoValue | null}
  */
-function refusal(instance, fields, step = "") {
+function refusal(instance, step = "") {
   const { memory, answer } = instance;
-  const status = memory.number(answer + fields.status, fields.size);
+  const status = memory.number(answer + HEAD.status, BYTE);
   if (status === STATUS.done) return null;
   if (status !== STATUS.fault) return /** @type {NoValue} */ ({ status });
-  const column = memory.number(answer + fields.column, COLUMN);
-  const fault = memory.number(answer + fields.fault, fields.size);
+  const column = memory.number(answer + HEAD.column, COLUMN);
+  const fault = memory.number(answer + HEAD.fault, BYTE);
   const text = outOf(written(instance, (exports, at, out, room) => exports.nissy_fault_text(at, fault, out, room)));
   if (fault === START) return { status, fault, step, start: outOf(rewritten(instance, "nissy_start", step)), text };
   return /** @type {NoValue} */ ({ status, fault, column, text });
@@ -49,7 +48,7 @@ function refusal(instance, fields, step = "") {
  * @returns {LineReply}
  */
 const lineAt = (instance, out) =>
-  refusal(instance, LINE_ANSWER) ?? { status: STATUS.done, out: instance.memory.text(out, instance.answered(LINE_ANSWER.length)) };
+  refusal(instance) ?? { status: STATUS.done, out: instance.memory.text(out, instance.answered(LINE_ANSWER.length)) };
 
 /**
  * A call that reads a line and writes another.
@@ -94,8 +93,8 @@ function solvedIn(instance, { step, line, limit, slack, most }, room) {
   const length = memory.putLine(free, line);
   const bound = most === Infinity ? MOST_WIDE : wide(most);
   instance.call(({ nissy_solve: solve }) =>
-    solve(wide(answer), wide(tables), wide(free), wide(length), limit, slack, bound, wide(out), wide(room)));
-  return refusal(instance, SOLVE_ANSWER, step) ?? { status: STATUS.done, out: memory.text(out, instance.answered(SOLVE_ANSWER.length)) };
+    solve(wide(answer), wide(tables), wide(free), wide(length), limit, slack, bound, MOST_WIDE, wide(out), wide(room)));
+  return refusal(instance, step) ?? { status: STATUS.done, out: memory.text(out, instance.answered(SEARCH_ANSWER.length)) };
 }
 
 /**
@@ -122,13 +121,14 @@ export function counted(instance, { step, line, limit, slack }) {
   const { memory, answer, free } = instance;
   memory.reach(free + roomFor(line));
   const length = memory.putLine(free, line);
-  instance.call(({ nissy_count: count }) => count(wide(answer), wide(tables), wide(free), wide(length), limit, slack));
-  const refused = refusal(instance, COUNT_ANSWER, step);
+  instance.call(({ nissy_count: count }) =>
+    count(wide(answer), wide(tables), wide(free), wide(length), limit, slack, MOST_WIDE, MOST_WIDE));
+  const refused = refusal(instance, step);
   if (refused !== null) return refused;
   return {
     status: STATUS.done,
-    least: memory.number(answer + COUNT_ANSWER.least, COUNT_ANSWER.size),
-    solutions: instance.answered(COUNT_ANSWER.solutions),
-    looks: instance.answered(COUNT_ANSWER.looks),
+    least: memory.number(answer + SEARCH_ANSWER.least, BYTE),
+    solutions: instance.answered(SEARCH_ANSWER.solutions),
+    nodes: instance.answered(SEARCH_ANSWER.nodes),
   };
 }

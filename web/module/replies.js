@@ -39,7 +39,7 @@ import { textIn } from "./natives.js";
 
 /** @typedef {LineFault | StartFault | Refused} NoValue how a call on a line ended that has no value */
 /** @typedef {{status: 0, out: string} | NoValue} LineReply of a call that writes */
-/** @typedef {{status: 0, least: number, solutions: number, looks: number} | NoValue} CountReply */
+/** @typedef {{status: 0, least: number, solutions: number, nodes: number} | NoValue} CountReply */
 /** @typedef {Answer | LineReply | CountReply} OneReply */
 /** @typedef {OneReply | OneReply[]} Reply */
 
@@ -120,8 +120,8 @@ export function solutionsIn(reply) {
 /** @param {CountReply} reply @returns {Count} */
 export function countIn(reply) {
   if (reply.status !== STATUS.done) throw errorIn(reply);
-  const { least, solutions, looks } = reply;
-  return { length: solutions === 0 ? null : least, solutions, nodes: looks };
+  const { least, solutions, nodes } = reply;
+  return { length: solutions === 0 ? null : least, solutions, nodes };
 }
 
 /**
