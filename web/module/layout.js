@@ -13,10 +13,14 @@ export const LINE_ROOM = 2_048;
 export const ERROR_ROOM = 128;
 
 /** The room for the module's answer of a call. */
-export const ANSWER = 32;
+export const ANSWER = 48;
 
-/** How many bytes a small number has, such as a status or a yes or no, a column, and an address, a length or a great number. */
+/**
+ * How many bytes a small number has, such as a status or a yes or no, a mask or a number of moves, a column, and an address, a length or a
+ * great number.
+ */
 export const BYTE = 1;
+export const SHORT = 2;
 export const COLUMN = 4;
 export const LONG = 8;
 
@@ -26,5 +30,9 @@ export const HEAD = { status: 0, fault: 1, column: 4 };
 /** Where the other fields of each struct are. */
 export const RUN_ANSWER = { outLength: 8, errLength: 16, outTooSmall: 24 };
 export const LINE_ANSWER = { length: 8 };
-export const SEARCH_ANSWER = { least: 2, more: 3, length: 8, solutions: 16, nodes: 24 };
+export const SEARCH_ANSWER = { bytes: 32, least: 2, more: 3, length: 8, solutions: 16, nodes: 24 };
+export const FACTS_ANSWER = { bytes: 44, solved: 2, moves: 8, cleanMoves: 10, holds: 12, axes: 14 };
+export const AXIS_FACTS = { bytes: 10, badEdges: 0, badCorners: 2, misplacedEdges: 4 };
+export const CHECK_ANSWER = { line: 2, solved: 3, moves: 8, cleanMoves: 10, forms: 12 };
+export const LINES_ANSWER = { lines: 8 };
 export const ROOM = { bytes: 16, block: 0, size: 8 };
