@@ -152,7 +152,7 @@ const GIVEN = { limit: () => 20, slack: () => 0, most: () => 1 };
 const READ_BY = [
   ["solve", "F", ["limit", "most", "slack"]],
   ["solveAll", ["F", "F"], ["limit", "most", "slack"]],
-  ["count", "F", ["limit", "slack"]],
+  ["count", "F", ["limit", "most", "slack"]],
 ];
 
 /** Each option is read once, before the module is asked, and what reading it throws the call throws. */

@@ -8,6 +8,7 @@ import { performance } from "node:perf_hooks";
 import { NissyWorker, loadNissy } from "../../web/module/node.js";
 import { WorkerCalls } from "../../web/module/worker-calls.js";
 import { tryMany as tryManyLines, tryOptions, tryReadOptions, tryRows, tryWrongValues } from "./called.mjs";
+import { tryBounds, tryChecks, tryFacts, tryMixed } from "./judged.mjs";
 import { ended, moduleBytes, same, text, thrown } from "./tally.mjs";
 
 const LONG = ["count", "eo", "R U F2 L D R B", { slack: 14 }];
@@ -239,6 +240,38 @@ async function tryGivenUpAtOnce() {
   same("which is answered", await kept, "D'");
 }
 
+/** Signals whose listeners can't be added, or taken away: the first gives no call to be answered, the others end as any other. */
+async function tryHostileSignals() {
+  const hostile = (name) => {
+    const stop = new AbortController();
+    const { signal } = stop;
+    const own = signal[name].bind(signal);
+    signal[name] = () => {
+      throw new Error(`no ${name}`);
+    };
+    return { stop, signal, mend: () => { signal[name] = own; } };
+  };
+  const { all, started } = puppets();
+  const calls = new WorkerCalls(moduleBytes, started);
+  const deaf = hostile("addEventListener");
+  same("a signal that can't be listened to", await thrown(() => calls.invert("R", { signal: deaf.signal })), ["Error", "no addEventListener"]);
+  deaf.mend();
+  const heard = thrown(() => calls.invert("R", { signal: deaf.signal }));
+  deaf.stop.abort();
+  same("is heard once it can be", (await heard)[0], "AbortError");
+  const kept = hostile("removeEventListener");
+  const first = calls.invert("U", { signal: kept.signal });
+  const second = calls.invert("F", { signal: kept.signal });
+  const { sent } = all[1];
+  all[1].took({ id: sent[1].id, reply: { status: 0, out: "U'" } });
+  all[1].took({ id: sent[2].id, reply: { status: 0, out: "F'" } });
+  same("a signal that can't be left leaves no call open", await Promise.all([first, second]), ["U'", "F'"]);
+  const last = thrown(() => calls.invert("D", { signal: kept.signal }));
+  const waiting = thrown(() => calls.invert("L"));
+  calls.stop();
+  same("nor where calls are given up", await Promise.all([last, waiting]), [["AbortError", "stopped"], ["AbortError", "stopped"]]);
+}
+
 /** A reply is none that failed, though some script gave an error to all objects. */
 async function tryGivenToAll() {
   const { all, started } = puppets();
@@ -258,6 +291,7 @@ await tryReadOptions(worker);
 await tryOwnOptions(worker);
 await tryNoOptions(worker);
 await tryMany(worker);
+for (const judge of [tryFacts, tryChecks, tryBounds, tryMixed]) await judge(worker);
 await tryStopped(worker);
 await trySignals(worker);
 await tryOneSignal(worker);
@@ -266,5 +300,6 @@ await tryUnstarted();
 await tryPuppets();
 await tryGivenUpAtOnce();
 await tryGivenToAll();
+await tryHostileSignals();
 // the process ends though the worker lives
 ended();

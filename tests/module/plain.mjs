@@ -120,19 +120,19 @@ function searching({ exports, base, bytes, view, number }) {
     return BigInt(moves.length);
   };
   const whole = (from, to) => bytes.subarray(from, to).every((byte) => byte === FILLED);
-  const solve = (struct, moves, limit, slack, most, room) => {
+  const solve = (struct, moves, limit, slack, most, room, nodes = NO_BOUND) => {
     bytes.fill(FILLED, answer, answer + 48);
     bytes.fill(FILLED, out, out + 1024);
-    exports.nissy_solve(BigInt(answer), BigInt(struct), BigInt(line), put(moves), limit, slack, most, BigInt(out), BigInt(room));
+    exports.nissy_solve(BigInt(answer), BigInt(struct), BigInt(line), put(moves), limit, slack, most, nodes, BigInt(out), BigInt(room));
     const [status, fault, least, more] = bytes.subarray(answer, answer + 4);
     const written = text(bytes.slice(out, out + number(answer + 8)));
     const isKept = whole(answer + 32, answer + 48) && whole(out + number(answer + 8), out + 1024);
     return [status, fault, least, more, view.getUint32(answer + 4, true), written, number(answer + 16), isKept];
   };
-  const count = (struct, moves, limit, slack) => {
-    exports.nissy_count(BigInt(answer), BigInt(struct), BigInt(line), put(moves), limit, slack);
-    const [status, fault, least] = bytes.subarray(answer, answer + 3);
-    return [status, fault, least, view.getUint32(answer + 4, true), number(answer + 8), number(answer + 16)];
+  const count = (struct, moves, limit, slack, most = NO_BOUND, nodes = NO_BOUND) => {
+    exports.nissy_count(BigInt(answer), BigInt(struct), BigInt(line), put(moves), limit, slack, most, nodes);
+    const [status, fault, least, more] = bytes.subarray(answer, answer + 4);
+    return [status, fault, least, more, view.getUint32(answer + 4, true), number(answer + 8), number(answer + 16), number(answer + 24)];
   };
   return { solve, count };
 }
@@ -145,7 +145,7 @@ async function trySearches() {
   const [tables, other, blocks] = [320, 336, 4096].map((at) => base + at);
   bytes.fill(0, tables, tables + 32);
   same("a search without tables", solve(tables, "F", 20, 0, NO_BOUND, 1024), [2, 0, 0, 0, 0, "", 0, true]);
-  same("a count without tables", count(tables, "F", 20, 0), [2, 0, 0, 0, 0, 0]);
+  same("a count without tables", count(tables, "F", 20, 0), [2, 0, 0, 0, 0, 0, 0, 0]);
   same("tables of no step", built(place, tables, "eox", blocks), { status: 2, rooms: [SMALL, LARGE], isBuilt: false });
   same("tables in a small room", built(place, tables, "eofb", blocks, SMALL, 4096), { status: 3, rooms: [0, 0], isBuilt: false });
   const beyond = blocks + SMALL + 4096;
@@ -161,10 +161,15 @@ async function trySearches() {
   same("a step that can't begin", solve(other, "F", 20, 0, NO_BOUND, 1024), [1, 6, 0, 0, 0, "", 0, true]);
   same("a limit beyond the greatest", solve(tables, "F", 21, 0, NO_BOUND, 1024)[0], 2);
   same("a slack beyond the greatest", solve(tables, "F", 20, 21, NO_BOUND, 1024)[0], 2);
-  same("a count", count(tables, "R U F", 20, 0), [0, 0, 1, 0, 2, 20]);
-  same("a count of a fault", count(tables, "R)", 20, 0), [1, 3, 0, 2, 0, 0]);
+  same("a search that is cut", solve(tables, "F", 20, 0, NO_BOUND, 1024, 0n), [5, 0, 0, 1, 0, "", 0, true]);
+  same("a count", count(tables, "R U F", 20, 0), [0, 0, 1, 0, 0, 0, 2, 20]);
+  same("a count of the first", count(tables, "R U F", 20, 0, 1n).slice(0, 7), [0, 0, 1, 1, 0, 0, 1]);
+  same("a count in its bound", count(tables, "R U F", 20, 0, NO_BOUND, 20n), [0, 0, 1, 0, 0, 0, 2, 20]);
+  same("a count that is cut", count(tables, "R U F", 20, 0, NO_BOUND, 0n), [5, 0, 0, 1, 0, 0, 0, 0]);
+  same("also by one node", [0, 3].map((at) => count(tables, "R U F", 20, 0, NO_BOUND, 19n)[at]), [5, 1]);
+  same("a count of a fault", count(tables, "R)", 20, 0), [1, 3, 0, 0, 2, 0, 0, 0]);
   bytes.copyWithin(base + 400, tables, tables + 16);
-  same("a copy of the struct", count(base + 400, "R U F", 20, 0), [0, 0, 1, 0, 2, 20]);
+  same("a copy of the struct", count(base + 400, "R U F", 20, 0), [0, 0, 1, 0, 0, 0, 2, 20]);
 }
 
 /** Tables of a step that are there already: they are built anew, in the new room. */
@@ -189,11 +194,11 @@ async function tryLines() {
     if (moves !== null) bytes.set(new TextEncoder().encode(moves), line);
     const read = moves === null ? [] : [BigInt(line), BigInt(moves.length)];
     exports[`nissy_${name}`](BigInt(answer), ...numbers, ...read, BigInt(out), BigInt(room));
-    const status = view.getUint16(answer, true);
+    const [status, fault] = bytes.subarray(answer, answer + 2);
     const written = status === 0 ? number(answer + 8) : 0;
     const beside = [...bytes.subarray(answer + 16, answer + 32), ...bytes.subarray(out + written, out + 3000)];
     const isKept = beside.every((byte) => byte === FILLED);
-    return [status, view.getUint16(answer + 2, true), view.getUint32(answer + 4, true), text(bytes.slice(out, out + written)), isKept];
+    return [status, fault, view.getUint32(answer + 4, true), text(bytes.slice(out, out + written)), isKept];
   };
   same("an inverse", call("invert", "R U", [], 2048), [0, 0, 0, "U' R'", true]);
   same("an inverse in room to the byte", call("invert", "R U", [], 5), [0, 0, 0, "U' R'", true]);
@@ -207,10 +212,56 @@ async function tryLines() {
   same("no fault's name", [0, 7, 255].map((fault) => call("fault_text", null, [fault], 2048)[0]), [2, 2, 2]);
 }
 
+/** The calls that judge lines, and those on many lines: where each number of an answer stands. */
+async function tryJudging() {
+  const place = await placed();
+  const { exports, base, bytes, view, number } = place;
+  const [answer, answers, line, other, tables] = [256, 512, 1024, 1280, 320].map((at) => base + at);
+  const put = (at, moves) => {
+    bytes.set(new TextEncoder().encode(moves), at);
+    return [BigInt(at), BigInt(moves.length)];
+  };
+  const short = (at) => view.getUint16(at, true);
+  const facts = (at) => [...bytes.subarray(at, at + 3), view.getUint32(at + 4, true), ...Array.from({ length: 18 }, (_, next) => short(at + 8 + 2 * next))];
+  const filled = () => bytes.fill(FILLED, answer, answer + 64);
+  // R moves UR, DR, FR and BR, and URF, UBR, DFR and DRB: bits 0, 4, 8 and 11, and 0, 3, 4 and 7
+  const [edges, corners, fours] = [0x911, 0x99, 4 + 256 * 4];
+  // and leaves eofb, eoud, drrl-eofb, drrl-eoud, eo, dr-eofb and dr-eoud: steps 0, 2, 4, 7, 9, 10 and 12
+  const holds = 0b1011010010101;
+  const ofTurn = [0, 0, 0, 0, 1, 1, holds, 0, corners, edges, 256 * 4, 4, edges, 0, 0, 4, 0, 0, corners, edges, 256 * 4, 4];
+  filled();
+  exports.nissy_facts(BigInt(answer), ...put(line, "R"));
+  same("the facts of a turn", facts(answer), ofTurn);
+  same("they have 44 bytes", [...bytes.subarray(answer + 44, answer + 64)].every((byte) => byte === FILLED), true);
+  exports.nissy_facts(BigInt(answer), ...put(line, "R q"));
+  same("a fault", facts(answer).slice(0, 4), [1, 1, 0, 3]);
+  filled();
+  exports.nissy_check(BigInt(answer), ...put(line, "R"), ...put(other, "R2' R"));
+  same("a check", [...bytes.subarray(answer, answer + 4), view.getUint32(answer + 4, true), short(answer + 8), short(answer + 10), bytes[answer + 12]], [0, 0, 0, 1, 0, 2, 1, 16]);
+  same("it has 16 bytes", [...bytes.subarray(answer + 16, answer + 64)].every((byte) => byte === FILLED), true);
+  bytes.fill(FILLED, answers, answers + 512);
+  exports.nissy_facts_lines(BigInt(answer), ...put(line, "R\nq\nR\nR"), BigInt(answers), 3n);
+  same("facts of three of four lines", [bytes[answer], number(answer + 8), number(answer + 16)], [0, 3, 6]);
+  same("each beside its line", [facts(answers), facts(answers + 44).slice(0, 4), facts(answers + 88)], [ofTurn, [1, 1, 0, 1], ofTurn]);
+  same("and nothing behind them", bytes[answers + 132], FILLED);
+  bytes.fill(0, tables, tables + 16);
+  const lines = put(line, "F\nR)\nR U F");
+  const counts = () => exports.nissy_count_lines(BigInt(answer), BigInt(tables), ...lines, 20, 0, NO_BOUND, NO_BOUND, BigInt(answers), 9n);
+  counts();
+  same("counts without tables", [bytes[answer], number(answer + 8)], [2, 0]);
+  built(place, tables, "eofb", base + 4096);
+  put(line, "F\nR)\nR U F");
+  counts();
+  same("counts of lines", [bytes[answer], number(answer + 8), number(answer + 16)], [0, 3, 10]);
+  const seen = [0, 1, 2].map((at) => [...bytes.subarray(answers + 32 * at, answers + 32 * at + 2), number(answers + 32 * at + 16)]);
+  same("each beside its line", seen, [[0, 0, 2], [1, 3, 0], [0, 0, 2]]);
+}
+
 const call = await runner();
 tryRuns(call);
 tryRooms(call);
 await trySearches();
 await tryBuildingAgain();
 await tryLines();
+await tryJudging();
 ended();

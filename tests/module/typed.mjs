@@ -8,6 +8,7 @@ import { readFileSync } from "node:fs";
 import { Nissy, VERSION } from "../../web/module/nissy.js";
 import { tryCutOff, tryDeepCalls } from "./broken_off.mjs";
 import { F_OR_ITS_INVERSE, tryMany, tryOptions, tryReadOptions, tryRows, tryWrongValues } from "./called.mjs";
+import { tryBounds, tryChecks, tryFacts, tryMixed } from "./judged.mjs";
 import { elsewhere } from "./values.mjs";
 import { ended, loaded, moduleBytes, same, text, thrown } from "./tally.mjs";
 
@@ -114,12 +115,25 @@ async function trySources() {
   same("another module", await thrown(() => Nissy.load(empty)), ["TypeError", "this is another module than nissy.wasm"]);
 }
 
+/** Bytes of the module are taken before the call that is given them returns. */
+async function tryTakenAtOnce() {
+  const bytes = new Uint8Array(moduleBytes);
+  const ofBytes = Nissy.load(bytes);
+  bytes.fill(0);
+  same("bytes that are others after the call", (await ofBytes).invert("R U"), "U' R'");
+  const { buffer } = new Uint8Array(moduleBytes);
+  const ofBuffer = Nissy.load(buffer);
+  structuredClone(buffer, { transfer: [buffer] });
+  same("a buffer that is handed on after the call", (await ofBuffer).invert("R U"), "U' R'");
+}
+
 const { nissy, memory } = await loaded(Nissy);
 await tryRows(nissy);
 await tryWrongValues(nissy, memory);
 await tryOptions(nissy);
 await tryReadOptions(nissy, memory);
 await tryMany(nissy);
+for (const judge of [tryFacts, tryChecks, tryBounds, tryMixed]) await judge(nissy);
 await tryRanges(nissy);
 await tryScrambles(nissy);
 await tryBeyond(nissy, memory);
@@ -127,4 +141,5 @@ same("the version is the package's", VERSION, JSON.parse(readFileSync(new URL(".
 tryManySolutions(nissy);
 await tryTraps(nissy);
 await trySources();
+await tryTakenAtOnce();
 ended();

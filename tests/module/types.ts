@@ -1,5 +1,8 @@
 // A caller in TypeScript, who is told of what is wrong: tests/module.sh has tsc read this beside the types of the module.
-import { loadNissy, Nissy, NissyFault, NissyWorker, VERSION, type Count, type Solution } from "./node.js";
+import {
+  isStep, loadNissy, Nissy, NissyFault, NissyWorker, SearchCut, VERSION, type Check, type Count, type EdgePlace, type Facts, type Form, type Solution,
+  type Solutions, type Step,
+} from "./node.js";
 import { NissyWorker as NissyWorkerOfBrowsers } from "./browser.js";
 import type { CountReply, LineFault, LineReply, StartFault } from "./replies.js";
 
@@ -32,6 +35,29 @@ export async function callsInWorker(bytes: Uint8Array, signal: AbortSignal): Pro
   return [...drawn, ...solutions, ...all.flat()].map(({ length }) => length);
 }
 
+export function judged(nissy: Nissy): string {
+  const { solved, moves, badEdges, cases, holds }: Facts = nissy.facts("R");
+  const places: EdgePlace[] = badEdges.fb;
+  const steps: Step[] = [...holds, ...nissy.steps()];
+  const { cleanMoves, forms }: Check = nissy.check("R", "R'");
+  const names: Form[] = forms;
+  return [solved, moves, cleanMoves, places, cases.ud, steps, names].join(" ");
+}
+
+export async function bounded(nissy: Nissy, worker: NissyWorker, step: string): Promise<number> {
+  const counts: Count[] = nissy.countAll("eofb", ["R"], { nodes: 1_000, cut: "value" });
+  const told: (Count | NissyFault | RangeError)[] = await worker.countAll("eofb", ["R"], { faults: "value" });
+  const all: (Facts | NissyFault | RangeError)[] = nissy.factsAll(["R"], { faults: "value" });
+  const solutions: Solutions = nissy.solve(isStep(step) ? step : "eofb", "R", { nodes: 1_000, cut: "value" });
+  // a string that isn't known is judged by the call
+  nissy.solve(step, "R");
+  return counts.length + told.length + all.length + (solutions.cut === true ? 1 : 0);
+}
+
+export function cutAfter(error: unknown): number | null {
+  return error instanceof SearchCut ? error.count.nodes : null;
+}
+
 export function place(fault: unknown): number | null {
   const isStart: boolean = fault instanceof NissyFault && fault.step !== null && fault.start !== null;
   return fault instanceof NissyFault && !isStart ? fault.column : null;
@@ -39,7 +65,7 @@ export function place(fault: unknown): number | null {
 
 // what a worker sends for a line: a value, a fault of the line, or of its cube, which alone has a step that must hold before
 export function said(reply: LineReply | CountReply): string | number {
-  if (reply.status === 0) return "out" in reply ? reply.out : reply.looks;
+  if (reply.status === 0) return "out" in reply ? reply.out : reply.nodes;
   if (reply.status !== 1) return reply.status;
   return reply.fault === 6 ? `${reply.start} ${reply.text}` : reply.column;
 }
@@ -62,10 +88,16 @@ export function wrong(nissy: Nissy, worker: NissyWorker): void {
   nissy.run(["unniss"], { length: 3 });
   // @ts-expect-error a step is named by a string
   nissy.solve(1, "R");
+  // @ts-expect-error a step has one of thirteen names
+  nissy.solve("eofx", "R");
+  // @ts-expect-error a cut is told in one of two ways
+  nissy.solve("eofb", "R", { cut: "values" });
+  // @ts-expect-error faults in the place of counts are told by the type
+  nissy.countAll("eofb", ["R"], { faults: "value" })[0].nodes.toFixed();
   // @ts-expect-error a limit is a number
   nissy.solve("eofb", "R", { limit: "9" });
   // @ts-expect-error there is no such option
-  nissy.count("eofb", "R", { most: 1 });
+  nissy.count("eofb", "R", { least: 1 });
   // @ts-expect-error a length may be null
   nissy.count("eofb", "R").length.toFixed();
   // @ts-expect-error a promise is no string

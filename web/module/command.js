@@ -5,15 +5,16 @@ import { Engine } from "./engine.js";
 import { NoWebAssembly } from "./faults.js";
 import { InputLines, split } from "./input-lines.js";
 import { textIn } from "./natives.js";
-import { linesIn, STATUS } from "./replies.js";
+import { hasValue, linesIn, STATUS } from "./replies.js";
 import { countRequest, runRequest, solveRequest, stepsRequest } from "./requests.js";
 import { Stop } from "./stop.js";
 import { readSome, writeAll } from "./streams.js";
 
 /** @typedef {import("./replies.js").CountReply} CountReply */
 /** @typedef {import("./replies.js").LineReply} LineReply */
+/** @typedef {import("./replies.js").SolveReply} SolveReply */
 /** @typedef {import("./replies.js").Answer} Answer */
-/** @typedef {Extract<LineReply | CountReply, {status: 0}>} Found */
+/** @typedef {Exclude<SolveReply | CountReply, import("./replies.js").NoValue>} Found */
 
 /**
  * A search that is asked for each line.
@@ -92,15 +93,12 @@ function requestOf({ command, step, limit, slack }, line) {
  * @returns {string | undefined}
  */
 function answerOf({ limit }, reply) {
-  if ("looks" in reply) {
-    const { least, solutions, looks } = reply;
-    return `length ${solutions === 0 ? "none" : least} solutions ${solutions} nodes ${looks}\n`;
+  if (!("out" in reply)) {
+    const { least, solutions, nodes } = reply;
+    return `length ${solutions === 0 ? "none" : least} solutions ${solutions} nodes ${nodes}\n`;
   }
-  const { out } = reply;
-  if (out === "") return `no solution within ${limit} moves\n\n`;
-  // a solution has four bytes at least
-  const mayBeAll = out.length >= 4 * MOST_AT_ONCE && out.split("\n").length > MOST_AT_ONCE;
-  return mayBeAll ? undefined : `${out}\n`;
+  if (reply.more) return undefined;
+  return reply.out === "" ? `no solution within ${limit} moves\n\n` : `${reply.out}\n`;
 }
 
 /**
@@ -112,10 +110,10 @@ function answerOf({ limit }, reply) {
  * @param {number} number
  */
 function answerSearch(engine, words, search, line, number) {
-  const reply = /** @type {LineReply | CountReply} */ (engine.answer(requestOf(search, line)));
+  const reply = /** @type {SolveReply | CountReply} */ (engine.answer(requestOf(search, line)));
   if (reply.status === STATUS.fault) throw Stop.ofLine(number, reply);
-  if (reply.status !== STATUS.done) throw Stop.outOfMemory();
-  const answer = answerOf(search, reply);
+  if (!hasValue(reply.status)) throw Stop.outOfMemory();
+  const answer = answerOf(search, /** @type {Found} */ (reply));
   if (answer === undefined) run(engine, [...words, line], NOTHING);
   else write(encoder.encode(answer));
 }

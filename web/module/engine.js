@@ -1,22 +1,21 @@
 // The engine: requests are answered by an instance of the module, and by another one after a call that broke off.
 import { EngineMissing } from "./faults.js";
 import { Instance } from "./instance.js";
-import { counted, rewritten, solved, written } from "./line-calls.js";
-import { STATUS } from "./replies.js";
+import { checked, rewritten, written } from "./line-calls.js";
+import { answerAll, answerLine } from "./many-lines.js";
 import { runIn } from "./runs.js";
 import { compiled } from "./source.js";
 
 /** @typedef {import("./source.js").ModuleSource} ModuleSource */
 /** @typedef {import("./requests.js").Request} Request */
 /** @typedef {import("./requests.js").OneRequest} OneRequest */
-/** @typedef {import("./requests.js").AllRequest} AllRequest */
 /** @typedef {import("./requests.js").ScrambleRequest} ScrambleRequest */
 /** @typedef {import("./replies.js").LineReply} LineReply */
 /** @typedef {import("./replies.js").OneReply} OneReply */
 /** @typedef {import("./replies.js").Reply} Reply */
 
 /** What the module calls each rewriting. */
-const REWRITINGS = { invert: "nissy_invert", unniss: "nissy_unniss", cleanup: "nissy_cleanup", facelets: "nissy_print" };
+const REWRITINGS = { invert: "nissy_invert", unniss: "nissy_unniss", cleanup: "nissy_cleanup", facelets: "nissy_facelets" };
 
 /**
  * @param {Instance} instance
@@ -36,9 +35,11 @@ function answerOne(instance, request) {
     case "run":
       return runIn(instance, request);
     case "solve":
-      return solved(instance, request);
     case "count":
-      return counted(instance, request);
+    case "facts":
+      return answerLine(instance, request);
+    case "check":
+      return checked(instance, request);
     case "scramble":
       return scrambled(instance, request);
     case "steps":
@@ -46,24 +47,6 @@ function answerOne(instance, request) {
     default:
       return rewritten(instance, REWRITINGS[request.call], request.line);
   }
-}
-
-/**
- * Answers lines in turn, up to the first that has no answer.
- * @param {Instance} instance
- * @param {AllRequest} request
- * @returns {OneReply[]}
- */
-function answerAll(instance, { search, lines }) {
-  // a step that isn't there is told though there may be no line
-  instance.tablesOf(search.step);
-  const replies = [];
-  for (let at = 0; at < lines.length; at += 1) {
-    const reply = answerOne(instance, { ...search, line: lines[at] });
-    replies.push(reply);
-    if (reply.status !== STATUS.done) break;
-  }
-  return replies;
 }
 
 export class Engine {

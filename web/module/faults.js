@@ -31,6 +31,31 @@ export class NissyFault extends Error {
   }
 }
 
+/** A search that was cut, since it would have looked at more positions than it might. */
+export class SearchCut extends Error {
+  /**
+   * @param {import("./replies.js").Count} count what it had counted until then
+   * @param {import("./replies.js").Solution[] | null} found the solutions that it had found, with which its list begins; null of a count
+   * @param {number | null} line of many, from 1; null if there was one
+   */
+  constructor(count, found, line = null) {
+    const text = `the search was cut after ${count.nodes} nodes`;
+    super(line === null ? text : `line ${line}: ${text}`);
+    this.name = "SearchCut";
+    this.count = count;
+    this.found = found;
+    this.line = line;
+  }
+
+  /**
+   * The same in a line of many.
+   * @param {number} line from 1
+   */
+  inLine(line) {
+    return new SearchCut(this.count, this.found, line);
+  }
+}
+
 /** This host runs no module at all. */
 export class NoWebAssembly extends Error {
   constructor() {

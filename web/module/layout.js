@@ -12,14 +12,27 @@ export const SOLUTION = 65;
 export const LINE_ROOM = 2_048;
 export const ERROR_ROOM = 128;
 
-/** The room for the module's answer of a call, and how many bytes a column has, and an address, a length or a count. */
-export const ANSWER = 32;
+/** The room for the module's answer of a call. */
+export const ANSWER = 48;
+
+/**
+ * How many bytes a small number has, such as a status or a yes or no, a mask or a number of moves, a column, and an address, a length or a
+ * great number.
+ */
+export const BYTE = 1;
+export const SHORT = 2;
 export const COLUMN = 4;
 export const LONG = 8;
 
-/** Where the fields of each struct are; `size`: how many bytes its small ones have, such as a status. */
-export const RUN_ANSWER = { size: 1, status: 0, outLength: 8, errLength: 16, outTooSmall: 24 };
-export const LINE_ANSWER = { size: 2, status: 0, fault: 2, column: 4, length: 8 };
-export const SOLVE_ANSWER = { size: 1, status: 0, fault: 1, column: 4, length: 8 };
-export const COUNT_ANSWER = { size: 1, status: 0, fault: 1, least: 2, column: 4, solutions: 8, looks: 16 };
+/** Where each answer has its status, and if a line may have a fault, where that is, and its column. */
+export const HEAD = { status: 0, fault: 1, column: 4 };
+
+/** Where the other fields of each struct are. */
+export const RUN_ANSWER = { outLength: 8, errLength: 16, outTooSmall: 24 };
+export const LINE_ANSWER = { length: 8 };
+export const SEARCH_ANSWER = { bytes: 32, least: 2, more: 3, length: 8, solutions: 16, nodes: 24 };
+export const FACTS_ANSWER = { bytes: 44, solved: 2, moves: 8, cleanMoves: 10, holds: 12, axes: 14 };
+export const AXIS_FACTS = { bytes: 10, badEdges: 0, badCorners: 2, misplacedEdges: 4 };
+export const CHECK_ANSWER = { line: 2, solved: 3, moves: 8, cleanMoves: 10, forms: 12 };
+export const LINES_ANSWER = { lines: 8 };
 export const ROOM = { bytes: 16, block: 0, size: 8 };

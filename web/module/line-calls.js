@@ -1,21 +1,34 @@
 // The calls of the module on one line each, and those that read none: what goes into its memory, and what the answer is read as.
 import { MOST_WIDE } from "./bytes.js";
-import { COLUMN, COUNT_ANSWER, LINE_ANSWER, LINE_ROOM, SOLUTION, SOLVE_ANSWER } from "./layout.js";
+import { LINE_ANSWER, LINE_ROOM, SEARCH_ANSWER, SOLUTION } from "./layout.js";
 import { aligned, roomFor } from "./memory.js";
 import { wide } from "./natives.js";
+import { checkAt, countAt, factsAt, headAt } from "./read-answers.js";
 import { START, STATUS } from "./replies.js";
 
 /** @typedef {import("./bytes.js").Text} Text */
 /** @typedef {import("./instance.js").Exports} Exports */
 /** @typedef {import("./instance.js").Instance} Instance */
+/** @typedef {import("./read-answers.js").Head} Head */
+/** @typedef {import("./replies.js").CheckReply} CheckReply */
 /** @typedef {import("./replies.js").CountReply} CountReply */
+/** @typedef {import("./replies.js").FactsReply} FactsReply */
 /** @typedef {import("./replies.js").LineReply} LineReply */
 /** @typedef {import("./replies.js").NoValue} NoValue */
+/** @typedef {import("./replies.js").SolveReply} SolveReply */
+/** @typedef {import("./requests.js").CheckRequest} CheckRequest */
 /** @typedef {import("./requests.js").CountRequest} CountRequest */
+/** @typedef {import("./requests.js").FactsRequest} FactsRequest */
 /** @typedef {import("./requests.js").SolveRequest} SolveRequest */
 
 /** The rooms for solutions, of which the next one is taken if one was too small: they are searched for again then. */
 const SOLUTION_ROOMS = [65_536, 4 * 1_048_576, 256 * 1_048_576];
+
+/**
+ * @param {number} most
+ * @returns {bigint} the same for the module
+ */
+export const bound = (most) => (most === Infinity ? MOST_WIDE : wide(most));
 
 /**
  * @param {LineReply} reply
@@ -24,19 +37,14 @@ const SOLUTION_ROOMS = [65_536, 4 * 1_048_576, 256 * 1_048_576];
 const outOf = (reply) => (reply.status === STATUS.done ? reply.out : "");
 
 /**
- * Why a call on a line has no value, or null if it has one.
+ * Why a call on a line has no value. The module is asked for the words, so its answer is read before.
  * @param {Instance} instance
- * @param {{size: number, status: number, fault: number, column: number}} fields of the module's answer
+ * @param {Head} head of the answer
  * @param {string} [step] which is searched
- * @returns {NoValue | null}
+ * @returns {NoValue}
  */
-function refusal(instance, fields, step = "") {
-  const { memory, answer } = instance;
-  const status = memory.number(answer + fields.status, fields.size);
-  if (status === STATUS.done) return null;
+export function refusal(instance, { status, fault, column }, step = "") {
   if (status !== STATUS.fault) return /** @type {NoValue} */ ({ status });
-  const column = memory.number(answer + fields.column, COLUMN);
-  const fault = memory.number(answer + fields.fault, fields.size);
   const text = outOf(written(instance, (exports, at, out, room) => exports.nissy_fault_text(at, fault, out, room)));
   if (fault === START) return { status, fault, step, start: outOf(rewritten(instance, "nissy_start", step)), text };
   return /** @type {NoValue} */ ({ status, fault, column, text });
@@ -48,8 +56,11 @@ function refusal(instance, fields, step = "") {
  * @param {number} out where
  * @returns {LineReply}
  */
-const lineAt = (instance, out) =>
-  refusal(instance, LINE_ANSWER) ?? { status: STATUS.done, out: instance.memory.text(out, instance.answered(LINE_ANSWER.length)) };
+function lineAt(instance, out) {
+  const head = headAt(instance.memory, instance.answer);
+  if (head.status !== STATUS.done) return refusal(instance, head);
+  return { status: STATUS.done, out: instance.memory.text(out, instance.answered(LINE_ANSWER.length)) };
+}
 
 /**
  * A call that reads a line and writes another.
@@ -84,24 +95,25 @@ export function written(instance, write) {
  * @param {Instance} instance
  * @param {SolveRequest} request
  * @param {number} room
- * @returns {LineReply}
+ * @returns {SolveReply}
  */
-function solvedIn(instance, { step, line, limit, slack, most }, room) {
+function solvedIn(instance, { step, line, limit, slack, most, nodes }, room) {
   const tables = instance.tablesOf(step);
   const { memory, answer, free } = instance;
   const out = aligned(free + roomFor(line));
   memory.reach(out + room);
   const length = memory.putLine(free, line);
-  const bound = most === Infinity ? MOST_WIDE : wide(most);
   instance.call(({ nissy_solve: solve }) =>
-    solve(wide(answer), wide(tables), wide(free), wide(length), limit, slack, bound, wide(out), wide(room)));
-  return refusal(instance, SOLVE_ANSWER, step) ?? { status: STATUS.done, out: memory.text(out, instance.answered(SOLVE_ANSWER.length)) };
+    solve(wide(answer), wide(tables), wide(free), wide(length), limit, slack, bound(most), bound(nodes), wide(out), wide(room)));
+  const head = headAt(memory, answer);
+  if (head.status !== STATUS.done && head.status !== STATUS.cut) return refusal(instance, head, step);
+  return { ...countAt(memory, answer), out: memory.text(out, instance.answered(SEARCH_ANSWER.length)) };
 }
 
 /**
  * @param {Instance} instance
  * @param {SolveRequest} request
- * @returns {LineReply}
+ * @returns {SolveReply}
  */
 export function solved(instance, request) {
   const wanted = request.most * SOLUTION;
@@ -117,18 +129,44 @@ export function solved(instance, request) {
  * @param {CountRequest} request
  * @returns {CountReply}
  */
-export function counted(instance, { step, line, limit, slack }) {
+export function counted(instance, { step, line, limit, slack, most, nodes }) {
   const tables = instance.tablesOf(step);
   const { memory, answer, free } = instance;
   memory.reach(free + roomFor(line));
   const length = memory.putLine(free, line);
-  instance.call(({ nissy_count: count }) => count(wide(answer), wide(tables), wide(free), wide(length), limit, slack));
-  const refused = refusal(instance, COUNT_ANSWER, step);
-  if (refused !== null) return refused;
-  return {
-    status: STATUS.done,
-    least: memory.number(answer + COUNT_ANSWER.least, COUNT_ANSWER.size),
-    solutions: instance.answered(COUNT_ANSWER.solutions),
-    looks: instance.answered(COUNT_ANSWER.looks),
-  };
+  instance.call(({ nissy_count: count }) =>
+    count(wide(answer), wide(tables), wide(free), wide(length), limit, slack, bound(most), bound(nodes)));
+  const head = headAt(memory, answer);
+  return head.status === STATUS.done || head.status === STATUS.cut ? countAt(memory, answer) : refusal(instance, head, step);
+}
+
+/**
+ * @param {Instance} instance
+ * @param {FactsRequest} request
+ * @returns {FactsReply}
+ */
+export function seen(instance, { line }) {
+  const { memory, answer, free } = instance;
+  memory.reach(free + roomFor(line));
+  const length = memory.putLine(free, line);
+  instance.call(({ nissy_facts: facts }) => facts(wide(answer), wide(free), wide(length)));
+  const head = headAt(memory, answer);
+  return head.status === STATUS.done ? factsAt(memory, answer) : refusal(instance, head);
+}
+
+/**
+ * @param {Instance} instance
+ * @param {CheckRequest} request
+ * @returns {CheckReply}
+ */
+export function checked(instance, { scramble, solution }) {
+  const { memory, answer, free } = instance;
+  const behind = aligned(free + roomFor(scramble));
+  memory.reach(behind + roomFor(solution));
+  const length = memory.putLine(free, scramble);
+  const solutionLength = memory.putLine(behind, solution);
+  instance.call(({ nissy_check: check }) => check(wide(answer), wide(free), wide(length), wide(behind), wide(solutionLength)));
+  const head = headAt(memory, answer);
+  const { line, ...told } = checkAt(memory, answer);
+  return head.status === STATUS.done ? told : { ...refusal(instance, head), line };
 }

@@ -9,21 +9,33 @@
  */
 import { Engine } from "./engine.js";
 import { NoWebAssembly } from "./faults.js";
-import { allOf, countIn, lineIn, linesIn, outputLinesIn, solutionsIn } from "./replies.js";
+import { allOf, checkIn, countIn, factsIn, lineIn, linesIn, outputLinesIn, solutionsIn } from "./replies.js";
 import {
-  allRequest, countRequest, lineRequest, runRequest, scrambleRequest, scramblesRequest, solveRequest, stepsRequest,
+  allRequest, checkRequest, countRequest, factsRequest, lineRequest, runRequest, scrambleRequest, scramblesRequest, solveRequest,
+  stepsRequest,
 } from "./requests.js";
 
-export { EngineMissing, NissyFault, NoWebAssembly, Stopped } from "./faults.js";
+export { EngineMissing, NissyFault, NoWebAssembly, SearchCut, Stopped } from "./faults.js";
+export { CORNER_PLACES, EDGE_PLACES } from "./facts.js";
+export { STEPS, isStep } from "./steps.js";
 
 /** @typedef {import("./bytes.js").Text} Text */
 /** @typedef {import("./source.js").ModuleSource} ModuleSource */
 /** @typedef {import("./replies.js").Answer} Answer */
 /** @typedef {import("./replies.js").Count} Count */
+/** @typedef {import("./facts.js").Axis} Axis */
+/** @typedef {import("./facts.js").Check} Check */
+/** @typedef {import("./facts.js").CornerPlace} CornerPlace */
+/** @typedef {import("./facts.js").EdgePlace} EdgePlace */
+/** @typedef {import("./facts.js").Facts} Facts */
+/** @typedef {import("./facts.js").Form} Form */
 /** @typedef {import("./replies.js").Solution} Solution */
+/** @typedef {import("./replies.js").Solutions} Solutions */
+/** @typedef {import("./requests.js").Many} Many */
 /** @typedef {import("./requests.js").Request} Request */
 /** @typedef {import("./requests.js").Wanted} Wanted */
 /** @typedef {import("./requests.js").Within} Within */
+/** @typedef {import("./steps.js").Step} Step */
 
 /** The version of the scripts, and of the module that comes with them. */
 export const VERSION = "1.5.0";
@@ -32,10 +44,21 @@ export const VERSION = "1.5.0";
 export const NoWideMemory = NoWebAssembly;
 
 /**
+ * @template {string} Name
+ * @typedef {import("./steps.js").StepName<Name>} StepName
+ */
+
+/**
+ * @template Value, Options
+ * @typedef {import("./replies.js").Told<Value, Options>} Told
+ */
+
+/**
  * The engine, loaded. The tables of a step are built when it is asked for the first time, and stay in the module's memory.
  *
  * Each call throws a `TypeError` if it is given something of another type, and a `RangeError` for a number out of its range, a step that
- * isn't there, or if the host has no memory for the call. A call that reads a line throws `NissyFault` if it can't be read. After a call
+ * isn't there, or if the host has no memory for the call. A call that reads a line throws `NissyFault` if it can't be read, and a search
+ * `SearchCut` if it would look at more positions than it may. After a call
  * that broke off the next one starts the module anew, or throws `EngineMissing` if that can't be done.
  */
 export class Nissy {
@@ -93,42 +116,81 @@ export class Nissy {
 
   /**
    * The solutions of a step after a line's moves, by length and then in turn order.
-   * @param {string} step @param {Text} line @param {Wanted} [options] @returns {Solution[]}
+   * @template {string} Name
+   * @param {StepName<Name>} step @param {Text} line @param {Wanted} [options] @returns {Solutions}
    */
   solve(step, line, options) {
-    return solutionsIn(this.#answer(solveRequest(step, line, options)));
+    const request = solveRequest(step, line, options);
+    return solutionsIn(this.#answer(request), request);
   }
 
   /**
-   * The same of many lines, up to the first fault, which says in which.
-   * @param {string} step @param {readonly Text[]} lines @param {Wanted} [options] @returns {Solution[][]}
+   * The same of many lines, up to the first fault, which says in which; or with each fault in its place.
+   * @template {string} Name
+   * @template {Wanted & Many} [Options={}]
+   * @param {StepName<Name>} step @param {readonly Text[]} lines @param {Options} [options] @returns {Told<Solutions, Options>[]}
    */
   solveAll(step, lines, options) {
-    return allOf(this.#answer(allRequest(solveRequest, step, lines, options)), solutionsIn);
+    const request = allRequest(() => solveRequest(step, "", options), lines, options);
+    return allOf(this.#answer(request), request, (/** @type {any} */ reply) => solutionsIn(reply, request.each));
   }
 
   /**
    * How many solutions there are.
-   * @param {string} step @param {Text} line @param {Within} [options] @returns {Count}
+   * @template {string} Name
+   * @param {StepName<Name>} step @param {Text} line @param {Wanted} [options] @returns {Count}
    */
   count(step, line, options) {
-    return countIn(this.#answer(countRequest(step, line, options)));
+    const request = countRequest(step, line, options);
+    return countIn(this.#answer(request), request);
   }
 
   /**
-   * The same of many lines, up to the first fault, which says in which.
-   * @param {string} step @param {readonly Text[]} lines @param {Within} [options] @returns {Count[]}
+   * The same of many lines, up to the first fault, which says in which; or with each fault in its place.
+   * @template {string} Name
+   * @template {Wanted & Many} [Options={}]
+   * @param {StepName<Name>} step @param {readonly Text[]} lines @param {Options} [options] @returns {Told<Count, Options>[]}
    */
   countAll(step, lines, options) {
-    return allOf(this.#answer(allRequest(countRequest, step, lines, options)), countIn);
+    const request = allRequest(() => countRequest(step, "", options), lines, options);
+    return allOf(this.#answer(request), request, (/** @type {any} */ reply) => countIn(reply, request.each));
+  }
+
+  /**
+   * What is seen of the cube after a line's moves without a search: whether it is solved, how many moves the line counts, the bad pieces and
+   * the case on each axis, and which steps hold.
+   * @param {Text} line
+   * @returns {Facts}
+   */
+  facts(line) {
+    return factsIn(this.#answer(factsRequest(line)));
+  }
+
+  /**
+   * The same of many lines, up to the first fault, which says in which; or with each fault in its place.
+   * @template {Many} [Options={}]
+   * @param {readonly Text[]} lines @param {Options} [options] @returns {Told<Facts, Options>[]}
+   */
+  factsAll(lines, options) {
+    const request = allRequest(() => factsRequest(""), lines, options);
+    return allOf(this.#answer(request), request, factsIn);
+  }
+
+  /**
+   * Whether a solution solves a scramble, how many moves it counts, and which forms it has that the WCA's notation hasn't. The `line` of a
+   * fault is 1 for the scramble and 2 for the solution.
+   * @param {Text} scramble @param {Text} solution @returns {Check}
+   */
+  check(scramble, solution) {
+    return checkIn(this.#answer(checkRequest(scramble, solution)));
   }
 
   /**
    * The names of the steps.
-   * @returns {string[]}
+   * @returns {Step[]}
    */
   steps() {
-    return linesIn(this.#answer(stepsRequest()));
+    return /** @type {Step[]} */ (linesIn(this.#answer(stepsRequest())));
   }
 
   /**

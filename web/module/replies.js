@@ -1,6 +1,7 @@
 // Reads what the engine writes as values, or throws what is wrong.
 import { eachOf } from "./bytes.js";
-import { NissyFault } from "./faults.js";
+import { checkOf, factsOf } from "./facts.js";
+import { NissyFault, SearchCut } from "./faults.js";
 import { textIn } from "./natives.js";
 
 /**
@@ -12,14 +13,26 @@ import { textIn } from "./natives.js";
  * @property {boolean} full whether the output was longer than the greatest room for it; `out` is then a beginning of it
  */
 
+/** @typedef {import("./facts.js").Check} Check */
+/** @typedef {import("./facts.js").Facts} Facts */
+/** @typedef {import("./facts.js").SeenCheck} SeenCheck */
+/** @typedef {import("./facts.js").SeenFacts} SeenFacts */
+/** @typedef {import("./requests.js").Telling} Telling */
+
 /**
  * A solution: its moves, and how many turns they are.
  * @typedef {{moves: string, length: number}} Solution
  */
 
 /**
- * How many solutions there are: the least length, null if there are none, and at how many positions the search looked.
- * @typedef {{length: number | null, solutions: number, nodes: number}} Count
+ * Solutions. Those of a search that was cut begin its list, and `cut` is there.
+ * @typedef {Solution[] & {cut?: true}} Solutions
+ */
+
+/**
+ * How many solutions there are: the least length, null if there are none, and at how many positions the search looked. If the search was
+ * cut, `cut` is there, and the numbers are those of what it found until then.
+ * @typedef {{length: number | null, solutions: number, nodes: number, cut?: true}} Count
  */
 
 /**
@@ -39,15 +52,25 @@ import { textIn } from "./natives.js";
 
 /** @typedef {LineFault | StartFault | Refused} NoValue how a call on a line ended that has no value */
 /** @typedef {{status: 0, out: string} | NoValue} LineReply of a call that writes */
-/** @typedef {{status: 0, least: number, solutions: number, looks: number} | NoValue} CountReply */
-/** @typedef {Answer | LineReply | CountReply} OneReply */
+/** @typedef {{status: 0 | 5, least: number, more: boolean, solutions: number, nodes: number}} SeenCount of a search that may be cut */
+/** @typedef {SeenCount | NoValue} CountReply */
+/** @typedef {SeenCount & {out: string} | NoValue} SolveReply */
+/** @typedef {SeenFacts | NoValue} FactsReply */
+/** @typedef {SeenCheck | NoValue & {line: number}} CheckReply of which `line` is the line at fault: 1, the scramble, or 2, the solution */
+/** @typedef {Answer | LineReply | CountReply | SolveReply | FactsReply | CheckReply} OneReply */
 /** @typedef {OneReply | OneReply[]} Reply */
 
 const BRACKET = "(".charCodeAt(0);
 const ZERO = "0".charCodeAt(0);
 
 /** The statuses of the module's calls on a line. */
-export const STATUS = /** @type {const} */ ({ done: 0, fault: 1, usage: 2, stopped: 3, room: 4 });
+export const STATUS = /** @type {const} */ ({ done: 0, fault: 1, usage: 2, stopped: 3, room: 4, cut: 5 });
+
+/**
+ * Whether an answer of this status has a value.
+ * @param {number} status
+ */
+export const hasValue = (status) => status === STATUS.done || status === STATUS.cut;
 
 /** The number of the fault that a step can't begin at a cube. */
 export const START = 6;
@@ -78,11 +101,18 @@ function errorIn(reply) {
   }
 }
 
-/** @param {LineReply} reply @returns {string} */
-export function lineIn(reply) {
-  if (reply.status !== STATUS.done) throw errorIn(reply);
-  return reply.out;
+/**
+ * @template {LineReply | CountReply | SolveReply | FactsReply | CheckReply} Reply
+ * @param {Reply} reply
+ * @returns {Exclude<Reply, NoValue>} the same, which has a value
+ */
+function withValue(reply) {
+  if (!hasValue(reply.status)) throw errorIn(/** @type {NoValue} */ (reply));
+  return /** @type {Exclude<Reply, NoValue>} */ (reply);
 }
+
+/** @param {LineReply} reply @returns {string} */
+export const lineIn = (reply) => withValue(reply).out;
 
 /** @param {string} text @returns {string[]} its lines, each of which a line feed ends */
 const linesOf = (text) => text.split("\n").slice(0, -1);
@@ -99,11 +129,10 @@ export function outputLinesIn({ status, out, err }) {
 /**
  * The solutions, of which each has a line such as `F B' (2)`, or `(0)` if no move is needed. There may be millions, so no string is made of
  * a line.
- * @param {LineReply} reply
- * @returns {Solution[]}
+ * @param {string} out
+ * @returns {Solutions}
  */
-export function solutionsIn(reply) {
-  const out = lineIn(reply);
+function solutionsOf(out) {
   const digit = (/** @type {number} */ at) => out.charCodeAt(at) - ZERO;
   const solutions = [];
   for (let begin = 0, end = out.indexOf("\n"); end >= 0; begin = end + 1, end = out.indexOf("\n", begin)) {
@@ -117,26 +146,68 @@ export function solutionsIn(reply) {
   return solutions;
 }
 
-/** @param {CountReply} reply @returns {Count} */
-export function countIn(reply) {
-  if (reply.status !== STATUS.done) throw errorIn(reply);
-  const { least, solutions, looks } = reply;
-  return { length: solutions === 0 ? null : least, solutions, nodes: looks };
+/** @param {SeenCount} seen @returns {Count} */
+const countOf = ({ least, solutions, nodes }) => ({ length: solutions === 0 ? null : least, solutions, nodes });
+
+/** @param {SolveReply} reply @param {{cut: Telling}} asked @returns {Solutions} */
+export function solutionsIn(reply, { cut }) {
+  const seen = withValue(reply);
+  const solutions = solutionsOf(seen.out);
+  if (seen.status === STATUS.done) return solutions;
+  if (cut === "throw") throw new SearchCut(countOf(seen), solutions);
+  solutions.cut = true;
+  return solutions;
+}
+
+/** @param {CountReply} reply @param {{cut: Telling}} asked @returns {Count} */
+export function countIn(reply, { cut }) {
+  const seen = withValue(reply);
+  const count = countOf(seen);
+  if (seen.status === STATUS.done) return count;
+  if (cut === "throw") throw new SearchCut(count, null);
+  return { ...count, cut: true };
+}
+
+/** @param {FactsReply} reply @returns {Facts} */
+export const factsIn = (reply) => factsOf(withValue(reply));
+
+/** @param {CheckReply} reply @returns {Check} */
+export function checkIn(reply) {
+  if (reply.status === STATUS.done) return checkOf(reply);
+  throw inLine(errorIn(reply), reply.line);
 }
 
 /**
- * The replies for many lines, each read by itself. What is thrown of one has its number.
+ * What is wrong, with the number of the line in which it is.
+ * @param {unknown} error
+ * @param {number} line
+ */
+function inLine(error, line) {
+  if (error instanceof NissyFault || error instanceof SearchCut) return error.inLine(line);
+  return error instanceof RangeError ? new RangeError(`line ${line}: ${error.message}`) : error;
+}
+
+/**
+ * What is told of a line of many: a value, or in its place what is wrong with the line, if the options say so.
+ * @template Value, Options
+ * @typedef {Options extends {faults: "value"} ? Value | NissyFault | RangeError : Value} Told
+ */
+
+/**
+ * The replies for many lines, each read by itself. What is thrown of one has its number, and so has what is told in its place.
  * @template Read, Value
  * @param {Read[]} replies
+ * @param {{faults: Telling}} asked
  * @param {(reply: Read) => Value} one
- * @returns {Value[]}
+ * @returns {any[]} values, and faults in the places of some if they are told so
  */
-export const allOf = (replies, one) =>
+export const allOf = (replies, { faults }, one) =>
   eachOf(replies, (reply, index) => {
     try {
       return one(reply);
-    } catch (fault) {
-      if (fault instanceof NissyFault) throw fault.inLine(index + 1);
-      throw fault instanceof RangeError ? new RangeError(`line ${index + 1}: ${fault.message}`) : fault;
+    } catch (thrown) {
+      const error = inLine(thrown, index + 1);
+      if (faults === "throw" || error instanceof SearchCut) throw error;
+      return error;
     }
   });

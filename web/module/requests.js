@@ -6,23 +6,33 @@ import { hasOwn } from "./natives.js";
 /** @typedef {"invert" | "unniss" | "cleanup" | "facelets"} Rewriting what is made of a line */
 /** @typedef {{call: "run", words: Uint8Array, input: Uint8Array, room: number | undefined}} RunRequest */
 /** @typedef {{call: Rewriting, line: Text}} LineRequest */
-/** @typedef {{call: "count", step: string, line: Text, limit: number, slack: number}} CountRequest */
-/** @typedef {{call: "solve", step: string, line: Text, limit: number, slack: number, most: number}} SolveRequest */
+/** @typedef {"throw" | "value"} Telling whether something is thrown, or told in the place of an answer */
+/** @typedef {{step: string, line: Text, limit: number, slack: number, most: number, nodes: number, cut: Telling}} Search */
+/** @typedef {Search & {call: "count"}} CountRequest */
+/** @typedef {Search & {call: "solve"}} SolveRequest */
+/** @typedef {{call: "facts", line: Text}} FactsRequest */
+/** @typedef {{call: "check", scramble: Text, solution: Text}} CheckRequest */
 /** @typedef {{call: "scramble", state: bigint, stream: bigint, length: number}} ScrambleRequest */
 /** @typedef {{call: "steps"}} StepsRequest */
-/** @typedef {RunRequest | LineRequest | CountRequest | SolveRequest | ScrambleRequest | StepsRequest} OneRequest */
-/** @typedef {{call: "all", search: CountRequest | SolveRequest, lines: Text[]}} AllRequest a search of many lines, whose own line is none */
+/** @typedef {CountRequest | SolveRequest | FactsRequest} OfEach what many lines may be asked */
+/** @typedef {RunRequest | LineRequest | OfEach | CheckRequest | ScrambleRequest | StepsRequest} OneRequest */
+/** @typedef {{call: "all", each: OfEach, lines: Text[], faults: Telling}} AllRequest what is asked of each line, whose own line is none */
 /** @typedef {OneRequest | AllRequest} Request */
 
 /**
  * How far a step is searched: `limit`, the most turns of a solution, 20 at most and if it isn't given; `slack`, how many turns more than
- * the shortest a solution may have, none if it isn't given.
- * @typedef {{limit?: number, slack?: number}} Within
+ * the shortest a solution may have, none if it isn't given; `most`, after how many solutions the search ends, after all if it isn't given;
+ * `nodes`, at how many positions it looks at most, at as many as there are if it isn't given. A search that would look at more is cut:
+ * `cut` says whether `SearchCut` is thrown, as it is if it isn't given, or what was found until then returned.
+ * @typedef {{limit?: number, slack?: number, most?: number, nodes?: number, cut?: Telling}} Wanted
  */
 
+/** @typedef {Wanted} Within what `Wanted` was called for counts while they had fewer options */
+
 /**
- * How far, and `most`, after how many solutions the search ends: all are found if it isn't given.
- * @typedef {Within & {most?: number}} Wanted
+ * What is asked of many lines; `faults` says whether the first fault is thrown, as it is if it isn't given, or each in the place of the
+ * line's answer.
+ * @typedef {{faults?: Telling}} Many
  */
 
 /** The most turns of a search. */
@@ -58,43 +68,72 @@ export function runRequest(words, input = "", room = undefined) {
 /** @param {Rewriting} call @param {unknown} line @returns {LineRequest} */
 export const lineRequest = (call, line) => ({ call, line: takenLine(line, "the line") });
 
-/** @param {unknown} step @param {unknown} line @param {unknown} [options] @returns {CountRequest} */
-export function countRequest(step, line, options = {}) {
-  return {
-    call: "count",
-    limit: wholeNumber(optionOf(options, "limit", MOST_TURNS), "the limit", MOST_TURNS),
-    slack: wholeNumber(optionOf(options, "slack", 0), "the slack", MOST_TURNS),
-    step: stringOf(step, "the step"),
-    line: takenLine(line, "the line"),
-  };
-}
-
-/** @param {unknown} step @param {unknown} line @param {unknown} [options] @returns {SolveRequest} */
-export function solveRequest(step, line, options = {}) {
-  const most = optionOf(options, "most", Infinity);
-  const counted = countRequest(step, line, options);
-  return {
-    call: "solve",
-    step: counted.step,
-    line: counted.line,
-    limit: counted.limit,
-    slack: counted.slack,
-    most: most === Infinity ? most : wholeNumber(most, "the greatest number of solutions", Number.MAX_SAFE_INTEGER),
-  };
+/**
+ * An option that is a bound, which Infinity and nothing leave open.
+ * @param {unknown} options
+ * @param {string} name
+ * @param {string} what it is, for the error
+ */
+function boundOf(options, name, what) {
+  const given = optionOf(options, name, Infinity);
+  return given === Infinity ? given : wholeNumber(given, what, Number.MAX_SAFE_INTEGER);
 }
 
 /**
- * @template {CountRequest | SolveRequest} Search
- * @param {(step: unknown, line: unknown, options: unknown) => Search} one what asks for a search of one line
- * @param {unknown} step
+ * An option that says whether something is thrown.
+ * @param {unknown} options
+ * @param {string} name
+ * @returns {Telling}
+ */
+function tellingOf(options, name) {
+  const given = optionOf(options, name, "throw");
+  if (typeof given !== "string") throw new TypeError(`the option ${name} is no string`);
+  if (given !== "throw" && given !== "value") throw new RangeError(`the option ${name} is neither "throw" nor "value"`);
+  return given;
+}
+
+/** @param {unknown} step @param {unknown} line @param {unknown} options @returns {Search} */
+const searchOf = (step, line, options) => ({
+  limit: wholeNumber(optionOf(options, "limit", MOST_TURNS), "the limit", MOST_TURNS),
+  slack: wholeNumber(optionOf(options, "slack", 0), "the slack", MOST_TURNS),
+  most: boundOf(options, "most", "the greatest number of solutions"),
+  nodes: boundOf(options, "nodes", "the greatest number of nodes"),
+  cut: tellingOf(options, "cut"),
+  step: stringOf(step, "the step"),
+  line: takenLine(line, "the line"),
+});
+
+/** @param {unknown} step @param {unknown} line @param {unknown} [options] @returns {CountRequest} */
+export const countRequest = (step, line, options = {}) => ({ call: "count", ...searchOf(step, line, options) });
+
+/** @param {unknown} step @param {unknown} line @param {unknown} [options] @returns {SolveRequest} */
+export const solveRequest = (step, line, options = {}) => ({ call: "solve", ...searchOf(step, line, options) });
+
+/** @param {unknown} line @returns {FactsRequest} */
+export const factsRequest = (line) => ({ call: "facts", line: takenLine(line, "the line") });
+
+/** @param {unknown} scramble @param {unknown} solution @returns {CheckRequest} */
+export const checkRequest = (scramble, solution) => ({
+  call: "check",
+  scramble: takenLine(scramble, "the scramble"),
+  solution: takenLine(solution, "the solution"),
+});
+
+/**
+ * @template {OfEach} Each
+ * @param {() => Each} each what is asked of each line
  * @param {unknown} lines
  * @param {unknown} [options]
- * @returns {AllRequest}
+ * @returns {AllRequest & {each: Each}}
  */
-export function allRequest(one, step, lines, options) {
+export function allRequest(each, lines, options = {}) {
   if (!Array.isArray(lines)) throw new TypeError("the lines are no array");
-  const search = one(step, "", options);
-  return { call: "all", search, lines: eachOf(lines, (line, index) => takenLine(line, `line ${index + 1}`)) };
+  return {
+    call: "all",
+    each: each(),
+    faults: tellingOf(options, "faults"),
+    lines: eachOf(lines, (line, index) => takenLine(line, `line ${index + 1}`)),
+  };
 }
 
 /** @param {unknown} state @param {unknown} stream @param {unknown} length @returns {ScrambleRequest} */

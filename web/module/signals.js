@@ -44,8 +44,9 @@ export class Signals {
     }
     const calls = new Set([call]);
     const heard = () => this.#giveUp(new Set(calls), signal);
-    this.#listened.set(signal, { calls, heard });
+    // one that throws here isn't kept, so that the next call listens to it
     signal.addEventListener("abort", heard);
+    this.#listened.set(signal, { calls, heard });
   }
 
   /**
@@ -56,7 +57,11 @@ export class Signals {
   remove(signal, call) {
     const listened = this.#listened.get(signal);
     if (listened === undefined || !listened.calls.delete(call) || listened.calls.size > 0) return;
-    signal.removeEventListener("abort", listened.heard);
     this.#listened.delete(signal);
+    try {
+      signal.removeEventListener("abort", listened.heard);
+    } catch {
+      // it is heard no more, since none of its calls is left
+    }
   }
 }

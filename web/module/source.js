@@ -13,10 +13,29 @@ import { NoWebAssembly } from "./faults.js";
  */
 const tagOf = (value) => Object.prototype.toString.call(value).slice("[object ".length, -1);
 
-/** @param {Response} response */
-function bodyOf(response) {
+/** @param {Response} response @returns {Promise<ArrayBuffer>} */
+async function bodyOf(response) {
   if (!response.ok) throw new Error(`the module can't be had: the request was answered by status ${response.status}`);
   return response.arrayBuffer();
+}
+
+/**
+ * What there is of the module already, compiled: its bytes are taken before this returns.
+ * @param {unknown} given
+ * @returns {Promise<WebAssembly.Module> | undefined} none if this is no module
+ */
+function compiledFrom(given) {
+  if (isBytes(given)) return WebAssembly.compile(new Uint8Array(given));
+  switch (tagOf(given)) {
+    case "WebAssembly.Module":
+      return Promise.resolve(/** @type {WebAssembly.Module} */ (given));
+    case "ArrayBuffer":
+      return WebAssembly.compile(/** @type {ArrayBuffer} */ (given));
+    case "Response":
+      return bodyOf(/** @type {Response} */ (given)).then((body) => WebAssembly.compile(body));
+    default:
+      return undefined;
+  }
 }
 
 /**
@@ -30,16 +49,8 @@ export async function compiled(source) {
     Promise.resolve(source).catch(() => {});
     throw new NoWebAssembly();
   }
-  const given = await source;
-  if (isBytes(given)) return WebAssembly.compile(new Uint8Array(given));
-  switch (tagOf(given)) {
-    case "WebAssembly.Module":
-      return /** @type {WebAssembly.Module} */ (given);
-    case "ArrayBuffer":
-      return WebAssembly.compile(/** @type {ArrayBuffer} */ (given));
-    case "Response":
-      return WebAssembly.compile(await bodyOf(/** @type {Response} */ (given)));
-    default:
-      throw new TypeError("the module is neither bytes nor a WebAssembly.Module nor a Response");
-  }
+  // bytes that the caller has may be others a moment later
+  const module = compiledFrom(source) ?? compiledFrom(await source);
+  if (module === undefined) throw new TypeError("the module is neither bytes nor a WebAssembly.Module nor a Response");
+  return module;
 }

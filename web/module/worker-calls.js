@@ -2,9 +2,10 @@
 // another.
 import { EngineMissing, Stopped } from "./faults.js";
 import { hasOwn } from "./natives.js";
-import { allOf, countIn, lineIn, linesIn, outputLinesIn, solutionsIn } from "./replies.js";
+import { allOf, checkIn, countIn, factsIn, lineIn, linesIn, outputLinesIn, solutionsIn } from "./replies.js";
 import {
-  allRequest, countRequest, lineRequest, optionOf, runRequest, scrambleRequest, scramblesRequest, solveRequest, stepsRequest,
+  allRequest, checkRequest, countRequest, factsRequest, lineRequest, optionOf, runRequest, scrambleRequest, scramblesRequest,
+  solveRequest, stepsRequest,
 } from "./requests.js";
 import { Signals, signalOf } from "./signals.js";
 import { compiled } from "./source.js";
@@ -12,14 +13,27 @@ import { compiled } from "./source.js";
 /** @typedef {import("./bytes.js").Text} Text */
 /** @typedef {import("./replies.js").Answer} Answer */
 /** @typedef {import("./replies.js").Count} Count */
-/** @typedef {import("./replies.js").Solution} Solution */
+/** @typedef {import("./facts.js").Check} Check */
+/** @typedef {import("./facts.js").Facts} Facts */
+/** @typedef {import("./replies.js").Solutions} Solutions */
+/** @typedef {import("./requests.js").Many} Many */
+/** @typedef {import("./steps.js").Step} Step */
 /** @typedef {import("./requests.js").Request} Request */
 /** @typedef {import("./requests.js").Wanted} Wanted */
-/** @typedef {import("./requests.js").Within} Within */
 /** @typedef {import("./signals.js").Stoppable} Stoppable */
 /** @typedef {import("./serve.js").Answered} Answered */
 /** @typedef {import("./serve.js").Unanswered} Unanswered */
 /** @typedef {import("./source.js").ModuleSource} ModuleSource */
+
+/**
+ * @template {string} Name
+ * @typedef {import("./steps.js").StepName<Name>} StepName
+ */
+
+/**
+ * @template Value, Options
+ * @typedef {import("./replies.js").Told<Value, Options>} Told
+ */
 
 /**
  * What a worker can be sent: the module compiled, or its bytes, which it compiles then.
@@ -125,29 +139,66 @@ export class WorkerCalls {
     return lineIn(await this.#answer(lineRequest("facelets", line), options));
   }
 
-  /** @param {string} step @param {Text} line @param {Wanted & Stoppable} [options] @returns {Promise<Solution[]>} */
+  /**
+   * @template {string} Name
+   * @param {StepName<Name>} step @param {Text} line @param {Wanted & Stoppable} [options] @returns {Promise<Solutions>}
+   */
   async solve(step, line, options) {
-    return solutionsIn(await this.#answer(solveRequest(step, line, options), options));
+    const request = solveRequest(step, line, options);
+    return solutionsIn(await this.#answer(request, options), request);
   }
 
-  /** @param {string} step @param {readonly Text[]} lines @param {Wanted & Stoppable} [options] @returns {Promise<Solution[][]>} */
+  /**
+   * @template {string} Name
+   * @template {Wanted & Many & Stoppable} [Options={}]
+   * @param {StepName<Name>} step @param {readonly Text[]} lines @param {Options} [options] @returns {Promise<Told<Solutions, Options>[]>}
+   */
   async solveAll(step, lines, options) {
-    return allOf(await this.#answer(allRequest(solveRequest, step, lines, options), options), solutionsIn);
+    const request = allRequest(() => solveRequest(step, "", options), lines, options);
+    return allOf(await this.#answer(request, options), request, (/** @type {any} */ reply) => solutionsIn(reply, request.each));
   }
 
-  /** @param {string} step @param {Text} line @param {Within & Stoppable} [options] @returns {Promise<Count>} */
+  /**
+   * @template {string} Name
+   * @param {StepName<Name>} step @param {Text} line @param {Wanted & Stoppable} [options] @returns {Promise<Count>}
+   */
   async count(step, line, options) {
-    return countIn(await this.#answer(countRequest(step, line, options), options));
+    const request = countRequest(step, line, options);
+    return countIn(await this.#answer(request, options), request);
   }
 
-  /** @param {string} step @param {readonly Text[]} lines @param {Within & Stoppable} [options] @returns {Promise<Count[]>} */
+  /**
+   * @template {string} Name
+   * @template {Wanted & Many & Stoppable} [Options={}]
+   * @param {StepName<Name>} step @param {readonly Text[]} lines @param {Options} [options] @returns {Promise<Told<Count, Options>[]>}
+   */
   async countAll(step, lines, options) {
-    return allOf(await this.#answer(allRequest(countRequest, step, lines, options), options), countIn);
+    const request = allRequest(() => countRequest(step, "", options), lines, options);
+    return allOf(await this.#answer(request, options), request, (/** @type {any} */ reply) => countIn(reply, request.each));
   }
 
-  /** @param {Stoppable} [options] @returns {Promise<string[]>} */
+  /** @param {Text} line @param {Stoppable} [options] @returns {Promise<Facts>} */
+  async facts(line, options) {
+    return factsIn(await this.#answer(factsRequest(line), options));
+  }
+
+  /**
+   * @template {Many & Stoppable} [Options={}]
+   * @param {readonly Text[]} lines @param {Options} [options] @returns {Promise<Told<Facts, Options>[]>}
+   */
+  async factsAll(lines, options) {
+    const request = allRequest(() => factsRequest(""), lines, options);
+    return allOf(await this.#answer(request, options), request, factsIn);
+  }
+
+  /** @param {Text} scramble @param {Text} solution @param {Stoppable} [options] @returns {Promise<Check>} */
+  async check(scramble, solution, options) {
+    return checkIn(await this.#answer(checkRequest(scramble, solution), options));
+  }
+
+  /** @param {Stoppable} [options] @returns {Promise<Step[]>} */
   async steps(options) {
-    return linesIn(await this.#answer(stepsRequest(), options));
+    return /** @type {Step[]} */ (linesIn(await this.#answer(stepsRequest(), options)));
   }
 
   /**
@@ -211,8 +262,8 @@ export class WorkerCalls {
       }
       /** @type {<Value>(settle: (value: Value) => void) => (value: Value) => void} */
       const settled = (settle) => (value) => {
-        if (signal) this.#signals.remove(signal, call);
         settle(value);
+        if (signal) this.#signals.remove(signal, call);
       };
       const call = { id: this.#next++, request, answered: settled(resolve), refused: settled(reject) };
       if (signal) this.#signals.add(signal, call);

@@ -1,0 +1,185 @@
+// What is told of lines without a search, and searches with a bound on nodes: by `Nissy`, and by what has the same calls as promises.
+import { NissyFault, SearchCut } from "../../web/module/nissy.js";
+import { STEPS } from "./called.mjs";
+import { factsByLetters } from "./letters.mjs";
+import { same, thrown } from "./tally.mjs";
+
+const LINES = 2_000;
+const TURNS = [..."UDRLFB"].flatMap((face) => [face, `${face}2`, `${face}'`]);
+const NONE = { fb: [], rl: [], ud: [] };
+const RIGHT_EDGES = ["UR", "DR", "FR", "BR"];
+const RIGHT_CORNERS = ["URF", "UBR", "DFR", "DRB"];
+
+// lines with the cases that solvers give them, on the axis of U and D
+const CASES = [["", "0c0e"], ["R", "4c4e"], ["R U2 R", "4c2e"], ["R U R", "3c2e"], ["U R2 F2", "0c0e"], ["M", "8c8e"], ["R L'", "8c8e"]];
+
+// a line, whether it is solved, and its moves as written and cleaned
+const COUNTED = [
+  ["", true, 0, 0],
+  ["R", false, 1, 1],
+  ["R R'", true, 2, 0],
+  ["M", false, 2, 2],
+  ["Rw R' x", false, 2, 2],
+  ["x y2", true, 0, 0],
+  ["R L' M'", true, 4, 0],
+  ["R (U R)", false, 3, 1],
+];
+
+// a scramble and a solution, whether it is solved, the solution's moves as written and cleaned, and its forms
+const CHECKED = [
+  ["R U F", "F' U' R'", true, 3, 3, []],
+  ["R U F", "F' U' R", false, 3, 3, []],
+  ["R", "R2 R", true, 2, 1, []],
+  ["R", "R2' R", true, 2, 1, ["half-prime"]],
+  ["R", "R\u2019", true, 1, 1, ["apostrophe"]],
+  ["R U", "(R U)", true, 2, 2, ["brackets"]],
+  ["M", "M'", true, 2, 2, ["slices"]],
+  ["Rw", "r'", true, 1, 1, ["lower-case"]],
+  ["R L'", "M'", true, 2, 2, ["slices"]],
+  ["R", "R' y", true, 1, 1, []],
+  ["", "", true, 0, 0, []],
+];
+
+// a call, and the fault that it throws: which line has it, its column and its message
+const FAULTS = [
+  [["check", "R q", "R"], 1, 3, "line 1, column 3: not a move"],
+  [["check", "R", "(R"], 2, 1, "line 2, column 1: bracket not closed"],
+  [["check", "q", "q"], 1, 1, "line 1, column 1: not a move"],
+  [["check", "R", "R\nU"], 2, 2, "line 2, column 2: not a move"],
+  [["facts", "R q"], null, 3, "column 3: not a move"],
+  [["factsAll", ["R", "U".repeat(257)]], 2, 257, "line 2, column 257: more than 256 moves"],
+];
+
+/** The last of some numbers that are always the same. */
+let state = 20261127;
+
+function drawn(end) {
+  state = (Math.imul(state, 1664525) + 1013904223) >>> 0;
+  return Math.floor((state / 2 ** 32) * end);
+}
+
+/** Lines of any turns, or of those of half turns and two faces, and then a few of any. */
+function drawnLine() {
+  const kept = TURNS.filter((turn) => turn.endsWith("2") || "UD".includes(turn[0]));
+  const line = (turns, count) => Array.from({ length: count }, () => turns[drawn(turns.length)]);
+  return [...line(drawn(2) === 0 ? TURNS : kept, drawn(20)), ...line(TURNS, drawn(3))].join(" ");
+}
+
+/** Facts of lines with what is known of them, and of drawn ones by their letters. */
+export async function tryFacts(nissy) {
+  const all = { fb: "0c0e", rl: "0c0e", ud: "0c0e" };
+  const none = { badEdges: NONE, badCorners: NONE, misplacedEdges: NONE, cases: all };
+  same("the facts of no moves", await nissy.facts(""), { solved: true, moves: 0, cleanMoves: 0, ...none, holds: STEPS });
+  same("the facts of a turn", await nissy.facts("R"), {
+    solved: false,
+    moves: 1,
+    cleanMoves: 1,
+    badEdges: { ...NONE, rl: RIGHT_EDGES },
+    badCorners: { fb: RIGHT_CORNERS, rl: [], ud: RIGHT_CORNERS },
+    misplacedEdges: { fb: RIGHT_EDGES, rl: [], ud: RIGHT_EDGES },
+    cases: { fb: "4c4e", rl: "0c0e", ud: "4c4e" },
+    holds: ["eofb", "eoud", "drrl-eofb", "drrl-eoud", "eo", "dr-eofb", "dr-eoud"],
+  });
+  for (const [line, ud] of CASES) same(`the case of ${line}`, (await nissy.facts(line)).cases.ud, ud);
+  for (const [line, ...wanted] of COUNTED) {
+    const { solved, moves, cleanMoves } = await nissy.facts(line);
+    same(`whether ${line} is solved, and its moves`, [solved, moves, cleanMoves], wanted);
+  }
+  const lines = Array.from({ length: LINES }, drawnLine);
+  const facts = await nissy.factsAll(lines);
+  for (let at = 0; at < LINES; at += 1) {
+    const { moves, cleanMoves, ...seen } = facts[at];
+    const { holds, ...wanted } = factsByLetters(await nissy.facelets(lines[at]));
+    same(`the facts of ${lines[at]}`, seen, { ...wanted, holds: STEPS.filter((step) => holds.includes(step)) });
+    same(`the moves of ${lines[at]}`, moves, lines[at].split(" ").filter(Boolean).length);
+    same(`the cleaned moves of ${lines[at]}`, cleanMoves, (await nissy.cleanup(lines[at])).split(" ").filter(Boolean).length);
+  }
+  for (const line of lines.slice(0, 50)) {
+    const [one, turned] = [await nissy.facts(line), await nissy.facts(`${line} x y'`)];
+    same(`${line}, held in another way`, turned, one);
+  }
+}
+
+/** Solutions that are judged, and lines at fault. */
+export async function tryChecks(nissy) {
+  for (const [scramble, solution, solved, moves, cleanMoves, forms] of CHECKED) {
+    same(`${solution} after ${scramble}`, await nissy.check(scramble, solution), { solved, moves, cleanMoves, forms });
+  }
+  for (const [[call, ...given], ...wanted] of FAULTS) {
+    const fault = await Promise.resolve().then(() => nissy[call](...given)).catch((stop) => stop);
+    same(`${call} ${given.join(", ").slice(0, 20)}`, [fault instanceof NissyFault, fault.line, fault.column, fault.message], [true, ...wanted]);
+  }
+  same("no scramble", await thrown(() => nissy.check(1, "R")), ["TypeError", "the scramble is neither a string nor a Uint8Array"]);
+  same("no solution", await thrown(() => nissy.check("R")), ["TypeError", "the solution is neither a string nor a Uint8Array"]);
+  same("no line", await thrown(() => nissy.facts()), ["TypeError", "the line is neither a string nor a Uint8Array"]);
+  same("no lines", await thrown(() => nissy.factsAll("R")), ["TypeError", "the lines are no array"]);
+}
+
+/** A search that looks at 75 positions, with each bound: it is cut exactly below 75, and what it found begins the whole list. */
+async function tryEachBound(nissy) {
+  const whole = await nissy.solve("eofb", "F B");
+  for (let nodes = 0; nodes <= 80; nodes += 1) {
+    const count = await nissy.count("eofb", "F B", { nodes, cut: "value" });
+    const found = await nissy.solve("eofb", "F B", { nodes, cut: "value" });
+    same(`a bound of ${nodes} cuts`, [count.cut, found.cut], nodes < 75 ? [true, true] : [undefined, undefined]);
+    same(`a bound of ${nodes} is kept`, count.nodes <= nodes && count.solutions === found.length, true);
+    same(`what is found by ${nodes} nodes begins the list`, [...found], whole.slice(0, found.length));
+    same(`the least length by ${nodes} nodes`, count.length, found.length === 0 ? null : 2);
+  }
+  same("a count within its bound", await nissy.count("eofb", "F B", { nodes: 75 }), { length: 2, solutions: 4, nodes: 75 });
+  same("solutions within their bound", await nissy.solve("eofb", "F B", { nodes: 75, cut: "value" }), whole);
+}
+
+/** Searches that are cut, told as it was chosen. */
+export async function tryBounds(nissy) {
+  await tryEachBound(nissy);
+  const caught = (call) => Promise.resolve().then(call).catch((stop) => stop);
+  const cut = await caught(() => nissy.solve("eofb", "F B", { nodes: 74 }));
+  same("a cut is thrown", [cut instanceof SearchCut, cut.name, cut.line, cut.count.length], [true, "SearchCut", null, 2]);
+  same("and has what was found", [cut.found.length, cut.found[0]], [cut.count.solutions, { moves: "F B", length: 2 }]);
+  same("it says after how many nodes", cut.message, `the search was cut after ${cut.count.nodes} nodes`);
+  same("that of a count has no solutions", (await caught(() => nissy.count("eofb", "F B", { nodes: 0, cut: "throw" }))).found, null);
+  const many = await caught(() => nissy.countAll("eofb", ["", "F B", "F"], { nodes: 30 }));
+  same("a cut of many", [many.name, many.line], ["SearchCut", 2]);
+  const told = await nissy.countAll("eofb", ["", "F B", "F"], { nodes: 30, cut: "value" });
+  same("a cut of many, told", told.map((count) => count.cut), [undefined, true, undefined]);
+  same("no nodes at all", await nissy.count("eofb", "R U F", { nodes: 0, cut: "value" }), { length: null, solutions: 0, nodes: 0, cut: true });
+  const endless = await nissy.count("eo", "R U F2 L D R B", { slack: 20, nodes: 1_000_000, cut: "value" });
+  same("a search that would take days", [endless.cut, endless.nodes <= 1_000_000], [true, true]);
+  same("the first solution alone", (await nissy.count("eofb", "F B", { most: 1 })).solutions, 1);
+  same("its length", (await nissy.countAll("eofb", ["F B", "R", "F"], { most: 1 })).map(({ length }) => length), [2, 0, 1]);
+  for (const nodes of [-1, 0.5, Number.NaN, 2 ** 53]) {
+    same(`${nodes} nodes`, (await thrown(() => nissy.count("eofb", "F", { nodes })))[0], "RangeError");
+  }
+  for (const nodes of ["1", null, 1n, {}]) {
+    same(`no nodes, but ${typeof nodes}`, await thrown(() => nissy.count("eofb", "F", { nodes })), ["TypeError", "the greatest number of nodes is no number"]);
+  }
+  same("another word for a cut", await thrown(() => nissy.solve("eofb", "F", { cut: "values" })), ["RangeError", 'the option cut is neither "throw" nor "value"']);
+  same("no word for faults", await thrown(() => nissy.factsAll([], { faults: true })), ["TypeError", "the option faults is no string"]);
+}
+
+const shown = (told) => (told instanceof Error ? told.message : told);
+
+/** Lines of which some are at fault, each of which is told in its place: none ends the rest. */
+export async function tryMixed(nissy) {
+  const bytes = (text) => new TextEncoder().encode(text);
+  const lines = ["F", "R q", "", "R\nU", bytes("F"), bytes("F\n"), "(R", " ".repeat(300_000), bytes("R \u2019"), "F B"];
+  const wrong = { 1: "line 2, column 3: not a move", 3: "line 4, column 2: not a move", 5: "line 6, column 2: not a move",
+    6: "line 7, column 1: bracket not closed", 8: "line 9, column 3: not a move" };
+  const counted = await nissy.countAll("eofb", lines, { faults: "value" });
+  const wanted = await Promise.all(lines.map(async (line, at) => wrong[at] ?? nissy.count("eofb", line)));
+  same("counts of lines of which some are at fault", counted.map(shown), wanted);
+  same("they are faults", counted.filter((told) => told instanceof NissyFault).map(({ line, column }) => [line, column]),
+    [[2, 3], [4, 2], [6, 2], [7, 1], [9, 3]]);
+  const seen = await nissy.factsAll(lines, { faults: "value" });
+  same("facts of the same", seen.map(shown), await Promise.all(lines.map(async (line, at) => wrong[at] ?? nissy.facts(line))));
+  const found = await nissy.solveAll("eofb", lines, { faults: "value", most: 1 });
+  same("solutions of the same", found.map(shown), await Promise.all(lines.map(async (line, at) => wrong[at] ?? nissy.solve("eofb", line, { most: 1 }))));
+  const [, start] = await nissy.countAll("dr-eofb", ["", "F", ""], { faults: "value" });
+  same("a step that can't begin", [start.step, start.start, start.line, start.message], ["dr-eofb", "eofb", 2, "line 2: eofb does not hold"]);
+  const many = Array.from({ length: 1_000 }, (_, at) => (at % 7 === 3 ? "q" : TURNS[at % 18]));
+  const counts = await nissy.countAll("eofb", many, { faults: "value" });
+  const lengths = counts.map((told) => (told instanceof NissyFault ? told.line : told.length));
+  same("a thousand lines, each with its own", lengths, many.map((line, at) => (line === "q" ? at + 1 : Number(/^[FB]'?$/.test(line)))));
+  same("facts of no lines", await nissy.factsAll([]), []);
+}

@@ -1,0 +1,173 @@
+// Searches and facts of many lines. Those that the module takes many of in one call go to it in pieces.
+import { FACTS_ANSWER, LINES_ANSWER, SEARCH_ANSWER } from "./layout.js";
+import { bound, counted, refusal, seen, solved } from "./line-calls.js";
+import { aligned, roomFor } from "./memory.js";
+import { wide } from "./natives.js";
+import { countAt, factsAt, headAt } from "./read-answers.js";
+import { STATUS, hasValue } from "./replies.js";
+
+/** @typedef {import("./bytes.js").Text} Text */
+/** @typedef {import("./instance.js").Exports} Exports */
+/** @typedef {import("./instance.js").Instance} Instance */
+/** @typedef {import("./memory.js").InstanceMemory} InstanceMemory */
+/** @typedef {import("./replies.js").OneReply} OneReply */
+/** @typedef {import("./requests.js").AllRequest} AllRequest */
+/** @typedef {import("./requests.js").CountRequest} CountRequest */
+/** @typedef {import("./requests.js").OfEach} OfEach */
+
+/** So many lines go to the module at once, of so many bytes unless the first one has more. */
+const MOST_LINES = 256;
+const MOST_BYTES = 262_144;
+
+const LINE_FEED = 10;
+
+/** @param {Text} line */
+const hasLineFeed = (line) => (typeof line === "string" ? line.includes("\n") : line.includes(LINE_FEED));
+
+/**
+ * Where the piece ends that begins with this line: it has a line, and none with a line feed, which would be two to the module.
+ * @param {Text[]} lines
+ * @param {number} begin
+ */
+function endOfPiece(lines, begin) {
+  const most = Math.min(lines.length, begin + MOST_LINES);
+  let end = begin;
+  for (let bytes = 0; end < most && !hasLineFeed(lines[end]); end += 1) {
+    bytes += roomFor(lines[end]) + 1;
+    if (end > begin && bytes > MOST_BYTES) break;
+  }
+  return end;
+}
+
+/**
+ * Writes lines, each with a line feed.
+ * @param {InstanceMemory} memory
+ * @param {number} at
+ * @param {Text[]} lines
+ * @returns {number} how many bytes they took
+ */
+function putLines(memory, at, lines) {
+  let place = at;
+  let text = "";
+  for (let next = 0; next < lines.length; next += 1) {
+    const line = lines[next];
+    if (typeof line === "string") {
+      text += `${line}\n`;
+      continue;
+    }
+    place += memory.putLine(place, text);
+    place += memory.putLine(place, line);
+    text = "\n";
+  }
+  return place + memory.putLine(place, text) - at;
+}
+
+/**
+ * What is asked of a piece by one call of the module: how many bytes an answer has, how one with a value is read, and the call.
+ * @typedef {object} Question
+ * @property {number} bytes
+ * @property {(memory: InstanceMemory, at: number) => OneReply} read
+ * @property {(exports: Exports, answer: bigint, text: bigint, length: bigint, answers: bigint, room: bigint) => undefined} ask
+ */
+
+/** @type {Question} */
+const FACTS = {
+  bytes: FACTS_ANSWER.bytes,
+  read: factsAt,
+  ask: (exports, answer, text, length, answers, room) => exports.nissy_facts_lines(answer, text, length, answers, room),
+};
+
+/**
+ * @param {number} tables where those of the step are
+ * @param {CountRequest} request
+ * @returns {Question}
+ */
+const countsBy = (tables, { limit, slack, most, nodes }) => ({
+  bytes: SEARCH_ANSWER.bytes,
+  read: countAt,
+  ask: (exports, answer, text, length, answers, room) =>
+    exports.nissy_count_lines(answer, wide(tables), text, length, limit, slack, bound(most), bound(nodes), answers, room),
+});
+
+/**
+ * Asks the module of a piece, and reads its answers.
+ * @param {Instance} instance
+ * @param {Question} question
+ * @param {Text[]} lines
+ * @param {string} step which is searched, if one is
+ * @returns {OneReply[]}
+ */
+function answerPiece(instance, { bytes, read, ask }, lines, step) {
+  const { memory, answer, free } = instance;
+  const text = aligned(free + lines.length * bytes);
+  memory.reach(lines.reduce((end, line) => end + roomFor(line) + 1, text));
+  const length = putLines(memory, text, lines);
+  instance.call((exports) => ask(exports, wide(answer), wide(text), wide(length), wide(free), wide(lines.length)));
+  if (instance.answered(LINES_ANSWER.lines) !== lines.length) throw new Error("the module took other lines than it was given");
+  // all of them before the module is asked for the words of a fault, which it writes over them
+  const told = lines.map((_, at) => {
+    const head = headAt(memory, free + at * bytes);
+    return { head, value: hasValue(head.status) ? read(memory, free + at * bytes) : null };
+  });
+  return told.map(({ head, value }) => value ?? refusal(instance, head, step));
+}
+
+/**
+ * Answers one line.
+ * @param {Instance} instance
+ * @param {OfEach} request
+ * @returns {OneReply}
+ */
+export function answerLine(instance, request) {
+  switch (request.call) {
+    case "solve":
+      return solved(instance, request);
+    case "count":
+      return counted(instance, request);
+    default:
+      return seen(instance, request);
+  }
+}
+
+/**
+ * What is asked of many lines at once, or null if each has to be asked by itself: the module has no such call, or the first fault, or the
+ * first search that is cut, ends all, so that what is behind it isn't searched.
+ * @param {Instance} instance
+ * @param {AllRequest} request
+ * @returns {Question | null}
+ */
+function questionOf(instance, { each, faults }) {
+  if (each.call === "facts") return FACTS;
+  // a step that isn't there is told though there may be no line
+  const tables = instance.tablesOf(each.step);
+  const goesOn = faults === "value" && (each.nodes === Infinity || each.cut === "value");
+  return each.call === "count" && goesOn ? countsBy(tables, each) : null;
+}
+
+/**
+ * Answers lines in turn, up to the first whose answer ends the call.
+ * @param {Instance} instance
+ * @param {AllRequest} request
+ * @returns {OneReply[]}
+ */
+export function answerAll(instance, request) {
+  const { each, lines, faults } = request;
+  const question = questionOf(instance, request);
+  const step = each.call === "facts" ? "" : each.step;
+  /** @type {OneReply[]} */
+  const replies = [];
+  const isLast = (/** @type {OneReply} */ reply) => {
+    replies.push(reply);
+    if (reply.status === STATUS.cut) return each.call !== "facts" && each.cut === "throw";
+    return reply.status !== STATUS.done && faults === "throw";
+  };
+  while (replies.length < lines.length) {
+    const begin = replies.length;
+    const end = question === null ? begin : endOfPiece(lines, begin);
+    const given = question === null || end === begin
+      ? [answerLine(instance, { ...each, line: lines[begin] })]
+      : answerPiece(instance, question, lines.slice(begin, end), step);
+    if (given.some(isLast)) break;
+  }
+  return replies;
+}

@@ -1,0 +1,23 @@
+// The steps by their names.
+
+/** All of them, in the module's order. */
+export const STEPS = /** @type {const} */ ([
+  "eofb", "eorl", "eoud",
+  "drud-eofb", "drrl-eofb", "drud-eorl", "drfb-eorl", "drrl-eoud", "drfb-eoud",
+  "eo", "dr-eofb", "dr-eorl", "dr-eoud",
+]);
+
+/** @typedef {typeof STEPS[number]} Step the name of a step */
+
+/**
+ * What calls take as a step: tsc refuses a literal that names none, and a string that it doesn't know is judged by the call.
+ * @template {string} Name
+ * @typedef {Name & (string extends Name ? string : Name extends Step ? string : never)} StepName
+ */
+
+/**
+ * Whether a value is the name of a step.
+ * @param {unknown} name
+ * @returns {name is Step}
+ */
+export const isStep = (name) => STEPS.some((step) => step === name);
