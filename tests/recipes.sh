@@ -1,5 +1,5 @@
 #!/usr/bin/env bash
-# Runs the examples of the pages as a reader would, with PROGRAM as `nissy`, and compares what they print with the page:
+# Runs the examples of the pages as a reader would, with PROGRAM as `nissy`, and compares what they print with the page; draws the pictures anew:
 #
 #     tests/recipes.sh [PROGRAM [PAGE..]]
 #
@@ -25,5 +25,7 @@ if [ ${#pages[@]} -eq 0 ]; then
     if [ -e "$top/build/libnissy.so" ]; then pages+=("$top/docs/EMBEDDING.md"); else skips "docs/EMBEDDING.md, no library here"; fi
 fi
 export CPATH=$top/include LIBRARY_PATH=$top/build LD_LIBRARY_PATH=$top/build PYTHONPATH=$top/python
+drawn() { mkdir "$room/words" && "$top/tools/pictures" "$program" "$room/words" && diff -r "$room/words" "$top/docs/words"; }
+holds "the pictures of docs/WORDS.md are those that tools/pictures draws" drawn
 add python3 "$top/tests/documents/recipes.py" "$program" "${pages[@]}"
 ended
