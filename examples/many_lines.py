@@ -4,16 +4,19 @@
 
 Line K of the output belongs to line K of the input: a length (or `none`), a tab and a number of solutions; or `fault`, a tab and what is wrong.
 """
+from __future__ import annotations
+
 import sys
+import typing
 
 import nissy
 
 
-def main():
+def main() -> None:
     """Answers line by line, by tables that are built once."""
     if len(sys.argv) != 2:
         sys.exit(__doc__)
-    tables = nissy.Tables(sys.argv[1])
+    tables = nissy.Tables(typing.cast(nissy.Step, sys.argv[1]))
     for line in sys.stdin.buffer:
         try:
             found = tables.count(line.rstrip(b"\n"))
