@@ -33,6 +33,7 @@ LIBRARY_FILES := \
 	packaging/cmake/nissy-config.cmake:@lib/cmake/nissy/nissy-config.cmake \
 	packaging/cmake/nissy-config-version.cmake:@lib/cmake/nissy/nissy-config-version.cmake \
 	$(foreach file,$(notdir $(wildcard python/nissy/*.py)) py.typed,python/nissy/$(file):@python/nissy/$(file)) \
+	$(foreach file,$(notdir $(wildcard examples/*.py)),examples/$(file):share/doc/nissy/examples/$(file)) \
 	docs/EMBEDDING.md:share/doc/nissy/EMBEDDING.md
 LIBRARY_INSTALLED := $(if $(filter no,$(LIBRARY)),,$(LIBRARY_FILES))
 INSTALLED := \
@@ -40,6 +41,7 @@ INSTALLED := \
 	docs/nissy.1:share/man/man1/nissy.1 \
 	docs/MANUAL.md:share/doc/nissy/MANUAL.md \
 	docs/COOKBOOK.md:share/doc/nissy/COOKBOOK.md \
+	docs/MANY.md:share/doc/nissy/MANY.md \
 	completions/nissy.bash:share/bash-completion/completions/nissy \
 	completions/_nissy:share/zsh/site-functions/_nissy \
 	completions/nissy.fish:share/fish/vendor_completions.d/nissy.fish \
@@ -125,7 +127,7 @@ uninstall:
 	@$(EACH_INSTALLED); rm -f "$$to"; done
 	@# what Python keeps of the module that it read
 	@rm -f $(foreach file,$(wildcard python/nissy/*.py),"$(DESTDIR)$(PYTHONDIR)"/nissy/__pycache__/$(notdir $(file:.py=)).*.pyc)
-	@for folder in "$(PREFIX)/share/doc/nissy" "$(LIBDIR)/cmake/nissy" "$(PYTHONDIR)/nissy/__pycache__" "$(PYTHONDIR)/nissy"; do \
+	@for folder in "$(PREFIX)/share/doc/nissy/examples" "$(PREFIX)/share/doc/nissy" "$(LIBDIR)/cmake/nissy" "$(PYTHONDIR)/nissy/__pycache__" "$(PYTHONDIR)/nissy"; do \
 		rmdir "$(DESTDIR)$$folder" 2> /dev/null || true; \
 	done
 

@@ -10,6 +10,7 @@ cd "$(dirname "$0")/.." || exit 2
 if missing python3; then skips_all "there is no python3 here, so the pages are not held against the repository"; fi
 add python3 tests/documents/check.py
 typed tests/runs.py tests/documents/*.py
+typed examples/*.py
 typed tests/model/*.py tests/npm/*.py
 for file in tests/*/beside_program.py; do typed "$file"; done
 # shellcheck disable=SC2046 # no name of a tool has a blank

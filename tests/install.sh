@@ -22,7 +22,7 @@ by_make() { make --no-print-directory -o build/nissy -o build/libnissy.a LIBRARY
 install_at() { by_make "$1" DESTDIR="$packed" PREFIX=/usr PYTHONDIR=/usr/lib/python3/dist-packages; }
 with_program() {
     mkdir -p "$room/source/build" "$room/source/crates/niss_c" && cp -R crates/niss_c/{src,specs} "$room/source/crates/niss_c" &&
-        cp -R Makefile CHANGELOG.md docs completions include packaging python tools web "$room/source" &&
+        cp -R Makefile CHANGELOG.md docs completions examples include packaging python tools web "$room/source" &&
         cp "$program" "$room/source/build/nissy" && { [ $library = no ] || cp -P build/libnissy.* "$room/source/build"; }
 }
 holds "the files are there" with_program
@@ -41,6 +41,7 @@ wanted="755 bin/nissy build/nissy
 644 share/bash-completion/completions/nissy completions/nissy.bash
 644 share/doc/nissy/COOKBOOK.md docs/COOKBOOK.md
 644 share/doc/nissy/MANUAL.md docs/MANUAL.md
+644 share/doc/nissy/MANY.md docs/MANY.md
 644 share/fish/vendor_completions.d/nissy.fish completions/nissy.fish
 644 share/man/man1/nissy.1 docs/nissy.1
 644 share/zsh/site-functions/_nissy completions/_nissy"
@@ -55,6 +56,7 @@ if [ $library = yes ]; then
 755 lib/libnissy.so.2 build/libnissy.so.2
 644 lib/pkgconfig/nissy.pc include/nissy.pc
 $(cd python && find nissy \( -name '*.py' -o -name py.typed \) -printf '644 lib/python3/dist-packages/%p python/%p\n')
+$(find examples -name '*.py' -printf '644 share/doc/nissy/%p %p\n')
 644 share/doc/nissy/EMBEDDING.md docs/EMBEDDING.md"
 fi
 wanted=$(LC_ALL=C sort -k 2,2 <<< "$wanted")

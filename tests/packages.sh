@@ -14,7 +14,7 @@ if [ ! -e build/libnissy.a ]; then skips_all "the packages, since there is no li
 
 # what a user's own make would do, in a copy in which nothing is proved
 copied() {
-    mkdir -p "$room/source/build" && cp -R Makefile CHANGELOG.md README.md completions docs include packaging portable python tools web "$room/source" &&
+    mkdir -p "$room/source/build" && cp -R Makefile CHANGELOG.md README.md completions docs examples include packaging portable python tools web "$room/source" &&
         cp "$program" "$room/source/build/nissy" && cp build/libnissy.* "$room/source/build" &&
         if [ -e build/aarch64/nissy ]; then cp -R build/aarch64 "$room/source/build"; fi &&
         if [ -e build/nissy.html ]; then cp build/nissy.html build/nissy.wasm "$room/source/build"; fi &&
@@ -66,7 +66,7 @@ holds "with their archive" tar -C "$room/unpacked" -xpf "$room/alone/$archive-pr
 without_library() { sed '/^The library needs/,$d' docs/archive.txt; }
 holds "its README says nothing of the library" cmp "$room/unpacked/$archive-program/README" <(without_library)
 holds "it has nothing of the library" test "$(stands_in "$room/unpacked/$archive-program")" = \
-    "$(stands_in "$room/installed/usr" | grep -vE '(include|lib)/|/EMBEDDING')"
+    "$(stands_in "$room/installed/usr" | grep -vE '(include|lib|examples)/|/EMBEDDING')"
 
 # the wheel, in an environment of its own
 wheel=$made/nissy-$version-py3-none-manylinux_2_17_x86_64.manylinux2014_x86_64.whl

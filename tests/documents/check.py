@@ -22,7 +22,7 @@ from tally import Tally
 
 PAGES = ("*.md", "docs/*.md", "bench/*.md", "web/*/*.md", "python/*.md", "portable/*.md")
 # most lines that README may have, and most columns that any page may
-MOST_LINES = 125
+MOST_LINES = 100
 MOST_COLUMNS = 120
 # pages of which each name of code in backquotes must be there, and pages of which each path must
 WITH_NAMES = ("README.md", "docs/ARCHITECTURE.md", "docs/PROMISES.md", "docs/DECISIONS.md")

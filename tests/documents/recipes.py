@@ -6,9 +6,10 @@
 A block ```sh is run, and where the next block is ```text, that is what it prints (else nothing). In a block ```console each line that begins
 with `$ ` is run, and the lines after it are what it prints. The blocks of a page run one after another in one shell, so that variables and
 files stay; the whole page is run by each of sh, bash and zsh that is there. A block ```bash, ```zsh or ```fish runs by that shell alone.
-A block ```js is a script of its own, which node runs at the top of the repository, if the module is built. `needs TOOL` after the shell's name
-skips the block if the tool is missing, or, if it has a slash, the file of the repository; what is skipped is named. So are the examples of a
-manual page.
+They find the repository's folder `examples` beside them.
+A block ```js is a script of its own, which node runs at the top of the repository, if the module is built. `needs TOOL..` after the shell's name
+skips the block if one of the tools is missing, or, if it has a slash, the file of the repository; what is skipped is named. So are the examples
+of a manual page.
 The last line is `N passed, M failed`, and the status is 1 where M isn't 0.
 """
 import difflib
@@ -40,7 +41,7 @@ class Example:
 
     kind: str
     line: int
-    needs: str = ""
+    needs: tuple[str, ...] = ()
     command: str = ""
     wanted: str = ""
     wrong: dict[str, str] = field(default_factory=dict)
@@ -71,7 +72,7 @@ def examples_of(text: str) -> list[Example]:
         if line.startswith("```"):
             kind, *options = (line[3:].split() or ["other"]) if not inside else [""]
             if kind in SHELLS or kind in SCRIPTS:
-                last = Example(kind, number, options[1] if options[:1] == ["needs"] else "")
+                last = Example(kind, number, tuple(options[1:]) if options[:1] == ["needs"] else ())
                 found.append(last)
             elif inside in ("text", "console"):
                 last = None
@@ -91,6 +92,7 @@ def run_by(shell: str, examples: list[Example], environment: dict[str, str]) -> 
     with tempfile.TemporaryDirectory() as room:
         home = Path(room, "home")
         home.mkdir()
+        os.symlink(TOP / "examples", home / "examples")
         begin, end = ("begin", "end") if shell == "fish" else ("{", "}")
         script = Path(room, "script")
         places = [Path(room, str(at)) for at in range(len(examples))]
@@ -149,7 +151,7 @@ def runnable(name: str, examples: list[Example]) -> list[Example]:
     here = []
     for it in examples:
         program, _, built = SCRIPTS.get(it.kind, (it.kind, "", ""))
-        missing = next((tool for tool in (program, it.needs, built and f"build/{built}") if tool and not is_here(tool)), None)
+        missing = next((tool for tool in (program, *it.needs, built and f"build/{built}") if tool and not is_here(tool)), None)
         if missing:
             print(f"skipped: {name}:{it.line}, no {missing} here")
         else:

@@ -1,4 +1,4 @@
-// The module called as web/module/README.md says, without its scripts.
+// The module called as web/module/ABI.md says, without its scripts.
 //
 //     node tests/module/plain.mjs MODULE
 //
