@@ -38,7 +38,7 @@ export { STEPS, isStep } from "./steps.js";
 /** @typedef {import("./steps.js").Step} Step */
 
 /** The version of the scripts, and of the module that comes with them. */
-export const VERSION = "1.5.0";
+export const VERSION = "2.0.0";
 
 /** What it was called while the module needed 64-bit memories. @deprecated */
 export const NoWideMemory = NoWebAssembly;
