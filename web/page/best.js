@@ -273,12 +273,13 @@ export class BestContinuations {
     }
 
     /** @param {import("./finder.js").Next} next @param {import("./steps.js").Side} side */
-    #length({ lengths, side: best }, side) {
-        const isBest = lengths[side] !== null && lengths[side] === lengths[best];
+    #length({ lengths, totals, side: best }, side) {
+        const isBest = lengths[side] !== null && totals[side] === totals[best];
         const words = lengths[side] === null ? "no DR" : `DR in ${counted(lengths[side], "move")}`;
+        const inAll = lengths[side] === null ? "" : `, ${totals[side]} in all`;
         const about = {
-            class: isBest ? "best number" : "number", "data-side": side === "normal" ? "N" : "I", title: `${side} side`,
-            "aria-label": `${words} on the ${side} side`,
+            class: isBest ? "best number" : "number", "data-side": side === "normal" ? "N" : "I", title: `${side} side${inAll}`,
+            "aria-label": `${words} on the ${side} side${inAll}`,
         };
         return cell("td", about, lengths[side] === null ? "–" : String(lengths[side]));
     }

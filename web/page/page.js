@@ -204,7 +204,7 @@ export class Page {
         if (read === null) return;
         const cube = await examine(this.#calls, read.line, this.#state.parts);
         if (turn !== this.#turn) return;
-        const offers = await inPortions(offersOf(this.#calls, cube.walk.reached.at(-1), cube.now));
+        const offers = await inPortions(offersOf(this.#calls, cube.walk.reached.at(-1), cube.now, cube.made));
         if (turn !== this.#turn) return;
         this.#showCube(read, cube);
         await this.#showOffers(turn, offers);

@@ -10,11 +10,11 @@ import { SIDES, isReduced, stateOf, statesOf, titleOf } from "./steps.js";
 
 /**
  * The least length, what that makes in all, if moves were made before, and how many solutions there are.
- * @param {import("./engine.js").Count} count @param {number} made moves before it @returns {[string, string, string]}
+ * @param {import("./position.js").Counted} count @param {number} made moves before it @returns {[string, string, string]}
  */
-function wordsOf({ length, solutions }, made) {
+function wordsOf({ length, total, solutions }, made) {
     if (length === null) return ["–", "", "none within 20 moves"];
-    return [counted(length, "move"), made > 0 ? `${made + length} in all, ` : "", counted(solutions, "solution")];
+    return [counted(length, "move"), made > 0 ? `${total} in all, ` : "", counted(solutions, "solution")];
 }
 
 /** Whether offers are reductions.
