@@ -53,7 +53,7 @@ def soon(tally: Tally, browser: Browser) -> None:
         const slack = document.getElementById("best-slack"); slack.value = "2"; slack.dispatchEvent(new Event("change"));
         const look = () => {
             const rows = document.querySelectorAll("#best-body .take").length;
-            if (rows > 0) done([rows, document.getElementById("best-note").textContent, document.getElementById("best-stop").hidden]);
+            if (rows > 0) done([rows, document.getElementById("best-note").textContent, document.getElementById("best-stop").disabled]);
             else setTimeout(look);
         };
         look()"""

@@ -227,7 +227,7 @@ def stopped(tally: Tally, browser: Browser) -> None:
     tally.holds("the progress is shown", browser.until(moving))
     browser.click('[data-cell="eofb.normal"]')
     tally.holds("meanwhile a list is answered", browser.until("return document.querySelector('#solutions-groups button') !== null"))
-    tally.holds("and the search goes on", browser.script("return !document.getElementById('best-stop').hidden"))
+    tally.holds("and the search goes on", browser.script("return !document.getElementById('best-stop').disabled"))
     workers = browser.workers()
     browser.act("#best-stop")
     browser.wait_best()

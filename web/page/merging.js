@@ -32,12 +32,15 @@ function turnsOfFace(face, { needs }) {
     return (halves.includes(face) ? ["2"] : POWERS).map((power) => face + power);
 }
 
+/** How many moves a line may have before two more are tried. */
+const MOST_BEFORE = 254;
+
 /**
- * The beginnings of a step that merge with the end of a clean line on its side.
- * @param {string[]} made @param {string} name of the step @returns {Merger[]}
+ * The beginnings of a step that merge with the end of a clean line on its side; none after a line that has no room for them.
+ * @param {string[]} made @param {string} name of the step @param {string} line of the cube @returns {Merger[]}
  */
-export function mergersOf(made, name) {
-    if (made.length === 0) return [];
+export function mergersOf(made, name, line) {
+    if (made.length === 0 || movesIn(line).length > MOST_BEFORE) return [];
     const group = lastOfAxis(made);
     let ways = [[]];
     for (const turn of group) {

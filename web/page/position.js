@@ -136,7 +136,7 @@ export async function framesOf(calls, scramble, parts) {
  * @returns {Promise<number>}
  */
 async function mostSaved(calls, step, line, made, length) {
-    const mergers = mergersOf(made, step).filter(({ count }) => count <= length);
+    const mergers = mergersOf(made, step, line).filter(({ count }) => count <= length);
     if (mergers.length === 0) return 0;
     const after = mergers.map(({ moves }) => `${line} ${moves}`);
     const found = await firstAll(calls, step, after, length - 1);

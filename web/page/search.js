@@ -74,7 +74,7 @@ function leastOf(nissy, step, line, limit) {
  * @param {Nissy} nissy @param {string} step @param {string} line @param {string[]} made @param {number} length @returns {number}
  */
 function mostSaved(nissy, step, line, made, length) {
-    const saved = mergersOf(made, step).map(({ moves, count, saved: own, before }) => {
+    const saved = mergersOf(made, step, line).map(({ moves, count, saved: own, before }) => {
         const after = `${line} ${moves}`;
         if (leastOf(nissy, step, after, length - count) === null) return 0;
         return own + mostSaved(nissy, step, after, before, length - count);
@@ -132,7 +132,7 @@ function rowOf(nissy, orientation, all, step, key) {
 
 /** How many moves a step saves at most by merging, if it takes none back. One that takes moves back is found without them too.
  * @param {string[]} made @param {string} step */
-const mostMerged = (made, step) => Math.max(0, ...mergersOf(made, step).map(({ saved }) => saved));
+const mostMerged = (made, step) => Math.max(0, ...mergersOf(made, step, "").map(({ saved }) => saved));
 
 /**
  * The rows of twins, one for each reduction: that of the best of them. One with as many moves as the bound is left out.
