@@ -1,8 +1,9 @@
 """What is there before it is asked for, rows before all are found, the best of many, and rows that were seen."""
 import re
+from itertools import product
 
 from browser import Browser
-from best import LONGER, ROWS, STEPS, address_of, program_answers
+from best import LONGER, ROWS, STEPS, address_of, ways_of
 from steps import back
 from tally import Tally
 from wanted import SIDES, TITLES, Position
@@ -52,7 +53,7 @@ def soon(tally: Tally, browser: Browser) -> None:
         const slack = document.getElementById("best-slack"); slack.value = "2"; slack.dispatchEvent(new Event("change"));
         const look = () => {
             const rows = document.querySelectorAll("#best-body .take").length;
-            if (rows > 0) done([rows, document.getElementById("best-note").textContent, document.getElementById("best-stop").hidden]);
+            if (rows > 0) done([rows, document.getElementById("best-note").textContent, document.getElementById("best-stop").disabled]);
             else setTimeout(look);
         };
         look()"""
@@ -67,22 +68,10 @@ def best_of_many(tally: Tally, browser: Browser) -> None:
     """Of more rows than are kept the best are kept, and the note says so."""
     position = Position(LONGER)
     totals, count = [], 0
-    for step in STEPS:
-        for side in SIDES:
-            other = SIDES[side == "normal"]
-            near = program_answers(browser.program, ["near", step, "20", "1"], [position.lines[side]])
-            moves = [line.rsplit("(", 1)[0].strip() for line in near if line]
-            inverted = program_answers(browser.program, ["invert"], moves)
-            count += len(moves)
-            for reduction in (name for name in TITLES if name.endswith(f"-{step}")):
-                same = program_answers(browser.program, ["count", reduction, "20"], [f"{position.lines[side]} {each}" for each in moves])
-                across = program_answers(
-                    browser.program,
-                    ["count", reduction, "20"],
-                    [f"{each} {position.lines[other]}" for each in inverted],
-                )
-                for each, *both in zip(moves, same, across):
-                    totals.append(len(each.split()) + min(int(length) for length in (line.split()[1] for line in both) if length.isdigit()))
+    for step, side in product(STEPS, SIDES):
+        ways = ways_of(browser.program, position, step, side, 1)
+        count += len({moves for moves, _ in ways})
+        totals += [min(each.values())[0] for each in ways.values()]
     browser.open(address_of(LONGER))
     browser.wait_best()
     browser.script("document.getElementById('best-all').checked = true")

@@ -2,10 +2,11 @@
 import re
 import subprocess
 import time
+from itertools import product
 
 from browser import Browser
 from tally import Tally
-from wanted import SIDES, TITLES, Position, twin_key
+from wanted import SIDES, TITLES, Position, merged_count, twin_key
 
 SCRAMBLE = "F2 U2 L2 D2 R2 L2 U2 L B R2 B2 L2 D F B2 R2 U' F R L U R2 F' D2 R2"
 LONGER = "R' U' F D2 L2 F R2 U2 R2 B D2 L B2 D' B2 L' R' B' D2 B2 R' U' F"
@@ -26,27 +27,45 @@ def program_answers(program: str, words: list[str], lines: list[str]) -> list[st
     return subprocess.run([program, *words], input=text, capture_output=True, text=True, check=True).stdout.splitlines()
 
 
-def wanted_rows(program: str, position: Position) -> dict[tuple[str, ...], str]:
+def program_lists(program: str, words: list[str], lines: list[str]) -> list[list[str]]:
+    """The moves of the solutions that the built program lists for each line."""
+    text = "".join(line + "\n" for line in lines)
+    out = subprocess.run([program, *words], input=text, capture_output=True, text=True, check=True).stdout
+    return [[line.rsplit("(", 1)[0].strip() for line in block.splitlines()] for block in out.removesuffix("\n\n").split("\n\n")]
+
+
+def ways_of(program: str, position: Position, step: str, side: str, slack: int = 0) -> dict[tuple[str, str], dict[str, tuple[int, int]]]:
     """
-    Each orientation with each reduction that may follow it on both sides, as the cookbook goes about it, by the built program; and its
-    twins' key.
+    Of each orientation on a side, up to some moves longer than the shortest, with each reduction that may follow it: on both sides the least number of moves in all, counted
+    with what merges, and how long the reduction is, as the cookbook goes about it, by the built program.
     """
-    rows: dict[tuple[str, ...], str] = {}
-    for step in STEPS:
-        for side in SIDES:
-            other = SIDES[side == "normal"]
-            lists = program_answers(program, ["solve", step, "20"], [position.lines[side]])
-            moves = [line.rsplit("(", 1)[0].strip() for line in lists if line]
-            inverted = program_answers(program, ["invert"], moves)
-            for reduction in (name for name in TITLES if name.endswith(f"-{step}")):
-                same = program_answers(program, ["count", reduction, "20"], [f"{position.lines[side]} {each}" for each in moves])
-                across = program_answers(program, ["count", reduction, "20"], [f"{each} {position.lines[other]}" for each in inverted])
-                for each, *counts in zip(moves, same, across):
-                    lengths = dict(zip((side, other), (count.split()[1] for count in counts)))
-                    total = str(len(each.split()) + min(map(int, lengths.values())))
-                    shown = each if side == "normal" else f"({each})"
-                    row = (total, shown, TITLES[step], TITLES[reduction].split(" after")[0], lengths["normal"], lengths["inverse"])
-                    rows[row] = f"{side} {twin_key(each, step)} {reduction}"
+    other = SIDES[side == "normal"]
+    [moves] = program_lists(program, ["near", step, "20", str(slack)], [position.lines[side]])
+    inverted = program_answers(program, ["invert"], moves)
+    ways: dict[tuple[str, str], dict[str, tuple[int, int]]] = {}
+    for reduction in (name for name in TITLES if name.endswith(f"-{step}")):
+        same = program_lists(program, ["solve", reduction, "20"], [f"{position.lines[side]} {each}" for each in moves])
+        across = program_lists(program, ["solve", reduction, "20"], [f"{each} {position.lines[other]}" for each in inverted])
+        for each, one, two in zip(moves, same, across, strict=True):
+            own, beside = min(merged_count(f"{each} {rest}") for rest in one), len(each.split()) + len(two[0].split())
+            ways[each, reduction] = {side: (own, len(one[0].split())), other: (beside, len(two[0].split()))}
+    return ways
+
+
+def wanted_rows(program: str, position: Position, is_all: bool = False) -> dict[str, set[tuple[str, ...]]]:
+    """The rows of the best by their twins' key: each with the moves of one of the best twins, and the least of all on each side."""
+    rows: dict[str, set[tuple[str, ...]]] = {}
+    for step, side in product(STEPS, SIDES):
+        classes: dict[tuple[str, str], dict[str, dict[str, tuple[int, int]]]] = {}
+        for (moves, reduction), ways in ways_of(program, position, step, side).items():
+            classes.setdefault((moves if is_all else twin_key(moves, step), reduction), {})[moves] = ways
+        for (key, reduction), twins in classes.items():
+            normal, inverse = (min(ways[each] for ways in twins.values()) for each in SIDES)
+            total = min(normal[0], inverse[0])
+            best = [moves for moves, ways in twins.items() if min(ways.values())[0] == total]
+            said = (TITLES[step], TITLES[reduction].split(" after")[0], str(normal[1]), str(inverse[1]))
+            shown = {(str(total), moves if side == "normal" else f"({moves})", *said) for moves in best}
+            rows[f"{side} {key} {reduction}"] = shown
     return rows
 
 
@@ -55,33 +74,39 @@ def address_of(scramble: str) -> str:
     return "#scramble=" + scramble.replace(" ", "_").replace("'", "-")
 
 
+def holds_rows(tally: Tally, what: str, rows: list[tuple[str, ...]], wanted: dict[str, set[tuple[str, ...]]]) -> None:
+    """That rows are those that are wanted, one of each key."""
+    keys = {row: key for key, some in wanted.items() for row in some}
+    tally.equal(f"{what}: each is right", [row for row in rows if row not in keys], [])
+    tally.equal(what, sorted(keys.get(row, "") for row in rows), sorted(wanted))
+
+
 def best(tally: Tally, browser: Browser) -> None:
     """All continuations of the shortest orientations, and the way on from the best."""
     browser.open(address_of(SCRAMBLE))
     browser.wait_best()
     wanted = wanted_rows(browser.program, Position(SCRAMBLE))
-    tally.holds("there are some", len(wanted) > 20)
+    every = wanted_rows(browser.program, Position(SCRAMBLE), True)
+    tally.holds("there are some", len(every) > len(wanted) > 20)
     note = browser.text("best-note")
-    tally.equal("how many were tried", note.split(" tried")[0], f"{len(wanted) // 2} of {len(wanted) // 2} EOs")
+    tally.equal("how many were tried", note.split(" tried")[0], f"{len(every) // 2} of {len(every) // 2} EOs")
     tally.equal("the first of them are shown", len(browser.script(ROWS)), 8)
     tally.holds("and more when they are asked for", browser.until(MORE))
     rows = [tuple(row) for row in browser.script(ROWS)]
-    tally.equal("each of them is right", [row for row in rows if row not in wanted], [])
-    least: dict[str, int] = {}
-    for row, key in wanted.items():
-        least[key] = min(int(row[0]), least.get(key, 99))
-    tally.equal("twins are one row, the better of them", sorted((wanted[row], int(row[0])) for row in rows), sorted(least.items()))
-    tally.equal("they are sorted by all moves", [int(row[0]) for row in rows], sorted(least.values()))
+    holds_rows(tally, "twins are one row, the better of them", rows, wanted)
+    tally.equal("they are sorted by all moves", [int(row[0]) for row in rows], sorted(int(row[0]) for row in rows))
     marks = browser.script(
         "return [...document.querySelectorAll('#best-body tr')].map((row) => [...row.querySelectorAll('td.best')].length)",
     )
-    tally.equal("both sides are marked where they are as short", marks, [1 + (row[4] == row[5]) for row in rows])
+    titles = "return [...document.querySelectorAll('#best-body tr')].map((row) => [...row.querySelectorAll('.number')].map((it) => it.title))"
+    totals = [[re.search(r"\d+", title)[0] for title in both] for both in browser.script(titles)]
+    tally.equal("both sides are marked where all moves are as few", marks, [both.count(row[0]) for row, both in zip(rows, totals)])
     tally.holds("which is seen", {1, 2} <= set(marks))
     filters_orientations(tally, browser, rows)
     browser.script("const all = document.getElementById('best-all'); all.checked = true; all.dispatchEvent(new Event('change'))")
     browser.wait_best()
     tally.holds("all of them", browser.until(MORE))
-    tally.equal("are shown by the switch", sorted(tuple(row) for row in browser.script(ROWS)), sorted(wanted))
+    holds_rows(tally, "are shown by the switch", [tuple(row) for row in browser.script(ROWS)], every)
     line, total, reached = rows[0][1], int(rows[0][0]), rows[0][3]
     browser.open(address_of(SCRAMBLE))
     browser.wait_best()
@@ -202,7 +227,7 @@ def stopped(tally: Tally, browser: Browser) -> None:
     tally.holds("the progress is shown", browser.until(moving))
     browser.click('[data-cell="eofb.normal"]')
     tally.holds("meanwhile a list is answered", browser.until("return document.querySelector('#solutions-groups button') !== null"))
-    tally.holds("and the search goes on", browser.script("return !document.getElementById('best-stop').hidden"))
+    tally.holds("and the search goes on", browser.script("return !document.getElementById('best-stop').disabled"))
     workers = browser.workers()
     browser.act("#best-stop")
     browser.wait_best()

@@ -29,6 +29,7 @@ import searches
 import settings
 import sizes
 import steps
+import still
 import stops
 import turned
 import workers
@@ -37,7 +38,7 @@ from selenium.common.exceptions import WebDriverException
 from tally import Tally
 
 PARTS = (keyboard, faults, workers, addresses, best, searches, at_once, turned, steps, line, kept, focus, stops, phone, narrow, sizes, settings,
-    looks)
+    looks, still)
 
 TOP = Path(__file__).resolve().parent.parent.parent
 NO_ENGINE = "globalThis.WebAssembly = undefined;\n"

@@ -1,4 +1,5 @@
 """Where the focus goes and stays, what is dimmed meanwhile, what is said to screen readers, and what tables are called."""
+import re
 import time
 
 from browser import Browser
@@ -212,8 +213,12 @@ def words(tally: Tally, browser: Browser) -> None:
     sides = "return [...document.querySelectorAll('#best-body tr:first-child .number')].map((each) => [each.title, each.ariaLabel])"
     browser.wait_best()
     lengths = browser.texts("#best-body tr:first-child .number")
-    wanted = [[f"{side} side", f"DR in {count} moves on the {side} side"] for side, count in zip(SIDES, lengths)]
-    tally.equal("what the lengths of a row are", browser.script(sides), wanted)
+    said = browser.script(sides)
+    totals = [re.search(r", (\d+) in all$", title)[1] for title, _ in said]
+    wanted = [[f"{side} side, {total} in all", f"DR in {count} moves on the {side} side, {total} in all"]
+        for side, count, total in zip(SIDES, lengths, totals)]
+    tally.equal("what the lengths of a row are", said, wanted)
+    tally.equal("the row's number is the less of both", str(min(map(int, totals))), browser.texts("#best-body tr:first-child th")[0])
     looks = [f"{Position(SCRAMBLE).count(step, side)[2]:,}" for step in ("eofb", "eorl", "eoud") for side in SIDES]
     tally.equal("the looks have a table of their own", browser.texts("#looks-body td"), looks)
 

@@ -202,7 +202,7 @@ def keeps_stages(tally: Tally, browser: Browser) -> None:
     wanted = [[*oriented, *reduced], [*oriented, *after], ["(B D)", "2 moves"], [*oriented, *reduced]]
     tally.equal("each stage with what it reaches", shown(example, whole, further, "inverse.B_D", f"{whole};;drrl-eoud"), wanted)
     tally.equal("an orientation on both sides", shown(example, apart)[0][:2], ["(B D R) R2 (F2 B D)", "EO U/D, both sides"])
-    tally.equal("one that held before", shown("#scramble=U_R", "normal.R-"), [["R'", "1 move", "DR U/D 4c2e"]])
+    tally.equal("one that held before", shown("#scramble=U_R", "normal.R-"), [["R'", "1 move", "DR U/D 4c4e"]])
     every = ["DR U/D", "DR R/L", "DR F/B"]
     tally.equal("a reduction that held before", shown("#scramble=U2", "normal.U_R2~inverse.U"), [["U R2 (U)", "3 moves", *every]])
     tally.equal("one that is reached with its orientation", shown("#scramble=F", "normal.F-"), [["F'", "1 move", *every]])

@@ -29,22 +29,22 @@ def cases(tally: Tally, browser: Browser) -> None:
     tally.equal(
         "the cases of two",
         [listed.get("R2 L D' F"), listed.get("R2 D' L F")],
-        [["U/D 4c2e", "R/L 4c3e"], ["U/D 4c1e", "R/L 6c3e"]],
+        [["U/D 4c4e", "R/L 4c6e"], ["U/D 4c2e", "R/L 6c6e"]],
     )
     browser.choose("most-corners", "4")
-    browser.choose("most-edges", "1")
-    few = [moves for moves, names in listed.items() if any(int(name[4]) <= 4 and int(name[6]) <= 1 for name in names)]
-    tally.equal("at most four corners and an edge", browser.listed(), few)
+    browser.choose("most-edges", "2")
+    few = [moves for moves, names in listed.items() if any(int(name[4]) <= 4 and int(name[6]) <= 2 for name in names)]
+    tally.equal("at most four corners and two edges", browser.listed(), few)
     tally.holds("which leaves some, and not all", 0 < len(few) < len(listed))
     browser.choose("most-corners", "8")
-    browser.choose("most-edges", "4")
+    browser.choose("most-edges", "8")
     browser.choose("list-sort", "case")
-    far = [min(int(name[4]) + 2 * int(name[6]) for name in listed[moves]) for moves in browser.listed()]
+    far = [min(int(name[4]) + int(name[6]) for name in listed[moves]) for moves in browser.listed()]
     tally.equal("sorted by case", far, sorted(far))
     browser.submit("own", "R2 D' L F")
     browser.until("return document.querySelectorAll('#line-list li').length === 1")
     browser.wait()
-    tally.equal("the cases of the steps that follow", browser.script(heads)[:2], ["DR U/D 4c1e", "DR R/L 6c3e"])
+    tally.equal("the cases of the steps that follow", browser.script(heads)[:2], ["DR U/D 4c2e", "DR R/L 6c6e"])
 
 
 def marked(tally: Tally, browser: Browser) -> None:
@@ -74,7 +74,7 @@ def marked(tally: Tally, browser: Browser) -> None:
     named = re.search("EO F/B: 4 bad, ([A-Z ]+);", browser.script("return document.querySelector('#net-normal svg').ariaLabel"))
     tally.equal("and they are named", sorted(named[1].split()) if named else None, ["DF", "FL", "FR", "UF"])
     browser.choose("marks", "DR U/D")
-    tally.equal("corners and edges of the slice", len(browser.script(bad, "normal")), 4 * 3 + 2 * 2)
+    tally.equal("corners, and edges of both sides of the slice", len(browser.script(bad, "normal")), 4 * 3 + 4 * 2)
     browser.choose("marks", "follow")
     browser.script("document.querySelector('[data-cell=\"eorl.normal\"]')?.focus()")
     browser.open(address_of(LONGER))

@@ -88,12 +88,27 @@ def rows_of(solutions: list[str], step: str) -> list[str]:
     return rows
 
 
+def merged_count(line: str) -> int:
+    """How many moves a line has once turns of one face are merged that nothing stands between but turns of the opposite one."""
+    made: list[tuple[str, int]] = []
+    for turn in line.split():
+        face, quarters = turn[0], {"": 1, "2": 2, "'": 3}[turn[1:]]
+        at = len(made) - 1
+        while at >= 0 and made[at][0] != face and one_axis([made[at][0], face]):
+            at -= 1
+        if at >= 0 and made[at][0] == face:
+            quarters = (quarters + made.pop(at)[1]) % 4
+        if quarters:
+            made.append((face, quarters))
+    return len(made)
+
+
 class Position:
     """A scramble and the moves after it on both sides, as the definition of the inverse scramble has them."""
 
     def __init__(self, scramble: str, normal: str = "", inverse: str = "") -> None:
         whole = by_faces(answer("unniss", scramble))
-        self.made = sum(len(by_faces(moves).split()) for moves in (normal, inverse))
+        self.made = {"normal": normal, "inverse": inverse}
         self.lines = {
             "normal": " ".join([answer("invert", inverse), whole, normal]),
             "inverse": " ".join([answer("invert", f"{whole} {normal}"), inverse]),
@@ -124,6 +139,15 @@ class Position:
         is_reduced = any(step.startswith("dr") for step in reached)
         return not reached or (not is_reduced and all(step.startswith("dr") for step in group))
 
+    def in_all(self, side: str = "normal", moves: str = "") -> int:
+        """How many moves there are once neighbours are merged on each side, with some more on one of them."""
+        made = {**self.made, side: f"{self.made[side]} {moves}"}
+        return sum(merged_count(each) for each in made.values())
+
+    def total(self, step: str, side: str) -> int:
+        """The least number of moves in all with a shortest solution."""
+        return min(self.in_all(side, moves) for moves in self.solutions(step, side))
+
     def cells(self) -> list[str]:
         """What the cells of the page's table are called."""
         names = []
@@ -131,7 +155,7 @@ class Position:
             counts = {(step, side): self.count(step, side) for step in group for side in SIDES}
             least = min((length for length, _, _ in counts.values()), default=0) if self.keeps(group) else None
             for (step, side), (length, solutions, _) in counts.items():
-                total = f"{self.made + length} in all, " if self.made else ""
+                total = f"{self.total(step, side)} in all, " if self.in_all() else ""
                 said = f"{counted(length, 'move')}, {total}{counted(solutions, 'solution')}"
                 names.append(f"{TITLES[step]}, {side} side: {said}{', shortest' if length == least else ''}")
         return names

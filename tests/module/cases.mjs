@@ -4,7 +4,7 @@
 //     node tests/module/cases.mjs MODULE
 //
 // The last line is `N passed, M failed`, and the status is 1 where M isn't 0.
-import { badEdges, caseName, isSolved, reachedBy } from "../../web/page/cases.js";
+import { badEdges, caseName, caseOf, isSolved, nameOfCase, reachedBy } from "../../web/page/cases.js";
 import { Nissy } from "../../web/module/nissy.js";
 import { ORIENTATIONS, REDUCTIONS } from "../../web/page/steps.js";
 import { mergeTwins, withoutEarlier } from "../../web/page/twins.js";
@@ -16,8 +16,11 @@ const AXES = ["U/D", "R/L", "F/B"];
 // lines with what is known of them: bad edges on F/B, R/L and U/D, and cases on U/D, R/L and F/B
 const KNOWN = [
   ["", [0, 0, 0], ["0c0e", "0c0e", "0c0e"]],
-  ["F", [4, 0, 0], ["4c2e", "4c2e", "0c0e"]],
-  ["R", [0, 4, 0], ["4c2e", "0c0e", "4c2e"]],
+  ["F", [4, 0, 0], ["4c4e", "4c4e", "0c0e"]],
+  ["R", [0, 4, 0], ["4c4e", "0c0e", "4c4e"]],
+  // two cases that each guide to domino reductions begins with, on U/D
+  ["R U2 R", null, ["4c2e", null, null]],
+  ["R U R", null, ["3c2e", null, null]],
   ["U2 F2 R2", [0, 0, 0], ["0c0e", "0c0e", "0c0e"]],
   ["U R2 F B R B2 R U2 L B2 R U' D' R2 F R' L B2 U2 F2", [12, 12, 12], ["0c0e", "0c0e", "0c0e"]],
 ];
@@ -75,7 +78,9 @@ const numbersOf = (letters) => [
 function tryKnown() {
   for (const [line, edges, cases] of KNOWN) {
     const [letters] = answers(["print"], [line]);
-    holds(`${line}: ${numbersOf(letters)}`, JSON.stringify(numbersOf(letters)) === JSON.stringify([edges, cases]));
+    const [bad, names] = numbersOf(letters);
+    holds(`${line}: bad edges: ${bad}`, edges === null || String(bad) === String(edges));
+    holds(`${line}: cases: ${names}`, cases.every((name, at) => name === null || name === names[at]));
   }
   const [solved, turned] = answers(["print"], ["R L R' L'", "R L'"]);
   holds("a solved cube is solved, another isn't", isSolved(solved) && !isSolved(turned));
@@ -90,6 +95,9 @@ function tryDrawn() {
     const [one, other] = [normal[at], inverse[at]].map((letters) => JSON.stringify(numbersOf(letters)));
     holds(`${line}: the same on both sides: ${one}, ${other}`, one === other);
     holds(`${line}: reached: ${reachedBy(normal[at])}, ${reached[at]}`, String(reachedBy(normal[at])) === String(reached[at]));
+    const named = AXES.map((axis) => caseOf(normal[at], axis)).map(({ corners, edges }) => [corners, edges].map((each) => each.length));
+    const names = named.map(([corners, edges]) => nameOfCase({ corners, edges }));
+    holds(`${line}: the pieces of a case are as many as it says: ${names}`, String(names) === String(numbersOf(normal[at])[1]));
     holds(`${line}: bad edges are even`, ORIENTATIONS.every(({ axis }) => badEdges(normal[at], axis).length % 2 === 0));
   });
   for (const { name } of [...ORIENTATIONS, ...REDUCTIONS]) {

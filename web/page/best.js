@@ -1,6 +1,6 @@
 // The card of the best continuations: looked for by themselves, with progress, a way to stop, filters, and rows that go on.
 import { Stopped } from "./calls.js";
-import { announce, announceLater, counted, element, part, setBusy, tell } from "./element.js";
+import { announce, announceLater, counted, element, part, setBusy } from "./element.js";
 import { BestFilter, NOT_MOVES } from "./filter.js";
 import { byCase, byTotal, findContinuations } from "./finder.js";
 import { focusButton, focusWithin, roveWithin, starButton, takeButton } from "./rows.js";
@@ -35,7 +35,7 @@ function cell(name, attributes, ...children) {
 }
 
 /**
- * The cell of a row's moves and twins, which tells the style how many signs stand on one line where the page is narrow.
+ * The cell of a row's moves and twins, which tells the style how many signs stand on one line, where the page is narrow and elsewhere.
  * @param {HTMLElement} take @param {string[]} others the last turns of the twins @param {boolean} isBeside whether they stand beside the
  * moves there
  */
@@ -44,7 +44,9 @@ function movesCell(take, others, isBeside) {
     const twin = others.length === 0 ? "" : ` or ${either}`;
     const made = cell("td", {}, take, ...(twin === "" ? [] : [element("small", { class: "twins" }, twin)]));
     const seen = take.classList.contains("seen") ? SEEN_SIGNS : 0;
-    made.style.setProperty("--signs", String(take.textContent.length + seen + (isBeside ? SIGN_OF_TWIN * twin.length : 0)));
+    const [own, beside] = [take.textContent.length + seen, SIGN_OF_TWIN * twin.length];
+    made.style.setProperty("--signs", String(own + (isBeside ? beside : 0)));
+    made.style.setProperty("--signs-wide", String(own + beside));
     return made;
 }
 
@@ -87,7 +89,7 @@ export class BestContinuations {
         if (cube !== null) part("best").hidden = !isNeeded;
         if (!isNeeded) {
             this.#body.replaceChildren();
-            tell(part("best-note"), "");
+            part("best-note").textContent = "";
             part("best-more").hidden = true;
             this.#working(false);
             return;
@@ -97,6 +99,13 @@ export class BestContinuations {
         this.#ask();
     }
 
+    /** Shows the card, or hides it, before there are rows: so nothing moves when they come.
+     * @param {string[]} reached @param {boolean} isBare whether no scramble is there yet */
+    expect(reached, isBare) {
+        part("best").hidden = isBare || isReduced(reached);
+        part("best-table").classList.toggle("of-reductions", reached.length > 0);
+    }
+
     /** Ends the workers; a later search starts others. */
     end() {
         for (const finder of this.#finders) finder.end();
@@ -104,7 +113,7 @@ export class BestContinuations {
 
     /** Whether the best are looked for. */
     isWorking() {
-        return !part("best-stop").hidden;
+        return !part("best-stop").disabled;
     }
 
     /** Shows the stars as they are. */
@@ -153,7 +162,7 @@ export class BestContinuations {
         this.#progress = null;
         this.#showRows([]);
         this.#working(true);
-        tell(part("best-note"), LOOKING_FOR_BEST);
+        part("best-note").textContent = LOOKING_FOR_BEST;
         try {
             await findContinuations(this.#finders, question, (progress) => isStill() && this.#show(progress));
             if (isStill()) this.#keep(question);
@@ -174,15 +183,16 @@ export class BestContinuations {
         this.#stop();
         const seen = this.#progress ? ` ${this.#tried()}` : "";
         const text = fault instanceof Stopped ? `Stopped.${seen}` : fault.message;
-        tell(part("best-note"), text);
+        part("best-note").textContent = text;
         announce(text);
     }
 
     #working(isWorking) {
         const stop = part("best-stop");
-        // what is hidden can't keep the focus
-        if (!isWorking && document.activeElement === stop) part("best-slack").focus({ preventScroll: true });
-        stop.hidden = !isWorking;
+        // what can't be pressed can't keep the focus
+        if (!isWorking && document.activeElement === stop) part("best-heading").focus({ preventScroll: true });
+        // it stays where it is, and so does all below it
+        stop.disabled = !isWorking;
         part("best-progress").hidden = !isWorking;
         setBusy("best", isWorking, "");
         if (isWorking) part("best-progress").removeAttribute("value");
@@ -222,8 +232,9 @@ export class BestContinuations {
         const shown = rows.slice(0, this.#shown);
         this.#showRows(shown.map((row) => this.#row(row)));
         part("best-more").hidden = shown.length === rows.length;
-        part("best-more").textContent = `Show more of ${rows.length.toLocaleString("en")}`;
-        tell(part("best-note"), left === null ? NOT_MOVES : this.#note(rows.length));
+        // on one line with what stands beside it
+        part("best-more").textContent = `${isNarrow() ? "More" : "Show more"} of ${rows.length.toLocaleString("en")}`;
+        part("best-note").textContent = left === null ? NOT_MOVES : this.#note(rows.length);
     }
 
     /** @param {number} left how many rows are left */
@@ -251,7 +262,7 @@ export class BestContinuations {
         if (focused === null) return;
         const same = buttons.find(({ dataset }) => dataset.key === focused.key);
         if (same) focusButton(same, focused.place);
-        else (buttons[0] ?? part("best-slack")).focus({ preventScroll: true });
+        else (buttons[0] ?? part("best-heading")).focus({ preventScroll: true });
     }
 
     /** @param {Row} row */
@@ -273,12 +284,13 @@ export class BestContinuations {
     }
 
     /** @param {import("./finder.js").Next} next @param {import("./steps.js").Side} side */
-    #length({ lengths, side: best }, side) {
-        const isBest = lengths[side] !== null && lengths[side] === lengths[best];
+    #length({ lengths, totals, side: best }, side) {
+        const isBest = lengths[side] !== null && totals[side] === totals[best];
         const words = lengths[side] === null ? "no DR" : `DR in ${counted(lengths[side], "move")}`;
+        const inAll = lengths[side] === null ? "" : `, ${totals[side]} in all`;
         const about = {
-            class: isBest ? "best number" : "number", "data-side": side === "normal" ? "N" : "I", title: `${side} side`,
-            "aria-label": `${words} on the ${side} side`,
+            class: isBest ? "best number" : "number", "data-side": side === "normal" ? "N" : "I", title: `${side} side${inAll}`,
+            "aria-label": `${words} on the ${side} side${inAll}`,
         };
         return cell("td", about, lengths[side] === null ? "–" : String(lengths[side]));
     }

@@ -1,9 +1,10 @@
-// What solvers choose by, from the 54 letters of a cube: the bad edges of each axis, and the case of each domino reduction, `4c1e`, which
-// is how many corners are misoriented and how many edges of the slice stand outside it. No search is needed for either.
+// What solvers choose by, from the 54 letters of a cube: the bad edges of each axis, and the case of each domino reduction, `4c2e`, which
+// is how many corners are misoriented and how many edges are on the wrong side of the slice: those of the slice that stand outside it, and
+// as many that stand in it and belong outside. No search is needed for either.
 import { ORIENTATIONS, REDUCTIONS } from "./steps.js";
 
 /** @typedef {number[]} Piece the places of a piece's stickers, in the order of the engine's letters */
-/** @typedef {{corners: Piece[], edges: Piece[]}} Case the misoriented corners, and the edges of the slice outside it */
+/** @typedef {{corners: Piece[], edges: Piece[]}} Case the misoriented corners, and the edges of either side that stand on the other */
 /** @typedef {{corners: number, edges: number}} Size how many there are of each */
 
 const FACE_NAMES = "URFDLB";
@@ -61,7 +62,7 @@ export function caseOf(letters, axis) {
     const isOutside = (places) => places.some((place) => isOn(faceOf(place), axis));
     return {
         corners: CORNERS.filter((places) => places.some(isOff)),
-        edges: EDGES.filter((places) => isOfSlice(places) && isOutside(places)),
+        edges: EDGES.filter((places) => isOfSlice(places) === isOutside(places)),
     };
 }
 
@@ -79,28 +80,29 @@ export function caseSize(letters, axis) {
     const { corners, outside } = COUNTED_PLACES.get(axis);
     const size = { corners: 0, edges: 0 };
     for (const place of corners) if (!isOn(letters[place], axis)) size.corners++;
-    for (const [one, other] of outside) if (!isOn(letters[one], axis) && !isOn(letters[other], axis)) size.edges++;
+    // for each of the slice that stands outside another one stands in it
+    for (const [one, other] of outside) if (!isOn(letters[one], axis) && !isOn(letters[other], axis)) size.edges += 2;
     return size;
 }
 
-/** A case as solvers write it, such as `4c1e`.
+/** A case as solvers write it, such as `4c2e`.
  * @param {Size} size */
 export const nameOfCase = ({ corners, edges }) => `${corners}c${edges}e`;
 
-/** The case of a reduction, such as `4c1e`.
+/** The case of a reduction, such as `4c2e`.
  * @param {string} letters @param {string} axis */
 export const caseName = (letters, axis) => nameOfCase(caseSize(letters, axis));
 
 /** The numbers in the name of a case.
- * @param {string} name such as `4c1e` @returns {Size} */
+ * @param {string} name such as `4c2e` @returns {Size} */
 export function sizeOf(name) {
     const [corners, edges] = name.match(/\d+/g).map(Number);
     return { corners, edges };
 }
 
-/** How far a case is, to sort by: an edge outside the slice costs about two corners.
+/** How far a case is, to sort by: an edge costs about as much as a corner.
  * @param {Size} size */
-export const farnessOf = ({ corners, edges }) => corners + 2 * edges;
+export const farnessOf = ({ corners, edges }) => corners + edges;
 
 /**
  * The orientations that hold, and the reductions that are reached, by the names of their steps.

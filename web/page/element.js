@@ -2,7 +2,7 @@
 
 /**
  * An element of the page, which may be a field, a bar or what folds.
- * @typedef {HTMLElement & {value: any, checked: boolean, selectedIndex: number, maxLength: number, selectionStart: number,
+ * @typedef {HTMLElement & {value: any, checked: boolean, disabled: boolean, selectedIndex: number, maxLength: number, selectionStart: number,
  *     selectionEnd: number, setSelectionRange(from: number, to: number): void, max: number, open: boolean}} PageElement
  */
 

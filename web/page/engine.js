@@ -42,6 +42,15 @@ export const countAll = (calls, step, lines) => countsOf(calls, step, lines);
  */
 export const solve = (calls, step, slack, line) => solutionsOf(calls, step, slack, line);
 
+/**
+ * The length of the shortest solution of a step for each line, or null if it is more than a limit.
+ * @param {Calls} calls @param {string} step @param {string[]} lines @param {number} limit @returns {Promise<(number | null)[]>}
+ */
+export async function firstAll(calls, step, lines, limit) {
+    const found = await calls.solveAll(step, lines, { limit, most: 1 }).catch(tellFault);
+    return found.map(([first]) => first?.length ?? null);
+}
+
 /** The scramble of a seed.
  * @param {Calls} calls @param {string} seed */
 export async function scrambleOf(calls, seed) {

@@ -8,7 +8,7 @@ import { element, part } from "./element.js";
 export const NOT_MOVES = "The text in the filter is not moves: type face turns such as F B'.";
 
 /** How many corners and edges of a case may be asked for; the first of each leaves all. */
-const MOST_OF_CASE = { corners: [8, 7, 6, 5, 4, 3, 2, 0], edges: [4, 3, 2, 1, 0] };
+const MOST_OF_CASE = { corners: [8, 7, 6, 5, 4, 3, 2, 0], edges: [8, 6, 4, 2, 0] };
 
 /**
  * Offers choices, of which the first leaves all; the one that is chosen stays, if it is among them.
@@ -40,7 +40,7 @@ export class CaseFilter {
     }
 
     /**
-     * What says of the name of a case, such as `4c1e`, whether it is left; null if all are.
+     * What says of the name of a case, such as `4c2e`, whether it is left; null if all are.
      * @returns {((name: string) => boolean) | null}
      */
     test() {

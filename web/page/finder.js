@@ -8,8 +8,9 @@ import { watched } from "./watch.js";
 /** @typedef {import("./steps.js").Side} Side */
 
 /**
- * @typedef {{step: string, marks: string, side: Side, case: string, far: number, lengths: Record<Side, number | null>}} Next
- * the reduction that follows
+ * @typedef {{step: string, marks: string, side: Side, case: string, far: number, lengths: Record<Side, number | null>,
+ *     totals: Record<Side, number>}} Next
+ * the reduction that follows: its least length on each side, and all moves with it
  */
 /**
  * @typedef {{total: number, part: Part, length: number, state: string, next: Next | null, others: string[], key: string}} Row

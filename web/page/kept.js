@@ -44,7 +44,7 @@ function stageOf({ reached, next }) {
  * @param {KeptWalk} walk */
 const totalOf = ({ totals, next }) => next?.total ?? totals.at(-1);
 
-/** The reduction that a candidate was kept with, as its row says it: `DR F/B 6c2e: N 4 I 7, 9 in all`; or "".
+/** The reduction that a candidate was kept with, as its row says it: `DR F/B 6c4e: N 4 I 7, 9 in all`; or "".
  * @param {KeptWalk} walk */
 function wordsOfNext({ next }) {
     if (next === null) return "";

@@ -17,7 +17,7 @@ import { ScrambleField } from "./scramble.js";
 import { OpenList, SolutionList } from "./solutions.js";
 import { ORIENTATIONS, bracketed, isReduced, stateOf, stepNamed } from "./steps.js";
 import { StepTable } from "./table.js";
-import { isBare, keepInView, listenToKeys, setUsable, showBeginning, showStart, star, withoutMoving } from "./view.js";
+import { awaitAnswer, isBare, keepInView, listenToKeys, setUsable, showBeginning, showStart, star, withoutMoving } from "./view.js";
 import { tellFailed } from "./watch.js";
 import { NO_ROOM, titleOfPage, unanswered, whyNotListed, whyUnread } from "./words.js";
 
@@ -110,6 +110,7 @@ export class Page {
         tell(part("alert"), fault);
         tellFailed("");
         showBeginning(state);
+        awaitAnswer(state);
         try {
             state.parts = await readSteps(this.#calls, state.parts);
             state.kept = await readKept(this.#calls, state.kept);
@@ -130,6 +131,7 @@ export class Page {
     #showUnread({ scramble, parts }, fault) {
         this.#scramble.show(scramble);
         this.#line.show(parts);
+        awaitAnswer(null);
         setUsable(false);
         this.#refuse(fault);
     }
@@ -195,7 +197,9 @@ export class Page {
         } catch (fault) {
             if (turn === this.#turn) this.#refuse(fault);
         }
-        if (turn === this.#turn) setBusy("results", false);
+        if (turn !== this.#turn) return;
+        awaitAnswer(null);
+        setBusy("results", false);
     }
 
     /** @param {number} turn of which the engine's answers are shown as they come */
@@ -204,7 +208,7 @@ export class Page {
         if (read === null) return;
         const cube = await examine(this.#calls, read.line, this.#state.parts);
         if (turn !== this.#turn) return;
-        const offers = await inPortions(offersOf(this.#calls, cube.walk.reached.at(-1), cube.now));
+        const offers = await inPortions(offersOf(this.#calls, cube.walk.reached.at(-1), cube.now, cube.made));
         if (turn !== this.#turn) return;
         this.#showCube(read, cube);
         await this.#showOffers(turn, offers);
@@ -241,6 +245,7 @@ export class Page {
         this.#line.describe(walk, whole, written);
         setUsable(true);
         part("choices").hidden = isBare(this.#state);
+        this.#best.expect(reached, isBare(this.#state));
         this.#checkList(reached);
         this.#table.begin(this.#cube);
         this.#showKept();
@@ -261,10 +266,12 @@ export class Page {
      * @param {number} turn */
     async #showOffers(turn, portions) {
         let isFirst = true;
+        if (portions.length > 1) this.#table.expect(this.#cube);
         for (const portion of portions) {
             const groups = await portion;
             if (turn !== this.#turn) return;
             this.#table.add(groups, this.#cube, this.#state.list);
+            awaitAnswer(null);
             if (isFirst) this.#startBest();
             isFirst = false;
         }

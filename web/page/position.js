@@ -1,14 +1,17 @@
 // What the engine says of a scramble and the moves after it: the cube after each step, its letters, what is reached, and which steps may
 // follow.
 import { badEdges, caseName, reachedBy } from "./cases.js";
-import { countAll, invertAll, joinAll, printAll, turnsOfAll } from "./engine.js";
+import { cleanAll, countAll, firstAll, invertAll, joinAll, printAll, turnsOfAll } from "./engine.js";
+import { mergersOf, movesIn } from "./merging.js";
 import { SIDES, bracketed, isReduced, joined, movesOn, openSteps, stateOf, statesOf } from "./steps.js";
 
 /** @typedef {import("./steps.js").Side} Side */
 /** @typedef {import("./steps.js").Part} Part */
 /** @typedef {import("./steps.js").Lines} Lines */
 /** @typedef {import("./engine.js").Count} Count */
-/** @typedef {{step: import("./steps.js").OfferedStep, normal: Count, inverse: Count}} Offer */
+/** @typedef {Count & {total: number}} Counted `total`: all moves with the shortest, once they are merged; Infinity if there is none */
+/** @typedef {{step: import("./steps.js").OfferedStep, normal: Counted, inverse: Counted}} Offer */
+/** @typedef {Record<Side, string[]>} Made the clean moves that are made on each side */
 /**
  * What is known of a line after each beginning, from none of its parts to all.
  * @typedef {{parts: Part[], lines: Lines[], letters: string[], inverse: string, reached: string[][], totals: number[],
@@ -73,10 +76,17 @@ export async function walkAll(calls, scramble, candidates) {
 
 /** What is said of a reduction that follows a line.
  * @param {Walk} walk @param {Offer} offer @returns {Next} */
-function nextOf({ letters, totals }, offer) {
+function nextOf({ letters }, offer) {
     const lengths = SIDES.map((side) => offer[side].length);
-    const least = Math.min(...lengths.map((length) => length ?? Infinity));
-    return { state: stateOf(offer.step), case: caseOfStep(letters.at(-1), offer.step), lengths, total: totals.at(-1) + least };
+    const total = Math.min(...SIDES.map((side) => offer[side].total));
+    return { state: stateOf(offer.step), case: caseOfStep(letters.at(-1), offer.step), lengths, total };
+}
+
+/** What is made on each side, clean.
+ * @param {import("./calls.js").Calls} calls @param {Part[]} parts @returns {Promise<Made>} */
+async function madeBy(calls, parts) {
+    const [normal, inverse] = await cleanAll(calls, SIDES.map((side) => movesOn(parts, side)));
+    return { normal: movesIn(normal), inverse: movesIn(inverse) };
 }
 
 /**
@@ -86,10 +96,10 @@ function nextOf({ letters, totals }, offer) {
  */
 export async function walkKept(calls, scramble, candidates) {
     const walks = await walkAll(calls, scramble, candidates.map(({ parts }) => parts));
-    const offers = await Promise.all(walks.map(({ reached, lines }, at) => {
+    const offers = await Promise.all(walks.map(async ({ reached, lines, parts }, at) => {
         const last = reached.at(-1);
         const step = isReduced(last) ? null : openSteps(last).find(({ name }) => name === candidates[at].next);
-        return step ? offerOf(calls, step, lines.at(-1)) : null;
+        return step ? offerOf(calls, step, lines.at(-1), await madeBy(calls, parts)) : null;
     }));
     return walks.map((walk, at) => ({ ...walk, next: offers[at] && nextOf(walk, offers[at]) }));
 }
@@ -99,8 +109,10 @@ export async function walkKept(calls, scramble, candidates) {
  * @param {import("./calls.js").Calls} calls @param {string} scramble by its face turns @param {Part[]} parts
  */
 export async function examine(calls, scramble, parts) {
-    const [[walk], [whole]] = await Promise.all([walkAll(calls, scramble, [parts]), joinAll(calls, [bracketed(parts)])]);
-    return { walk, now: walk.lines.at(-1), letters: { normal: walk.letters.at(-1), inverse: walk.inverse }, whole };
+    const [[walk], [whole], made] = await Promise.all([
+        walkAll(calls, scramble, [parts]), joinAll(calls, [bracketed(parts)]), madeBy(calls, parts),
+    ]);
+    return { walk, made, now: walk.lines.at(-1), letters: { normal: walk.letters.at(-1), inverse: walk.inverse }, whole };
 }
 
 /**
@@ -119,23 +131,45 @@ export async function framesOf(calls, scramble, parts) {
 }
 
 /**
- * A step with its counts on both sides.
- * @param {import("./calls.js").Calls} calls @param {import("./steps.js").OfferedStep} step @param {Lines} now @returns {Promise<Offer>}
+ * How many moves a shortest solution of a length may save, since it merges with what is made on its side.
+ * @param {import("./calls.js").Calls} calls @param {string} step @param {string} line @param {string[]} made @param {number} length
+ * @returns {Promise<number>}
  */
-async function offerOf(calls, step, now) {
-    const [normal, inverse] = await countAll(calls, step.name, [now.normal, now.inverse]);
+async function mostSaved(calls, step, line, made, length) {
+    const mergers = mergersOf(made, step, line).filter(({ count }) => count <= length);
+    if (mergers.length === 0) return 0;
+    const after = mergers.map(({ moves }) => `${line} ${moves}`);
+    const found = await firstAll(calls, step, after, length - 1);
+    const saved = mergers.map(async ({ count, saved: own, before }, at) =>
+        (found[at] === length - count ? own + await mostSaved(calls, step, after[at], before, length - count) : 0));
+    return Math.max(0, ...await Promise.all(saved));
+}
+
+/**
+ * A step with its counts on both sides.
+ * @param {import("./calls.js").Calls} calls @param {import("./steps.js").OfferedStep} step @param {Lines} now @param {Made} made
+ * @returns {Promise<Offer>}
+ */
+async function offerOf(calls, step, now, made) {
+    const counts = await countAll(calls, step.name, [now.normal, now.inverse]);
+    const [normal, inverse] = await Promise.all(SIDES.map(async (side, at) => {
+        const { length } = counts[at];
+        if (length === null) return { ...counts[at], total: Infinity };
+        const saved = await mostSaved(calls, step.name, now[side], made[side], length);
+        return { ...counts[at], total: made.normal.length + made.inverse.length + length - saved };
+    }));
     return { step, normal, inverse };
 }
 
 /**
  * Asks for the steps that may follow, each with its counts on both sides: orientations, and then reductions, where there are some.
- * @param {import("./calls.js").Calls} calls @param {string[]} reached @param {Lines} now @returns {Promise<Offer[]>[]}
+ * @param {import("./calls.js").Calls} calls @param {string[]} reached @param {Lines} now @param {Made} made @returns {Promise<Offer[]>[]}
  */
-export function offersOf(calls, reached, now) {
+export function offersOf(calls, reached, now, made) {
     const steps = openSteps(reached);
     const groups = [false, true].map((isReduction) => steps.filter(({ needs }) => (needs !== null) === isReduction));
     return groups.filter((group) => group.length > 0).map((group) => {
-        const offers = Promise.all(group.map((step) => offerOf(calls, step, now)));
+        const offers = Promise.all(group.map((step) => offerOf(calls, step, now, made)));
         // what is wrong is said where they are waited for
         offers.catch(() => {});
         return offers;

@@ -1,8 +1,9 @@
 // The search for the best continuations of one axis, as a worker makes it: before an orientation each orientation on both sides, with each
 // reduction that may follow it; after one its shortest reductions. It has the engine at hand, so that nothing is sent but the rows.
 import { caseSize, farnessOf, nameOfCase } from "./cases.js";
-import { SIDES, bracketed, otherSide, reductionsAfter, stateOf, stepNamed } from "./steps.js";
-import { lastTurnsOf, mergeTwins, twinKey, withoutEarlier } from "./twins.js";
+import { mergersOf, movesIn } from "./merging.js";
+import { SIDES, joined, movesOn, otherSide, reductionsAfter, stateOf, stepNamed } from "./steps.js";
+import { lastTurnsOf, twinKey, withoutEarlier } from "./twins.js";
 
 /** @typedef {import("../module/nissy.js").Nissy} Nissy */
 /** @typedef {import("./finder.js").Found} Found */
@@ -18,12 +19,23 @@ const MOST_TOLD = 10_000;
 const MOST_SOLUTIONS = 1_000_000;
 const MOST_SEARCHED = 20;
 
-/** How many moves there are in all with a part.
- * @param {Nissy} nissy @param {Part[]} made @param {Sided} added @returns {number} */
-function totalWith(nissy, made, added) {
-    if (made.length === 0) return added.length;
-    return nissy.cleanup(bracketed([...made, added])).match(/[UDRLFB]/g)?.length ?? 0;
+/** @typedef {Record<import("./steps.js").Side, string[]>} Made the clean moves that are made on each side */
+
+/** @param {Nissy} nissy @param {Part[]} parts @returns {Made} */
+function madeBy(nissy, parts) {
+    const [normal, inverse] = SIDES.map((side) => movesIn(nissy.cleanup(movesOn(parts, side))));
+    return { normal, inverse };
 }
+
+/** What is made with a part too.
+ * @param {Nissy} nissy @param {Made} made @param {Part} part @returns {Made} */
+function madeWith(nissy, made, { side, moves }) {
+    const line = joined(made[side].join(" "), moves);
+    return { ...made, [side]: movesIn(made[side].length === 0 ? line : nissy.cleanup(line)) };
+}
+
+/** @param {Made} made */
+const countOf = ({ normal, inverse }) => normal.length + inverse.length;
 
 /**
  * The solutions of a step on each side, without those in which it was reached before, if not all are asked for.
@@ -36,18 +48,17 @@ function onSides(nissy, step, { now, isAll }, slack) {
     });
 }
 
-/** Puts neighbours together that are twins, if not each is asked for.
+/** Puts those together that are twins, if not each is asked for.
  * @param {Sided[]} list @param {string} step @param {boolean} isAll */
 function twinsOf(list, step, isAll) {
-    const groups = [];
-    let last = "";
+    /** @type {Map<string, Sided[]>} */
+    const groups = new Map();
     for (const each of list) {
         const key = [each.side, isAll ? each.moves : twinKey(each.moves, step)].join(".");
-        if (key === last) groups.at(-1).group.push(each);
-        else groups.push({ key, group: [each] });
-        last = key;
+        if (groups.has(key)) groups.get(key).push(each);
+        else groups.set(key, [each]);
     }
-    return groups;
+    return [...groups].map(([key, group]) => ({ key, group }));
 }
 
 /**
@@ -59,41 +70,82 @@ function leastOf(nissy, step, line, limit) {
 }
 
 /**
- * An orientation with the cube after it. Moves on a side follow that side's line, and come inverted before the other's.
- * @param {Nissy} nissy @param {Sided} part @param {Question} question
+ * How many moves a shortest solution of a length may save, since it merges with what is made on its side.
+ * @param {Nissy} nissy @param {string} step @param {string} line @param {string[]} made @param {number} length @returns {number}
  */
-function tried(nissy, part, { now, parts }) {
-    const other = otherSide(part.side);
-    const lines = { [part.side]: `${now[part.side]} ${part.moves}`, [other]: `${nissy.invert(part.moves)} ${now[other]}` };
-    return { part, lines, total: totalWith(nissy, parts, part) };
+function mostSaved(nissy, step, line, made, length) {
+    const saved = mergersOf(made, step, line).map(({ moves, count, saved: own, before }) => {
+        const after = `${line} ${moves}`;
+        if (leastOf(nissy, step, after, length - count) === null) return 0;
+        return own + mostSaved(nissy, step, after, before, length - count);
+    });
+    return Math.max(0, ...saved);
 }
 
-/** The row of an orientation with a reduction.
- * @returns {Row} */
-function rowOf(nissy, { part: { side, moves, length }, lines, total }, state, step, key) {
-    const [normal, inverse] = SIDES.map((each) => leastOf(nissy, step.name, lines[each], MOST_SEARCHED));
-    const lengths = { normal, inverse };
-    const far = (each) => lengths[each] ?? Infinity;
-    const best = far(otherSide(side)) < far(side) ? otherSide(side) : side;
-    const size = caseSize(nissy.facelets(lines[side]), step.axis);
-    const next = { step: step.name, marks: stateOf(step), side: best, case: nameOfCase(size), far: farnessOf(size), lengths };
-    return { total: total + far(best), part: { side, moves }, length, state, next, others: [], key };
+/** @typedef {{part: Sided, lines: import("./steps.js").Lines, made: Made}} Tried an orientation, the cube after it, and what is made then */
+
+/**
+ * An orientation with the cube after it. Moves on a side follow that side's line, and come inverted before the other's.
+ * @param {Nissy} nissy @param {Sided} part @param {import("./steps.js").Lines} now @param {Made} made before it @returns {Tried}
+ */
+function tried(nissy, part, now, made) {
+    const other = otherSide(part.side);
+    const lines = { ...now, [part.side]: `${now[part.side]} ${part.moves}`, [other]: `${nissy.invert(part.moves)} ${now[other]}` };
+    return { part, lines, made: madeWith(nissy, made, part) };
 }
+
+/** @typedef {{length: number | null, total: number}} Way the least length on a side, and all moves with it */
+
+/** The shortest way to a reduction on a side: one that merges most.
+ * @param {Nissy} nissy @param {string} step @param {Tried} tried @param {import("./steps.js").Side} side @returns {Way} */
+function wayTo(nissy, step, { lines, made }, side) {
+    const length = leastOf(nissy, step, lines[side], MOST_SEARCHED);
+    if (length === null) return { length, total: Infinity };
+    return { length, total: countOf(made) + length - mostSaved(nissy, step, lines[side], made[side], length) };
+}
+
+/** Which of some ways is the better one.
+ * @param {Way} one @param {Way} other */
+const byWay = (one, other) => one.total - other.total || one.length - other.length;
+
+/** The row of twins with a reduction: the moves are those of the best of them, the lengths on each side the least of all.
+ * @param {Nissy} nissy @param {string} orientation @param {Tried[]} all @param {import("./steps.js").OfferedStep} step @param {string} key
+ * @returns {Row} */
+function rowOf(nissy, orientation, all, step, key) {
+    const ways = all.map((each) => ({ each, normal: wayTo(nissy, step.name, each, "normal"), inverse: wayTo(nissy, step.name, each, "inverse") }));
+    const totalOf = ({ normal, inverse }) => Math.min(normal.total, inverse.total);
+    const [best, ...others] = ways.sort((one, other) => totalOf(one) - totalOf(other));
+    const { side, moves, length } = best.each.part;
+    const [normal, inverse] = SIDES.map((each) => ways.map((way) => way[each]).sort(byWay)[0]);
+    const totals = { normal: normal.total, inverse: inverse.total };
+    const isOther = totals[otherSide(side)] < totals[side];
+    const size = caseSize(nissy.facelets(best.each.lines[side]), step.axis);
+    const next = {
+        step: step.name, marks: stateOf(step), side: isOther ? otherSide(side) : side, case: nameOfCase(size), far: farnessOf(size),
+        lengths: { normal: normal.length, inverse: inverse.length }, totals,
+    };
+    return {
+        total: totalOf(best), part: { side, moves }, length, state: stateOf(stepNamed(orientation)), next,
+        others: others.map(({ each }) => lastTurnsOf(each.part.moves, orientation)), key,
+    };
+}
+
+/** How many moves a step saves at most by merging, if it takes none back. One that takes moves back is found without them too.
+ * @param {string[]} made @param {string} step */
+const mostMerged = (made, step) => Math.max(0, ...mergersOf(made, step, "").map(({ saved }) => saved));
 
 /**
  * The rows of twins, one for each reduction: that of the best of them. One with as many moves as the bound is left out.
- * @param {Nissy} nissy @param {string} orientation @param {{key: string, group: Sided[]}} twins @param {Question} question
- * @param {number} bound
+ * @param {Nissy} nissy @param {string} orientation @param {string} key @param {Tried[]} all the twins @param {number} bound
  * @returns {(Row | null)[]} null for one that is left out
  */
-function rowsOf(nissy, orientation, { key, group }, question, bound) {
-    const all = group.map((part) => tried(nissy, part, question));
+function rowsOf(nissy, orientation, key, all, bound) {
     return reductionsAfter(orientation).map((step) => {
-        const isWithin = ({ lines, total }) => SIDES.some((side) => leastOf(nissy, step.name, lines[side], bound - 1 - total) !== null);
+        const isWithin = ({ lines, made }) => SIDES.some((side) =>
+            leastOf(nissy, step.name, lines[side], bound - 1 - countOf(made) + mostMerged(made[side], step.name)) !== null);
         if (bound !== Infinity && !all.some(isWithin)) return null;
-        const rows = all.map((each) => rowOf(nissy, each, stateOf(stepNamed(orientation)), step, `${key}.${step.name}`));
-        const [best, ...others] = rows.sort((one, other) => one.total - other.total);
-        return { ...best, others: others.map(({ part }) => lastTurnsOf(part.moves, orientation)) };
+        const row = rowOf(nissy, orientation, all, step, `${key}.${step.name}`);
+        return row.total < bound || bound === Infinity ? row : null;
     });
 }
 
@@ -132,6 +184,7 @@ function* batchesOf(list) {
  */
 function* orientationsFound(nissy, orientation, question) {
     const bound = new Bound();
+    const made = madeBy(nissy, question.parts);
     let done = 0;
     for (const slack of question.slack === 0 ? [0] : [0, question.slack]) {
         const sides = onSides(nissy, orientation, question, slack).map((list) => {
@@ -144,7 +197,8 @@ function* orientationsFound(nissy, orientation, question) {
         yield { done, all, rows: [], isCut: false };
         for (const batch of batchesOf(twinsOf(list, orientation, question.isAll))) {
             const most = bound.get();
-            const rows = batch.flatMap((twins) => rowsOf(nissy, orientation, twins, question, most));
+            const rows = batch.flatMap(({ key, group }) =>
+                rowsOf(nissy, orientation, key, group.map((part) => tried(nissy, part, question.now, made)), most));
             const kept = rows.filter((row) => row !== null);
             bound.add(kept);
             done += batch.reduce((sum, { group }) => sum + group.length, 0);
@@ -159,16 +213,13 @@ function* orientationsFound(nissy, orientation, question) {
  */
 function* reductionsFound(nissy, orientation, question) {
     const rows = [];
+    const made = madeBy(nissy, question.parts);
     for (const step of reductionsAfter(orientation)) {
-        for (const list of onSides(nissy, step.name, question, question.slack)) {
-            const shown = question.isAll ? list.map((each) => ({ ...each, others: [] })) : mergeTwins(list, step.name);
-            const sided = shown.map((each) => ({ ...each, side: list[0].side }));
-            for (const each of sided) {
-                const { side, moves, length, others } = each;
-                const key = `${side}.${moves}.${stateOf(step)}`;
-                const total = totalWith(nissy, question.parts, each);
-                rows.push({ total, part: { side, moves }, length, state: stateOf(step), next: null, others, key });
-            }
+        for (const { group } of twinsOf(onSides(nissy, step.name, question, question.slack).flat(), step.name, question.isAll)) {
+            const counted = group.map((each) => ({ ...each, total: countOf(madeWith(nissy, made, each)) }));
+            const [{ side, moves, length, total }, ...twins] = counted.sort((one, other) => one.total - other.total);
+            const others = twins.map((each) => lastTurnsOf(each.moves, step.name));
+            rows.push({ total, part: { side, moves }, length, state: stateOf(step), next: null, others, key: `${side}.${moves}.${stateOf(step)}` });
         }
     }
     yield { done: rows.length, all: rows.length, rows, isCut: false };

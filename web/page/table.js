@@ -2,7 +2,7 @@
 // it makes in all, and how many solutions there are; what is reached, in a line; and the looks, in a table of their own.
 import { counted, element, part } from "./element.js";
 import { caseOfStep } from "./position.js";
-import { SIDES, isReduced, stateOf, statesOf, titleOf } from "./steps.js";
+import { SIDES, isReduced, openSteps, stateOf, statesOf, titleOf } from "./steps.js";
 
 /** @typedef {import("./position.js").Offer} Offer */
 /** @typedef {import("./steps.js").Side} Side */
@@ -10,12 +10,15 @@ import { SIDES, isReduced, stateOf, statesOf, titleOf } from "./steps.js";
 
 /**
  * The least length, what that makes in all, if moves were made before, and how many solutions there are.
- * @param {import("./engine.js").Count} count @param {number} made moves before it @returns {[string, string, string]}
+ * @param {import("./position.js").Counted} count @param {number} made moves before it @returns {[string, string, string]}
  */
-function wordsOf({ length, solutions }, made) {
+function wordsOf({ length, total, solutions }, made) {
     if (length === null) return ["–", "", "none within 20 moves"];
-    return [counted(length, "move"), made > 0 ? `${made + length} in all, ` : "", counted(solutions, "solution")];
+    return [counted(length, "move"), made > 0 ? `${total} in all, ` : "", counted(solutions, "solution")];
 }
+
+/** A step that is still to be counted. */
+const UNCOUNTED = { length: null, total: Infinity, solutions: 0, looks: 0 };
 
 /** Whether offers are reductions.
  * @param {Offer[]} offers */
@@ -64,7 +67,29 @@ export class StepTable {
      */
     add(added, cube, list) {
         this.#groups.push(...added);
-        const groups = [...this.#groups].sort((one, other) => Number(areReductions(other)) - Number(areReductions(one)));
+        this.#draw(cube, list);
+        part("choices").inert = false;
+    }
+
+    /** Shows the steps before they are counted, so that no row moves once it can be pressed.
+     * @param {Cube} cube */
+    expect(cube) {
+        this.#draw(cube, null);
+    }
+
+    /** The groups of offers, a reduction before an orientation; one that is still to be counted stands in its place.
+     * @param {Cube} cube @returns {Offer[][]} */
+    #inOrder({ reached }) {
+        return [true, false].map((isReduction) => {
+            const known = this.#groups.find((group) => areReductions(group) === isReduction);
+            const steps = openSteps(reached).filter(({ needs }) => (needs !== null) === isReduction);
+            return known ?? steps.map((step) => ({ step, normal: UNCOUNTED, inverse: UNCOUNTED }));
+        }).filter((group) => group.length > 0);
+    }
+
+    /** @param {Cube} cube @param {import("./address.js").List | null} list */
+    #draw(cube, list) {
+        const groups = this.#inOrder(cube);
         const focused = this.#body.contains(document.activeElement) ? document.activeElement.dataset.cell : null;
         const anew = groups.find((group) => !keepsReached(group, cube.reached));
         this.#body.replaceChildren(...groups.flatMap((group) =>
@@ -72,7 +97,6 @@ export class StepTable {
         this.#looks.replaceChildren(...groups.flat().map((offer) => element("tr", {},
             element("th", { scope: "row" }, titleOf(offer.step)),
             ...SIDES.map((side) => element("td", { class: "number" }, offer[side].looks.toLocaleString("en"))))));
-        part("choices").inert = false;
         const all = groups.flat();
         part("no-reduction").hidden = cube.reached.length > 0;
         part("steps-table").hidden = all.length === 0;
@@ -152,7 +176,10 @@ export class StepTable {
         const [length, all, solutions] = wordsOf(count, made);
         const name = `${step.name}.${side}`;
         const isLeast = least !== null && count.length === least;
-        return element("td", { "data-side": side === "normal" ? "Normal" : "Inverse" }, element("button", {
+        const about = { "data-side": side === "normal" ? "Normal" : "Inverse" };
+        // as high as one that is counted
+        if (count === UNCOUNTED) return element("td", about, element("span", { class: "cell" }, element("strong", {}, "…"), element("small", {}, "\u00A0")));
+        return element("td", about, element("button", {
             type: "button",
             class: isLeast ? "cell least" : "cell",
             "data-cell": name,

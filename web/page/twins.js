@@ -5,7 +5,7 @@ import { stepNamed } from "./steps.js";
 /** @typedef {import("./engine.js").Solution} Solution */
 /** @typedef {Solution & {others: string[]}} Twins a solution, with the last moves of its twins */
 
-const AXES_OF_TURNS = ["U/D", "R/L", "F/B"];
+export const AXES_OF_TURNS = ["U/D", "R/L", "F/B"];
 
 /** The axis whose quarter turns end a step's solutions.
  * @param {string} step its name */

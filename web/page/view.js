@@ -22,6 +22,13 @@ export function showBeginning(state) {
     part("welcome").hidden = !isShown;
 }
 
+/** Hides what an address shows until it is known, so that nothing is seen to move; what takes long is seen before.
+ * @param {import("./address.js").State | null} state that is awaited, or null if it is there */
+export function awaitAnswer(state) {
+    document.body.classList.toggle("awaited", state !== null && !isBare(state));
+    document.body.classList.toggle("begun", state !== null && isBare(state));
+}
+
 /**
  * Scrolls to where a column that stays shows what has the focus. The browser scrolls to where that is, and the column goes along.
  * @param {HTMLElement} column @param {Element} focused

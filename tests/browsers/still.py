@@ -1,0 +1,62 @@
+"""Nothing moves under a finger: what the browser says of shifts of the layout, from the first answer on and while an address is opened."""
+import time
+
+from browser import Browser
+from tally import Tally
+
+SCRAMBLE = "#scramble=R-_U-_F_D2_L2_F_R2_U2_R2_B_D2_L_B2_D-_B2_L-_R-_B-_D2_B2_R-_U-_F"
+STATES = (
+    ("a scramble", SCRAMBLE),
+    ("an EO", SCRAMBLE + "&steps=inverse.B_D_R_F2_B_D"),
+    ("a DR", SCRAMBLE + "&steps=inverse.B_D_R_F2_B_D~normal.R_B-~normal.D2_R"),
+    ("kept lines", SCRAMBLE + "&kept=inverse.B_D_R_F2_B_D;a_note;drfb-eoud,normal.R-_U_F-_R_L"),
+    ("nothing", ""),
+)
+SIZES = ((1440, 900), (1180, 980), (768, 1024), (390, 844), (360, 740))
+# every shift that the browser sees, also one that follows a press, with what moved; and where the first row was pressable
+LISTEN = """window.shifts = [];
+    new PerformanceObserver((list) => list.getEntries().forEach((each) => window.shifts.push([each.value, each.startTime,
+        each.sources.map(({ node }) => node?.id || node?.className || node?.nodeName || "")])))
+        .observe({ type: "layout-shift", buffered: true });"""
+SHIFTS = "return window.shifts.filter(([value, time]) => time >= arguments[0]).map(([value, , moved]) => [value.toFixed(3), ...moved])"
+FIRST_ROW = "return document.querySelector('#best-body .take').getBoundingClientRect().top"
+
+
+def opens(tally: Tally, browser: Browser, width: int) -> None:
+    """An address is opened: nothing that is seen moves, from its beginning on."""
+    for what, address in STATES:
+        browser.open(address)
+        browser.wait_best()
+        time.sleep(0.3)
+        tally.equal(f"{width}: {what}: what moves while it is opened", browser.script(SHIFTS, 0), [])
+
+
+def searches(tally: Tally, browser: Browser, width: int) -> None:
+    """A longer search begins, goes on and is stopped, or ends: no row moves."""
+    browser.open(SCRAMBLE)
+    browser.wait_best()
+    top = browser.script(FIRST_ROW)
+    time.sleep(0.3)
+    since = browser.script("return performance.now()")
+    browser.choose("best-slack", "2")
+    browser.until("return document.querySelector('#best-body .take') !== null")
+    tally.equal(f"{width}: the first row while more are looked for", browser.script(FIRST_ROW), top)
+    browser.script("document.getElementById('best-stop').click()")
+    browser.wait_best()
+    tally.equal(f"{width}: the first row after a stop", browser.script(FIRST_ROW), top)
+    browser.choose("best-slack", "0")
+    browser.wait_best()
+    time.sleep(0.3)
+    tally.equal(f"{width}: the first row after the end", browser.script(FIRST_ROW), top)
+    tally.equal(f"{width}: what moves meanwhile", browser.script(SHIFTS, since), [])
+
+
+def try_all(tally: Tally, browser: Browser) -> None:
+    """On windows of each size."""
+    browser.command("Page.enable")
+    script = browser.command("Page.addScriptToEvaluateOnNewDocument", source=LISTEN)
+    for width, height in SIZES:
+        browser.command("Emulation.setDeviceMetricsOverride", width=width, height=height, deviceScaleFactor=1, mobile=False)
+        opens(tally, browser, width)
+        searches(tally, browser, width)
+    browser.command("Page.removeScriptToEvaluateOnNewDocument", identifier=script["identifier"])
