@@ -9,7 +9,7 @@ from . import _library, _rooms
 from ._given import Step, Text, bytes_of
 from ._library import FACTS_ANSWER
 from ._lines import fault_of, steps
-from ._many import Asking, Piece, answers
+from ._many import Asking, Piece, in_pieces
 from ._values import Fault
 
 if sys.version_info >= (3, 8):
@@ -212,7 +212,7 @@ def _fault(piece: Piece, told: bytes, at: int) -> Fault:
 def facts_all(lines: Iterable[Text], threads: int = 1) -> Iterator[Union[Facts, Fault]]:
     """What is seen of each line in turn, as `facts` returns it; of a line for which `facts` raises, what it raises, with the line's number,
     from 1, as `line` (`raising` raises it). Takes lines in pieces, and threads, as `count_all` does."""
-    return answers(lines, Asking(_ask, _told), threads)
+    return in_pieces(lines, Asking(_ask, _told), threads)
 
 
 def check(scramble: Text, solution: Text) -> Check:

@@ -10,9 +10,8 @@ from ._given import Text, bytes_of, each_of, number_of
 
 Value = TypeVar("Value")
 
-MOST_LINES = 16_384
-"""The most lines of a piece: an ordinary room has an answer to each."""
-
+# the most lines of a piece: an ordinary room has an answer to each
+_MOST_LINES = 16_384
 _MOST_BYTES = 1 << 22
 _MOST_THREADS = 1024
 # A piece takes so many seconds or more, if there are lines enough, and at most twice as many: in between Python hears of signals. Threads
@@ -47,8 +46,8 @@ class Asking(Generic[Value]):
 class _Taking:
     """Takes lines in pieces. What ends them before their end is kept until those before it are answered."""
 
-    def __init__(self, lines: Iterator[Text], most: int, short: float) -> None:
-        self._lines, self._most, self._short = lines, most, short
+    def __init__(self, lines: Iterator[Text], short: float) -> None:
+        self._lines, self._short = lines, short
         self._size, self._next = 1, 1
         self.error: Optional[Exception] = None
 
@@ -86,10 +85,9 @@ class _Taking:
         parts: List[bytes] = []
         for line in lines:
             try:
-                parts.append(bytes_of(line, "the line").replace(b"\n", b"\0") + b"\n")
+                parts.append(_bytes_of(self._next + len(parts), line).replace(b"\n", b"\0") + b"\n")
             except (TypeError, ValueError) as error:
-                kind = TypeError if isinstance(error, TypeError) else ValueError
-                self.error = kind(f"line {self._next + len(parts)}: {error}")
+                self.error = error
                 break
         del lines[len(parts):]
         return b"".join(parts)
@@ -99,15 +97,46 @@ class _Taking:
         if len(piece.text) > _MOST_BYTES or seconds > 2 * self._short:
             self._size = max(1, self._size // 2)
         elif seconds < self._short and len(piece.lines) == self._size:
-            self._size = min(self._most, 2 * self._size)
+            self._size = min(_MOST_LINES, 2 * self._size)
 
 
-def answers(lines: Iterable[Text], asking: Asking[Value], threads: int = 1, most: int = MOST_LINES) -> Iterator[Value]:
-    """Returns an iterator of the answers to lines, which are taken in pieces of at most so many. The arguments are checked at once."""
+def in_pieces(lines: Iterable[Text], asking: Asking[Value], threads: int) -> Iterator[Value]:
+    """Returns an iterator of the answers to lines, which are taken in pieces. The arguments are checked at once."""
     each = each_of(lines, "the lines")
     if number_of(threads, "threads", _MOST_THREADS, 1) == 1:
-        return _in_turn(_Taking(each, most, _SHORT), asking)
-    return _side_by_side(_Taking(each, MOST_LINES, _SHORT_OF_THREADS), asking, threads)
+        return _in_turn(_Taking(each, _SHORT), asking)
+    return _side_by_side(_Taking(each, _SHORT_OF_THREADS), asking, threads)
+
+
+def one_by_one(lines: Iterable[Text], ask: Callable[[int, bytes], Value], threads: int) -> Iterator[Value]:
+    """Returns an iterator of the answers to lines, each of which is taken when its answer is asked for: so they come by one thread. Several
+    take pieces. A line is asked by its number, from 1, and its bytes."""
+    each = each_of(lines, "the lines")
+    if number_of(threads, "threads", _MOST_THREADS, 1) == 1:
+        return _each(each, ask)
+
+    def of_piece(piece: Piece) -> List[Value]:
+        return [ask(*piece.line(at)) for at in range(len(piece.lines))]
+
+    def found(_: Piece, values: List[Value]) -> List[Value]:
+        return values
+
+    return _side_by_side(_Taking(each, _SHORT_OF_THREADS), Asking(of_piece, found), threads)
+
+
+def _each(lines: Iterator[Text], ask: Callable[[int, bytes], Value]) -> Iterator[Value]:
+    """Yields the answer to each line."""
+    for number, line in enumerate(lines, 1):
+        yield ask(number, _bytes_of(number, line))
+
+
+def _bytes_of(number: int, line: Text) -> bytes:
+    """Returns the bytes of one of many lines. What is raised of it has its number."""
+    try:
+        return bytes_of(line, "the line")
+    except (TypeError, ValueError) as error:
+        kind = TypeError if isinstance(error, TypeError) else ValueError
+        raise kind(f"line {number}: {error}") from None
 
 
 def _in_turn(taking: _Taking, asking: Asking[Value]) -> Iterator[Value]:

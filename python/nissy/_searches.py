@@ -2,13 +2,13 @@
 from __future__ import annotations
 
 import ctypes
-from typing import Any, Dict, Iterable, Iterator, List, NamedTuple, Optional, Tuple, Union
+from typing import Any, Dict, Iterable, Iterator, List, Optional, Tuple, Union
 
 from . import _library, _rooms
 from ._given import Step, Text, bytes_of, number_of
 from ._library import CUT, FAULT, NOT_START, ROOM, SEARCH_ANSWER
 from ._lines import MOST_WORD, fault_of, fault_text, start_of
-from ._many import Asking, Piece, answers
+from ._many import Asking, Piece, in_pieces, one_by_one
 from ._places import place_of
 from ._values import Count, Cut, Fault, Solution, Solutions, StartFault
 
@@ -17,14 +17,8 @@ _MOST_TURNS = 20
 _ENDS = ("(0)\n", *(f" ({length})\n" for length in range(1, _MOST_TURNS + 1)))
 
 
-class _Asked(NamedTuple):
-    """The numbers of a search, as the library takes them, and whether what was found until a cut is an answer."""
-
-    limit: int
-    slack: int
-    most: int
-    nodes: int
-    partial: bool
+# the numbers of a search as the library takes them: limit, slack, most solutions and most nodes
+_Numbers = Tuple[int, int, int, int]
 
 
 class Tables:
@@ -59,25 +53,15 @@ class Tables:
     def solve(self, line: Text, limit: int = 20, slack: int = 0, most: Optional[int] = None, nodes: Optional[int] = None,
               partial: bool = False) -> Solutions:
         """The solutions of a line, as the function `solve` returns them."""
-        asked = _asked(limit, slack, most, nodes, partial)
-        data = bytes_of(line, "the line")
-        answer, out = self._written(asked, data)
-        if answer.status not in (0, CUT):
-            raise self._fault(answer.status, answer.fault, answer.column, data)
-        is_cut = answer.status == CUT
-        found = Solutions(_solutions(out.decode("ascii"), answer.least), bool(answer.more), answer.nodes, is_cut)
-        if is_cut and not partial:
-            raise Cut(Count(answer.least if found else None, len(found), answer.nodes, True), found)
-        return found
+        return self._solve(_numbers(limit, slack, most, nodes), partial, bytes_of(line, "the line"))
 
     def count(self, line: Text, limit: int = 20, slack: int = 0, most: Optional[int] = None, nodes: Optional[int] = None,
               partial: bool = False) -> Count:
         """How many solutions a line has, as the function `count` returns it."""
-        asked = _asked(limit, slack, most, nodes, partial)
-        data = bytes_of(line, "the line")
-        answer = _library.nissy_count(self._tables, data, len(data), *asked[:4])
+        numbers, data = _numbers(limit, slack, most, nodes), bytes_of(line, "the line")
+        answer = _library.nissy_count(self._tables, data, len(data), *numbers)
         status, found = answer.status, answer.solutions
-        if status not in (0, CUT):
+        if status and status != CUT:
             raise self._fault(status, answer.fault, answer.column, data)
         count = Count(answer.least if found else None, found, answer.nodes, status == CUT)
         if status and not partial:
@@ -87,33 +71,34 @@ class Tables:
     def solve_all(self, lines: Iterable[Text], limit: int = 20, slack: int = 0, most: Optional[int] = None, nodes: Optional[int] = None,
                   partial: bool = False, threads: int = 1) -> Iterator[Union[Solutions, Fault, Cut]]:
         """The solutions of each line, as the function `solve_all` returns them."""
-        asked = _asked(limit, slack, most, nodes, partial)
+        numbers = _numbers(limit, slack, most, nodes)
 
-        def ask(piece: Piece) -> List[Union[Solutions, Fault, Cut]]:
-            return [self._solved(asked, *piece.line(at)) for at in range(len(piece.lines))]
+        def ask(number: int, data: bytes) -> Union[Solutions, Fault, Cut]:
+            try:
+                return self._solve(numbers, partial, data)
+            except (Fault, Cut) as fault:
+                fault.line = number
+                return fault.with_traceback(None)
 
-        def told(_: Piece, found: List[Union[Solutions, Fault, Cut]]) -> List[Union[Solutions, Fault, Cut]]:
-            return found
-
-        return answers(lines, Asking(ask, told), threads, 1)
+        return one_by_one(lines, ask, threads)
 
     def count_all(self, lines: Iterable[Text], limit: int = 20, slack: int = 0, most: Optional[int] = None, nodes: Optional[int] = None,
                   partial: bool = False, threads: int = 1) -> Iterator[Union[Count, Fault, Cut]]:
         """How many solutions each line has, as the function `count_all` returns it."""
-        asked = _asked(limit, slack, most, nodes, partial)
+        numbers = _numbers(limit, slack, most, nodes)
 
         def ask(piece: Piece) -> bytes:
             room, size = _rooms.take(), SEARCH_ANSWER.size * len(piece.lines)
-            _library.nissy_count_lines(self._tables, piece.text, len(piece.text), *asked[:4], room.address, len(piece.lines))
+            _library.nissy_count_lines(self._tables, piece.text, len(piece.text), *numbers, room.address, len(piece.lines))
             told = room.memory[:size]
             _rooms.put_back(room)
             return told
 
-        return answers(lines, Asking(ask, lambda piece, told: self._counts(asked, piece, told)), threads)
+        return in_pieces(lines, Asking(ask, lambda piece, told: self._counts(partial, piece, told)), threads)
 
-    def _written(self, asked: _Asked, data: bytes) -> Tuple[Any, bytes]:
-        """Returns what a search tells, and the solutions that it wrote to a room that is large enough."""
-        room, numbers = _rooms.take(), asked[:4]
+    def _solve(self, numbers: _Numbers, partial: bool, data: bytes) -> Solutions:
+        """Returns the solutions of a line, by numbers that were checked."""
+        room = _rooms.take()
         answer = _library.nissy_solve(self._tables, data, len(data), *numbers, room.address, room.size)
         out = room.memory[:answer.length]
         _rooms.put_back(room)
@@ -122,32 +107,33 @@ class Tables:
             room = _rooms.larger(room)
             answer = _library.nissy_solve(self._tables, data, len(data), *numbers, room.address, room.size)
             out = room.memory[:answer.length] if answer.status != ROOM else b""
-        return answer, out
+        status = answer.status
+        if status and status != CUT:
+            raise self._fault(status, answer.fault, answer.column, data)
+        found = _solutions(out.decode("ascii"), answer.least)
+        found.nodes = answer.nodes
+        if answer.more:
+            found.more, found.cut = True, status == CUT
+            if status and not partial:
+                raise Cut(Count(answer.least if found else None, len(found), found.nodes, True), found)
+        return found
 
-    def _solved(self, asked: _Asked, number: int, data: bytes) -> Union[Solutions, Fault, Cut]:
-        """Returns the solutions of one of many lines, or why there are none."""
-        try:
-            return self.solve(data, *asked)
-        except (Fault, Cut) as fault:
-            fault.line = number
-            return fault.with_traceback(None)
-
-    def _counts(self, asked: _Asked, piece: Piece, told: bytes) -> List[Union[Count, Fault, Cut]]:
+    def _counts(self, partial: bool, piece: Piece, told: bytes) -> List[Union[Count, Fault, Cut]]:
         """Returns the counts of a piece's lines, or why there are none."""
         # the tuple's own way to make one takes half the time
         new = tuple.__new__
         return [new(Count, (least if found else None, found, nodes, False)) if not status
-                else self._not_counted(asked, piece, at, (status, fault, least, column, found, nodes))
+                else self._not_counted(partial, piece, at, (status, fault, least, column, found, nodes))
                 for at, (status, fault, least, _, column, _, found, nodes) in enumerate(SEARCH_ANSWER.iter_unpack(told))]
 
-    def _not_counted(self, asked: _Asked, piece: Piece, at: int, told: Tuple[int, ...]) -> Union[Count, Fault, Cut]:
+    def _not_counted(self, partial: bool, piece: Piece, at: int, told: Tuple[int, ...]) -> Union[Count, Fault, Cut]:
         """Returns what is told of a line that wasn't counted to the end."""
         status, fault, least, column, found, nodes = told
         number, data = piece.line(at)
         if status != CUT:
             return self._fault(status, fault, column, data, number)
         count = Count(least if found else None, found, nodes, True)
-        return count if asked.partial else Cut(count, (), number)
+        return count if partial else Cut(count, (), number)
 
     def _fault(self, status: int, fault: int, column: int, data: bytes, line: Optional[int] = None) -> Fault:
         """Returns what a search told of a line in place of an answer."""
@@ -157,14 +143,14 @@ class Tables:
         return fault_of(status, fault, column, data, line)
 
 
-def _solutions(text: str, length: int) -> List[Solution]:
+def _solutions(text: str, length: int) -> Solutions:
     """Returns the solutions of a text in which each stands on a line with its length in brackets. The first ones have this length."""
     if not text:
-        return []
+        return Solutions()
     # all of a length are cut at once: line by line that takes twice the time
     moves = text.split(_ENDS[length])
     text = moves.pop()
-    found = list(map(Solution, moves))
+    found = Solutions(map(Solution, moves))
     while text:
         length += 1
         moves = text.split(_ENDS[length])
@@ -173,11 +159,11 @@ def _solutions(text: str, length: int) -> List[Solution]:
     return found
 
 
-def _asked(limit: int, slack: int, most: Optional[int], nodes: Optional[int], partial: bool) -> _Asked:
+def _numbers(limit: int, slack: int, most: Optional[int], nodes: Optional[int]) -> _Numbers:
     """Returns the numbers of a search, checked. The library's own greatest number stands for all solutions, and for any number of nodes."""
-    return _Asked(number_of(limit, "the limit", _MOST_TURNS), number_of(slack, "the slack", _MOST_TURNS),
-                  MOST_WORD if most is None else number_of(most, "most", MOST_WORD),
-                  MOST_WORD if nodes is None else number_of(nodes, "nodes", MOST_WORD), bool(partial))
+    return (number_of(limit, "the limit", _MOST_TURNS), number_of(slack, "the slack", _MOST_TURNS),
+            MOST_WORD if most is None else number_of(most, "most", MOST_WORD),
+            MOST_WORD if nodes is None else number_of(nodes, "nodes", MOST_WORD))
 
 
 _last: Dict[str, Tables] = {}

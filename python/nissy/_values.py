@@ -28,14 +28,14 @@ class Solution(str):
 
 
 class Solutions(List[Solution]):
-    """The solutions of a line, as a list. `more` says whether there are others beyond `most`, `nodes` how many positions the search looked
-    at, and `cut` whether it ended at its bound: then the list is a beginning of that of all, and `more` is true."""
+    """The solutions of a line, as a list."""
 
-    __slots__ = ("more", "nodes", "cut")
-
-    def __init__(self, found: Iterable[Solution] = (), more: bool = False, nodes: int = 0, cut: bool = False) -> None:
-        super().__init__(found)
-        self.more, self.nodes, self.cut = more, nodes, cut
+    more: bool = False
+    """Whether there are others beyond `most`, or may be beyond a cut."""
+    nodes: int = 0
+    """How many positions the search looked at."""
+    cut: bool = False
+    """Whether the search ended at its bound: then the list is a beginning of that of all."""
 
 
 class Count(NamedTuple):
