@@ -18,6 +18,7 @@ import addresses
 import at_once
 import best
 import faults
+import filters
 import focus
 import kept
 import keyboard
@@ -37,7 +38,7 @@ from browser import Browser
 from selenium.common.exceptions import WebDriverException
 from tally import Tally
 
-PARTS = (keyboard, faults, workers, addresses, best, searches, at_once, turned, steps, line, kept, focus, stops, phone, narrow, sizes, settings,
+PARTS = (keyboard, faults, workers, addresses, best, searches, at_once, turned, steps, line, kept, focus, stops, phone, narrow, sizes, settings, filters,
     looks, still)
 
 TOP = Path(__file__).resolve().parent.parent.parent

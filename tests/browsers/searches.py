@@ -36,8 +36,8 @@ def cases(tally: Tally, browser: Browser) -> None:
     few = [moves for moves, names in listed.items() if any(int(name[4]) <= 4 and int(name[6]) <= 2 for name in names)]
     tally.equal("at most four corners and two edges", browser.listed(), few)
     tally.holds("which leaves some, and not all", 0 < len(few) < len(listed))
-    browser.choose("most-corners", "8")
-    browser.choose("most-edges", "8")
+    browser.choose("most-corners", "")
+    browser.choose("most-edges", "")
     browser.choose("list-sort", "case")
     far = [min(int(name[4]) + int(name[6]) for name in listed[moves]) for moves in browser.listed()]
     tally.equal("sorted by case", far, sorted(far))

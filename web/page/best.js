@@ -1,7 +1,7 @@
 // The card of the best continuations: looked for by themselves, with progress, a way to stop, filters, and rows that go on.
 import { Stopped } from "./calls.js";
 import { announce, announceLater, counted, element, part, setBusy } from "./element.js";
-import { BestFilter, NOT_MOVES } from "./filter.js";
+import { BestFilter, FilterSigns, NOT_MOVES } from "./filter.js";
 import { byCase, byTotal, findContinuations } from "./finder.js";
 import { focusButton, focusWithin, roveWithin, starButton, takeButton } from "./rows.js";
 import { SIDES, bracketed, isReduced, reducedAfter } from "./steps.js";
@@ -54,6 +54,7 @@ export class BestContinuations {
     #finders;
     #acts;
     #filter = new BestFilter({ changed: () => this.#filtered(), typed: () => this.#typed() });
+    #signs = new FilterSigns("best", () => this.#clear());
     #question = null;
     #progress = null;
     #found = new Map();
@@ -119,6 +120,12 @@ export class BestContinuations {
     /** Shows the stars as they are. */
     mark() {
         this.#draw();
+    }
+
+    #clear() {
+        this.#filter.clear();
+        this.#filtered();
+        announce(part("best-note").textContent);
     }
 
     /** Shows what the filters leave, from its beginning. */
@@ -226,11 +233,13 @@ export class BestContinuations {
     }
 
     #draw() {
+        this.#signs.show(this.#filter.count(), false);
         if (this.#progress === null) return this.#showRows([]);
         const left = this.#rows();
         const rows = left ?? [];
         const shown = rows.slice(0, this.#shown);
         this.#showRows(shown.map((row) => this.#row(row)));
+        this.#signs.show(this.#filter.count(), rows.length === 0 && this.#progress.rows.length > 0);
         part("best-more").hidden = shown.length === rows.length;
         // on one line with what stands beside it
         part("best-more").textContent = `${isNarrow() ? "More" : "Show more"} of ${rows.length.toLocaleString("en")}`;

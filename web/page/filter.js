@@ -1,14 +1,18 @@
 // What is left of rows: by how many corners and edges their cases may have, by turns that are typed, by the last turn, by axis and side.
 import { sizeOf } from "./cases.js";
-import { element, part } from "./element.js";
+import { element, part, tell } from "./element.js";
 
 /** @typedef {import("./finder.js").Row} Row */
 
 /** What is said of a text that isn't moves. */
 export const NOT_MOVES = "The text in the filter is not moves: type face turns such as F B'.";
 
-/** How many corners and edges of a case may be asked for; the first of each leaves all. */
-const MOST_OF_CASE = { corners: [8, 7, 6, 5, 4, 3, 2, 0], edges: [8, 6, 4, 2, 0] };
+/** How many corners and edges of a case may be asked for, beside any number. */
+const MOST_OF_CASE = { corners: [7, 6, 5, 4, 3, 2, 0], edges: [6, 4, 2, 0] };
+
+/** How many of some fields leave not all.
+ * @param {import("./element.js").PageElement[]} fields */
+const countOn = (fields) => fields.filter(({ value }) => value.trim() !== "").length;
 
 /**
  * Offers choices, of which the first leaves all; the one that is chosen stays, if it is among them.
@@ -28,7 +32,7 @@ export class CaseFilter {
     constructor(name, changed) {
         this.#fields = Object.entries(MOST_OF_CASE).map(([kind, counts]) => {
             const field = part(`${name}-${kind}`);
-            field.append(...counts.map((count) => element("option", { value: count }, String(count))));
+            field.append(element("option", { value: "" }, "any"), ...counts.map((count) => element("option", { value: count }, String(count))));
             field.addEventListener("change", changed);
             return field;
         });
@@ -36,7 +40,12 @@ export class CaseFilter {
 
     /** Leaves all. */
     clear() {
-        for (const field of this.#fields) field.selectedIndex = 0;
+        for (const field of this.#fields) field.value = "";
+    }
+
+    /** How many fields leave not all. */
+    count() {
+        return countOn(this.#fields);
     }
 
     /**
@@ -44,8 +53,8 @@ export class CaseFilter {
      * @returns {((name: string) => boolean) | null}
      */
     test() {
-        if (this.#fields.every((field) => field.selectedIndex === 0)) return null;
-        const [corners, edges] = this.#fields.map(({ value }) => Number(value));
+        if (this.count() === 0) return null;
+        const [corners, edges] = this.#fields.map(({ value }) => (value === "" ? Infinity : Number(value)));
         return (name) => {
             const size = sizeOf(name);
             return size.corners <= corners && size.edges <= edges;
@@ -105,6 +114,11 @@ export class TurnFilter {
         this.#last.value = "";
     }
 
+    /** How many fields leave not all. */
+    count() {
+        return countOn([this.#typed, this.#last]);
+    }
+
     focus() {
         this.#typed.focus();
     }
@@ -150,6 +164,11 @@ export class ListFilter {
         this.#cases.clear();
     }
 
+    /** How many fields leave not all. */
+    count() {
+        return this.#turns.count() + this.#cases.count();
+    }
+
     focus() {
         this.#turns.focus();
     }
@@ -171,6 +190,32 @@ export class ListFilter {
         const isLeft = this.#cases.test();
         const hasCase = (entry) => isLeft === null || casesOf(entry).some(({ name }) => isLeft(name));
         return entries.filter((entry) => hasTurn(entry) && hasCase(entry));
+    }
+}
+
+/** What says of a card how many of its filters are on, a button that clears them, and a sentence where they leave nothing. */
+export class FilterSigns {
+    #badge;
+    #button;
+    #none;
+
+    /** @param {string} name with which the ids begin @param {() => void} clear */
+    constructor(name, clear) {
+        this.#badge = part(`${name}-on`);
+        this.#button = part(`${name}-clear`);
+        this.#none = part(`${name}-none`);
+        this.#button.addEventListener("click", () => {
+            // what is hidden can't keep the focus
+            this.#badge.closest("summary").focus({ preventScroll: true });
+            clear();
+        });
+    }
+
+    /** @param {number} count how many are on @param {boolean} isEmpty whether they leave nothing of something */
+    show(count, isEmpty) {
+        tell(this.#badge, count === 0 ? "" : `${count} on`);
+        this.#button.hidden = count === 0;
+        this.#none.hidden = count === 0 || !isEmpty;
     }
 }
 
@@ -207,6 +252,22 @@ export class BestFilter {
         this.#reduction.side.value = "";
         this.#reduction.axis.value = "";
         offerChoices(this.#reduction.axis, reductions);
+    }
+
+    /** Leaves all. */
+    clear() {
+        this.#cases.clear();
+        this.#turns.clear();
+        for (const field of this.#fields()) field.value = "";
+    }
+
+    /** How many fields of those that are shown leave not all. */
+    count() {
+        return countOn(this.#fields()) + (this.#isOfReductions ? this.#turns.count() : this.#cases.count());
+    }
+
+    #fields() {
+        return Object.values(this.#isOfReductions ? this.#reduction : this.#orientation);
     }
 
     /** Offers the last turns of the rows.

@@ -4,7 +4,7 @@ import { Stopped } from "./calls.js";
 import { caseName, farnessOf, sizeOf } from "./cases.js";
 import { announce, announceLater, counted, element, part, setBusy, spoken, tell } from "./element.js";
 import { printAll, solve } from "./engine.js";
-import { ListFilter, NOT_MOVES } from "./filter.js";
+import { FilterSigns, ListFilter, NOT_MOVES } from "./filter.js";
 import { focusButton, focusWithin, roveWithin, starButton, takeButton } from "./rows.js";
 import { bracketed, reductionsAfter, stateOf, stepNamed, titleOf } from "./steps.js";
 import { mergeTwins, withoutEarlier } from "./twins.js";
@@ -42,6 +42,7 @@ export class SolutionList {
     #ordered = [];
     #shown = MOST_SHOWN;
     #filter = new ListFilter({ changed: () => this.#filtered(), typed: () => this.#typed() });
+    #signs = new FilterSigns("list", () => this.#clear());
     #groups = part("solutions-groups");
 
     /**
@@ -66,6 +67,7 @@ export class SolutionList {
         const isSame = list?.step === this.#list?.step && list?.side === this.#list?.side;
         // the filters stay for the same list with other rows, and what is typed while it is looked for stays too
         if (!isSame) this.#clearFilters();
+        this.#signs.show(this.#filter.count(), false);
         this.#list = list;
         this.#all = null;
         this.#shown = MOST_SHOWN;
@@ -146,6 +148,12 @@ export class SolutionList {
         return `${this.#whole ? "" : "more than "}${counted(this.#all.length, "solution")}`;
     }
 
+    #clear() {
+        this.#filter.clear();
+        this.#filtered();
+        announce(part("solutions-note").textContent);
+    }
+
     #clearFilters() {
         this.#filter.clear();
         part("list-sort").value = "";
@@ -204,6 +212,7 @@ export class SolutionList {
             matching.sort((one, other) => far.get(one) - far.get(other) || one.length - other.length);
         }
         this.#ordered = matching;
+        this.#signs.show(this.#filter.count(), matching.length === 0 && this.#entries.length > 0);
         const shown = matching.slice(0, this.#shown);
         part("solutions-more").hidden = shown.length === matching.length;
         const nameOf = byCase ? (entry) => this.#nearest(entry).name : ({ length }) => counted(length, "move");

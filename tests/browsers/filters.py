@@ -1,0 +1,59 @@
+"""Filters that stay for the next scramble are seen when they are folded, can be cleared at once, and say so where they leave nothing."""
+from best import LONGER, SCRAMBLE, TYPE, address_of
+from browser import Browser
+from tally import Tally
+
+SIGNS = """return ['on', 'clear', 'none'].map((each) => document.getElementById(`${arguments[0]}-${each}`))
+    .map((each) => each.checkVisibility() ? each.textContent : '')"""
+CLEAR = "Clear filters"
+
+
+def of_the_best(tally: Tally, browser: Browser) -> None:
+    """Those of the best."""
+    browser.open(address_of(LONGER))
+    browser.wait_best()
+    first = browser.texts("#best-body tr")
+    every = browser.script(
+        "return ['best-corners', 'best-edges', 'most-corners'].map((name) => document.getElementById(name).options[0].text)")
+    tally.equal("what leaves any case is called so", every, ["any"] * 3)
+    tally.equal("without a filter nothing is said", browser.script(SIGNS, "best"), ["", "", ""])
+    browser.choose("best-axis", "EO F/B")
+    browser.choose("best-corners", "4")
+    left = browser.texts("#best-body tr")
+    tally.equal("two are on", browser.script(SIGNS, "best"), ["2 on", CLEAR, ""])
+    tally.holds("and leave less", left != first)
+    browser.fill("scramble", SCRAMBLE)
+    browser.wait_best()
+    tally.holds("they are folded", not browser.script("return document.getElementById('best-options').open"))
+    tally.equal("for the next scramble too", browser.script(SIGNS, "best")[:2], ["2 on", CLEAR])
+    browser.choose("best-corners", "0")
+    browser.choose("best-edges", "0")
+    tally.equal("nothing is left", browser.texts("#best-body tr"), [])
+    tally.equal("which is said", browser.script(SIGNS, "best"), ["3 on", CLEAR, "No row is left by the filters below."])
+    browser.click("#best-clear")
+    tally.equal("they are cleared", browser.script(SIGNS, "best"), ["", "", ""])
+    tally.holds("and all are there", browser.texts("#best-body tr"))
+    tally.equal("the focus is at the fold", browser.script("return document.activeElement.closest('#best-options') !== null"), True)
+    values = "return [...document.querySelectorAll('#best-filters select:not(#best-sort)')].map((each) => each.value)"
+    tally.equal("no field is set", browser.script(values), [""] * 5)
+
+
+def of_a_list(tally: Tally, browser: Browser) -> None:
+    """Those of a list."""
+    browser.open(address_of(LONGER) + "&list=eorl.normal.0")
+    tally.equal("without a filter nothing is said", browser.script(SIGNS, "list"), ["", "", ""])
+    count = len(browser.listed())
+    browser.script(TYPE, "", "U U")
+    tally.equal("nothing is left", (browser.listed(), browser.script(SIGNS, "list")), ([], ["1 on", CLEAR, "No row is left by the filters above."]))
+    browser.click("#list-clear")
+    tally.equal("they are cleared", (len(browser.listed()), browser.script(SIGNS, "list")), (count, ["", "", ""]))
+    browser.choose("most-corners", "4")
+    tally.equal("a case", browser.script(SIGNS, "list")[0], "1 on")
+    browser.act('[data-cell="eofb.normal"]')
+    tally.equal("another list has none", browser.script(SIGNS, "list"), ["", "", ""])
+
+
+def try_all(tally: Tally, browser: Browser) -> None:
+    """All of them."""
+    for part in (of_the_best, of_a_list):
+        part(tally, browser)
