@@ -146,9 +146,9 @@ def without_memory(call):
 nissy.solve("eofb", "F")
 """
 
-# little memory: a smaller room than the usual one, and none for what outgrows it
+# little memory, of which the solutions as strings need most; and none for what outgrows it
 LITTLE = LIMITED + """
-limited(200_000_000)
+limited(60_000_000)
 print(nissy.run(["solve", "eofb", "20"], b"F\\n").out == b"F (1)\\nF' (1)\\n\\n", len(nissy.near("eofb", "", 5, 20)))
 limited(20_000_000)
 print(without_memory(lambda: nissy.run(["near", "eofb", "7", "20"], b"\\n")), without_memory(lambda: nissy.near("eofb", "", 7, 20)))
@@ -264,7 +264,7 @@ def processes(tally: Tally) -> None:
     tally.equal("no memory for tables", of_process(NO_TABLES),
                 "no memory for the tables of dr-eofb; no memory for the tables of dr-eofb; ['F', \"F'\"]\n2\n")
     little = of_process(LITTLE).splitlines()
-    tally.equal("less memory than a large room", little[:1], ["True 148176"])
+    tally.equal("little memory is enough", little[:1], ["True 148176"])
     tally.holds("no memory for all solutions: " + str(little[1:2]), little[1:2] and little[1].count("bytes of output") == 2)
     tally.equal("it goes on after that", little[2:], ["['F', \"F'\"] b'eofb\\n'"])
 
