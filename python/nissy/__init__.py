@@ -24,16 +24,17 @@ from ._library import DONE, FAULT, MOST_INPUT, STOPPED, USAGE
 from ._lines import cleanup, facelets, invert, scramble, steps, unniss, version
 from ._runs import run, scrambles
 from ._searches import Tables, count, count_all, near, solve, solve_all
+from ._tokens import Token, tokens
 from ._values import Answer, Count, Cut, Fault, LineFault, Solution, Solutions, StartFault, raising
 
 __all__ = ["DONE", "FAULT", "MOST_INPUT", "STOPPED", "USAGE", "Answer", "Case", "Check", "Count", "Cut", "Facts", "Fault", "LineFault",
-           "Pieces", "Solution", "Solutions", "StartFault", "Tables", "check", "cleanup", "count", "count_all", "facelets", "facts",
-           "facts_all", "invert", "near", "raising", "run", "scramble", "scrambles", "solve", "solve_all", "steps", "unniss"]
+           "Pieces", "Solution", "Solutions", "StartFault", "Tables", "Token", "check", "cleanup", "count", "count_all", "facelets",
+           "facts", "facts_all", "invert", "near", "raising", "run", "scramble", "scrambles", "solve", "solve_all", "steps", "tokens", "unniss"]
 
 __version__ = version()
 del version
 
 # what others see of these, as in a traceback or in what was pickled, is named by the package
-for _public in (Answer, Case, Check, Count, Cut, Facts, Fault, LineFault, Pieces, Solution, Solutions, StartFault, Tables):
+for _public in (Answer, Case, Check, Count, Cut, Facts, Fault, LineFault, Pieces, Solution, Solutions, StartFault, Tables, Token):
     _public.__module__ = __name__
 del _public

@@ -8,7 +8,6 @@ from typing import List
 ORDINARY = 1 << 20
 """The bytes of an ordinary room."""
 
-_LARGE = 1 << 30
 _GROWTH = 8
 # so many ordinary rooms are kept at most for the next calls
 _MOST_KEPT = 16
@@ -45,19 +44,16 @@ def put_back(room: Room) -> None:
         _kept.append(room)
 
 
-def large() -> Room:
-    """Returns a room of 1 GiB, or of half of that and so on, as the system grants it, but always one larger than an ordinary one."""
-    size = _LARGE
+def larger(room: Room) -> Room:
+    """Returns a room for an output that this one was too small for: eight times as large, so that little is written twice, or half of that
+    and so on, as the system grants it. A large room that was too small is given back before."""
+    size, granted = room.size * _GROWTH, room.size
+    if room.size > ORDINARY:
+        del room.memory
     while True:
         try:
             return Room(size)
         except MemoryError:
             size //= 2
-            if size <= ORDINARY:
+            if size <= granted:
                 raise
-
-
-def larger(room: Room) -> Room:
-    """Returns a room for an output that this one was too small for. A search stops at the solution that has no room, so hardly anything is
-    searched twice."""
-    return large() if room.size <= ORDINARY else Room(room.size * _GROWTH)

@@ -43,14 +43,15 @@ class _Run:
 
 
 def _answer(words: bytes, data: bytes) -> Answer:
-    """Returns the answer of a run that has room enough: an ordinary room, or a large one if the output may well need it."""
+    """Returns the answer of a run that has room enough: an ordinary room, or a larger one if the output may well need it."""
+    room = _rooms.take()
     if not words.startswith(_SEARCHES) and len(data) <= _SHORT:
-        room = _rooms.take()
         answer = _Run(room, words, data).answer()
-        _rooms.put_back(room)
         if not answer.full:
+            _rooms.put_back(room)
             return answer
-    room = _rooms.large()
+    _rooms.put_back(room)
+    room = _rooms.larger(room)
     made = _Run(room, words, data)
     while made.full:
         room = _rooms.larger(room)
@@ -61,10 +62,9 @@ def _answer(words: bytes, data: bytes) -> Answer:
 def run(words: Iterable[Text], data: Text = b"", room: Optional[int] = None) -> Answer:
     """Does what the program does with these words after its name and `data` as its input.
 
-    A word or an input that is a string is read as UTF-8. Solutions have room for 1 GiB, of which they take what they need; only for more is
-    their search made again. With `room` the run is made once, with room for so many bytes, and `full` says whether these were too few.
-    Raises MemoryError if there is no room for the output. If there is none for the words or tables, the status is STOPPED, as the
-    program's.
+    A word or an input that is a string is read as UTF-8. If the room is too small for the output, the run is made again with eight times as
+    much. With `room` the run is made once, with room for so many bytes, and `full` says whether these were too few. Raises MemoryError if
+    there is no room for the output. If there is none for the words or tables, the status is STOPPED, as the program's.
     """
     joined, given = _joined(words), bytes_of(data, "the input")
     if room is None:

@@ -102,7 +102,7 @@ class Tables:
         answer = _library.nissy_solve(self._tables, data, len(data), *numbers, room.address, room.size)
         out = room.memory[:answer.length]
         _rooms.put_back(room)
-        # it stopped as soon as the room was full, so little is searched twice
+        # it stopped as soon as the room was full
         while answer.status == ROOM:
             room = _rooms.larger(room)
             answer = _library.nissy_solve(self._tables, data, len(data), *numbers, room.address, room.size)

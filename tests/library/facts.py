@@ -21,7 +21,9 @@ sys.path[:0] = [str(TOP / "python"), str(TOP / "tests"), str(TOP / "tests/model"
 
 import bad_pieces as model
 import nissy
+from cube import LAYERS
 from drawing import Drawing
+from notation import read, word_of
 from tally import Tally
 
 # the package as one calls it who looks at no types
@@ -136,6 +138,34 @@ def drawn_checks(tally: Tally, lines: List[str]) -> None:
     tally.equal("both answers are there", answers, {True, False})
 
 
+def tokens(tally: Tally) -> None:
+    """The moves of lines that a person can tell."""
+    tally.equal("moves and brackets", nissy.tokens("R (u2' M) F\u2019"),
+                [("R", "x", (1,), 1, False), ("Uw2", "y", (0, 1), 2, True), ("M", "x", (0,), -1, True), ("F'", "z", (1,), -1, False)])
+    tally.equal("without a blank", [it.text for it in nissy.tokens(b"RL'x2()D")], ["R", "L'", "x2", "D"])
+    tally.equal("of nothing", nissy.tokens(" "), [])
+    tally.equal("the other way round", [it.quarters for it in nissy.tokens("L L' L2 E S")], [-1, 1, 2, -1, 1])
+    for line, column, text in FAULTS:
+        tally.equal(f"tokens of {line!r}", told(raised(nissy.LineFault, lambda: untyped.tokens(line))), (column, text, None))
+
+
+def as_token(move: Any) -> Any:
+    """A move of the model as a token has it."""
+    letters, quarters = move
+    axis, layers, clockwise = LAYERS[letters]
+    return word_of(move), "xyz"[axis], layers, {1: 1, 2: 2, 3: -1}[clockwise * quarters % 4]
+
+
+def drawn_tokens(tally: Tally, lines: List[str]) -> None:
+    """The moves of drawn lines, beside the model."""
+    wrong = []
+    for line in lines:
+        parts, got = [list(map(as_token, part)) for part in read(line.encode())], nissy.tokens(line)
+        if [[it[:4] for it in got if it.inverse == inverse] for inverse in (False, True)] != parts:
+            wrong.append(line)
+    tally.equal("moves of drawn lines", wrong, [])
+
+
 def bounds(tally: Tally) -> None:
     """Searches with a bound on the positions."""
     whole, found = nissy.count("eofb", "R U F", slack=2), nissy.solve("eofb", "R U F", slack=2)
@@ -244,7 +274,9 @@ def main() -> None:
     seed, count = map(int, sys.argv[1:3] or ("1", "2000"))
     for part in (cases, solutions, bounds, many, goes_on):
         part(tally)
+    tokens(tally)
     lines = drawn_lines(seed, count)
+    drawn_tokens(tally, lines)
     drawn_facts(tally, lines)
     drawn_checks(tally, lines)
     tally.end()

@@ -133,6 +133,22 @@ signal.setitimer(signal.ITIMER_REAL, 0.01)
 print(nissy.solve("eofb", "F"), handled)
 """
 
+# what Ctrl-C raises comes between two pieces of many lines, and leaves no thread
+INTERRUPTED = """
+import signal, threading, time
+import nissy
+def is_interrupted(threads):
+    nissy.count("eofb", "F")
+    signal.setitimer(signal.ITIMER_REAL, 0.5)
+    begun = time.monotonic()
+    try:
+        for _ in nissy.count_all("eofb", ["R U F L D B"] * 1_000_000, slack=2, threads=threads): pass
+    except KeyboardInterrupt:
+        return time.monotonic() - begun < 20
+signal.signal(signal.SIGALRM, signal.default_int_handler)
+print(is_interrupted(1), is_interrupted(3), threading.active_count())
+"""
+
 # lets a process have so many bytes more, and says what a call without memory says
 LIMITED = """
 import resource
@@ -146,9 +162,9 @@ def without_memory(call):
 nissy.solve("eofb", "F")
 """
 
-# little memory: a smaller room than the usual one, and none for what outgrows it
+# little memory, of which the solutions as strings need most; and none for what outgrows it
 LITTLE = LIMITED + """
-limited(200_000_000)
+limited(60_000_000)
 print(nissy.run(["solve", "eofb", "20"], b"F\\n").out == b"F (1)\\nF' (1)\\n\\n", len(nissy.near("eofb", "", 5, 20)))
 limited(20_000_000)
 print(without_memory(lambda: nissy.run(["near", "eofb", "7", "20"], b"\\n")), without_memory(lambda: nissy.near("eofb", "", 7, 20)))
@@ -260,11 +276,12 @@ def processes(tally: Tally) -> None:
     tally.equal("parent and child", of_process(BOTH), "0 True\n")
     tally.equal("calls of a signal's handler", of_process(SIGNALS), "True True\n")
     tally.equal("a handler's call while tables are built", of_process(SIGNAL_IN_BUILD), "['F', \"F'\"] [['B', \"B'\"]]\n")
+    tally.equal("Ctrl-C among many lines", of_process(INTERRUPTED), "True True 1\n")
     tally.equal("the tables of all steps take some 15 million bytes, once", of_process(MEMORY), "True True\n")
     tally.equal("no memory for tables", of_process(NO_TABLES),
                 "no memory for the tables of dr-eofb; no memory for the tables of dr-eofb; ['F', \"F'\"]\n2\n")
     little = of_process(LITTLE).splitlines()
-    tally.equal("less memory than a large room", little[:1], ["True 148176"])
+    tally.equal("little memory is enough", little[:1], ["True 148176"])
     tally.holds("no memory for all solutions: " + str(little[1:2]), little[1:2] and little[1].count("bytes of output") == 2)
     tally.equal("it goes on after that", little[2:], ["['F', \"F'\"] b'eofb\\n'"])
 

@@ -297,7 +297,7 @@ def copies(tally: Tally) -> None:
 def rooms(tally: Tally) -> None:
     """Solutions that outgrow a room, and one after another that did not."""
     asked: List[Any] = []
-    solve, large = untyped._library.nissy_solve, untyped._rooms._LARGE
+    solve, growth = untyped._library.nissy_solve, untyped._rooms._GROWTH
 
     def noted(*given: Any) -> Any:
         asked.append(given)
@@ -305,13 +305,13 @@ def rooms(tally: Tally) -> None:
 
     untyped._library.nissy_solve = noted
     written = nissy.run(["near", "eofb", "5", "20"], b"\n").out.decode().splitlines()[:-1]
-    for size, times in ((large, 2), (untyped._rooms.ORDINARY + 4096, 3)):
-        untyped._rooms._LARGE = size
+    for larger, times in ((growth, 2), (2, 3)):
+        untyped._rooms._GROWTH = larger
         asked.clear()
         found = nissy.near("eofb", "", 5, 20)
         tally.holds("solutions of 2 MB come whole", [f"{it} ({it.length})".strip() for it in found] == written)
         tally.equal("searches that were made", len(asked), times)
-    untyped._rooms._LARGE = large
+    untyped._rooms._GROWTH = growth
     asked.clear()
     tally.equal("so many as there are", nissy.count("eofb", "", 5, 20).solutions, len(found))
     tally.holds("the first 10,000", nissy.near("eofb", "", 5, 20, 10_000) == found[:10_000] and len(asked) == 1)
