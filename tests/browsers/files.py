@@ -19,7 +19,7 @@ sys.path.insert(0, str(TOP / "tests"))
 
 from tally import Tally
 
-MOST_BYTES = 400_000
+MOST_BYTES = 420_000
 # what would make text into markup or into a program
 MARKUP = r"(?:inner|outer|set)HTML|insertAdjacent|document\.write|ContextualFragment|DOMParser|\beval\b|new Function|srcdoc|import\("
 # what would ask a network

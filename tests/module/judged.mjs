@@ -144,6 +144,11 @@ export async function tryBounds(nissy) {
   const told = await nissy.countAll("eofb", ["", "F B", "F"], { nodes: 30, cut: "value" });
   same("a cut of many, told", told.map((count) => count.cut), [undefined, true, undefined]);
   same("no nodes at all", await nissy.count("eofb", "R U F", { nodes: 0, cut: "value" }), { length: null, solutions: 0, nodes: 0, cut: true });
+  const long = ["R U F2 L D R B", "q"];
+  const limited = { slack: 4, cut: "value", nodes: 100_000 };
+  same("a long search among many", await nissy.countAll("eo", long.slice(0, 1), limited), [await nissy.count("eo", long[0], limited)]);
+  same("and the fault behind it", await thrown(() => nissy.countAll("eo", long, limited)), ["NissyFault", "line 2, column 1: not a move"]);
+  same("a long one that ends", await nissy.countAll("eo", long.slice(0, 1), { slack: 3 }), [await nissy.count("eo", long[0], { slack: 3 })]);
   const endless = await nissy.count("eo", "R U F2 L D R B", { slack: 20, nodes: 1_000_000, cut: "value" });
   same("a search that would take days", [endless.cut, endless.nodes <= 1_000_000], [true, true]);
   same("the first solution alone", (await nissy.count("eofb", "F B", { most: 1 })).solutions, 1);

@@ -37,10 +37,10 @@ export async function callsInWorker(bytes: Uint8Array, signal: AbortSignal): Pro
 
 export function judged(nissy: Nissy): string {
   const { solved, moves, badEdges, cases, holds }: Facts = nissy.facts("R");
-  const places: EdgePlace[] = badEdges.fb;
+  const places: readonly EdgePlace[] = badEdges.fb;
   const steps: Step[] = [...holds, ...nissy.steps()];
   const { cleanMoves, forms }: Check = nissy.check("R", "R'");
-  const names: Form[] = forms;
+  const names: readonly Form[] = forms;
   return [solved, moves, cleanMoves, places, cases.ud, steps, names].join(" ");
 }
 

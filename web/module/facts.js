@@ -1,8 +1,6 @@
 // What is told of lines without a search, as values: where the bad pieces of a cube stand, and whether a solution solves a scramble.
+import { frozen } from "./natives.js";
 import { STEPS } from "./steps.js";
-
-/** The axes of the cube: of the faces F and B, of R and L, and of U and D. */
-export const AXES = /** @type {const} */ (["fb", "rl", "ud"]);
 
 /** The places of the edges and of the corners: place i is bit i of the module's masks. */
 export const EDGE_PLACES = /** @type {const} */ (["UR", "UF", "UL", "UB", "DR", "DF", "DL", "DB", "FR", "FL", "BL", "BR"]);
@@ -12,7 +10,7 @@ export const CORNER_PLACES = /** @type {const} */ (["URF", "UFL", "ULB", "UBR", 
 export const FORMS = /** @type {const} */ (["slices", "lower-case", "brackets", "apostrophe", "half-prime"]);
 
 /** @typedef {import("./steps.js").Step} Step */
-/** @typedef {typeof AXES[number]} Axis */
+/** @typedef {"fb" | "rl" | "ud"} Axis of the faces F and B, of R and L, or of U and D */
 /** @typedef {typeof EDGE_PLACES[number]} EdgePlace */
 /** @typedef {typeof CORNER_PLACES[number]} CornerPlace */
 
@@ -33,12 +31,12 @@ export const FORMS = /** @type {const} */ (["slices", "lower-case", "brackets", 
  * @property {boolean} solved however it is held
  * @property {number} moves as written: turns of faces and outer blocks count one each, slice turns two, rotations none
  * @property {number} cleanMoves how many face turns the line's one sequence has once it is cleaned
- * @property {OnEachAxis<EdgePlace[]>} badEdges the places of the edges that aren't oriented on the axis
- * @property {OnEachAxis<CornerPlace[]>} badCorners those of the corners whose sticker of the axis's two faces is on another face
- * @property {OnEachAxis<EdgePlace[]>} misplacedEdges those of the edges on the wrong side of the axis's slice
+ * @property {OnEachAxis<readonly EdgePlace[]>} badEdges the places of the edges that aren't oriented on the axis
+ * @property {OnEachAxis<readonly CornerPlace[]>} badCorners those of the corners whose sticker of the axis's two faces is on another face
+ * @property {OnEachAxis<readonly EdgePlace[]>} misplacedEdges those of the edges on the wrong side of the axis's slice
  * @property {OnEachAxis<string>} cases the case of a domino reduction on the axis as solvers write it: `4c4e` has four bad corners and four
  * misplaced edges
- * @property {Step[]} holds the steps that the cube has reached
+ * @property {readonly Step[]} holds the steps that the cube has reached
  */
 
 /**
@@ -47,7 +45,7 @@ export const FORMS = /** @type {const} */ (["slices", "lower-case", "brackets", 
  * @property {boolean} solved its moves after the scramble's solve the cube, however it is held then
  * @property {number} moves as those of `Facts`
  * @property {number} cleanMoves as those of `Facts`
- * @property {Form[]} forms the forms that it has and that the WCA's notation hasn't
+ * @property {readonly Form[]} forms the forms that it has and that the WCA's notation hasn't
  */
 
 /** @typedef {{badEdges: number, badCorners: number, misplacedEdges: number}} Masks which places of an axis have bad pieces */
@@ -60,12 +58,21 @@ export const FORMS = /** @type {const} */ (["slices", "lower-case", "brackets", 
 /** @typedef {{status: 0, solved: boolean, moves: number, cleanMoves: number, forms: number}} SeenCheck what the module says of a solution */
 
 /**
+ * Reads masks: the names whose bits are 1, in an array that each caller gets for this mask, and none can change.
  * @template Name
  * @param {readonly Name[]} names
- * @param {number} mask
- * @returns {Name[]} those whose bits are 1
+ * @returns {(mask: number) => readonly Name[]}
  */
-const namesIn = (names, mask) => names.filter((_, at) => ((mask >> at) & 1) === 1);
+function maskReader(names) {
+  /** @type {(readonly Name[] | undefined)[]} */
+  const known = Array.from({ length: 1 << names.length });
+  return (mask) => (known[mask] ??= frozen(names.filter((_, at) => ((mask >> at) & 1) === 1)));
+}
+
+const edgesIn = maskReader(EDGE_PLACES);
+const cornersIn = maskReader(CORNER_PLACES);
+const stepsIn = maskReader(STEPS);
+const formsIn = maskReader(FORMS);
 
 /**
  * @template Told
@@ -75,15 +82,20 @@ const namesIn = (names, mask) => names.filter((_, at) => ((mask >> at) & 1) === 
  */
 const onEachAxis = ({ fb, rl, ud }, told) => ({ fb: told(fb), rl: told(rl), ud: told(ud) });
 
+/** @param {Masks} ofAxis */
+const caseInWords = ({ badCorners, misplacedEdges }) => `${cornersIn(badCorners).length}c${edgesIn(misplacedEdges).length}e`;
+
 /** @param {SeenFacts} seen @returns {Facts} */
-export function factsOf({ solved, moves, cleanMoves, holds, masks }) {
-  const badEdges = onEachAxis(masks, (ofAxis) => namesIn(EDGE_PLACES, ofAxis.badEdges));
-  const badCorners = onEachAxis(masks, (ofAxis) => namesIn(CORNER_PLACES, ofAxis.badCorners));
-  const misplacedEdges = onEachAxis(masks, (ofAxis) => namesIn(EDGE_PLACES, ofAxis.misplacedEdges));
-  const caseOf = (/** @type {Axis} */ axis) => `${badCorners[axis].length}c${misplacedEdges[axis].length}e`;
-  const cases = { fb: caseOf("fb"), rl: caseOf("rl"), ud: caseOf("ud") };
-  return { solved, moves, cleanMoves, badEdges, badCorners, misplacedEdges, cases, holds: namesIn(STEPS, holds) };
-}
+export const factsOf = ({ solved, moves, cleanMoves, holds, masks }) => ({
+  solved,
+  moves,
+  cleanMoves,
+  badEdges: onEachAxis(masks, ({ badEdges }) => edgesIn(badEdges)),
+  badCorners: onEachAxis(masks, ({ badCorners }) => cornersIn(badCorners)),
+  misplacedEdges: onEachAxis(masks, ({ misplacedEdges }) => edgesIn(misplacedEdges)),
+  cases: onEachAxis(masks, caseInWords),
+  holds: stepsIn(holds),
+});
 
 /** @param {SeenCheck} seen @returns {Check} */
-export const checkOf = ({ solved, moves, cleanMoves, forms }) => ({ solved, moves, cleanMoves, forms: namesIn(FORMS, forms) });
+export const checkOf = ({ solved, moves, cleanMoves, forms }) => ({ solved, moves, cleanMoves, forms: formsIn(forms) });

@@ -16,11 +16,9 @@ export const ERROR_ROOM = 128;
 export const ANSWER = 48;
 
 /**
- * How many bytes a small number has, such as a status or a yes or no, a mask or a number of moves, a column, and an address, a length or a
- * great number.
+ * How many bytes a column has, and an address, a length or a great number. Small ones such as a status or a yes or no have one, masks and
+ * numbers of moves two.
  */
-export const BYTE = 1;
-export const SHORT = 2;
 export const COLUMN = 4;
 export const LONG = 8;
 

@@ -1,5 +1,5 @@
 // Searches and facts of many lines. Those that the module takes many of in one call go to it in pieces.
-import { FACTS_ANSWER, LINES_ANSWER, SEARCH_ANSWER } from "./layout.js";
+import { FACTS_ANSWER, HEAD, LINES_ANSWER, SEARCH_ANSWER } from "./layout.js";
 import { bound, counted, refusal, seen, solved } from "./line-calls.js";
 import { aligned, roomFor } from "./memory.js";
 import { wide } from "./natives.js";
@@ -11,13 +11,14 @@ import { STATUS, hasValue } from "./replies.js";
 /** @typedef {import("./instance.js").Instance} Instance */
 /** @typedef {import("./memory.js").InstanceMemory} InstanceMemory */
 /** @typedef {import("./replies.js").OneReply} OneReply */
+/** @typedef {import("./read-answers.js").Head} Head */
 /** @typedef {import("./requests.js").AllRequest} AllRequest */
 /** @typedef {import("./requests.js").CountRequest} CountRequest */
 /** @typedef {import("./requests.js").OfEach} OfEach */
 
 /** So many lines go to the module at once, of so many bytes unless the first one has more. */
 const MOST_LINES = 256;
-const MOST_BYTES = 262_144;
+const MOST_OF_TEXT = 262_144;
 
 const LINE_FEED = 10;
 
@@ -34,7 +35,7 @@ function endOfPiece(lines, begin) {
   let end = begin;
   for (let bytes = 0; end < most && !hasLineFeed(lines[end]); end += 1) {
     bytes += roomFor(lines[end]) + 1;
-    if (end > begin && bytes > MOST_BYTES) break;
+    if (end > begin && bytes > MOST_OF_TEXT) break;
   }
   return end;
 }
@@ -104,12 +105,12 @@ function answerPiece(instance, { bytes, read, ask }, lines, step) {
   const length = putLines(memory, text, lines);
   instance.call((exports) => ask(exports, wide(answer), wide(text), wide(length), wide(free), wide(lines.length)));
   if (instance.answered(LINES_ANSWER.lines) !== lines.length) throw new Error("the module took other lines than it was given");
-  // all of them before the module is asked for the words of a fault, which it writes over them
   const told = lines.map((_, at) => {
-    const head = headAt(memory, free + at * bytes);
-    return { head, value: hasValue(head.status) ? read(memory, free + at * bytes) : null };
+    const place = free + at * bytes;
+    return hasValue(memory.byte(place + HEAD.status)) ? read(memory, place) : headAt(memory, place);
   });
-  return told.map(({ head, value }) => value ?? refusal(instance, head, step));
+  // all of them are read before the module is asked for the words of a fault, which it writes over them
+  return told.map((each) => (hasValue(each.status) ? /** @type {OneReply} */ (each) : refusal(instance, /** @type {Head} */ (each), step)));
 }
 
 /**
@@ -145,6 +146,20 @@ function questionOf(instance, { each, faults }) {
 }
 
 /**
+ * Answers the next lines, one at least.
+ * @param {Instance} instance
+ * @param {AllRequest} request
+ * @param {Question | null} question
+ * @param {number} begin
+ * @returns {OneReply[]}
+ */
+function answerNext(instance, { each, lines }, question, begin) {
+  const end = question === null ? begin : endOfPiece(lines, begin);
+  if (question === null || end === begin) return [answerLine(instance, { ...each, line: lines[begin] })];
+  return answerPiece(instance, question, lines.slice(begin, end), each.call === "facts" ? "" : each.step);
+}
+
+/**
  * Answers lines in turn, up to the first whose answer ends the call.
  * @param {Instance} instance
  * @param {AllRequest} request
@@ -153,7 +168,6 @@ function questionOf(instance, { each, faults }) {
 export function answerAll(instance, request) {
   const { each, lines, faults } = request;
   const question = questionOf(instance, request);
-  const step = each.call === "facts" ? "" : each.step;
   /** @type {OneReply[]} */
   const replies = [];
   const isLast = (/** @type {OneReply} */ reply) => {
@@ -162,12 +176,7 @@ export function answerAll(instance, request) {
     return reply.status !== STATUS.done && faults === "throw";
   };
   while (replies.length < lines.length) {
-    const begin = replies.length;
-    const end = question === null ? begin : endOfPiece(lines, begin);
-    const given = question === null || end === begin
-      ? [answerLine(instance, { ...each, line: lines[begin] })]
-      : answerPiece(instance, question, lines.slice(begin, end), step);
-    if (given.some(isLast)) break;
+    if (answerNext(instance, request, question, replies.length).some(isLast)) break;
   }
   return replies;
 }

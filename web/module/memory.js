@@ -68,6 +68,16 @@ export class InstanceMemory {
     return number;
   }
 
+  /** @param {number} at @returns {number} the number in two bytes */
+  short(at) {
+    return this.#bytes[at] + VALUES * this.#bytes[at + 1];
+  }
+
+  /** @param {number} at @returns {number} the number in one byte */
+  byte(at) {
+    return this.#bytes[at];
+  }
+
   /**
    * Writes a number in so many bytes.
    * @param {number} at

@@ -48,6 +48,9 @@ export const bufferOf = reading(ofMemories, "buffer");
 /** @type {(memory: WebAssembly.Memory, pages: number) => number} */
 export const growMemory = asFunction(ofMemories?.grow);
 
+/** @type {<Value>(array: Value[]) => readonly Value[]} */
+export const frozen = Object.freeze;
+
 const encoder = new TextEncoder();
 const decoder = new TextDecoder();
 

@@ -1,5 +1,5 @@
 // Reads the structs that the module answers in, wherever they are in its memory.
-import { AXIS_FACTS, BYTE, CHECK_ANSWER, COLUMN, FACTS_ANSWER, HEAD, LONG, SEARCH_ANSWER, SHORT } from "./layout.js";
+import { AXIS_FACTS, CHECK_ANSWER, COLUMN, FACTS_ANSWER, HEAD, LONG, SEARCH_ANSWER } from "./layout.js";
 import { STATUS } from "./replies.js";
 
 /** @typedef {import("./memory.js").InstanceMemory} InstanceMemory */
@@ -10,34 +10,34 @@ import { STATUS } from "./replies.js";
 
 /** @param {InstanceMemory} memory @param {number} at @returns {Head} */
 export const headAt = (memory, at) => ({
-  status: memory.number(at + HEAD.status, BYTE),
-  fault: memory.number(at + HEAD.fault, BYTE),
+  status: memory.byte(at + HEAD.status),
+  fault: memory.byte(at + HEAD.fault),
   column: memory.number(at + HEAD.column, COLUMN),
 });
 
 /** @param {InstanceMemory} memory @param {number} at @returns {SeenCount} */
 export const countAt = (memory, at) => ({
-  status: memory.number(at + HEAD.status, BYTE) === STATUS.cut ? STATUS.cut : STATUS.done,
-  least: memory.number(at + SEARCH_ANSWER.least, BYTE),
-  more: memory.number(at + SEARCH_ANSWER.more, BYTE) === 1,
+  status: memory.byte(at + HEAD.status) === STATUS.cut ? STATUS.cut : STATUS.done,
+  least: memory.byte(at + SEARCH_ANSWER.least),
+  more: memory.byte(at + SEARCH_ANSWER.more) === 1,
   solutions: memory.number(at + SEARCH_ANSWER.solutions, LONG),
   nodes: memory.number(at + SEARCH_ANSWER.nodes, LONG),
 });
 
 /** @param {InstanceMemory} memory @param {number} at @returns {import("./facts.js").Masks} */
 const masksAt = (memory, at) => ({
-  badEdges: memory.number(at + AXIS_FACTS.badEdges, SHORT),
-  badCorners: memory.number(at + AXIS_FACTS.badCorners, SHORT),
-  misplacedEdges: memory.number(at + AXIS_FACTS.misplacedEdges, SHORT),
+  badEdges: memory.short(at + AXIS_FACTS.badEdges),
+  badCorners: memory.short(at + AXIS_FACTS.badCorners),
+  misplacedEdges: memory.short(at + AXIS_FACTS.misplacedEdges),
 });
 
 /** @param {InstanceMemory} memory @param {number} at @returns {SeenFacts} */
 export const factsAt = (memory, at) => ({
   status: STATUS.done,
-  solved: memory.number(at + FACTS_ANSWER.solved, BYTE) === 1,
-  moves: memory.number(at + FACTS_ANSWER.moves, SHORT),
-  cleanMoves: memory.number(at + FACTS_ANSWER.cleanMoves, SHORT),
-  holds: memory.number(at + FACTS_ANSWER.holds, SHORT),
+  solved: memory.byte(at + FACTS_ANSWER.solved) === 1,
+  moves: memory.short(at + FACTS_ANSWER.moves),
+  cleanMoves: memory.short(at + FACTS_ANSWER.cleanMoves),
+  holds: memory.short(at + FACTS_ANSWER.holds),
   masks: {
     fb: masksAt(memory, at + FACTS_ANSWER.axes),
     rl: masksAt(memory, at + FACTS_ANSWER.axes + AXIS_FACTS.bytes),
@@ -48,9 +48,9 @@ export const factsAt = (memory, at) => ({
 /** @param {InstanceMemory} memory @param {number} at @returns {SeenCheck & {line: number}} and which line has a fault */
 export const checkAt = (memory, at) => ({
   status: STATUS.done,
-  line: memory.number(at + CHECK_ANSWER.line, BYTE),
-  solved: memory.number(at + CHECK_ANSWER.solved, BYTE) === 1,
-  moves: memory.number(at + CHECK_ANSWER.moves, SHORT),
-  cleanMoves: memory.number(at + CHECK_ANSWER.cleanMoves, SHORT),
-  forms: memory.number(at + CHECK_ANSWER.forms, BYTE),
+  line: memory.byte(at + CHECK_ANSWER.line),
+  solved: memory.byte(at + CHECK_ANSWER.solved) === 1,
+  moves: memory.short(at + CHECK_ANSWER.moves),
+  cleanMoves: memory.short(at + CHECK_ANSWER.cleanMoves),
+  forms: memory.byte(at + CHECK_ANSWER.forms),
 });

@@ -132,7 +132,7 @@ export function outputLinesIn({ status, out, err }) {
  * @param {string} out
  * @returns {Solutions}
  */
-function solutionsOf(out) {
+function solutionsFrom(out) {
   const digit = (/** @type {number} */ at) => out.charCodeAt(at) - ZERO;
   const solutions = [];
   for (let begin = 0, end = out.indexOf("\n"); end >= 0; begin = end + 1, end = out.indexOf("\n", begin)) {
@@ -147,14 +147,14 @@ function solutionsOf(out) {
 }
 
 /** @param {SeenCount} seen @returns {Count} */
-const countOf = ({ least, solutions, nodes }) => ({ length: solutions === 0 ? null : least, solutions, nodes });
+const countSeen = ({ least, solutions, nodes }) => ({ length: solutions === 0 ? null : least, solutions, nodes });
 
 /** @param {SolveReply} reply @param {{cut: Telling}} asked @returns {Solutions} */
 export function solutionsIn(reply, { cut }) {
   const seen = withValue(reply);
-  const solutions = solutionsOf(seen.out);
+  const solutions = solutionsFrom(seen.out);
   if (seen.status === STATUS.done) return solutions;
-  if (cut === "throw") throw new SearchCut(countOf(seen), solutions);
+  if (cut === "throw") throw new SearchCut(countSeen(seen), solutions);
   solutions.cut = true;
   return solutions;
 }
@@ -162,7 +162,7 @@ export function solutionsIn(reply, { cut }) {
 /** @param {CountReply} reply @param {{cut: Telling}} asked @returns {Count} */
 export function countIn(reply, { cut }) {
   const seen = withValue(reply);
-  const count = countOf(seen);
+  const count = countSeen(seen);
   if (seen.status === STATUS.done) return count;
   if (cut === "throw") throw new SearchCut(count, null);
   return { ...count, cut: true };

@@ -85,7 +85,7 @@ function boundOf(options, name, what) {
  * @param {string} name
  * @returns {Telling}
  */
-function tellingOf(options, name) {
+function toldBy(options, name) {
   const given = optionOf(options, name, "throw");
   if (typeof given !== "string") throw new TypeError(`the option ${name} is no string`);
   if (given !== "throw" && given !== "value") throw new RangeError(`the option ${name} is neither "throw" nor "value"`);
@@ -98,7 +98,7 @@ const searchOf = (step, line, options) => ({
   slack: wholeNumber(optionOf(options, "slack", 0), "the slack", MOST_TURNS),
   most: boundOf(options, "most", "the greatest number of solutions"),
   nodes: boundOf(options, "nodes", "the greatest number of nodes"),
-  cut: tellingOf(options, "cut"),
+  cut: toldBy(options, "cut"),
   step: stringOf(step, "the step"),
   line: takenLine(line, "the line"),
 });
@@ -131,7 +131,7 @@ export function allRequest(each, lines, options = {}) {
   return {
     call: "all",
     each: each(),
-    faults: tellingOf(options, "faults"),
+    faults: toldBy(options, "faults"),
     lines: eachOf(lines, (line, index) => takenLine(line, `line ${index + 1}`)),
   };
 }

@@ -1,5 +1,5 @@
 // A run of the program by an instance of the module, made again with more as long as it had too little.
-import { BYTE, ERROR_ROOM, HEAD, LONG, ROOM, RUN_ANSWER } from "./layout.js";
+import { ERROR_ROOM, HEAD, LONG, ROOM, RUN_ANSWER } from "./layout.js";
 import { aligned } from "./memory.js";
 import { lengthOf, textIn, wide } from "./natives.js";
 import { STATUS } from "./replies.js";
@@ -74,10 +74,10 @@ function runOnce(instance, { words, input }, room, lent) {
     throw new Error("the module kept memory that it was lent");
   }
   return {
-    status: memory.number(answer + HEAD.status, BYTE),
+    status: memory.byte(answer + HEAD.status),
     out: memory.copy(out, instance.answered(RUN_ANSWER.outLength)),
     err: memory.copy(err, instance.answered(RUN_ANSWER.errLength)),
-    full: memory.number(answer + RUN_ANSWER.outTooSmall, BYTE) !== 0,
+    full: memory.byte(answer + RUN_ANSWER.outTooSmall) !== 0,
   };
 }
 
