@@ -64,8 +64,8 @@ def wanted_rows(program: str, position: Position, is_all: bool = False) -> dict[
             total = min(normal[0], inverse[0])
             best = [moves for moves, ways in twins.items() if min(ways.values())[0] == total]
             said = (TITLES[step], TITLES[reduction].split(" after")[0], str(normal[1]), str(inverse[1]))
-            shown = {(str(total), moves if side == "normal" else f"({moves})", *said) for moves in best}
-            rows[f"{side} {key} {reduction}"] = shown
+            lines = [moves if side == "normal" else f"({moves})" for moves in best]
+            rows[f"{side} {key} {reduction}"] = {(str(total), line, *said) for line in lines}
     return rows
 
 
@@ -98,8 +98,9 @@ def best(tally: Tally, browser: Browser) -> None:
     marks = browser.script(
         "return [...document.querySelectorAll('#best-body tr')].map((row) => [...row.querySelectorAll('td.best')].length)",
     )
-    titles = "return [...document.querySelectorAll('#best-body tr')].map((row) => [...row.querySelectorAll('.number')].map((it) => it.title))"
-    totals = [[re.search(r"\d+", title)[0] for title in both] for both in browser.script(titles)]
+    titles = "return [...document.querySelectorAll('#best-body .number')].map((each) => each.title)"
+    said = re.findall(r"side, (\d+) in all", "\n".join(browser.script(titles)))
+    totals = [said[at : at + 2] for at in range(0, len(said), 2)]
     tally.equal("both sides are marked where all moves are as few", marks, [both.count(row[0]) for row, both in zip(rows, totals)])
     tally.holds("which is seen", {1, 2} <= set(marks))
     filters_orientations(tally, browser, rows)

@@ -32,6 +32,7 @@ import sizes
 import steps
 import still
 import stops
+import trifles
 import turned
 import workers
 from browser import Browser
@@ -39,7 +40,7 @@ from selenium.common.exceptions import WebDriverException
 from tally import Tally
 
 PARTS = (keyboard, faults, workers, addresses, best, searches, at_once, turned, steps, line, kept, focus, stops, phone, narrow, sizes, settings, filters,
-    looks, still)
+    looks, still, trifles)
 
 TOP = Path(__file__).resolve().parent.parent.parent
 NO_ENGINE = "globalThis.WebAssembly = undefined;\n"

@@ -44,7 +44,8 @@ def of_a_list(tally: Tally, browser: Browser) -> None:
     tally.equal("without a filter nothing is said", browser.script(SIGNS, "list"), ["", "", ""])
     count = len(browser.listed())
     browser.script(TYPE, "", "U U")
-    tally.equal("nothing is left", (browser.listed(), browser.script(SIGNS, "list")), ([], ["1 on", CLEAR, "No row is left by the filters above."]))
+    said = ["1 on", CLEAR, "No row is left by the filters above."]
+    tally.equal("nothing is left", (browser.listed(), browser.script(SIGNS, "list")), ([], said))
     browser.click("#list-clear")
     tally.equal("they are cleared", (len(browser.listed()), browser.script(SIGNS, "list")), (count, ["", "", ""]))
     browser.choose("most-corners", "4")

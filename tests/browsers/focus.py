@@ -214,7 +214,7 @@ def words(tally: Tally, browser: Browser) -> None:
     browser.wait_best()
     lengths = browser.texts("#best-body tr:first-child .number")
     said = browser.script(sides)
-    totals = [re.search(r", (\d+) in all$", title)[1] for title, _ in said]
+    totals = re.findall(r"side, (\d+) in all$", "\n".join(title for title, _ in said), re.MULTILINE)
     wanted = [[f"{side} side, {total} in all", f"DR in {count} moves on the {side} side, {total} in all"]
         for side, count, total in zip(SIDES, lengths, totals)]
     tally.equal("what the lengths of a row are", said, wanted)

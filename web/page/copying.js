@@ -1,6 +1,6 @@
 // Copies: a line as solvers write it on a scoresheet, the scramble on top and then a step a line with what it reaches and how long it is;
 // and how a text comes to the clipboard.
-import { announce } from "./element.js";
+import { announce, part } from "./element.js";
 import { newlyReached } from "./position.js";
 import { bracketed } from "./steps.js";
 
@@ -57,6 +57,17 @@ function copiedByField(text) {
     return isDone;
 }
 
+/** Shows a text that can't be copied, selected; the focus goes back once that is closed.
+ * @param {string} text */
+function showUncopied(text) {
+    const field = part("uncopied-text");
+    field.value = text;
+    part("uncopied").showPopover();
+    field.focus();
+    field.setSelectionRange(0, text.length);
+    announce("The browser doesn't let the page copy. The text is selected: copy it with the keys of your system.");
+}
+
 /** @param {string} text @param {HTMLElement} button @param {HTMLElement | null} shownIn what shows the text, if anything does */
 export async function copy(text, button, shownIn = null) {
     if (text === "") return;
@@ -74,7 +85,7 @@ export async function copy(text, button, shownIn = null) {
         announce("Selected; copy it with the keys of your system.");
         sayOn(button, "Selected");
     } else {
-        announce("The browser doesn't let the page copy.");
+        showUncopied(text);
         sayOn(button, "Not copied");
     }
 }

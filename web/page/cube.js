@@ -52,6 +52,11 @@ export class Cube {
         for (const kind of ["pointerleave", "focusout"]) part("choices").addEventListener(kind, () => this.#point(null));
         for (const turn of ["x", "y"]) part(`view-${turn}`).addEventListener("click", () => this.#turn(turn));
         this.#play.addEventListener("click", () => (this.#timer === 0 ? this.#begin() : this.stop()));
+        // a sheet has the whole line
+        addEventListener("beforeprint", () => {
+            this.stop();
+            this.#go(this.#count);
+        });
         part("play-back").addEventListener("click", () => this.#step(-1));
         part("play-on").addEventListener("click", () => this.#step(1));
     }
@@ -111,9 +116,11 @@ export class Cube {
 
     async #begin() {
         if (!(await this.#load())) return;
-        this.#go(this.#frame >= this.#count ? 0 : this.#frame);
-        // who wants less motion goes by single moves
-        if (matchMedia("(prefers-reduced-motion: reduce)").matches || this.#timer !== 0) return;
+        const isOver = this.#frame >= this.#count;
+        // who wants less motion goes by single moves, one a press
+        if (matchMedia("(prefers-reduced-motion: reduce)").matches) return this.#go(isOver ? 0 : this.#frame + 1);
+        this.#go(isOver ? 0 : this.#frame);
+        if (this.#timer !== 0) return;
         this.#play.textContent = "Pause";
         this.#timer = setInterval(() => {
             this.#go(this.#frame + 1);

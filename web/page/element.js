@@ -3,7 +3,7 @@
 /**
  * An element of the page, which may be a field, a bar or what folds.
  * @typedef {HTMLElement & {value: any, checked: boolean, disabled: boolean, selectedIndex: number, maxLength: number, selectionStart: number,
- *     selectionEnd: number, setSelectionRange(from: number, to: number): void, max: number, open: boolean}} PageElement
+ *     selectionEnd: number, showPopover(): void, setSelectionRange(from: number, to: number): void, max: number, open: boolean}} PageElement
  */
 
 /** The element of the page that has this id.

@@ -32,7 +32,8 @@ export class CaseFilter {
     constructor(name, changed) {
         this.#fields = Object.entries(MOST_OF_CASE).map(([kind, counts]) => {
             const field = part(`${name}-${kind}`);
-            field.append(element("option", { value: "" }, "any"), ...counts.map((count) => element("option", { value: count }, String(count))));
+            const choices = counts.map((count) => element("option", { value: count }, String(count)));
+            field.append(element("option", { value: "" }, "any"), ...choices);
             field.addEventListener("change", changed);
             return field;
         });

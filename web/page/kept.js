@@ -128,7 +128,8 @@ export class KeptCandidates {
 
     /**
      * @param {import("./calls.js").Calls} calls of its own
-     * @param {{goOn: (parts: Part[]) => void, change: (kept: Candidate[]) => void}} acts
+     * @param {{goOn: (parts: Part[], next: {step: string, side: import("./steps.js").Side} | null) => void,
+     *     change: (kept: Candidate[]) => void}} acts
      */
     constructor(calls, acts) {
         this.#calls = calls;
@@ -228,7 +229,7 @@ export class KeptCandidates {
                 field,
                 element("button", {
                     type: "button", class: "quiet", "data-control": `on ${name}`, "aria-label": `Go on: ${said}`,
-                    click: () => this.#acts.goOn(parts),
+                    click: () => this.#acts.goOn(parts, walk?.next ? { step: candidate.next, side: walk.next.side } : null),
                 }, "Go on"),
                 element("button", {
                     type: "button", class: "quiet", "data-control": `away ${name}`, "aria-label": `Remove: ${said}`,

@@ -5,8 +5,8 @@ import { AXES_OF_TURNS } from "./twins.js";
 
 /**
  * @typedef {{moves: string, count: number, saved: number, before: string[]}} Merger
- * turns with which moves after a line may begin: how many, how many moves the line and they save together, and what merges before them, once
- * the last turns are taken back
+ * turns with which moves after a line may begin: how many, how many moves the line and they save together, and what merges before them,
+ * once the last turns are taken back
  */
 
 const POWERS = ["", "2", "'"];
@@ -44,7 +44,8 @@ export function mergersOf(made, name, line) {
     const group = lastOfAxis(made);
     let ways = [[]];
     for (const turn of group) {
-        const added = turnsOfFace(turn[0], stepNamed(name)).map((next) => ({ next, isBack: (quartersOf(turn) + quartersOf(next)) % 4 === 0 }));
+        const isBack = (next) => (quartersOf(turn) + quartersOf(next)) % 4 === 0;
+        const added = turnsOfFace(turn[0], stepNamed(name)).map((next) => ({ next, isBack: isBack(next) }));
         ways = ways.flatMap((way) => [way, ...added.map((each) => [...way, each])]);
     }
     return ways.filter((way) => way.length > 0).map((way) => {

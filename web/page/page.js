@@ -61,7 +61,7 @@ export class Page {
             isSeen: (added, next) => this.#seen.has(this.#state.scramble, [...this.#state.parts, added], next),
         };
         this.#kept = new KeptCandidates(this.#keptCalls, {
-            goOn: (parts) => this.#change({ parts }, { focusNext: "table" }),
+            goOn: (parts, next) => this.#goOnKept(parts, next && { ...next, slack: 0, isAll: false }),
             change: (kept) => this.#change({ kept }),
         });
         this.#list = new SolutionList({
@@ -265,21 +265,15 @@ export class Page {
     /** Shows the steps that may follow as soon as they are known, and has the best looked for.
      * @param {number} turn */
     async #showOffers(turn, portions) {
-        let isFirst = true;
+        const { now, reached } = this.#cube;
         if (portions.length > 1) this.#table.expect(this.#cube);
-        for (const portion of portions) {
+        for (const [at, portion] of portions.entries()) {
             const groups = await portion;
             if (turn !== this.#turn) return;
             this.#table.add(groups, this.#cube, this.#state.list);
             awaitAnswer(null);
-            if (isFirst) this.#startBest();
-            isFirst = false;
+            if (at === 0) this.#best.reset(part("choices").hidden ? null : { now, parts: this.#state.parts, reached });
         }
-    }
-
-    #startBest() {
-        const { now, reached } = this.#cube;
-        this.#best.reset(part("choices").hidden ? null : { now, parts: this.#state.parts, reached });
     }
 
     #showAnswered() {
@@ -377,6 +371,11 @@ export class Page {
         this.#seen.add(this.#state, taken, key, next.step);
         const list = { step: next.step, side: next.side, slack: 0, isAll: false };
         this.#change({ parts: taken.moves === "" ? parts : [...parts, taken], side: next.side, list }, { focusNext: "list" });
+    }
+
+    /** @param {Part[]} parts a line that was kept @param {import("./address.js").List | null} list of its reduction */
+    #goOnKept(parts, list) {
+        this.#change({ parts, list }, { focusNext: list ? "list" : "table" });
     }
 
     /** @param {Error} fault why there is no answer */

@@ -71,7 +71,9 @@ export async function walkAll(calls, scramble, candidates) {
     return walks;
 }
 
-/** @typedef {{state: string, case: string, lengths: (number | null)[], total: number}} Next `lengths`: on each side; `total`: in all */
+/** @typedef {{state: string, case: string, lengths: (number | null)[], total: number, side: Side}} Next
+ * `lengths`: on each side; `total`: in all, on the side where it is least
+ */
 /** @typedef {Walk & {next: Next | null}} KeptWalk */
 
 /** What is said of a reduction that follows a line.
@@ -79,7 +81,8 @@ export async function walkAll(calls, scramble, candidates) {
 function nextOf({ letters }, offer) {
     const lengths = SIDES.map((side) => offer[side].length);
     const total = Math.min(...SIDES.map((side) => offer[side].total));
-    return { state: stateOf(offer.step), case: caseOfStep(letters.at(-1), offer.step), lengths, total };
+    const side = SIDES.find((each) => offer[each].total === total);
+    return { state: stateOf(offer.step), case: caseOfStep(letters.at(-1), offer.step), lengths, total, side };
 }
 
 /** What is made on each side, clean.

@@ -82,7 +82,8 @@ function mostSaved(nissy, step, line, made, length) {
     return Math.max(0, ...saved);
 }
 
-/** @typedef {{part: Sided, lines: import("./steps.js").Lines, made: Made}} Tried an orientation, the cube after it, and what is made then */
+/** @typedef {import("./steps.js").Lines} Lines */
+/** @typedef {{part: Sided, lines: Lines, made: Made}} Tried an orientation, the cube after it, and what is made then */
 
 /**
  * An orientation with the cube after it. Moves on a side follow that side's line, and come inverted before the other's.
@@ -112,11 +113,12 @@ const byWay = (one, other) => one.total - other.total || one.length - other.leng
  * @param {Nissy} nissy @param {string} orientation @param {Tried[]} all @param {import("./steps.js").OfferedStep} step @param {string} key
  * @returns {Row} */
 function rowOf(nissy, orientation, all, step, key) {
-    const ways = all.map((each) => ({ each, normal: wayTo(nissy, step.name, each, "normal"), inverse: wayTo(nissy, step.name, each, "inverse") }));
-    const totalOf = ({ normal, inverse }) => Math.min(normal.total, inverse.total);
+    const waysOf = (each) => SIDES.map((side) => wayTo(nissy, step.name, each, side));
+    const ways = all.map((each) => ({ each, sides: waysOf(each) }));
+    const totalOf = ({ sides }) => Math.min(...sides.map(({ total }) => total));
     const [best, ...others] = ways.sort((one, other) => totalOf(one) - totalOf(other));
     const { side, moves, length } = best.each.part;
-    const [normal, inverse] = SIDES.map((each) => ways.map((way) => way[each]).sort(byWay)[0]);
+    const [normal, inverse] = SIDES.map((_, at) => ways.map(({ sides }) => sides[at]).sort(byWay)[0]);
     const totals = { normal: normal.total, inverse: inverse.total };
     const isOther = totals[otherSide(side)] < totals[side];
     const size = caseSize(nissy.facelets(best.each.lines[side]), step.axis);
@@ -219,7 +221,8 @@ function* reductionsFound(nissy, orientation, question) {
             const counted = group.map((each) => ({ ...each, total: countOf(madeWith(nissy, made, each)) }));
             const [{ side, moves, length, total }, ...twins] = counted.sort((one, other) => one.total - other.total);
             const others = twins.map((each) => lastTurnsOf(each.moves, step.name));
-            rows.push({ total, part: { side, moves }, length, state: stateOf(step), next: null, others, key: `${side}.${moves}.${stateOf(step)}` });
+            const key = `${side}.${moves}.${stateOf(step)}`;
+            rows.push({ total, part: { side, moves }, length, state: stateOf(step), next: null, others, key });
         }
     }
     yield { done: rows.length, all: rows.length, rows, isCut: false };

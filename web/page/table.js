@@ -178,7 +178,8 @@ export class StepTable {
         const isLeast = least !== null && count.length === least;
         const about = { "data-side": side === "normal" ? "Normal" : "Inverse" };
         // as high as one that is counted
-        if (count === UNCOUNTED) return element("td", about, element("span", { class: "cell" }, element("strong", {}, "…"), element("small", {}, "\u00A0")));
+        const blank = [element("strong", {}, "…"), element("small", {}, "\u00A0")];
+        if (count === UNCOUNTED) return element("td", about, element("span", { class: "cell" }, ...blank));
         return element("td", about, element("button", {
             type: "button",
             class: isLeast ? "cell least" : "cell",

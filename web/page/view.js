@@ -25,6 +25,8 @@ export function showBeginning(state) {
 /** Hides what an address shows until it is known, so that nothing is seen to move; what takes long is seen before.
  * @param {import("./address.js").State | null} state that is awaited, or null if it is there */
 export function awaitAnswer(state) {
+    // what was seen once stays seen, and keeps the focus
+    if (state !== null && !document.body.matches(".awaited, .begun")) return;
     document.body.classList.toggle("awaited", state !== null && !isBare(state));
     document.body.classList.toggle("begun", state !== null && isBare(state));
 }
@@ -152,7 +154,9 @@ const starOfRow = () => document.activeElement?.closest("li, tr")?.querySelector
 export function listenToKeys(acts) {
     addEventListener("keydown", (event) => {
         if (event.ctrlKey || event.altKey || event.metaKey || event.defaultPrevented || !part("keys-on").checked) return;
-        if (event.target instanceof Element && event.target.closest(FIELDS_TO_TYPE)) return;
+        const isField = event.target instanceof Element && event.target.closest(FIELDS_TO_TYPE) !== null;
+        // a field has its keys for itself, but for the one that closes its list
+        if (isField && (event.key !== "Escape" || !part("solutions").contains(event.target))) return;
         // Escape closes help before it closes anything else
         if (!Object.hasOwn(acts, event.key) || document.querySelector(":popover-open")) return;
         event.preventDefault();

@@ -27,7 +27,9 @@ export function unanswered(fault) {
 /** What tells the tabs of pages apart.
  * @param {import("./address.js").State} state */
 export function titleOfPage({ scramble, parts }) {
-    const words = [bracketed(parts), scramble.trim()].filter(Boolean).join(" · ");
+    // no sign that turns the direction of a text, or that isn't seen
+    const plain = scramble.replace(/[\p{Cc}\p{Cf}\u2028\u2029]/gu, " ").trim();
+    const words = [bracketed(parts), plain].filter(Boolean).join(" · ");
     if (words === "") return `${PAGE_NAME}: edge orientation and domino reduction`;
     return `${words.slice(0, MOST_SIGNS)}${words.length > MOST_SIGNS ? "…" : ""} – ${PAGE_NAME}`;
 }
