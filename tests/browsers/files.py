@@ -6,6 +6,7 @@
 The last line is `N passed, M failed`, and the status is 1 where M isn't 0.
 """
 import base64
+import gzip
 import hashlib
 import re
 import shutil
@@ -92,7 +93,7 @@ def is_whole(tally: Tally, page: str) -> None:
         tally.holds(f"{name}, which a label or a text names, is there", name in ids)
     helps = sorted(re.findall(r'<div popover id="([^"]+)"', page))
     tally.equal("each help has its button", sorted(re.findall(r'popovertarget="([^"]+)"', page)), helps)
-    module = base64.b64decode(element(page, 'script type="text/plain" id="engine-module"'), validate=True)
+    module = gzip.decompress(base64.b64decode(element(page, 'script type="text/plain" id="engine-module"'), validate=True))
     tally.equal("the module's first bytes", module[:4], b"\0asm")
     tally.equal("marks that are left", re.findall(r">@\w+@<|\"@\w+@\"", page), [])
 

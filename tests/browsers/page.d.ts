@@ -29,3 +29,10 @@ interface Array<T> {
 
 declare function scrollTo(to: { top: number; behavior: "instant" }): void;
 declare function scrollBy(by: { top: number; behavior: "instant" }): void;
+
+/** A form of packing undone, byte by byte. */
+declare class DecompressionStream implements ReadableWritablePair<Uint8Array, Uint8Array> {
+  constructor(format: "gzip");
+  readonly readable: ReadableStream<Uint8Array>;
+  readonly writable: WritableStream<Uint8Array>;
+}

@@ -1,4 +1,5 @@
-// Starts the page: the worker's script and the engine's module stand in the page itself. The module is compiled once for all workers.
+// Starts the page: the worker's script and the engine's module, packed by gzip, stand in the page itself. The module is compiled once for all
+// workers.
 import { compiled } from "../module/source.js";
 import { Calls, workersOf } from "./calls.js";
 import { copy } from "./copying.js";
@@ -9,9 +10,13 @@ import { Page } from "./page.js";
 import { offerThemes, placeHelp } from "./view.js";
 
 const newWorker = workersOf(part("worker-script").textContent);
-const signs = atob(part("engine-module").textContent.trim());
-const bytes = new Uint8Array(signs.length);
-for (let at = 0; at < signs.length; at++) bytes[at] = signs.charCodeAt(at);
+const packed = Uint8Array.from(atob(part("engine-module").textContent.trim()), (sign) => sign.charCodeAt(0));
+
+/** The bytes of the module. */
+async function unpacked() {
+    const bytes = new Blob([packed]).stream().pipeThrough(new DecompressionStream("gzip"));
+    return new Uint8Array(await new Response(bytes).arrayBuffer());
+}
 
 /** @param {import("../module/worker-calls.js").SentModule} module */
 function start(module) {
@@ -27,4 +32,6 @@ placeHelp();
 offerLast();
 part("copy-link").addEventListener("click", (event) => copy(location.href, event.currentTarget));
 // if it can't be compiled each worker says why, once it is asked
-compiled(bytes).catch(() => bytes).then(start);
+unpacked()
+    .then((bytes) => compiled(bytes).catch(() => bytes))
+    .then(start);
