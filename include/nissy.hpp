@@ -1,8 +1,8 @@
 // nissy for C++17 and later: the calls of nissy.h by strings and values. Header alone, over the same library.
 //
-// A line with a fault is a nissy::fault; an unknown step is a std::invalid_argument, a number beyond its range a std::out_of_range, a line
-// of more than NISSY_MOST_INPUT bytes a std::length_error, and refused memory a std::bad_alloc. Any threads may call at the same time, also
-// on one object. Nothing is read of a line behind its end, and it may hold any bytes. In a text of many lines a line feed ends each.
+// A line with a fault is a nissy::fault, a solve that is cut a nissy::cut; an unknown step is a std::invalid_argument, a number beyond its
+// range a std::out_of_range, a line of more than NISSY_MOST_INPUT bytes a std::length_error, refused memory a std::bad_alloc. Any threads may
+// call at once, also on one object. Nothing is read behind the end of a line, of any bytes; in a text of many a line feed ends each.
 #ifndef NISSY_HPP
 #define NISSY_HPP
 
