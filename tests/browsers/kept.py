@@ -237,7 +237,8 @@ def leads_to_kept(tally: Tally, browser: Browser) -> None:
     browser.click("#bar-kept")
     browser.act("#kept-list li:nth-child(1) button")
     tally.equal("whoever goes on comes to what follows", (browser.script(seen), browser.until(leaves)), ([True, True, True], True))
-    tally.equal("and has the focus there", browser.script("return document.activeElement.classList.contains('least')"), True)
+    is_there = "return document.activeElement.closest('#solutions-groups') !== null"
+    tally.equal("and has the focus in the list of its reduction", browser.until(is_there), True)
     fits = "return document.documentElement.scrollWidth <= innerWidth"
     tally.holds("the bar has room for all", browser.script(fits))
     browser.command("Emulation.setDeviceMetricsOverride", width=1280, height=1000, deviceScaleFactor=1, mobile=False)

@@ -178,7 +178,9 @@ export class StepTable {
         const isLeast = least !== null && count.length === least;
         const about = { "data-side": side === "normal" ? "Normal" : "Inverse" };
         // as high as one that is counted
-        const blank = [element("strong", {}, "…"), element("small", {}, "\u00A0")];
+        const inAll = made > 0 ? "10 in all, " : "";
+        const room = element("small", { class: "room" }, inAll, element("span", { class: "together" }, "10 solutions"));
+        const blank = [element("strong", {}, "…"), room];
         if (count === UNCOUNTED) return element("td", about, element("span", { class: "cell" }, ...blank));
         return element("td", about, element("button", {
             type: "button",
