@@ -109,7 +109,7 @@ static bool run_in(size_t lent, struct run *run, nissy_run_answer *said) {
 
 static bool was_refused_memory(const struct run *run, const nissy_run_answer *said) {
     static const char text[] = "nissy: out of memory\n";
-    return said->err_length == sizeof text - 1 && memcmp(run->err, text, said->err_length) == 0;
+    return said->err_length == sizeof text - 1 && memcmp(run->err, text, (size_t)said->err_length) == 0;
 }
 
 nissy_run_answer nissy_run(const uint8_t *words, size_t words_length, const uint8_t *input, size_t input_length, uint8_t *out,
