@@ -1,4 +1,7 @@
 -- How what a search wrote answers a line.
+use Rattle.std.specs.Prelude.{◌↔◌, ◌+◌, ◌≤◌, List, length}
+use Rattle.niss_moves.specs.Line.{Spells}
+use Rattle.niss_moves.specs.Reader.{read_line}
 use Rattle.niss_shell.proofs.Names.{◌≡◌, ℕ, Bool, true, false, Result, Ok, Err, refl, sym, ap, ◌∙◌, subst, IsTrue, Step, Place, Moves}
 use Rattle.niss_shell.proofs.Names.{LineCommand, Search, Query, Solutions, NoStart, Stop, Answer, AnswerState, Answers, may_start, home}
 use Rattle.niss_shell.proofs.Names.{Delivered, TargetCall, outcome_before}
@@ -46,8 +49,12 @@ module _ {W : Type 0} (call : W → TargetCall → W → Type 0)
       answered r (fault_answer n (NoStart named)) (unfound_answer step query n given e ∙ ap (λ s. fault_answer n (NoStart s)) (sym f)) h
 
 -- what `solve` promises of one line
-pub accepted_lines : LooksWithinBound → AcceptedLinesAreSolved
-accepted_lines within step n i bytes line e h =
+pub accepted_lines :
+    ((bytes : List ℕ) (m : Moves) → (read_line bytes ≡ Ok m)
+    ↔ (Spells bytes m.normal m.bracketed × (length m.normal + length m.bracketed ≤ 256)))
+    → LooksWithinBound → AcceptedLinesAreSolved
+accepted_lines is_read within step n i bytes line s fits h =
+    let e = (is_read bytes line).1 (s, fits) in
     let a = ap (answer_to (Search step (Solutions n 0)) i) e ∙ found_answer step (Solutions n 0) i line h in
     record {
       text = ap (λ v. v.output) a;

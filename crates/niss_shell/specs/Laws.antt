@@ -1,7 +1,6 @@
 -- What holds of all texts and of all lines, each proved as the contract of a function.
-use Rattle.std.specs.Prelude.{◌≡◌, ℕ, ◌≤◌, Result, Ok, Err, List, [], ◌++◌, IsTrue}
-use Rattle.niss_moves.specs.Line.{Moves}
-use Rattle.niss_moves.specs.Reader.{read_line}
+use Rattle.std.specs.Prelude.{◌≡◌, ℕ, ◌+◌, ◌≤◌, Result, Ok, Err, List, [], ◌++◌, length, IsTrue}
+use Rattle.niss_moves.specs.Line.{Moves, Spells}
 use Rattle.niss_cube.specs.Steps.{turns_of, may_start}
 use Rattle.niss_search.specs.Cubes.{solutions_of, all_looks_of}
 use Rattle.niss_search.specs.Solutions.{look_bound}
@@ -29,10 +28,11 @@ pub record Solves (step : Step) (n : ℕ) (line : Moves) (answer : Answer) : Typ
   pub looks : answer.looks ≡ all_looks_of step (home line) n
   pub within : all_looks_of step (home line) n ≤ look_bound (turns_of step) n
 
--- So `solve` answers every line that is read as moves, for every step that may start on its cube.
+-- So `solve` answers every line that spells at most 256 moves, for every step that may start on its cube.
 abbrev pub AcceptedLinesAreSolved : Type 0
 AcceptedLinesAreSolved =
-    (step : Step) (n i : ℕ) (bytes : List ℕ) (line : Moves) → read_line bytes ≡ Ok line →
+    (step : Step) (n i : ℕ) (bytes : List ℕ) (line : Moves) →
+    Spells bytes line.normal line.bracketed → length line.normal + length line.bracketed ≤ 256 →
     IsTrue (may_start step (home line)) → Solves step n line (line_answer (Search step (Solutions n 0)) i bytes)
 
 -- What is written of a part of an input is a beginning of what is written of the whole. A fault of the part is that of the

@@ -1,6 +1,7 @@
 //! What holds of all texts and of all lines. Each law is the contract of a function that does nothing.
 ghost use Rattle.niss_shell.specs.Laws.{TextIsCut, OneCut, AcceptedLinesAreSolved, MoreInputKeepsAnswers};
 
+use niss_moves::laws::line_is_read;
 use niss_search::laws::counts_and_bounds;
 
 /// The lines of a text are what its line feeds cut it into, and nothing else is.
@@ -9,12 +10,12 @@ pub fn lines_are_cut()
     ensures only { OneCut }
 {}
 
-/// For a line that is read as moves, and a step that may start on its cube, `solve` writes all solutions of least length
-/// within the limit, in turn order, or that there are none, with no more looks than the bound.
-#[tactic(auto, using(crate::proofs::SearchLemmas::accepted_lines))]
+/// For a line that spells at most 256 moves, and a step that may start on its cube, `solve` writes all solutions of least
+/// length within the limit, in turn order, or that there are none, with no more looks than the bound.
 pub fn accepted_lines_are_solved()
     ensures { AcceptedLinesAreSolved }
 {
+    line_is_read();
     counts_and_bounds();
 }
 
