@@ -34,6 +34,8 @@ def ahead(tally: Tally, browser: Browser) -> None:
     browser.wait_best()
     browser.script("window.asked.length = 0")
     browser.act("#solutions-groups .take")
+    counted = "return window.asked.filter((each) => each.startsWith('count')).length"
+    tally.holds("a step asks for the counts behind it", browser.until(f"{counted} >= 4"))
     browser.wait_best()
     asked = [each for each in browser.script("return window.asked") if each.startswith("count")]
     first = asked[:4]

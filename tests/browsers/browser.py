@@ -11,7 +11,7 @@ from selenium.webdriver.common.keys import Keys
 
 from net import letters_of, stickers_of
 
-PATIENCE = 90
+PATIENCE = 180
 IDLE = """
     return document.querySelector("#results[aria-busy=false]") !== null
         && document.querySelector("[aria-busy=true]:not([hidden], #best)") === null"""

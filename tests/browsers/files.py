@@ -91,7 +91,7 @@ def is_whole(tally: Tally, page: str) -> None:
     named = re.findall(r'<label for="([^"]+)"', page) + re.findall(r'aria-(?:describedby|labelledby)="([^"]+)"', page)
     for name in " ".join(named).split():
         tally.holds(f"{name}, which a label or a text names, is there", name in ids)
-    helps = sorted(re.findall(r'<div popover id="([^"]+)"', page))
+    helps = sorted(re.findall(r'<div popover id="(help-[^"]+)"', page))
     tally.equal("each help has its button", sorted(re.findall(r'popovertarget="([^"]+)"', page)), helps)
     module = gzip.decompress(base64.b64decode(element(page, 'script type="text/plain" id="engine-module"'), validate=True))
     tally.equal("the module's first bytes", module[:4], b"\0asm")

@@ -91,7 +91,7 @@ pub fn search<K: Sink, A: Allocator>(
 
 /// Searches as `search` does, but makes at most so many looks: before looks that would pass them it ends with
 /// `Stopped::Cut`, and the sink took some of the first solutions, and was handed no other. It is cut only if the whole
-/// search looks more often.
+/// search looks more often. A refusal of the sink is `Stopped::Refused`.
 ///
 /// The position is one of the tables' step, the path is empty, and the meter is at most at 2^127. The path is empty
 /// again at the end, of the same limit. The meter rises by one for each look.

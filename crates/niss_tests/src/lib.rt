@@ -8,6 +8,8 @@ mod alternatives;
 #[cfg(test)]
 mod ample_memory;
 #[cfg(test)]
+mod bad_pieces;
+#[cfg(test)]
 mod blocks;
 #[cfg(test)]
 mod coordinates;

@@ -5,7 +5,9 @@ ghost use Rattle.niss_search.specs.Cubes.{IsPosition};
 use crate::cubes::cube_after;
 use crate::path_sinks::{Comparison, Refused};
 use niss_cube::Step;
-use niss_search::{Limit, Meter, Outcome, Position, Sink, Tables, TurnPath, search};
+use niss_search::{
+    Limit, Meter, Outcome, Position, Sink, Stopped, Tables, TurnPath, search, search_within,
+};
 use std::alloc::{Allocator, Global};
 use std::process::Abort;
 
@@ -207,4 +209,34 @@ const fn refused(search: Search, paths: &'static [&'static str], looks: u128) ->
         answer: Err(Refused),
         looks,
     }
+}
+
+/// Checks what a search from the cube after F, within so many looks, hands out and returns, and how often it looks.
+fn check_within(
+    rt: &impl Abort,
+    tables: &Tables,
+    bound: u128,
+    paths: &[&str],
+    wanted: (Result<Option<u8>, Stopped<Refused>>, u128),
+) {
+    let position = position_after(rt, tables, "F");
+    let mut path = TurnPath::new(Limit::new(5).expect(rt, "a limit"));
+    let mut meter = Meter::new();
+    let mut sink = Comparison::new(paths);
+    let slack = Limit::new(0).expect(rt, "a slack");
+    let answer = search_within(
+        tables, &position, slack, &mut path, &mut meter, &mut sink, bound,
+    );
+    assert!(rt; sink.took_all(), "{bound}");
+    assert!(rt; answer.map(|it| it.length) == wanted.0, "{bound}");
+    assert!(rt; meter.count() == wanted.1, "{bound}");
+}
+
+/// One look in each of the deepenings to 0 and 1, and 18 more that find F and F': a bound of 19 cuts the search before these.
+#[test]
+fn a_search_is_cut_before_its_bound(rt: HostRuntime) {
+    let tables = tables_of(&rt, rt.alloc(), Step::Eofb, &mut Meter::new());
+    check_within(&rt, &tables, 20, &["F", "F'"], (Ok(Some(1)), 20));
+    check_within(&rt, &tables, 19, &[], (Err(Stopped::Cut), 2));
+    drop(tables);
 }
