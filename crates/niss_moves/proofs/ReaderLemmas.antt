@@ -1,11 +1,11 @@
 -- What the reader's answers mean, and what a move that is read at once does.
 use Rattle.niss_moves.proofs.Names.{LastMove, ◌≡◌, ℕ, ◌+◌, refl, ap, sym, ◌∙◌, subst, List, [], ◌∷◌, ◌++◌, length, Option, None, Some}
 use Rattle.niss_moves.proofs.Names.{Result, Ok, Err, arith, length-append, CanContinue, Stops, IsReading, ReadFault, start, run, ended, ◌<◌, take}
-use Rattle.niss_moves.proofs.Names.{between, between_to_end, append_assoc, length-drop, ◌≤◌, drop, get_or, inl, inr, ◌≢◌, count, IsSuffix, IsMove}
-use Rattle.niss_moves.proofs.Names.{BeginsApostrophe, Power, Half, Counter, Token, Base, ◌↔◌, IsOk, IfErr, take-add, ap₂}
-use Rattle.niss_moves.proofs.Names.{take_more, Reader, IsFed}
+use Rattle.niss_moves.proofs.Names.{between, between_to_end, append_assoc, length-drop, ◌≤◌, drop, get_or, inl, inr, ◌==◌, ◌*◌, nat_lt, Bool, true, false, count, IsSuffix, IsMove}
+use Rattle.niss_moves.proofs.Names.{BeginsApostrophe, Power, Quarter, Half, Counter, Token, Base, ◌↔◌, IsOk, IfErr, take-add, ap₂}
+use Rattle.niss_moves.proofs.Names.{bool_byte, take_more, lt-ltb, eqb-true, Reader, IsFed}
 use Rattle.niss_moves.specs.Machine.{State, state_or, IsStep, step, and_then, added, settled, with_last, cut_of}
-use Rattle.niss_moves.specs.Line.{token_of, base_bytes, Two, Prime, TwoPrime, Blank, blank_byte}
+use Rattle.niss_moves.specs.Line.{token_of, base_bytes, Nothing, Two, Prime, TwoPrime, Blank, blank_byte}
 use Rattle.std.specs.Result.{result_err}
 use Rattle.niss_moves.specs.Reader.{line_of, read_line}
 use Rattle.niss_moves.proofs.Completes.{run-append, run_after, at_fed, run_move}
@@ -101,17 +101,17 @@ new_fed s e = record { fed = ap (λ (s : State). s.fed) e; holds = ap Ok e }
 pub take_one : (bytes : List ℕ) (x : ℕ) → 0 < length bytes → get_or bytes 0 0 ≡ x → take 1 bytes ≡ x ∷ []
 take_one bytes x lt e = take_more bytes 0 0 lt ∙ ap (λ y. y ∷ []) e
 
--- a suffix: a `2`, and an apostrophe after it or none; an apostrophe alone
-pub half_suffix : (bytes : List ℕ) (n : ℕ) → 0 < length bytes → get_or bytes 0 0 ≡ 50 → BeginsApostrophe (between 1 (length bytes) bytes) n → IsSuffix (take (1 + n) bytes) Half
-half_suffix bytes n lt e h = by_apostrophe (subst (λ (xs : List ℕ). BeginsApostrophe xs n) (between_to_end bytes 1 (length bytes) (omega arith)) h)
-  where
-    by_apostrophe : BeginsApostrophe (drop 1 bytes) n → IsSuffix (take (1 + n) bytes) Half
-    by_apostrophe (inl none) = record { suffix = Two; bytes_are = ap (λ k. take (1 + k) bytes) none ∙ take_one bytes 50 lt e; power_is = refl }
-    by_apostrophe (inr (a, some, is)) = record { suffix = TwoPrime a; bytes_are = take-add 1 n bytes ∙ ap₂ (λ (x y : List ℕ). x ++ y) (take_one bytes 50 lt e) is; power_is = refl }
-
-pub counter_suffix : (bytes : List ℕ) (n : ℕ) → n ≢ 0 → BeginsApostrophe bytes n → IsSuffix (take n bytes) Counter
-counter_suffix bytes n some (inl none) = absurd (some none)
-counter_suffix bytes n some (inr (a, _, is)) = record { suffix = Prime a; bytes_are = is; power_is = refl }
+-- a suffix, by whether a `2` stands there and how long the apostrophe after it is
+pub suffix_at : (two : Bool) (bytes : List ℕ) (n : ℕ) → 0 < length bytes → (get_or bytes 0 0 == 50) ≡ two → BeginsApostrophe (drop (bool_byte two) bytes) n
+    → IsSuffix (take (bool_byte two + n) bytes) (get_or (Quarter ∷ Half ∷ Counter ∷ Half ∷ []) (bool_byte two + 2 * bool_byte (nat_lt 0 n)) Quarter)
+suffix_at false bytes n lt e (inl none) =
+    record { suffix = Nothing; bytes_are = ap (λ k. take (0 + k) bytes) none; power_is = ap (λ k. get_or (Quarter ∷ Half ∷ Counter ∷ Half ∷ []) (0 + 2 * bool_byte (nat_lt 0 k)) Quarter) none }
+suffix_at false bytes n lt e (inr (a, some, is)) =
+    record { suffix = Prime a; bytes_are = take-add 0 n bytes ∙ is; power_is = ap (λ k. get_or (Quarter ∷ Half ∷ Counter ∷ Half ∷ []) (0 + 2 * bool_byte k) Quarter) (lt-ltb 0 n some) }
+suffix_at true bytes n lt e (inl none) =
+    record { suffix = Two; bytes_are = ap (λ k. take (1 + k) bytes) none ∙ take_one bytes 50 lt (eqb-true _ 50 e); power_is = ap (λ k. get_or (Quarter ∷ Half ∷ Counter ∷ Half ∷ []) (1 + 2 * bool_byte (nat_lt 0 k)) Quarter) none }
+suffix_at true bytes n lt e (inr (a, some, is)) =
+    record { suffix = TwoPrime a; bytes_are = take-add 1 n bytes ∙ ap₂ (λ (x y : List ℕ). x ++ y) (take_one bytes 50 lt (eqb-true _ 50 e)) is; power_is = ap (λ k. get_or (Quarter ∷ Half ∷ Counter ∷ Half ∷ []) (1 + 2 * bool_byte k) Quarter) (lt-ltb 0 n some) }
 
 -- a move, by its parts
 pub move_at : (bytes : List ℕ) (b : Base) (power : Power) (i k : ℕ) (blank : Blank) (t : Token) → take i bytes ≡ base_bytes b → IsSuffix (take k (drop i bytes)) power → i + k < length bytes → get_or bytes (i + k) 0 ≡ blank_byte blank → t ≡ token_of b power

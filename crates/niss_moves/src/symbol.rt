@@ -1,5 +1,5 @@
 //! What each byte may be in a line, and moves that are read at once, as most can be.
-ghost use Rattle.std.specs.Prelude.{◌≡◌, ◌+◌, ◌≤◌, ◌<◌, IfSome, length, take, slice_index};
+ghost use Rattle.std.specs.Prelude.{◌≡◌, ◌+◌, ◌≤◌, ◌<◌, IfSome, length, take, slice_index, if◌then◌else◌};
 ghost use Rattle.niss_moves.specs.Line.{base_bytes};
 ghost use Rattle.niss_moves.specs.Helpers.{BeginsApostrophe, IsSuffix, IsMove};
 ghost use Rattle.niss_moves.specs.Symbols.{symbol_of};
@@ -81,19 +81,43 @@ pub fn symbol_of(byte: u8) -> Symbol
 /// The most bytes of a move and a blank: `Rw2` with U+2019.
 const LONGEST: usize = 7;
 
-/// How many bytes the apostrophe in front of the bytes has, if there is one.
-fn apostrophe_length(bytes: &[u8]) -> usize
-    requires { 2 < length bytes.now }
+/// By whether a `2` stands there, and twice whether an apostrophe does.
+static POWERS: [Power; 4] = [Power::Quarter, Power::Half, Power::Counter, Power::Half];
+
+/// How many bytes U+2019 in front of the bytes has, if it is whole. It stands by itself, since most apostrophes are plain.
+#[inline(never)]
+fn typographic_length(bytes: &[u8]) -> usize
+    requires first { slice_index bytes.now 0 ≡ 0xE2 }
+    requires fits { 2 < length bytes.now }
     ensures bytes { BeginsApostrophe bytes.now result }
     ensures short { result ≤ 3 }
 {
-    if bytes[0] == b'\'' {
-        return 1;
+    if bytes[1] == 0x80 && bytes[2] == 0x99 {
+        3
+    } else {
+        0
     }
-    if bytes[0] == 0xE2 && bytes[1] == 0x80 && bytes[2] == 0x99 {
-        return 3;
+}
+
+/// How many bytes the apostrophe in front of the bytes has, if there is one.
+fn apostrophe_length(first: u8, bytes: &[u8]) -> usize
+    requires first { slice_index bytes.now 0 ≡ first }
+    requires fits { 2 < length bytes.now }
+    ensures bytes { BeginsApostrophe bytes.now result }
+    ensures short { result ≤ 3 }
+{
+    if first == 0xE2 {
+        return typographic_length(bytes);
     }
-    0
+    // a number and no branch, which would be mispredicted
+    (first == b'\'') as usize
+}
+
+/// One byte or the other, without a branch.
+fn chosen(two: bool, second: u8, first: u8) -> u8
+    ensures { result ≡ (if two then second else first) }
+{
+    if two { second } else { first }
 }
 
 /// The power of the suffix in front of the bytes, and how many bytes it has.
@@ -102,14 +126,12 @@ fn suffix_of(bytes: &[u8]) -> (Power, usize)
     ensures suffix { IsSuffix (take result.1 bytes.now) result.0 }
     ensures short { result.1 ≤ 4 }
 {
-    if bytes[0] == b'2' {
-        return (Power::Half, 1 + apostrophe_length(&bytes[1..]));
-    }
-    let length = apostrophe_length(bytes);
-    if length == 0 {
-        return (Power::Quarter, 0);
-    }
-    (Power::Counter, length)
+    let two = bytes[0] == b'2';
+    let mark = chosen(two, bytes[1], bytes[0]);
+    let apostrophe = apostrophe_length(mark, &bytes[two as usize..]);
+    // by a table, since a branch on what is drawn at random is mispredicted
+    let power = POWERS[two as usize + 2 * (apostrophe > 0) as usize];
+    (power, two as usize + apostrophe)
 }
 
 /// The move of the base in front of the bytes, which has so many bytes, with the blank after it.

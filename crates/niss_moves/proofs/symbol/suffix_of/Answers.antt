@@ -1,15 +1,8 @@
-use Rattle.niss_moves.proofs.Names.{refl, arith}
-use Rattle.niss_moves.specs.Line.{Nothing}
-use Rattle.niss_moves.proofs.ReaderLemmas.{half_suffix, counter_suffix}
+use Rattle.niss_moves.proofs.Names.{refl, subst, arith, ◌==◌, get_or, length, ℕ, List, BeginsApostrophe, bool_byte, between_to_end}
+use Rattle.niss_moves.proofs.ReaderLemmas.{suffix_at}
 use Rattle.niss_moves.proofs.symbol.suffix_of.Goals as goal
-
-pub returns-then-bytes-eq50-clause-suffix : goal.returns-then-bytes-eq50-clause-suffix
-returns-then-bytes-eq50-clause-suffix c =
-    half_suffix c.args.bytes.now c.apostrophe_length.result (omega arith) c.if-bytes-eq50.true c.apostrophe_length.ensures.bytes
-
-pub returns-then-length-eq0-clause-suffix : goal.returns-then-length-eq0-clause-suffix
-returns-then-length-eq0-clause-suffix c = record { suffix = Nothing; bytes_are = refl; power_is = refl }
 
 pub returns-clause-suffix : goal.returns-clause-suffix
 returns-clause-suffix c =
-    counter_suffix c.args.bytes.now c.apostrophe_length-length.result c.if-length-eq0.false c.apostrophe_length-length.ensures.bytes
+    let bytes = c.args.bytes.now in
+    suffix_at (get_or bytes 0 0 == 50) bytes c.apostrophe_length-apostrophe.result (omega arith) refl (subst (λ (xs : List ℕ). BeginsApostrophe xs c.apostrophe_length-apostrophe.result) (between_to_end bytes (bool_byte (get_or bytes 0 0 == 50)) (length bytes) (omega arith)) c.apostrophe_length-apostrophe.ensures.bytes)
