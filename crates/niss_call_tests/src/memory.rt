@@ -1,4 +1,5 @@
-//! Tables in heaps of the size that they ask for, or a little less, and a heap while a search goes on.
+//! Tables in heaps of the size that they ask for, or a little less, each of their growths refused in turn, and a heap while a
+//! search goes on.
 use crate::coordinates::check_tables;
 use crate::path_sinks::HeapWatch;
 use crate::searches::Search;
@@ -110,6 +111,61 @@ const KINDS: &[(Step, &str, usize)] = &[
 fn searches_hold_no_memory(rt: HostRuntime) -> Result<(), Fail> {
     for kind in KINDS {
         check_in_heap(&rt, rt.alloc(), kind.0, kind.1, kind.2)?;
+    }
+    Ok(())
+}
+
+/// The bytes of a heap with room for all.
+const AMPLE: usize = 1 << 22;
+
+/// How many rooms are tried.
+const MOST_ROOMS: usize = 1000;
+
+/// By how many bytes the rooms for a step's tables differ, by less than their smallest growth: so each growth is refused in one
+/// of them.
+fn more_for(step: Step) -> usize {
+    match step.start_name() {
+        None => 2_000,
+        Some(_) => 16_000,
+    }
+}
+
+/// Whether a room, the number of which is given, is enough for the tables of a step. Enough or not, nothing is left in the heap.
+fn fits_in(
+    rt: &impl Abort,
+    heap: &LocalHeap,
+    step: Step,
+    number: usize,
+) -> Result<bool, AllocError> {
+    let room = number.saturating_mul(more_for(step));
+    let filled: Vec<u8, &LocalHeap> = Vec::with_capacity(heap, AMPLE.saturating_sub(room))?;
+    let used = heap.used();
+    let built = Tables::build_in(heap, step, &mut Meter::new());
+    let fits = built.is_ok();
+    drop(built);
+    assert!(rt; heap.used() == used, "{}", step.name());
+    drop(filled);
+    Ok(fits)
+}
+
+/// Checks that of rooms that grow some are refused, and that one is enough.
+fn check_growths(rt: &impl Abort, alloc: Global, step: Step) -> Result<(), AllocError> {
+    let heap = LocalHeap::new(alloc, AMPLE)?;
+    let mut refused = 0usize;
+    for number in 0..MOST_ROOMS {
+        if fits_in(rt, &heap, step, number)? {
+            break;
+        }
+        refused = refused.saturating_add(1);
+    }
+    assert!(rt; 0 < refused && refused < MOST_ROOMS, "{}", step.name());
+    Ok(())
+}
+
+#[test]
+fn each_growth_of_a_step_is_refused(rt: HostRuntime) -> Result<(), Fail> {
+    for step in Step::all() {
+        check_growths(&rt, rt.alloc(), *step)?;
     }
     Ok(())
 }
