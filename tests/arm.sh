@@ -76,8 +76,7 @@ compiled() { # NAME
 }
 # emulated, each byte takes many times as long
 declare -A fewer=([calls]=few [facts]=few [threads]="1 40" [fuzz]="1 5" [fuzz_facts]="1 5" [broken_rules]=2)
-mkdir "$room/rows"
-runs_in_c "$room/rows/runs.inc"
+rows_in_c "$room/rows"
 for name in calls facts memory threads handlers fuzz fuzz_facts broken_rules; do
     holds "$name.c compiles for ARM" compiled "$name"
     # shellcheck disable=SC2086 # words
@@ -88,7 +87,7 @@ holds "calls.c compiles against the shared object" shared_one
 add "${by_qemu[@]}" -E LD_LIBRARY_PATH="$folder" "$room/shared_calls" few
 if missing $cross-g++; then skips "the library in C++, since g++-$cross isn't installed"; else
     in_cpp() {
-        $cross-g++ -std=c++17 "${strict[@]:1}" -Iinclude -Itests/library -pthread -Wl,--wrap=malloc,--wrap=realloc,--wrap=free -o "$room/cpp" \
+        $cross-g++ -std=c++17 "${strict[@]:1}" -Iinclude -Itests/library -I"$room/rows" -pthread -Wl,--wrap=malloc,--wrap=realloc,--wrap=free -o "$room/cpp" \
             tests/library/nissy.cpp "$folder/libnissy.a"
     }
     holds "nissy.cpp compiles for ARM" in_cpp

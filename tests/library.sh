@@ -33,11 +33,11 @@ holds "it names the processors that it is for" names_level "$folder/libnissy.so.
 holds "so does the archive" names_level "$folder/libnissy.a"
 
 # each test in C, plain by the archive and by the shared object, with the sanitizers, and by valgrind
-# where the parts put what they compile, and beside it, since one has the name of a header, the rows of tests/runs.tsv as C
+# where the parts put what they compile, and beside it, since one has the name of a header, the rows of tests/runs.tsv and calls.tsv as C
 made=$room/made
-mkdir "$made" "$room/rows"
+mkdir "$made"
 strict=(-O1 -g -Wall -Wextra -Wpedantic -Werror -Iinclude -Itests/library "-I$room/rows")
-runs_in_c "$room/rows/runs.inc"
+rows_in_c "$room/rows"
 sanitized=("-fsanitize=address,undefined" -fno-sanitize-recover=all)
 wrapped=-Wl,--wrap=malloc,--wrap=realloc,--wrap=free
 linked() { # NAME: what the test is linked with

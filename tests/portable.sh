@@ -98,8 +98,7 @@ linked() { # NAME TEST WORD..: the test of this name with the file as it was com
     [[ $2 == fuzz* ]] && wrapped=("-Wl,--wrap=malloc,--wrap=realloc,--wrap=free")
     gcc -std=c11 -O1 -g "${@:3}" -pthread "${wrapped[@]}" -Iinclude -Itests/library -I"$room/rows" -o "$room/$1.$2" "tests/library/$2.c" "$room/$1.o"
 }
-mkdir "$room/rows"
-runs_in_c "$room/rows/runs.inc"
+rows_in_c "$room/rows"
 for trial in "calls few" "facts few" "fuzz" "fuzz_facts" "threads 0 20"; do
     name=${trial%% *} words=()
     [ "$name" = "$trial" ] || read -ra words <<< "${trial#* }"
@@ -109,7 +108,7 @@ done
 holds "threads.c is linked with it for races" linked raced threads -fsanitize=thread
 add "$room/raced.threads" 0 20
 in_c_plus_plus() { # the headers in C++ over it
-    g++ -std=c++17 -O1 -g -DNISSY_IN_C -pthread -Wl,--wrap=malloc,--wrap=realloc,--wrap=free -Iinclude -Itests/library -o "$room/plus" tests/library/nissy.cpp "$room/gcc.o"
+    g++ -std=c++17 -O1 -g -DNISSY_IN_C -pthread -Wl,--wrap=malloc,--wrap=realloc,--wrap=free -Iinclude -Itests/library -I"$room/rows" -o "$room/plus" tests/library/nissy.cpp "$room/gcc.o"
 }
 if missing g++; then skips "nissy.hpp over nissy.c, since there is no g++"; else
     holds "nissy.cpp is linked with it" in_c_plus_plus

@@ -31,7 +31,7 @@ CODE_NAME = r"`([A-Za-z_0-9:]+|[a-z_]*/?(src|specs|proofs)/[A-Za-z_/]+\.(rt|antt
 PATH = re.compile(r"\b(?:crates|tests|tools|docs|bench|completions|include|python|portable|web)/[A-Za-z0-9_./-]+")
 LIST = r"`[^`]+`(?:(?:, | and )`[^`]+`)*"
 # where the examples of crates' first pages stand as programs and tests
-EXAMPLES = ("crates/eo_axes/src/main.rt", "crates/nissy/src/main.rt", "crates/niss_tests/src/examples.rt")
+EXAMPLES = ("crates/eo_axes/src/main.rt", "crates/nissy/src/main.rt", "crates/niss_call_tests/src/examples.rt")
 WITH_EXAMPLES = ("niss_moves", "niss_cube", "niss_search", "niss_shell")
 
 

@@ -17,13 +17,7 @@ typedef struct line_row {
 } line_row;
 
 static const line_row READ[] = {
-    {nissy_invert, "R U' F2", "F2 U R'"},
-    {nissy_invert, "", ""},
-    {nissy_invert, "R\xe2\x80\x99", "R"},
-    {nissy_unniss, "R (U F') D", "R D F U'"},
-    {nissy_cleanup, "Rw U", "L F x"},
-    {nissy_cleanup, "R (U U) R'", "(U2)"},
-    {nissy_facelets, "R", "UUFUUFUUFRRRRRRRRRFFDFFDFFDDDBDDBDDBLLLLLLLLLUBBUBBUBB"},
+#include "texts.inc"
 };
 
 static guarded untouched(size_t size) {
@@ -255,7 +249,8 @@ static void texts_are_written(void) {
     static const char *const FAULTS[] = {"not a move",          "bracket inside a bracket", "bracket closed that was not opened",
                                          "bracket not closed",  "more than 256 moves",      "does not hold"};
     static const char STEPS[] =
-        "eofb\neorl\neoud\ndrud-eofb\ndrrl-eofb\ndrud-eorl\ndrfb-eorl\ndrrl-eoud\ndrfb-eoud\neo\ndr-eofb\ndr-eorl\ndr-eoud\n";
+#include "steps.inc"
+        ;
     guarded out = untouched(NISSY_LINE_ROOM);
     is_refused(nissy_scramble(1, 2, 257, out.bytes, out.size), out, NISSY_USAGE, 0, 0, "257 turns");
     is_refused(nissy_start((const uint8_t *)"htr", 3, out.bytes, out.size), out, NISSY_USAGE, 0, 0, "the start of no step");

@@ -1,4 +1,4 @@
-/* Lines that can't be read, with the fault of each and its column. */
+/* Lines that can't be read, with the fault of each and its column: those of tests/calls.tsv, which `rows_in_c` of tests/shared writes as C. */
 #ifndef FAULTS_H
 #define FAULTS_H
 
@@ -11,10 +11,7 @@ typedef struct fault_row {
 } fault_row;
 
 static const fault_row UNREAD[] = {
-    {"R '", NISSY_NOT_A_MOVE, 3},  {"R''", NISSY_NOT_A_MOVE, 3},    {"uw", NISSY_NOT_A_MOVE, 2}, {"R\xe2\x80U", NISSY_NOT_A_MOVE, 2},
-    {"R\n", NISSY_NOT_A_MOVE, 2},  {"(R (U))", NISSY_NESTED, 4},    {"R )", NISSY_UNOPENED, 3},  {"R (U", NISSY_UNCLOSED, 3},
-    {"(", NISSY_UNCLOSED, 1},      {")", NISSY_UNOPENED, 1},        {"q", NISSY_NOT_A_MOVE, 1},  {"\xff", NISSY_NOT_A_MOVE, 1},
-    {"\n", NISSY_NOT_A_MOVE, 1},
+#include "faults.inc"
 };
 
 enum { UNREAD_COUNT = sizeof UNREAD / sizeof *UNREAD };

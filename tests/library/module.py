@@ -22,6 +22,7 @@ PYTHON = os.path.join(TOP, "python")
 sys.path[:0] = [PYTHON, os.path.join(TOP, "tests")]
 
 import nissy
+import called
 from runs import runs as rows_of_all
 from tally import Tally
 
@@ -42,14 +43,11 @@ def raised(kind, call):
 
 def lines():
     """The calls on a line, by strings and by bytes."""
-    rows = [(nissy.invert, "R U' F2", "F2 U R'"), (nissy.invert, b"R U' F2", "F2 U R'"), (nissy.invert, "R\u2019", "R"),
-            (nissy.invert, bytearray(b"R"), "R'"), (nissy.unniss, "R (U F') D", "R D F U'"), (nissy.cleanup, "Rw U", "L F x"),
-            (nissy.cleanup, "F F F F", ""), (nissy.facelets, "x", "F" * 9 + "R" * 9 + "D" * 9 + "B" * 9 + "L" * 9 + "U" * 9)]
-    for call, line, text in rows:
-        holds("%s of %r" % (call.__name__, line), call(line) == text)
-    faults = [("R Q", 3, "not a move"), ("(R (U))", 4, "bracket inside a bracket"), ("R )", 3, "bracket closed that was not opened"),
-              ("R (U", 3, "bracket not closed"), ("U" * 257, 257, "more than 256 moves"), ("\u2019", 1, "not a move"),
-              ("R\n", 2, "not a move"), ("\udcff", 1, "not a move"), ("R\ud800", 2, "not a move")]
+    for name, line, text in called.rows("text"):
+        for form in (line, line.encode(), bytearray(line.encode())):
+            holds("%s of %r" % (name, form), getattr(nissy, name)(form) == text)
+    faults = [(line, int(column), text) for line, column, text in called.rows("fault")]
+    faults += [("U" * 257, 257, "more than 256 moves"), ("\u2019", 1, "not a move"), ("R\ud800", 2, "not a move")]
     for line, column, text in faults:
         for call in (nissy.invert, nissy.unniss, nissy.cleanup, nissy.facelets):
             fault = raised(nissy.LineFault, lambda: call(line))

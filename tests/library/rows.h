@@ -1,4 +1,4 @@
-/* The runs of tests/runs.tsv, which `runs_in_c` of tests/shared writes into runs.inc as C. */
+/* The runs of tests/runs.tsv, which `rows_in_c` of tests/shared writes into runs.inc as C. */
 #ifndef ROWS_H
 #define ROWS_H
 

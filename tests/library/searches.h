@@ -12,22 +12,9 @@ typedef struct search_row {
     uint64_t nodes; /* 0: none are named */
 } search_row;
 
-/* those of the manual, and others that a hand finds */
+/* those of tests/calls.tsv, which `rows_in_c` of tests/shared writes as C */
 static const search_row SEARCHES[] = {
-    {"eofb", "F", 7, 0, "F (1)\nF' (1)\n", 1, 0},
-    {"eofb", "F B", 5, 0, "F B (2)\nF B' (2)\nF' B (2)\nF' B' (2)\n", 2, 75},
-    {"eofb", "R U F", 20, 0, "F (1)\nF' (1)\n", 1, 20},
-    {"eofb", "F", 0, 0, "", 0, 1},
-    {"eofb", "F", 0, 20, "", 0, 1},
-    {"eofb", "R", 20, 0, "(0)\n", 0, 1},
-    {"eofb", "", 0, 20, "(0)\n", 0, 1},
-    {"eofb", "x U", 20, 0, "F (1)\nF' (1)\n", 1, 0},
-    {"eofb", "R (F)", 1, 0, "F (1)\nF' (1)\n", 1, 0},
-    {"eorl", "R", 20, 0, "R (1)\nR' (1)\n", 1, 0},
-    {"drud-eofb", "R U", 5, 0, "U' R (2)\nU' R' (2)\n", 2, 28},
-    {"drud-eofb", "", 1, 1, "(0)\nU (1)\nU2 (1)\nU' (1)\nD (1)\nD2 (1)\nD' (1)\nR2 (1)\nL2 (1)\nF2 (1)\nB2 (1)\n", 0, 0},
-    {"dr-eofb", "R U", 5, 0, "U (1)\nU' (1)\n", 1, 0},
-    {"eo", "F", 20, 0, "(0)\n", 0, 1},
+#include "searches.inc"
 };
 
 enum { SEARCH_COUNT = sizeof SEARCHES / sizeof *SEARCHES };

@@ -18,18 +18,17 @@ from typing import Any, Callable, Iterator, List, Optional, Tuple, Type, Union, 
 TOP = Path(__file__).resolve().parents[2]
 sys.path[:0] = [str(TOP / "python"), str(TOP / "tests")]
 
+import called as shared
 import nissy
 from tally import Tally
 
 # the steps, each with the one that must hold before it
-STEPS = {"eofb": "", "eorl": "", "eoud": "", "drud-eofb": "eofb", "drrl-eofb": "eofb", "drud-eorl": "eorl", "drfb-eorl": "eorl",
-         "drrl-eoud": "eoud", "drfb-eoud": "eoud", "eo": "", "dr-eofb": "eofb", "dr-eorl": "eorl", "dr-eoud": "eoud"}
+STEPS = {name: start for name, start in shared.rows("step")}
 # a turn that flips edges on the axis
 FLIPS = {"eofb": "F", "eorl": "R", "eoud": "U"}
 NEAR_SOLVED = ["", "U", "U2", "U'", "D", "D2", "D'", "R2", "L2", "F2", "B2"]
-FAULTS = [("R Q", 3, "not a move"), ("(R (U))", 4, "bracket inside a bracket"), ("R )", 3, "bracket closed that was not opened"),
-          ("R (U", 3, "bracket not closed"), ("U" * 257, 257, "more than 256 moves"), ("\u2019", 1, "not a move"), ("R\n", 2, "not a move"),
-          ("R\nU", 2, "not a move"), ("\udcff", 1, "not a move"), ("R\ud800", 2, "not a move"), (b"R\0", 2, "not a move")]
+FAULTS: List[Any] = [(line, int(column), text) for line, column, text in shared.rows("fault")]
+FAULTS += [("U" * 257, 257, "more than 256 moves"), ("\u2019", 1, "not a move"), ("R\ud800", 2, "not a move"), (b"R\0", 2, "not a move")]
 # methods of a class that doesn't say what its values hold
 LYING = {"__eq__": lambda it, other: True, "__hash__": lambda it: hash("eorl"), "__len__": lambda it: 10**6, "__index__": lambda it: 3,
          "encode": lambda it, *how: b"F" * 10, "__bytes__": lambda it: b"F", "__add__": lambda it, other: 0,
@@ -57,11 +56,10 @@ def says(tally: Tally, kind: Type[BaseException], text: str, call: Callable[[], 
 
 def solutions(tally: Tally) -> None:
     """Solutions and their numbers, of which the manual says what they are."""
-    rows: List[Any] = [(("eofb", "F B", 5), ["F B", "F B'", "F' B", "F' B'"]), (("drud-eofb", "R U", 5), ["U' R", "U' R'"]),
-            (("dr-eofb", "R U", 5), ["U", "U'"]), (("eofb", "F", 0), []), (("drud-eofb", "", 1, 1), NEAR_SOLVED),
-            (("eofb", ""), [""]), (("eofb", b"(F)"), ["F", "F'"]),
-            (("eofb", bytearray(b"F")), ["F", "F'"]), (("eofb", memoryview(b"F F")[::2]), [""]), (("eofb", "F\u2019"), ["F", "F'"]),
-            (("eofb", (ctypes.c_ubyte * 1)(70)), ["F", "F'"]), (("eofb", (ctypes.c_ubyte * 0)()), [""])]
+    rows: List[Any] = [((it.step, it.line, it.limit, it.slack), [moves for moves, _ in it.solutions]) for it in shared.searches()]
+    rows += [(("eofb", ""), [""]), (("eofb", b"(F)"), ["F", "F'"]),
+             (("eofb", bytearray(b"F")), ["F", "F'"]), (("eofb", memoryview(b"F F")[::2]), [""]), (("eofb", "F\u2019"), ["F", "F'"]),
+             (("eofb", (ctypes.c_ubyte * 1)(70)), ["F", "F'"]), (("eofb", (ctypes.c_ubyte * 0)()), [""])]
     for given, wanted in rows:
         found = nissy.solve(*given)
         tally.equal(f"solve{given}", found, wanted)
@@ -80,8 +78,10 @@ def solutions(tally: Tally) -> None:
 
 def counts(tally: Tally) -> None:
     """Counts."""
-    rows: List[Any] = [(("eofb", "F B", 5), nissy.Count(2, 4, 75)), (("eofb", "R U F"), nissy.Count(1, 2, 20)),
-            (("eofb", "F", 0), nissy.Count(None, 0, 1)), (("eofb", ""), nissy.Count(0, 1, 1))]
+    rows: List[Any] = [((it.step, it.line, it.limit, it.slack),
+                        nissy.Count(it.solutions[0][1] if it.solutions else None, len(it.solutions), it.nodes))
+                       for it in shared.searches() if it.nodes is not None]
+    rows.append((("eofb", "R U F"), nissy.Count(1, 2, 20)))
     for given, wanted in rows:
         tally.equal(f"count{given}", nissy.count(*given), wanted)
         tally.equal("the same by Tables", nissy.Tables(given[0]).count(*given[1:]), wanted)
@@ -95,10 +95,11 @@ def counts(tally: Tally) -> None:
 def without_lines(tally: Tally) -> None:
     """Steps, scrambles and the version."""
     tally.equal("steps", nissy.steps(), list(STEPS))
-    tally.equal("a scramble", nissy.scramble(42, 54, 6), "L' D' F' R2 F' L'")
-    tally.equal("scrambles", nissy.scrambles(42, 54, 3, 2), ["L' D' F'", "L F' L'"])
-    tally.equal("no turn", (nissy.scramble(1, 2, 0), nissy.scrambles(1, 2, 0, 2)), ("", ["", ""]))
-    tally.equal("no scramble", nissy.scrambles(1, 2, 3, 0), [])
+    for *numbers, lines in shared.rows("scrambles"):
+        state, stream, length, count = map(int, numbers)
+        wanted = lines.split("|") if count else []
+        tally.equal(f"scrambles of {numbers}", nissy.scrambles(state, stream, length, count), wanted)
+        tally.holds(f"the first of {numbers}", not count or nissy.scramble(state, stream, length) == wanted[0])
     tally.equal("the longest scramble", len(nissy.scramble(2**64 - 1, 2**64 - 1, 256).split()), 256)
     tally.equal("the most scrambles", len(nissy.scrambles(7, 9, 1, 10_000)), 10_000)
     run = untyped._library.nissy_run

@@ -1,61 +1,62 @@
 // Calls by their names with what is wanted, and values of other types at each place of each call: for `Nissy`, and for what has the same
 // calls as promises.
 import { NissyFault } from "../../web/module/nissy.js";
+import { callsOf, partsOf, textOf } from "./tables.mjs";
 import { fingerprint, same, thrown } from "./tally.mjs";
 import { DETACHED, WRONG } from "./values.mjs";
 
-const SOLVED = "UUUUUUUUURRRRRRRRRFFFFFFFFFDDDDDDDDDLLLLLLLLLBBBBBBBBB";
-export const STEPS = "eofb eorl eoud drud-eofb drrl-eofb drud-eorl drfb-eorl drrl-eoud drfb-eoud eo dr-eofb dr-eorl dr-eoud".split(" ");
+export const STEPS = callsOf("step").map(([name]) => name);
 export const F_OR_ITS_INVERSE = [{ moves: "F", length: 1 }, { moves: "F'", length: 1 }];
 
 // what a row shows, the call with what it is given, and what is wanted
 const ROWS = [
-  ["an inverse", ["invert", "R U' F2"], "F2 U R'"],
-  ["no moves", ["invert", ""], ""],
-  ["moves in brackets", ["unniss", "R (U)"], "R U'"],
-  ["moves that join", ["cleanup", "R R U U'"], "R2"],
-  ["the solved cube", ["facelets", ""], SOLVED],
   ["bytes", ["invert", Uint8Array.of(0x52, 0xe2, 0x80, 0x99)], "R"],
-  ["a string is UTF-8", ["unniss", "U2\u2019 R"], "U2 R"],
-  ["solutions", ["solve", "eofb", "F"], F_OR_ITS_INVERSE],
-  ["a solution of no moves", ["solve", "eofb", ""], [{ moves: "", length: 0 }]],
-  ["none within the limit", ["solve", "eofb", "F", { limit: 0 }], []],
   ["the first of them", ["solve", "eofb", "F", { most: 1 }], F_OR_ITS_INVERSE.slice(0, 1)],
   ["as many as there are", ["solve", "eofb", "F", { most: 2 }], F_OR_ITS_INVERSE],
   ["none asked for", ["solve", "eofb", "F", { most: 0 }], []],
   ["a number of solutions that no search has", ["solve", "eofb", "F", { most: Number.MAX_SAFE_INTEGER }], F_OR_ITS_INVERSE],
   ["no options", ["solve", "eofb", "F", {}], F_OR_ITS_INVERSE],
   ["options that are left open", ["solve", "eofb", "F", { limit: undefined, slack: undefined, most: undefined }], F_OR_ITS_INVERSE],
-  ["a domino reduction", ["solve", "drud-eofb", "R U"], [{ moves: "U' R", length: 2 }, { moves: "U' R'", length: 2 }]],
-  ["a count", ["count", "eofb", "R U F"], { length: 1, solutions: 2, nodes: 20 }],
-  ["a count of a cube that is there", ["count", "eofb", ""], { length: 0, solutions: 1, nodes: 1 }],
-  ["a count of two reductions", ["count", "dr-eofb", "R U F2 L D R"], { length: 5, solutions: 2, nodes: 60 }],
   ["the steps", ["steps"], STEPS],
-  ["a scramble", ["scramble", 42, 54n, 6], "L' D' F' R2 F' L'"],
-  ["a scramble of no turns", ["scramble", 1, 2, 0], ""],
-  ["scrambles", ["scrambles", 42n, 54, 3, 2], ["L' D' F'", "L F' L'"]],
-  ["scrambles of no turns", ["scrambles", 1, 2, 0, 2], ["", ""]],
-  ["no scrambles", ["scrambles", 1, 2, 3, 0], []],
 ];
 
 // a call, and the fault that it throws: text, column, step, what would have to hold before it, and message
 const FAULTS = [
-  [["unniss", "R (U"], "bracket not closed", 3, null, null, "column 3: bracket not closed"],
-  [["invert", "R U)"], "bracket closed that was not opened", 4, null, null, "column 4: bracket closed that was not opened"],
-  [["cleanup", "(R (U))"], "bracket inside a bracket", 4, null, null, "column 4: bracket inside a bracket"],
-  [["facelets", "R q"], "not a move", 3, null, null, "column 3: not a move"],
   [["invert", "U".repeat(257)], "more than 256 moves", 257, null, null, "column 257: more than 256 moves"],
-  [["invert", "R\nU"], "not a move", 2, null, null, "column 2: not a move"],
-  [["solve", "eofb", "R\nU"], "not a move", 2, null, null, "column 2: not a move"],
-  [["count", "eofb", "F q"], "not a move", 3, null, null, "column 3: not a move"],
   [["count", "drud-eofb", "F"], "eofb does not hold", null, "drud-eofb", "eofb", "eofb does not hold"],
   [["solve", "dr-eorl", "R"], "eorl does not hold", null, "dr-eorl", "eorl", "eorl does not hold"],
 ];
 
+/** The rows that each host is tried with. */
+function* sharedRows() {
+  for (const [call, line, wanted] of callsOf("text")) yield [`${call} ${line}`, [call, textOf(line)], wanted];
+  for (const [state, stream, length, count, wanted] of callsOf("scrambles")) {
+    const lines = count === "0" ? [] : wanted.split("|");
+    yield [`scrambles ${state}`, ["scrambles", Number(state), BigInt(stream), Number(length), Number(count)], lines];
+    if (count === "1") yield [`scramble ${state}`, ["scramble", BigInt(state), Number(stream), Number(length)], wanted];
+  }
+  for (const [step, line, limit, slack, nodes, wanted] of callsOf("search")) {
+    const given = [step, textOf(line), { limit: Number(limit), slack: Number(slack) }];
+    const solutions = partsOf(wanted).map((each) => /^(.*?) ?\((\d+)\)$/.exec(each)).map(([, moves, length]) => ({ moves, length: Number(length) }));
+    yield [`solve ${step} ${line}`, ["solve", ...given], solutions];
+    const least = solutions.length === 0 ? null : solutions[0].length;
+    if (nodes !== "-") yield [`count ${step} ${line}`, ["count", ...given], { length: least, solutions: solutions.length, nodes: Number(nodes) }];
+  }
+}
+
+/** Lines with a fault by each call that reads one, as in `FAULTS`. */
+function* sharedFaults() {
+  for (const [line, column, text] of callsOf("fault")) {
+    for (const call of [["invert"], ["unniss"], ["cleanup"], ["facelets"], ["solve", "eofb"], ["count", "eofb"]]) {
+      yield [[...call, textOf(line)], text, Number(column), null, null, `column ${column}: ${text}`];
+    }
+  }
+}
+
 /** Rows, by `Nissy` or by what has the same calls as promises. */
 export async function tryRows(nissy) {
-  for (const [what, [call, ...given], wanted] of ROWS) same(what, await nissy[call](...given), wanted);
-  for (const [[call, ...given], ...wanted] of FAULTS) {
+  for (const [what, [call, ...given], wanted] of [...ROWS, ...sharedRows()]) same(what, await nissy[call](...given), wanted);
+  for (const [[call, ...given], ...wanted] of [...FAULTS, ...sharedFaults()]) {
     let fault = null;
     try {
       await nissy[call](...given);

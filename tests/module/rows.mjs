@@ -3,8 +3,8 @@
 //     node tests/module/rows.mjs MODULE
 //
 // The last line is `N passed, M failed`, and the status is 1 where M isn't 0.
-import { readFileSync } from "node:fs";
 import { NoWebAssembly, NoWideMemory, Nissy } from "../../web/module/nissy.js";
+import { bytesOf, partsOf, rowsOf } from "./tables.mjs";
 import { ended, loaded, moduleBytes as module, same, text, thrown } from "./tally.mjs";
 
 const SOLVED = "UUUUUUUUURRRRRRRRRFFFFFFFFFDDDDDDDDDLLLLLLLLLBBBBBBBBB\n";
@@ -31,16 +31,11 @@ const ROWS = [
   ["a byte more in words", [["invert", " ".repeat(16_777_215) + "R"]], 3, "", "nissy: input longer than 16777216 bytes\n", false],
 ];
 
-const SIGNS = (_, code) => (code === "n" ? "\n" : String.fromCharCode(Number.parseInt(code, 8)));
-const bytesOf = (field) => Uint8Array.from(Buffer.from(field.replace(/\\(n|[0-7]{3})/g, SIGNS), "latin1"));
-
 /** The runs that each host is tried with. */
 function tryRuns(nissy) {
-  const lines = readFileSync(new URL("../runs.tsv", import.meta.url), "latin1").split("\n");
-  for (const line of lines.filter((each) => each !== "" && !each.startsWith("#"))) {
-    const [status, words, input, out, err] = line.split("\t");
-    const answer = nissy.run(words === "" ? [] : words.split("|").map(bytesOf), bytesOf(input));
-    same(line, [answer.status, text(answer.out), text(answer.err), answer.full], [Number(status), text(bytesOf(out)), text(bytesOf(err)), false]);
+  for (const [status, words, input, out, err] of rowsOf("runs.tsv")) {
+    const answer = nissy.run(partsOf(words).map(bytesOf), bytesOf(input));
+    same(`${words}: ${input}`, [answer.status, text(answer.out), text(answer.err), answer.full], [Number(status), text(bytesOf(out)), text(bytesOf(err)), false]);
   }
 }
 

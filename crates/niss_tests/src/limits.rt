@@ -6,7 +6,9 @@ use crate::runs::Given::{Input, Words};
 use crate::runs::Run::{Failure, Good};
 use crate::runs::{Outcome, TOO_LONG, repeated, words_of};
 use niss_shell::{FromReader, Meter, run};
+use std::alloc::{AllocError, Global};
 use std::io;
+use std::process::Abort;
 use std::test::Fail;
 
 const LIMIT: usize = 16_777_216;
@@ -35,21 +37,29 @@ const BLOCKS: Devices<'static> = Devices {
     ..FAULTLESS
 };
 
+/// Makes a run over so many blanks, byte by byte and by blocks.
+fn check_blanks(rt: &impl Abort, alloc: Global, count: usize) -> Result<(), AllocError> {
+    let spaces = repeated(alloc, " ", count, "")?;
+    let given = Input(&["invert"], spaces.as_bytes());
+    let run = if count > LIMIT {
+        Failure(given, b"", TOO_LONG)
+    } else {
+        Good(given, b"\n")
+    };
+    run.check(rt, alloc, FAULTLESS);
+    run.check(rt, alloc, BLOCKS);
+    Ok(())
+}
+
 #[test]
 fn blanks_at_the_limit_are_read(rt: HostRuntime) -> Result<(), Fail> {
-    let spaces = repeated(rt.alloc(), " ", LIMIT, "")?;
-    let run = Good(Input(&["invert"], spaces.as_bytes()), b"\n");
-    run.check(&rt, rt.alloc(), FAULTLESS);
-    run.check(&rt, rt.alloc(), BLOCKS);
+    check_blanks(&rt, rt.alloc(), LIMIT)?;
     Ok(())
 }
 
 #[test]
 fn blanks_above_the_limit_are_refused(rt: HostRuntime) -> Result<(), Fail> {
-    let spaces = repeated(rt.alloc(), " ", LIMIT, " ")?;
-    let run = Failure(Input(&["invert"], spaces.as_bytes()), b"", TOO_LONG);
-    run.check(&rt, rt.alloc(), FAULTLESS);
-    run.check(&rt, rt.alloc(), BLOCKS);
+    check_blanks(&rt, rt.alloc(), LIMIT + 1)?;
     Ok(())
 }
 

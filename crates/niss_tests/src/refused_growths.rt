@@ -5,9 +5,7 @@ use crate::runs::Given::Input;
 use crate::runs::Run::{self, Fault, Good};
 use crate::runs::{OUT_OF_MEMORY, Outcome, SHORTEST, STEPS, run_over, words_of};
 use linked_list_allocator::LocalHeap;
-use niss_cube::{Cube, OutOfMemory, Step};
-use niss_search::{Meter, Tables};
-use std::alloc::{AllocError, Allocator, Global};
+use std::alloc::{AllocError, Global};
 use std::process::Abort;
 use std::test::Fail;
 
@@ -81,132 +79,82 @@ fn run_fits(
     fits
 }
 
-/// Checks that these are the tables of a step, and that they find the solved cube at its goal.
-fn check_tables<A: Allocator>(rt: &impl Abort, tables: &Tables<A>, step: Step) {
-    let cube = Cube::solved();
-    assert!(rt; tables.step() == step);
-    assert!(rt; tables.step().may_start(&cube));
-    let position = tables.position(&cube);
-    assert!(rt; tables.look(&position, &mut Meter::new()) == 0);
-}
-
-/// Builds the tables of a step in the room that a heap has, and returns whether that was enough. If it wasn't, the meter
-/// hasn't risen.
-fn tables_fit(rt: &impl Abort, heap: &LocalHeap, step: Step) -> bool {
-    let mut fill = Meter::new();
-    match Tables::build_in(heap, step, &mut fill) {
-        Ok(tables) => {
-            check_tables(rt, &tables, step);
-            drop(tables);
-            true
-        }
-        Err(OutOfMemory) => {
-            assert!(rt; fill.count() == 0);
-            false
-        }
-    }
-}
-
-/// What takes memory.
+/// Words of a run, what it writes if there is room, and by how many bytes rooms differ.
 #[derive(Clone, Copy)]
-enum Growing<'a> {
-    /// A run of these words, which writes this output if there is room.
-    Run(&'a [&'a str], &'a [u8]),
-    /// The tables of a step.
-    Tables(Step),
+struct Growing<'a> {
+    words: &'a [&'a str],
+    output: &'a [u8],
+    more: u16,
 }
 
 impl Growing<'_> {
-    /// Whether the room that a heap has is enough.
-    fn fits(self, rt: &impl Abort, alloc: Global, heap: &LocalHeap) -> bool {
-        match self {
-            Growing::Run(words, output) => run_fits(rt, alloc, heap, words, output),
-            Growing::Tables(step) => tables_fit(rt, heap, step),
-        }
-    }
-
-    /// Whether this room is enough in a heap. Enough or not, nothing is left in the heap.
+    /// Whether a room, the number of which is given, is enough in a heap. Enough or not, nothing is left in the heap.
     fn fits_in(
         self,
         rt: &impl Abort,
         alloc: Global,
         heap: &LocalHeap,
-        room: usize,
+        number: usize,
     ) -> Result<bool, AllocError> {
-        let filled = filler(heap, room)?;
+        let filled = filler(heap, number.saturating_mul(usize::from(self.more)))?;
         let used = heap.used();
-        let fits = self.fits(rt, alloc, heap);
-        assert!(rt; heap.used() == used, "in {room} bytes");
+        let fits = run_fits(rt, alloc, heap, self.words, self.output);
+        assert!(rt; heap.used() == used, "in room {number}");
         drop(filled);
         Ok(fits)
     }
 
-    /// How many rooms, each `more` bytes larger than the one before, are not enough.
-    fn refusals(
-        self,
-        rt: &impl Abort,
-        alloc: Global,
-        heap: &LocalHeap,
-        more: u16,
-    ) -> Result<usize, AllocError> {
+    /// How many rooms, each larger than the one before, are not enough.
+    fn refusals(self, rt: &impl Abort, alloc: Global) -> Result<usize, AllocError> {
+        let heap = LocalHeap::new(alloc, AMPLE)?;
         for refused in 0..MOST_ROOMS {
-            if self.fits_in(rt, alloc, heap, refused * more as usize)? {
+            if self.fits_in(rt, alloc, &heap, refused)? {
                 return Ok(refused);
             }
         }
         Ok(MOST_ROOMS)
     }
 
-    /// Checks that of rooms that grow by `more` bytes some are refused, and that one is enough.
-    fn check(self, rt: &impl Abort, alloc: Global, more: u16) -> Result<(), AllocError> {
-        let heap = LocalHeap::new(alloc, AMPLE)?;
-        let refused = self.refusals(rt, alloc, &heap, more)?;
-        assert!(rt; refused > 0);
-        assert!(rt; refused < MOST_ROOMS, "no room is enough");
+    /// Checks that some rooms are refused, and that one is enough.
+    fn check(self, rt: &impl Abort, alloc: Global) -> Result<(), AllocError> {
+        let refused = self.refusals(rt, alloc)?;
+        assert!(rt; 0 < refused && refused < MOST_ROOMS);
         Ok(())
     }
 }
 
-/// Runs, and by how many bytes their rooms differ.
-const RUNS: &[(Growing, u16)] = &[
-    (
-        Growing::Run(&["invert", "R U' F2"], b"F2 U R'\n"),
-        FOR_WORDS,
-    ),
-    (
-        Growing::Run(&["solve", "eofb", "7", "F"], SHORTEST),
-        FOR_EDGES,
-    ),
-    (Growing::Run(&["solve", "eofb", "7"], SHORTEST), FOR_EDGES),
-    (
-        Growing::Run(&["near", "eofb", "7", "0", "F"], SHORTEST),
-        FOR_EDGES,
-    ),
-    (
-        Growing::Run(
-            &["count", "drud-eofb", "5", "R", "U"],
-            b"length 2 solutions 2 nodes 28\n",
-        ),
-        FOR_DOMINOES,
-    ),
+const RUNS: &[Growing] = &[
+    Growing {
+        words: &["invert", "R U' F2"],
+        output: b"F2 U R'\n",
+        more: FOR_WORDS,
+    },
+    Growing {
+        words: &["solve", "eofb", "7", "F"],
+        output: SHORTEST,
+        more: FOR_EDGES,
+    },
+    Growing {
+        words: &["solve", "eofb", "7"],
+        output: SHORTEST,
+        more: FOR_EDGES,
+    },
+    Growing {
+        words: &["near", "eofb", "7", "0", "F"],
+        output: SHORTEST,
+        more: FOR_EDGES,
+    },
+    Growing {
+        words: &["count", "drud-eofb", "5", "R", "U"],
+        output: b"length 2 solutions 2 nodes 28\n",
+        more: FOR_DOMINOES,
+    },
 ];
 
 #[test]
 fn each_growth_of_a_run_is_refused(rt: HostRuntime) -> Result<(), Fail> {
-    for (run, more) in RUNS {
-        run.check(&rt, rt.alloc(), *more)?;
-    }
-    Ok(())
-}
-
-#[test]
-fn each_growth_of_a_step_is_refused(rt: HostRuntime) -> Result<(), Fail> {
-    for step in Step::all() {
-        let more = match step.start_name() {
-            None => FOR_EDGES,
-            Some(_) => FOR_DOMINOES,
-        };
-        Growing::Tables(*step).check(&rt, rt.alloc(), more)?;
+    for run in RUNS {
+        run.check(&rt, rt.alloc())?;
     }
     Ok(())
 }

@@ -155,7 +155,7 @@ impl<'a> Given<'a> {
     }
 
     /// The last word, by which a failure names the run.
-    fn name(self) -> &'a str {
+    pub fn name(self) -> &'a str {
         let (words, _) = self.parts();
         match words.last() {
             Some(word) => *word,
@@ -290,8 +290,8 @@ pub fn check_words<'a>(rt: &impl Abort, alloc: Global, words: &'a [&'a str], out
 
 /// Makes each of these runs, and checks how many positions each of them looks at.
 pub fn check_looks(rt: &impl Abort, alloc: Global, runs: &[(Run<'_>, u128)]) {
-    for row in runs {
-        let calls = row.0.check(rt, alloc, FEW);
-        assert_eq!(rt; calls.looks, row.1);
+    for (run, looks) in runs {
+        let calls = run.check(rt, alloc, FEW);
+        assert!(rt; calls.looks == *looks);
     }
 }

@@ -1,8 +1,8 @@
-//! Scrambles of a seed.
+//! What needs no lines: scrambles of a seed, and the list of steps.
 use crate::devices::FAULTLESS;
 use crate::runs::Given::Words;
 use crate::runs::Run::{self, Good};
-use crate::runs::{check_each_write, check_runs, check_words, repeated};
+use crate::runs::{STEPS, check_each_write, check_runs, check_words, repeated};
 
 const GREATEST: &str = "18446744073709551615";
 
@@ -33,6 +33,11 @@ const SCRAMBLES: &[Run] = &[
 #[test]
 fn scrambles_of_a_seed_are_written(rt: HostRuntime) {
     check_runs(&rt, rt.alloc(), SCRAMBLES);
+}
+
+#[test]
+fn steps_are_listed(rt: HostRuntime) {
+    check_words(&rt, rt.alloc(), &["steps"], STEPS);
 }
 
 #[test]

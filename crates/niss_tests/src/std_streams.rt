@@ -202,6 +202,16 @@ fn empty_calls_are_handed_on(rt: HostRuntime) {
     check_calls(&rt, rt.alloc(), &mut [], b"", true);
 }
 
+/// Checks what a call returned.
+fn check_answer(
+    rt: &impl Abort,
+    what: &str,
+    found: Result<usize, DeviceFault>,
+    wanted: Result<usize, DeviceFault>,
+) {
+    assert!(rt; found == wanted, "{what}");
+}
+
 /// A write and a flush after a write that failed are the stream's too.
 #[test]
 fn calls_after_a_failed_write_are_handed_on(rt: HostRuntime) {
@@ -211,12 +221,14 @@ fn calls_after_a_failed_write_are_handed_on(rt: HostRuntime) {
     };
     let mut out = devices.target(rt.alloc());
     let mut target = ToWriter::new(&mut out);
-    assert!(&rt;
-        target.write(b"R'\n") == Err(DeviceFault),
-        "a good first write"
+    check_answer(
+        &rt,
+        "the first write",
+        target.write(b"R'\n"),
+        Err(DeviceFault),
     );
-    assert!(&rt; target.write(b"U'\n") == Ok(3), "a failed second write");
-    assert!(&rt; target.flush() == Ok(()), "a failed flush");
+    check_answer(&rt, "the second write", target.write(b"U'\n"), Ok(3));
+    check_answer(&rt, "the flush", target.flush().map(|()| 0), Ok(0));
     check_bytes(&rt, out.bytes.as_slice(), b"U'\n");
     check_count(&rt, "flushes", out.flushes, 1);
 }

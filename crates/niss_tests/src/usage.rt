@@ -1,5 +1,6 @@
 //! Wrong words: each has its fault, in the order in which faults are looked for.
 use crate::devices::FEW;
+use crate::runs::Given::Words;
 use crate::runs::Run::Usage;
 use crate::runs::words_of;
 use niss_shell::UsageFault::{self, BadNumber, NoCommand, UnknownCommand, UnknownStep, WrongCount};
@@ -74,19 +75,19 @@ const ROWS: &[Row] = &[
 ];
 
 /// Words that are refused have this fault, and a run of them says how the program is used.
-fn check_fault(rt: &impl Abort, alloc: Global, index: usize, row: &Row) {
+fn check_fault(rt: &impl Abort, alloc: Global, row: &Row) {
     let (texts, fault) = *row;
     let words = words_of(alloc, texts).expect(rt, "memory for words");
     let Err(found) = parse_words(&words) else {
-        panic!(rt; "row {index} has no fault")
+        panic!(rt; "{} has no fault", Words(texts).name())
     };
-    assert!(rt; found == fault, "row {index}");
+    assert!(rt; found == fault, "{}", Words(texts).name());
     Usage(texts).check(rt, alloc, FEW);
 }
 
 #[test]
 fn wrong_words_have_their_faults(rt: HostRuntime) {
-    for (index, row) in ROWS.iter().enumerate() {
-        check_fault(&rt, rt.alloc(), index, row);
+    for row in ROWS {
+        check_fault(&rt, rt.alloc(), row);
     }
 }

@@ -1,6 +1,6 @@
 //! Steps: their names and turns.
+use crate::checks::check_bytes;
 use crate::cubes::cube_after;
-use crate::runs::{STEPS as LISTED, check_bytes, check_words};
 use niss_cube::Step;
 use niss_moves::{LineText, put_faces};
 use std::process::Abort;
@@ -58,11 +58,6 @@ fn steps_have_their_names_and_turns(rt: HostRuntime) {
     for (index, row) in STEPS.iter().enumerate() {
         check_row(&rt, index, row);
     }
-}
-
-#[test]
-fn steps_are_listed(rt: HostRuntime) {
-    check_words(&rt, rt.alloc(), &["steps"], LISTED);
 }
 
 fn check_equal(rt: &impl Abort, step: Step, other: Step) {

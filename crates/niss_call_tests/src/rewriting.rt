@@ -1,6 +1,6 @@
 //! Which turns may stand side by side, and the room of lists and texts.
+use crate::checks::{check_bytes, check_count};
 use crate::cubes::quarter;
-use crate::runs::{check_bytes, check_count};
 use niss_moves::{Face, Faces, LineText, Turn, invert, put_faces, read, turns_after, unniss};
 use std::process::Abort;
 

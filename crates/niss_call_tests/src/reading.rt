@@ -1,7 +1,7 @@
 //! Lines that are read: which bytes are one, and the fault of those that are none.
 ghost use Rattle.std.specs.Prelude.{◌≤◌, length};
 
-use crate::runs::check_count;
+use crate::checks::check_count;
 use niss_moves::{LineReader, ReadFault, read};
 use std::process::Abort;
 

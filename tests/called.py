@@ -1,0 +1,33 @@
+"""The calls of tests/calls.tsv."""
+from pathlib import Path
+from typing import Iterator, List, NamedTuple, Optional, Tuple
+
+from runs import bytes_of
+
+FILE = Path(__file__).resolve().parent / "calls.tsv"
+
+
+class Search(NamedTuple):
+    """A search, the positions that are looked at if they are named, and the solutions with their lengths."""
+
+    step: str
+    line: str
+    limit: int
+    slack: int
+    nodes: Optional[int]
+    solutions: List[Tuple[str, int]]
+
+
+def rows(kind: str) -> Iterator[List[str]]:
+    """The fields of each row of a kind."""
+    for line in FILE.read_text(encoding="ascii").splitlines():
+        if line.startswith(kind + "\t"):
+            yield [bytes_of(field).decode("utf-8", "surrogateescape") for field in line.split("\t")[1:]]
+
+
+def searches() -> Iterator[Search]:
+    """Each search."""
+    for step, line, limit, slack, nodes, solutions in rows("search"):
+        parts = [it.rstrip(")").rpartition("(") for it in solutions.split("|") if it]
+        found = [(moves.rstrip(), int(length)) for moves, _, length in parts]
+        yield Search(step, line, int(limit), int(slack), None if nodes == "-" else int(nodes), found)
