@@ -229,7 +229,7 @@ searched {E = E} took refused is_cut bound step x n slack m m1 s s1 r h law e at
       record { solutions = tt; ok = tt; err = rw found h.stopped; looks = tt; looks_at_most = omega (arith, looked, h.looked); over = λ t. omega (arith, looked, h.over t) }
 
 -- What passes a bound on the meter passes one on the looks.
-pub cut-over : {E : Type 0} (is_cut : E → Bool) (bound m all looks : ℕ) → (bound < m + all → looks < all) → (r : Result Outcome E)
+pub cut-over : {T E : Type 0} (is_cut : E → Bool) (bound m all looks : ℕ) → (bound < m + all → looks < all) → (r : Result T E)
     → IfErr r (λ stop. is_cut stop ≡ true → bound < m + all) → IfErr r (λ stop. is_cut stop ≡ true → looks < all)
 cut-over is_cut bound m all looks passes (Ok o) h = tt
 cut-over is_cut bound m all looks passes (Err stop) h = λ t. passes (h t)

@@ -180,7 +180,7 @@ abbrev pub turns_in : List Follower → List Turn
 turns_in fs = map (λ f. f.turn) fs
 
 module _ {X : Type 0} (part : X → Part) where
-  for_each-cons : (x : X) (xs : List X) → for_each part (x ∷ xs) ≡ then_part (part x) (for_each part xs)
+  pub for_each-cons : (x : X) (xs : List X) → for_each part (x ∷ xs) ≡ then_part (part x) (for_each part xs)
   for_each-cons x xs = λ i. record { paths = (for_each part (x ∷ xs)).paths; looks = sum_by-cons (λ y. (part y).looks) x xs i }
 
   pub for_each-append : (xs ys : List X) → for_each part (xs ++ ys) ≡ then_part (for_each part xs) (for_each part ys)

@@ -4,6 +4,9 @@ pub mod DepthFirst
 pub mod LookLemmas
 pub mod Bounds
 pub mod DeepeningLemmas
+pub mod LaterLemmas
+pub mod LaterParts
+pub mod OrderLemmas
 pub mod EntryLemmas
 pub mod GoalLemmas
 pub mod FillLemmas

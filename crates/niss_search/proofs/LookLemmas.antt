@@ -187,7 +187,7 @@ positions_follow_cubes coordinates is_cube kept see begins = record {
 }
 
 module _ {X : Type 0} where
-  filter-each : (P : X → Type 0) (p q : X → Bool) (xs : List X) → ((x : X) → P x → p x ≡ q x) → All P xs → filter p xs ≡ filter q xs
+  pub filter-each : (P : X → Type 0) (p q : X → Bool) (xs : List X) → ((x : X) → P x → p x ≡ q x) → All P xs → filter p xs ≡ filter q xs
   filter-each P p q [] g h = refl
   filter-each P p q (x ∷ xs) g h = rw (g x (All-head P x xs h), filter-each P p q xs g (All-tail P x xs h))
 
@@ -195,7 +195,7 @@ module _ {X : Type 0} where
   list_any-each P p q xs g h =
       list_any-filter p xs ∙ ap (λ l. nat_le 1 (length l)) (filter-each P p q xs g h) ∙ sym (list_any-filter q xs)
 
-All-flat_map : {X Y : Type 0} (P : X → Type 0) (Q : Y → Type 0) (f : X → List Y) (xs : List X) → ((x : X) → P x → All Q (f x)) → All P xs → All Q (flat_map f xs)
+pub All-flat_map : {X Y : Type 0} (P : X → Type 0) (Q : Y → Type 0) (f : X → List Y) (xs : List X) → ((x : X) → P x → All Q (f x)) → All P xs → All Q (flat_map f xs)
 All-flat_map P Q f [] g h = All-nil Q
 All-flat_map P Q f (x ∷ xs) g h = All-append Q (f x) (flat_map f xs) (g x (All-head P x xs h)) (All-flat_map P Q f xs g (All-tail P x xs h))
 
@@ -262,7 +262,7 @@ module _ {turns : List Turn} {S T : Type 0} {IsOf : S → T → Type 0} {from : 
         list_any-each (Contains turns) _ _ turns (λ t m. reached k (from.after s t) (to.after x t) (alike.after_turn s x t m h)) (All-contains_itself turns)
 
   module _ (s : S) (x : T) (h : IsOf s x) where
-    reaching-same : (k : ℕ) → reaching from s k ≡ reaching to x k
+    pub reaching-same : (k : ℕ) → reaching from s k ≡ reaching to x k
     reaching-same k =
         filter-each (IsOver turns) _ _ (all_canonical turns k) (λ p over. alike.goal _ _ (related-after s x p over h)) (canonical-over turns k)
 
@@ -282,7 +282,7 @@ module _ {turns : List Turn} {S T : Type 0} {IsOf : S → T → Type 0} {from : 
           let front = take (length ts) (t ∷ ts) in
           ap (λ n. nat_le n (d - length front)) (same _ _ (related-after s x front (All-take (Contains turns) (length ts) (t ∷ ts) over) h))
 
-      looks-same : (d : ℕ) → looks from f s d ≡ looks to g x d
+      pub looks-same : (d : ℕ) → looks from f s d ≡ looks to g x d
       unfolding looks
       looks-same d = λ i. sum_by (λ k. counted k i) (up_to d) where
         counted : (k : ℕ) → count_by (is_looked_at from f s d) (all_canonical turns k) ≡ count_by (is_looked_at to g x d) (all_canonical turns k)

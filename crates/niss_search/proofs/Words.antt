@@ -2,19 +2,19 @@
 pub use Rattle.std.proofs.Common.{◌≡◌, arith, length, ◌+◌, ◌<◌, ℕ, ap, ◌∙◌, sym, ◌≤◌, [], List, refl, true, ◌*◌, ◌-◌, ◌∷◌, slice_index}
 pub use Rattle.std.proofs.Common.{Bool, false, suc, cond, ◌++◌, zero, get_or, map, Contains, subst, ◌≢◌, count_by, filter, leb, sum_by, inl}
 pub use Rattle.std.proofs.Common.{inr, All, None, take, ◌/◌, ◌⊎◌, Option, Some, nat_le, ◌==◌, ◌^◌, drop, min, unwrap_or, find, nat_lt}
-pub use Rattle.std.proofs.Common.{add-one, replicate, ◌%◌, ◌||◌, IsTrue, eq-eqb, eqb, length-append, length-drop, not, add-zero}
+pub use Rattle.std.proofs.Common.{add-one, replicate, ◌%◌, ◌||◌, ◌&&◌, IsTrue, eq-eqb, eqb, length-append, length-drop, not, add-zero}
 pub use Rattle.std.proofs.Common.{append_assoc, ap₂, below_more, get_or-set_other, get_or-set_same, length-set, rules, set, lit<, lit≤}
 pub use Rattle.std.proofs.Math.Bool.{or-false}
 pub use Rattle.std.proofs.Math.Nat.{mul-le-mul, mul-add, mul-le-mul_right, mul-le-mul_left, mul_comm, pow-suc}
-pub use Rattle.std.proofs.lemmas.Bool.{le-leb, lt-leb, leb-true, leb-false, ne_eqb}
+pub use Rattle.std.proofs.lemmas.Bool.{le-leb, lt-leb, leb-true, leb-false, ne_eqb, le-ltb, lt-ltb}
 pub use Rattle.std.proofs.lemmas.Bool.Decides.{leb_tells, eqb_tells, nat_tests}
 pub use Rattle.std.proofs.lemmas.Grind.{flat_map-append, fold-append}
 pub use Rattle.std.proofs.lemmas.List.{append-nil, length-map, map-append, take_all, drop-drop, drop_more, get_or-drop, get_or-replicate}
-pub use Rattle.std.proofs.lemmas.List.{get_or_read, length-replicate, length-take-le, map_push, take-append-drop, take_at, take_rest}
+pub use Rattle.std.proofs.lemmas.List.{get_or_read, length-replicate, length-take-le, map_push, drop_at, take-append-drop, take_at, take_rest}
 pub use Rattle.std.proofs.lemmas.List.Concat.{length-flat_map}
 pub use Rattle.std.proofs.lemmas.List.Elements.{All-contains, Contains-get_or, All-contains_itself, All-head, All-push, All-tail, All-take}
 pub use Rattle.std.proofs.lemmas.List.Elements.{filter_passes, All-append, All-cons, All-drop, All-filter, All-map}
-pub use Rattle.std.proofs.lemmas.List.Elements.{Contains-append_right, filter-append, filter_more, All-nil}
+pub use Rattle.std.proofs.lemmas.List.Elements.{Contains-append_right, filter-append, filter_more, All-nil, All-weaker}
 pub use Rattle.std.proofs.lemmas.List.Folds.{find-append, list_any_at}
 pub use Rattle.std.proofs.lemmas.List.FromFn.{length-map-range_with_len, length-range_with_len}
 pub use Rattle.std.proofs.lemmas.List.Sums.{sum_by-cons, sum_by-append, sum_by-le-sum_by, count_by-le-length, sum_by-le, length-filter}
@@ -45,7 +45,8 @@ pub use Rattle.niss_search.specs.Cubes.{HasPosition, near_looks_of, near_solutio
 pub use Rattle.niss_search.specs.Deepening.{Delivers, progress_of, Keeps, GoesThrough, progress_at, Descends, Progress, StopsIn}
 pub use Rattle.niss_search.specs.Delivery.{Path, at_limit, EndedIn, StoppedIn, WentInto, WentThrough}
 pub use Rattle.niss_search.specs.Deepening.{Part, only_looks, then_part, for_each, deepening, all_deepenings, below_at}
-unfoldable pub use Rattle.niss_search.specs.Deepening.{beyond, beyond_at}
+pub use Rattle.niss_search.specs.Deepening.{by_place, later_turn_at, all_later}
+unfoldable pub use Rattle.niss_search.specs.Deepening.{beyond, beyond_at, later, later_at}
 pub use Rattle.niss_search.specs.Draw.{after_words, choice, choices}
 unfoldable pub use Rattle.niss_search.specs.Draw.{draw, next_words}
 pub use Rattle.niss_search.specs.Entries.{count_for, values_for}
@@ -54,6 +55,8 @@ pub use Rattle.niss_search.specs.Filling.{Alternative, IsFilling, IsExtended, Is
 pub use Rattle.niss_search.specs.Filling.{AreStarts, IsEntry, KeepsMet, MayBeAt, entry_number, row_length}
 unfoldable pub use Rattle.niss_search.specs.Filling.{entry_distance, entry_after, goal_ticks, AreEntries}
 pub use Rattle.niss_search.specs.Followers.{IsFollower, distance_after, AreFar, IsNextNear}
+pub use Rattle.niss_search.specs.Later.{turn_place, comes_after, sequences_of, later_of, deepening_looks_of}
+unfoldable pub use Rattle.niss_search.specs.Later.{is_later}
 pub use Rattle.niss_search.specs.Laws.{PositionsFollowCubes, BoundIsSmall, CountRecurrence, DistanceIsLeast, EdgeFillIsSmall}
 pub use Rattle.niss_search.specs.Laws.{EntriesAreCounted, FillIsSmall, NoSlackIsLeast, PartHasNoMore, StepBoundIsLess}
 pub use Rattle.niss_search.specs.Moves.{turn_at}

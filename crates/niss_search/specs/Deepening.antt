@@ -1,12 +1,15 @@
 -- What a search does by its position alone: the paths that it hands out, and how often it looks. (For the search's own
 -- functions.)
-use Rattle.std.specs.Prelude.{◌≡◌, ℕ, zero, suc, ◌+◌, ◌≤◌, ◌<◌, nat_le, Bool, true, Result, Ok, Err, if◌then◌else◌}
+use Rattle.std.specs.Prelude.{◌≡◌, ℕ, zero, suc, ◌+◌, ◌-◌, ◌≤◌, ◌<◌, ◌==◌, nat_le, nat_lt, Bool, true, Result, Ok, Err}
+use Rattle.std.specs.Prelude.{if◌then◌else◌, get_or, drop}
+use Rattle.std.specs.List.{range_with_len}
 use Rattle.std.specs.Prelude.{List, [], ◌∷◌, ◌++◌, length, filter, flat_map, sum_by}
-use Rattle.niss_search.specs.Names.{Turn, Step, GoalCoordinates}
+use Rattle.niss_search.specs.Names.{Turn, Step, GoalCoordinates, no_turn}
 use Rattle.niss_moves.specs.Canonical.{may_follow, last_turn}
 use Rattle.niss_search.specs.Solutions.{Space, reaching, looks, solutions, all_looks}
+use Rattle.niss_search.specs.Later.{turn_place}
 use Rattle.niss_search.specs.Delivery.{Path, at_limit, WentThrough, EndedIn}
-use Rattle.niss_search.specs.Positions.{positions, distance_at}
+use Rattle.niss_search.specs.Positions.{positions, distance_at, position_after}
 use Rattle.niss_search.specs.declared.searching.Descent.{Descent}
 
 -- A part of a search: the paths that it hands out, and how many looks it makes.
@@ -25,6 +28,11 @@ then_part a b = record { paths = a.paths ++ b.paths; looks = a.looks + b.looks }
 abbrev pub for_each : {X : Type 0} → (X → Part) → List X → Part
 for_each part xs = record { paths = flat_map (λ x. (part x).paths) xs; looks = sum_by (λ x. (part x).looks) xs }
 
+-- what is done after a turn, by its place and that of another: what is due at this one, what is due after it, or nothing
+abbrev pub by_place : (t u : Turn) → (same later : Part) → Part
+by_place t u same later =
+    if turn_place t == turn_place u then same else if nat_lt (turn_place t) (turn_place u) then later else only_looks 0
+
 module _ {turns : List Turn} {S : Type 0} (space : Space turns S) (look : S → ℕ) where
   -- what is done below the path p at the state x with `left` turns left, once x was looked at
   unfoldable pub beyond : S → List Turn → ℕ → Part
@@ -34,6 +42,18 @@ module _ {turns : List Turn} {S : Type 0} (space : Space turns S) (look : S → 
       then for_each (λ t. then_part (only_looks 1) (beyond (space.after x t) (p ++ t ∷ []) left))
       (filter (may_follow (last_turn p)) turns)
       else only_looks 0
+
+  -- the same of those alone that are as long as p and `ts` together and later, with a look at x
+  unfoldable pub later : S → List Turn → List Turn → Part
+  later x p [] = only_looks 0
+  later x p (t ∷ ts) =
+      then_part (only_looks 1)
+      (if nat_le (look x) (suc (length ts))
+      then for_each (λ u.
+          by_place t u (later (space.after x u) (p ++ u ∷ []) ts)
+          (then_part (only_looks 1) (beyond (space.after x u) (p ++ u ∷ []) (length ts))))
+          (filter (may_follow (last_turn p)) turns)
+      else only_looks 0)
 
   -- the deepening to length d, and all deepenings
   abbrev pub deepening : S → ℕ → Part
@@ -49,6 +69,25 @@ beyond_at step x p left = beyond (positions step) (distance_at step) x p left
 
 abbrev pub below_at : Step → List GoalCoordinates → List Turn → ℕ → Part
 below_at step x p left = then_part (only_looks 1) (beyond_at step x p left)
+
+unfoldable pub later_at : Step → List GoalCoordinates → (p ts : List Turn) → Part
+later_at step x p ts = later (positions step) (distance_at step) x p ts
+
+-- the same after a turn, if it may follow p
+abbrev pub later_turn_at : Step → List GoalCoordinates → (p ts : List Turn) → Turn → Part
+later_turn_at step x p ts u =
+    if may_follow (last_turn p) u
+    then by_place (get_or ts 0 no_turn) u (later_at step (position_after x u) (p ++ u ∷ []) (drop 1 ts))
+        (below_at step (position_after x u) (p ++ u ∷ []) (length ts - 1))
+    else only_looks 0
+
+-- what is done of the sequences of at most n turns that come after ts: of those as long, and then of each greater length
+abbrev pub all_later : Step → List GoalCoordinates → ℕ → List Turn → Part
+all_later step x n ts =
+    if nat_le (length ts) n
+    then then_part (later_at step x [] ts)
+        (for_each (deepening (positions step) (distance_at step) x) (range_with_len (length ts + 1) (n - length ts)))
+    else only_looks 0
 
 -- What a descent changes beside its path: the meter, the count of what was found, and the sink.
 pub record Progress (K : Type 0) : Type 0 where

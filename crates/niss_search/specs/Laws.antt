@@ -1,17 +1,18 @@
 -- Laws over counts and looks, and over positions.
 use Rattle.std.specs.Prelude.{◌≡◌, ℕ, ◌+◌, ◌*◌, ◌^◌, ◌≤◌, ◌<◌, min, Bool, IsTrue, None, option_map, unwrap_or}
-use Rattle.std.specs.Prelude.{List, [], ◌∷◌, filter, length, slice_get, sum_by, All, Contains, ◌⊎◌}
+use Rattle.std.specs.Prelude.{List, [], ◌∷◌, filter, length, slice_get, sum_by, All, Contains, ◌⊎◌, ◌++◌}
 use Rattle.std.specs.Option.{option_map_or}
 use Rattle.niss_moves.specs.Places.{Place, SameMap}
 use Rattle.niss_moves.specs.Canonical.{turn_order}
 use Rattle.niss_search.specs.Names.{Turn, Step, GoalCoordinates}
 use Rattle.niss_cube.specs.AfterTurn.{IsCube}
 use Rattle.niss_cube.specs.Steps.{start_of, goals_of, turns_of, may_start}
-use Rattle.niss_search.specs.Solutions.{Space, Homomorphism, up_to, count_of_length, look_bound, reaching, least_length}
+use Rattle.niss_search.specs.Solutions.{Space, Homomorphism, up_to, count_of_length, look_bound, reaching, least_length, last_length}
 use Rattle.niss_search.specs.Solutions.{solutions, looks, all_looks, distance, after_all}
 use Rattle.niss_search.specs.Entries.{entries_of, entry_count, fill_ticks}
 use Rattle.niss_search.specs.Positions.{position_of, positions, distance_at}
-use Rattle.niss_search.specs.Cubes.{cubes, HasPosition}
+use Rattle.niss_search.specs.Cubes.{cubes, HasPosition, least_length_of, near_solutions_of, near_looks_of}
+use Rattle.niss_search.specs.Later.{sequences_of, later_of, deepening_looks_of}
 
 -- Over the 18 turns, c(k + 2) = 12 c(k + 1) + 18 c(k) for k of at least 1.
 abbrev pub CountRecurrence : Type 0
@@ -109,3 +110,20 @@ pub record PositionsFollowCubes : Type 0 where
       (s : Step) (d e : Place → Place) → IsCube d → SameMap d e → IsTrue (may_start s d) →
       HasPosition s e (position_of s d)
   pub follow : (s : Step) → Homomorphism (HasPosition s) (cubes s) (positions s)
+
+-- The solutions are all sequences that reach the step, up to the last length, and a search looks as often as the deepenings
+-- up to it.
+pub record SolutionsAreSequences : Type 0 where
+  pub listed :
+      (s : Step) (e : Place → Place) (n slack : ℕ) →
+      near_solutions_of s e n slack ≡ sequences_of s e (last_length (least_length_of s e n) n slack)
+  pub looked :
+      (s : Step) (e : Place → Place) (n slack : ℕ) →
+      near_looks_of s e n slack ≡ deepening_looks_of s e (last_length (least_length_of s e n) n slack)
+
+-- Of the solutions those that come after one of them are those that stand behind it.
+abbrev pub LaterIsRest : Type 0
+LaterIsRest =
+    (s : Step) (e : Place → Place) (n slack : ℕ) (front rest : List (List Turn)) (p : List Turn) →
+    near_solutions_of s e n slack ≡ front ++ p ∷ rest →
+    later_of s e (last_length (least_length_of s e n) n slack) p ≡ rest

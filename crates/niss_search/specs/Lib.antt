@@ -2,6 +2,7 @@ pub mod Names
 pub mod Solutions
 pub mod Positions
 pub mod Cubes
+pub mod Later
 pub mod Delivery
 pub mod Entries
 pub mod Laws

@@ -63,5 +63,5 @@ pub use budget::Stopped;
 pub use path::{Limit, TurnPath};
 pub use scan::next_at;
 pub use scramble::random_turns;
-pub use searching::{Outcome, Sink, search, search_within};
+pub use searching::{Outcome, Sink, search, search_after, search_within};
 pub use tables::{Meter, Position, Tables};

@@ -14,9 +14,12 @@ ghost use Rattle.niss_search.specs.Deepening.{deepening, all_deepenings, Deliver
 ghost use Rattle.niss_search.specs.Deepening.{turns};
 ghost use Rattle.niss_search.specs.Followers.{IsFollower, IsNextNear, AreFar};
 
+mod later;
+
 use crate::budget::{Budget, Stopped, Unbounded, UpTo};
 use crate::laws::positions_follow_cubes;
 use crate::path::{Limit, TurnPath};
+pub use later::search_after;
 use crate::tables::{Follower, Kind, Meter, Position, SearchTables, StateSpace, Tables};
 use niss_moves::Turn;
 use std::alloc::Allocator;

@@ -1,0 +1,220 @@
+-- The sequences that come after one, turn by turn and length by length, and what a search for them says of a cube.
+use Rattle.niss_search.proofs.Words.{◌≡◌, arith, length, ◌+◌, ◌<◌, ℕ, ap, ◌∙◌, sym, ◌≤◌, [], List, refl, true, false, ◌-◌, ◌∷◌, Bool, Turn}
+use Rattle.niss_search.proofs.Words.{cond, suc, zero, range_with_len, ◌++◌, flat_map, filter, drop, take, get_or, append_assoc, append-nil, subst}
+use Rattle.niss_search.proofs.Words.{All, All-cons, All-nil, All-map, All-weaker, drop_at, may_follow, last_turn, nat_le, nat_lt, ◌==◌, no_turn}
+use Rattle.niss_search.proofs.Words.{Space, Part, only_looks, then_part, for_each, beyond, later, later_at, below_at, beyond_at, by_place}
+use Rattle.niss_search.proofs.Words.{later_turn_at, all_later, turn_place, comes_after, is_later, reaching, looks, deepening, positions}
+use Rattle.niss_search.proofs.Words.{distance_at, Step, GoalCoordinates, turns_of, up_to, all_canonical, canonical_extensions, length-append}
+use Rattle.niss_search.proofs.Words.{sum_by, sum_by-cons, sum_by-append, sum_by-le-sum_by, position_after, ap₂, le-leb, lt-leb, leb-true}
+use Rattle.niss_search.proofs.Words.{◌||◌, ◌&&◌, le-ltb, lt-ltb, ne_eqb, eq-eqb, All-filter, flat_map-append, leb_tells, inl, inr}
+use Rattle.niss_search.proofs.Words.{add-zero, take_all, take-append-drop, ◌*◌, ◌^◌}
+use Rattle.std.proofs.lemmas.List.{take_more}
+use Rattle.niss_search.proofs.ListLemmas.{filter-flat_map, range-split, range_with_len-append}
+use Rattle.niss_search.proofs.LookLemmas.{filter-each, All-flat_map, reaching-same, looks-same, distance-cube}
+use Rattle.niss_search.proofs.Words.{GoesThrough, StopsIn, progress_at, Ok, Err, Path, Place, at_limit, Result, IfOk, OnOk, IfErr, WentThrough}
+use Rattle.niss_search.proofs.Words.{EndedIn, Delivers, PositionsFollowCubes, HasPosition, later_of, deepening_looks_of, distance_of, cubes}
+use Rattle.niss_search.proofs.DepthFirst.{below_at-start, for_each-cons, for_each-append, Descends-then, StopsIn-before}
+use Rattle.niss_search.proofs.Bounds.{looks-sum-small, turns_of-length}
+use Rattle.niss_search.proofs.LaterLemmas.{passed, later_below, later_turn, all_later-paths, all_later-looks, later_below-looks, later_at-looks}
+
+-- Parts one after another.
+part-assoc : (a b c : Part) → then_part (then_part a b) c ≡ then_part a (then_part b c)
+part-assoc a b c =
+    let same : a.looks + b.looks + c.looks ≡ a.looks + (b.looks + c.looks) = omega arith in
+    λ i. record { paths = append_assoc a.paths b.paths c.paths i; looks = same i }
+
+part-none : (a : Part) → then_part a (only_looks 0) ≡ a
+part-none a = λ i. record { paths = append-nil a.paths i; looks = add-zero a.looks i }
+
+none-part : (a : Part) → then_part (only_looks 0) a ≡ a
+none-part a =
+    let same : 0 + a.looks ≡ a.looks = omega arith in
+    λ i. record { paths = a.paths; looks = same i }
+
+module _ {X : Type 0} (part : X → Part) where
+  for_each-one : (x : X) → for_each part (x ∷ []) ≡ part x
+  for_each-one x = for_each-cons part x [] ∙ part-none (part x)
+
+  for_each-filter : (test : X → Bool) (xs : List X) → for_each part (filter test xs) ≡ for_each (λ x. cond (test x) (part x) (only_looks 0)) xs
+  for_each-filter test [] = refl
+  for_each-filter test (x ∷ xs) =
+      by_test (test x) (for_each-filter test xs) ∙ sym (for_each-cons (λ y. cond (test y) (part y) (only_looks 0)) x xs) where
+        by_test : (b : Bool) → for_each part (filter test xs) ≡ for_each (λ y. cond (test y) (part y) (only_looks 0)) xs
+            → for_each part (cond b (x ∷ filter test xs) (filter test xs))
+            ≡ then_part (cond b (part x) (only_looks 0)) (for_each (λ y. cond (test y) (part y) (only_looks 0)) xs)
+        by_test true h = for_each-cons part x (filter test xs) ∙ ap (then_part (part x)) h
+        by_test false h = h ∙ sym (none-part (for_each (λ y. cond (test y) (part y) (only_looks 0)) xs))
+
+-- What is done of the later ones, turn by turn.
+module _ (step : Step) (x : List GoalCoordinates) (p : List Turn) where
+  pub later_at-none : (ts : List Turn) → length ts ≡ 0 → later_at step x p ts ≡ only_looks 0
+  unfolding later later_at
+  later_at-none [] h = refl
+  later_at-none (t ∷ ts) h = absurd (omega (arith, h))
+
+  pub later_at-some : (ts : List Turn) → 0 < length ts → 1 ≤ (later_at step x p ts).looks
+  unfolding later later_at
+  later_at-some [] h = absurd (omega (arith, h))
+  later_at-some (t ∷ ts) h = omega arith
+
+  pub later_at-far : (ts : List Turn) → 0 < length ts → length ts < distance_at step x → later_at step x p ts ≡ only_looks 1
+  unfolding later later_at
+  later_at-far [] h far = absurd (omega (arith, h))
+  later_at-far (t ∷ ts) h far = rw (lt-leb (distance_at step x) (suc (length ts)) far) refl
+
+  pub later_at-near : (ts : List Turn) → 0 < length ts → distance_at step x ≤ length ts → later_at step x p ts ≡ passed step x p ts (length (turns_of step))
+  unfolding later later_at beyond_at
+  later_at-near [] h near = absurd (omega (arith, h))
+  later_at-near (t ∷ ts) h near =
+      let rest : length ts ≡ length (t ∷ ts) - 1 = omega arith in
+      let whole : take (length (turns_of step)) (turns_of step) ≡ turns_of step = take_all (length (turns_of step)) (turns_of step) (omega arith) in
+      rw (le-leb (distance_at step x) (suc (length ts)) near, whole)
+      (ap (then_part (only_looks 1))
+      (for_each-filter (later_turn (positions step) (distance_at step) x p t ts) (may_follow (last_turn p)) (turns_of step)
+      ∙ (λ i. for_each (λ u. cond (may_follow (last_turn p) u)
+      (by_place t u (later_at step (position_after x u) (p ++ u ∷ []) ts) (below_at step (position_after x u) (p ++ u ∷ []) (rest i)))
+      (only_looks 0)) (turns_of step))))
+
+  module _ (ts : List Turn) (i : ℕ) (d : Turn) (inside : i < length (turns_of step)) where
+    abbrev turn_part : Turn → Part
+    turn_part = later_turn_at step x p ts
+
+    abbrev this : Turn
+    this = get_or (turns_of step) i d
+
+    pub passed-more : passed step x p ts (i + 1) ≡ then_part (passed step x p ts i) (turn_part this)
+    passed-more =
+        ap (λ us. then_part (only_looks 1) (for_each turn_part us)) (take_more (turns_of step) i d inside)
+        ∙ ap (then_part (only_looks 1)) (for_each-append turn_part (take i (turns_of step)) (this ∷ []) ∙ ap (then_part (for_each turn_part (take i (turns_of step)))) (for_each-one turn_part this))
+        ∙ sym (part-assoc (only_looks 1) (for_each turn_part (take i (turns_of step))) (turn_part this))
+
+    pub later_at-split : 0 < length ts → distance_at step x ≤ length ts
+        → later_at step x p ts ≡ then_part (then_part (passed step x p ts i) (turn_part this)) (for_each turn_part (drop (i + 1) (turns_of step)))
+    later_at-split some near =
+        let all = turns_of step in
+        let whole : take (length all) all ≡ take (i + 1) all ++ drop (i + 1) all = take_all (length all) all (omega arith) ∙ sym (take-append-drop (i + 1) all) in
+        later_at-near ts some near
+        ∙ ap (λ us. then_part (only_looks 1) (for_each turn_part us)) whole
+        ∙ ap (then_part (only_looks 1)) (for_each-append turn_part (take (i + 1) all) (drop (i + 1) all))
+        ∙ sym (part-assoc (only_looks 1) (for_each turn_part (take (i + 1) all)) (for_each turn_part (drop (i + 1) all)))
+        ∙ ap (λ q. then_part q (for_each turn_part (drop (i + 1) all))) passed-more
+
+    pub passed-room : 0 < length ts → distance_at step x ≤ length ts
+        → (passed step x p ts i).looks + (turn_part this).looks ≤ (later_at step x p ts).looks
+    passed-room some near = omega (arith, ap (λ (q : Part). q.looks) (later_at-split some near))
+
+-- What is done of the later ones, length by length.
+module _ (step : Step) (x : List GoalCoordinates) (ts : List Turn) where
+  abbrev one_length : ℕ → Part
+  one_length = deepening (positions step) (distance_at step) x
+
+  -- the looks are few
+  pub later_below-small : (d : ℕ) → length ts + 1 ≤ d → d ≤ 21 → (later_below step x ts d).looks ≤ 21 * (21 * 18 ^ 20)
+  later_below-small d h l =
+      omega (arith, later_below-looks step x ts d h, looks-sum-small (positions step) (distance_at step) x d (turns_of-length step) l)
+
+  pub later_at-small : length ts ≤ 20 → (later_at step x [] ts).looks ≤ 21 * (21 * 18 ^ 20)
+  later_at-small h = omega (arith, later_below-small (length ts + 1) (omega arith) (omega (arith, h)))
+
+  -- one length more
+  pub later_below-more : (d : ℕ) → length ts + 1 ≤ d → later_below step x ts (d + 1) ≡ then_part (later_below step x ts d) (one_length d)
+  later_below-more d h =
+      let k = length ts + 1 in
+      let count : d + 1 - k ≡ d - k + 1 = omega (arith, h) in
+      let last : k + (d - k) ≡ d = omega (arith, h) in
+      ap (λ m. then_part (later_at step x [] ts) (for_each one_length (range_with_len k m))) count
+      ∙ ap (λ ks. then_part (later_at step x [] ts) (for_each one_length ks)) (range_with_len-append k (d - k) 1 ∙ ap (λ j. range_with_len k (d - k) ++ j ∷ []) last)
+      ∙ ap (then_part (later_at step x [] ts)) (for_each-append one_length (range_with_len k (d - k)) (d ∷ []) ∙ ap (then_part (for_each one_length (range_with_len k (d - k)))) (for_each-one one_length d))
+      ∙ sym (part-assoc (later_at step x [] ts) (for_each one_length (range_with_len k (d - k))) (one_length d))
+
+  -- up to the last
+  pub all_later-is : (n : ℕ) → length ts ≤ n → all_later step x n ts ≡ later_below step x ts (n + 1)
+  all_later-is n h =
+      let count : n - length ts ≡ n + 1 - (length ts + 1) = omega (arith, h) in
+      rw (le-leb (length ts) n h) (ap (λ m. then_part (later_at step x [] ts) (for_each one_length (range_with_len (length ts + 1) m))) count)
+
+  pub all_later-split : (n d : ℕ) → length ts + 1 ≤ d → d ≤ n
+      → all_later step x n ts ≡ then_part (then_part (later_below step x ts d) (one_length d)) (for_each one_length (range_with_len (d + 1) (n - d)))
+  all_later-split n d h l =
+      let k = length ts + 1 in
+      let count : n - length ts ≡ d + 1 - k + (n - d) = omega (arith, h, l) in
+      let next : k + (d + 1 - k) ≡ d + 1 = omega (arith, h) in
+      rw (le-leb (length ts) n (omega (arith, h, l)))
+      (ap (λ m. then_part (later_at step x [] ts) (for_each one_length (range_with_len k m))) count
+      ∙ ap (λ ks. then_part (later_at step x [] ts) (for_each one_length ks)) (range_with_len-append k (d + 1 - k) (n - d) ∙ ap (λ j. range_with_len k (d + 1 - k) ++ range_with_len j (n - d)) next)
+      ∙ ap (then_part (later_at step x [] ts)) (for_each-append one_length (range_with_len k (d + 1 - k)) (range_with_len (d + 1) (n - d)))
+      ∙ sym (part-assoc (later_at step x [] ts) (for_each one_length (range_with_len k (d + 1 - k))) (for_each one_length (range_with_len (d + 1) (n - d))))
+      ∙ ap (λ q. then_part q (for_each one_length (range_with_len (d + 1) (n - d)))) (later_below-more d h))
+
+  pub all_later-start : (n : ℕ) → length ts ≤ n
+      → all_later step x n ts ≡ then_part (later_at step x [] ts) (for_each one_length (range_with_len (length ts + 1) (n - length ts)))
+  all_later-start n h = rw (le-leb (length ts) n h) refl
+
+  pub all_later-none : (n : ℕ) → n < length ts → all_later step x n ts ≡ only_looks 0
+  all_later-none n h = rw (lt-leb (length ts) n h) refl
+
+-- The later ones of each length below d were handed out.
+module _
+    (step : Step) (x : List GoalCoordinates) (ts : List Turn) (d : ℕ) {K : Type 0} {took refused : K → List Turn → K → Type 0}
+    {m0 m1 c : ℕ} {s0 s1 : K} (went : GoesThrough took refused (later_below step x ts d) (progress_at m0 0 s0) (progress_at m1 c s1))
+    (from : length ts + 1 ≤ d)
+  where
+    abbrev next : Part
+    next = deepening (positions step) (distance_at step) x d
+
+    -- one length more has room
+    pub room_later : m0 ≤ 2 ^ 127 → d ≤ 20 → m1 + next.looks < 2 ^ 128
+    room_later few within =
+        omega (arith, went.looked, ap (λ (q : Part). q.looks) (later_below-more step x ts d from), later_below-small step x ts (d + 1) (omega (arith, from)) (omega (arith, within)))
+
+    -- and may go on
+    pub goes-on_later : {m2 e : ℕ} {s2 : K} → GoesThrough took refused next (progress_at m1 0 s1) (progress_at m2 e s2)
+        → GoesThrough took refused (later_below step x ts (d + 1)) (progress_at m0 0 s0) (progress_at m2 (c + e) s2)
+    goes-on_later {m2} {e} {s2} h = rw (later_below-more step x ts d from)
+        (Descends-then {E = Bool} (λ b. b) 0 (Ok tt) next (progress_at m2 (c + e) s2) went
+        record { delivered = h.delivered; counted = omega (arith, h.counted); looked = h.looked })
+
+    -- or stop
+    pub stops_later : (n : ℕ) → d ≤ n → {m2 : ℕ} {s2 : K} {cut : Bool} {bound : ℕ} → StopsIn took refused next (progress_at m1 0 s1) (progress_at m2 0 s2) cut bound
+        → StopsIn took refused (all_later step x n ts) (progress_at m0 0 s0) (progress_at m2 0 s2) cut bound
+    stops_later n within {m2} {s2} {cut} {bound} h =
+        rw (all_later-split step x ts n d from within)
+        (StopsIn-before (for_each (deepening (positions step) (distance_at step) x) (range_with_len (d + 1) (n - d)))
+        (Descends-then (λ b. b) bound (Err cut) next (progress_at m2 0 s2) went
+        record { stopped = h.stopped; rises = h.rises; looked = h.looked; over = h.over }))
+
+-- those of the same length
+pub starts_later : (step : Step) (x : List GoalCoordinates) (ts : List Turn) → later_below step x ts (length ts + 1) ≡ later_at step x [] ts
+starts_later step x ts =
+    let none : length ts + 1 - (length ts + 1) ≡ 0 = omega arith in
+    ap (λ m. then_part (later_at step x [] ts) (for_each (deepening (positions step) (distance_at step) x) (range_with_len (length ts + 1) m))) none
+    ∙ part-none (later_at step x [] ts)
+
+-- What a search for the later ones says of a cube, by what it returns.
+pub record LaterSearched {K E : Type 0} (took refused : K → Path → K → Type 0) (is_cut : E → Bool) (bound : ℕ) (step : Step) (e : Place → Place) (n : ℕ) (ts : List Turn) (m m1 : ℕ) (s s1 : K) (r : Result ℕ E) : Type 0 where
+  pub solutions : IfOk r (λ count. count ≡ length (later_of step e n ts))
+  pub ok : OnOk r (WentThrough (at_limit took n) s (later_of step e n ts) s1)
+  pub err : IfErr r (λ stop. EndedIn (at_limit took n) (at_limit refused n) (is_cut stop) s (later_of step e n ts) s1)
+  pub looks_at_most : m1 ≤ m + deepening_looks_of step e n
+  pub over : IfErr r (λ stop. is_cut stop ≡ true → bound < m + deepening_looks_of step e n)
+
+pub later_searched : {K E : Type 0} (took refused : K → Path → K → Type 0) (is_cut : E → Bool) (bound : ℕ) (step : Step) (x : List GoalCoordinates) (n : ℕ) (ts : List Turn) (m m1 : ℕ) (s s1 : K) (r : Result ℕ E)
+    → Delivers took refused n (all_later step x n ts) m m1 s s1 is_cut bound (λ count. count) r
+    → PositionsFollowCubes → (e : Place → Place) → HasPosition step e x → LaterSearched took refused is_cut bound step e n ts m m1 s s1 r
+later_searched {E = E} took refused is_cut bound step x n ts m m1 s s1 r h law e at = by_result r h where
+  found : later_of step e n ts ≡ (all_later step x n ts).paths
+  found = (λ i. filter (comes_after ts) (flat_map (λ k. reaching-same (law.follow step) e x at k i) (up_to n))) ∙ all_later-paths step x ts n
+
+  looked : deepening_looks_of step e n ≡ sum_by (looks (positions step) (distance_at step) x) (up_to n)
+  looked = λ i. sum_by (λ d. looks-same (law.follow step) e x at (distance_of step) (distance_at step) (distance-cube law step) d i) (up_to n)
+
+  by_result : (r : Result ℕ E) → Delivers took refused n (all_later step x n ts) m m1 s s1 is_cut bound (λ count. count) r → LaterSearched took refused is_cut bound step e n ts m m1 s s1 r
+  by_result (Ok count) h =
+      record { solutions = omega (arith, ap length found, h.counted); ok = rw found h.delivered; err = tt; looks_at_most = omega (arith, looked, h.looked, all_later-looks step x ts n); over = tt }
+  by_result (Err stop) h =
+      record { solutions = tt; ok = tt; err = rw found h.stopped; looks_at_most = omega (arith, looked, h.looked, all_later-looks step x ts n); over = λ t. omega (arith, looked, h.over t, all_later-looks step x ts n) }
+
+-- the looks up to a length are few
+pub deepening_looks-small : (step : Step) (e : Place → Place) (n : ℕ) → n ≤ 20 → deepening_looks_of step e n ≤ 21 * (21 * 18 ^ 20)
+deepening_looks-small step e n h =
+    looks-sum-small (cubes step) (distance_of step) e (n + 1) (turns_of-length step) (omega (arith, h))

@@ -1,0 +1,144 @@
+use Rattle.niss_search.proofs.Words.{◌≡◌, ◌+◌, ◌<◌, ◌≤◌, ◌^◌, ◌∙◌, sym, arith, length, get_or, drop, subst, Ok, Err, Bool, Contains}
+use Rattle.niss_search.proofs.Words.{Contains-get_or, nat_tests, later_at, turns_of, no_turn, later_turn_at, distance_at, at_limit, progress_of, Path, for_each}
+use Rattle.niss_search.proofs.DepthFirst.{StopsIn-cut, StopsIn-before, GoesThrough-looks, Descends-then}
+use Rattle.niss_search.proofs.LaterLemmas.{passed}
+use Rattle.niss_search.proofs.LaterParts.{later_at-none, later_at-some, later_at-far, later_at-near, later_at-split, passed-more, passed-room}
+use Rattle.niss_search.proofs.searching.Descent.+passing.Goals as goal
+
+pub pass-returns-then-is_empty-clause-makes : goal.pass-returns-then-is_empty-clause-makes
+pass-returns-then-is_empty-clause-makes g t c =
+    let path = c.args.self.now.path.now in
+    let none : length c.args.after.now ≡ 0 = grind (arith, nat_tests, c.if-is_empty.ensures) in
+    rw (later_at-none c.args.tables.now c.args.position.now path.turns c.args.after.now none)
+    (GoesThrough-looks 0 c.args.meter c.args.meter c.args.self.now.count c.args.self.now.sink.now (omega arith))
+
+pub pass-admit-requires : goal.pass-admit-requires
+pass-admit-requires g t c =
+    let some : 0 < length c.args.after.now = grind (arith, nat_tests, c.if-is_empty.ensures) in
+    record { meter = omega (arith, later_at-some c.args.tables.now c.args.position.now c.args.self.now.path.now.turns c.args.after.now some, c.requires.meter) }
+
+pub pass-returns-in-Err-clause-makes : goal.pass-returns-in-Err-clause-makes
+pass-returns-in-Err-clause-makes g t c =
+    let path = c.args.self.now.path.now in
+    let some : 0 < length c.args.after.now = grind (arith, nat_tests, c.if-is_empty.ensures) in
+    StopsIn-cut (g.B.Budget.bound c.args.budget.now) (later_at c.args.tables.now c.args.position.now path.turns c.args.after.now) (progress_of c.args.meter c.args.self.now)
+    (g.B.Budget.is_cut c.in-Err.stop) c.in-Err.ensures.cut
+    (omega (arith, c.in-Err.ensures.over, later_at-some c.args.tables.now c.args.position.now path.turns c.args.after.now some))
+
+pub pass-look-requires-clause-meter : goal.pass-look-requires-clause-meter
+pass-look-requires-clause-meter g t c =
+    let some : 0 < length c.args.after.now = grind (arith, nat_tests, c.if-is_empty.ensures) in
+    omega (arith, later_at-some c.args.tables.now c.args.position.now c.args.self.now.path.now.turns c.args.after.now some, c.requires.meter)
+
+pub pass-returns-then-from-after-clause-makes : goal.pass-returns-then-from-after-clause-makes
+pass-returns-then-from-after-clause-makes g t c =
+    let path = c.args.self.now.path.now in
+    let some : 0 < length c.args.after.now = grind (arith, nat_tests, c.if-is_empty.ensures) in
+    let far : length c.args.after.now < distance_at c.args.tables.now c.args.position.now = omega (arith, c.look.ensures.of_position, c.from.ensures) in
+    rw (later_at-far c.args.tables.now c.args.position.now path.turns c.args.after.now some far)
+    (GoesThrough-looks 1 c.args.meter c.look.new.meter c.args.self.now.count c.args.self.now.sink.now c.look.ensures.tick)
+
+pub pass-pass_turn-counted-requires : goal.pass-pass_turn-counted-requires
+pass-pass_turn-counted-requires g t c κs within =
+    let step = c.args.tables.now in
+    let x = c.args.position.now in
+    let after = c.args.after.now in
+    let i = c.loop-index.index in
+    let inv = c.loop-index.invariant in
+    let listed : c.turns-turns.result.now ≡ turns_of step = rw c.step.ensures at c.turns-turns.ensures in
+    let turn = get_or c.turns-turns.result.now i no_turn in
+    let inside : i < length c.turns-turns.result.now = omega (arith, c.loop-index-test.true, c.loop-index.auto.index-end) in
+    let some : 0 < length after = grind (arith, nat_tests, c.if-is_empty.ensures) in
+    let near : distance_at step x ≤ length after = omega (arith, c.look.ensures.of_position, c.from.ensures) in
+    let same = sym inv.keeps.path in
+    let Room : Path → Type 0 = λ q. length q.turns + length after ≤ q.limit in
+    let Metered : Path → Type 0 = λ q. c.loop-index.meter + (later_turn_at step x q.turns after turn).looks < 2 ^ 128 in
+    let contains : Contains (turns_of step) turn = rw (sym listed) (Contains-get_or c.turns-turns.result.now i no_turn inside) in
+    let room = passed-room step x c.args.self.now.path.now.turns after i no_turn (rw (sym listed) inside) some near in
+    let metered = subst Metered same (rw listed (omega (arith, inv.went.looked, room, c.requires.meter))) in
+    (
+      omega arith,
+      (
+        within.0,
+        (
+          within.1.0,
+          (
+            within.1.1.0,
+            (
+              within.1.1.1.0,
+              (
+                within.1.1.1.1,
+                (
+                  c.requires.position,
+                  (
+                    contains,
+                    (
+                      some,
+                      (c.requires.few, (subst Room same c.requires.room, (metered, (inv.within, omega (arith, inv.keeps.counted, c.requires.count))))),
+                    ),
+                  ),
+                ),
+              ),
+            ),
+          ),
+        ),
+      ),
+    )
+
+pub pass-returns-in-Err-below-clause-makes : goal.pass-returns-in-Err-below-clause-makes
+pass-returns-in-Err-below-clause-makes g t c =
+    let step = c.args.tables.now in
+    let x = c.args.position.now in
+    let after = c.args.after.now in
+    let p = c.args.self.now.path.now.turns in
+    let i = c.loop-index.index in
+    let inv = c.loop-index.invariant in
+    let listed : c.turns-turns.result.now ≡ turns_of step = rw c.step.ensures at c.turns-turns.ensures in
+    let inside : i < length (turns_of step) = rw (sym listed) (omega (arith, c.loop-index-test.true, c.loop-index.auto.index-end)) in
+    let some : 0 < length after = grind (arith, nat_tests, c.if-is_empty.ensures) in
+    let near : distance_at step x ≤ length after = omega (arith, c.look.ensures.of_position, c.from.ensures) in
+    let part = later_turn_at step x p after (get_or (turns_of step) i no_turn) in
+    let rest = for_each (later_turn_at step x p after) (drop (i + 1) (turns_of step)) in
+    let stops = rw (inv.keeps.path, c.in-Err-below.is, listed) at c.pass_turn-counted.ensures.makes in
+    rw (later_at-split step x p after i no_turn inside some near)
+    (StopsIn-before rest
+    (Descends-then g.B.Budget.is_cut (g.B.Budget.bound c.args.budget.now) (Err c.in-Err-below.stop) part
+    (progress_of c.pass_turn-counted.result.0 c.pass_turn-counted.new.self) inv.went stops))
+
+pub pass-loop-index-preserved : goal.pass-loop-index-preserved
+pass-loop-index-preserved g t c =
+    let step = c.args.tables.now in
+    let x = c.args.position.now in
+    let after = c.args.after.now in
+    let p = c.args.self.now.path.now.turns in
+    let i = c.loop-index.index in
+    let inv = c.loop-index.invariant in
+    let kept = c.pass_turn-counted.ensures.keeps in
+    let listed : c.turns-turns.result.now ≡ turns_of step = rw c.step.ensures at c.turns-turns.ensures in
+    let inside : i < length (turns_of step) = rw (sym listed) (omega (arith, c.loop-index-test.true, c.loop-index.auto.index-end)) in
+    let part = later_turn_at step x p after (get_or (turns_of step) i no_turn) in
+    let went = rw (inv.keeps.path, c.in_default-below.is, listed) at c.pass_turn-counted.ensures.makes in
+    record {
+      within = c.pass_turn-counted.ensures.within;
+      keeps = record {
+        path = kept.path ∙ inv.keeps.path;
+        same_path = kept.same_path ∙ inv.keeps.same_path;
+        same_sink = kept.same_sink ∙ inv.keeps.same_sink;
+        counted = omega (arith, inv.keeps.counted, kept.counted);
+      };
+      went = rw (passed-more step x p after i no_turn inside)
+          (Descends-then {E = Bool} (λ b. b) 0 (Ok tt) part (progress_of c.pass_turn-counted.result.0 c.pass_turn-counted.new.self) inv.went went);
+    }
+
+pub pass-returns-clause-makes : goal.pass-returns-clause-makes
+pass-returns-clause-makes g t c =
+    let step = c.args.tables.now in
+    let x = c.args.position.now in
+    let after = c.args.after.now in
+    let p = c.args.self.now.path.now.turns in
+    let inv = c.loop-index.invariant in
+    let listed : c.turns-turns.result.now ≡ turns_of step = rw c.step.ensures at c.turns-turns.ensures in
+    let end : c.loop-index.index ≡ length (turns_of step) = rw (sym listed) (omega (arith, c.loop-index-test.false, c.loop-index.auto.index-end)) in
+    let some : 0 < length after = grind (arith, nat_tests, c.if-is_empty.ensures) in
+    let near : distance_at step x ≤ length after = omega (arith, c.look.ensures.of_position, c.from.ensures) in
+    rw (later_at-near step x p after some near, sym end) inv.went

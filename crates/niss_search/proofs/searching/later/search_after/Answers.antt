@@ -1,0 +1,26 @@
+use Rattle.niss_search.proofs.Words.{arith, ◌≤◌, deepening_looks_of}
+use Rattle.niss_search.proofs.DeepeningLemmas.{cut-over}
+use Rattle.niss_search.proofs.LaterParts.{later_searched, deepening_looks-small}
+use Rattle.niss_search.specs.Budgets.{is_cut_in}
+use Rattle.niss_search.proofs.searching.later.search_after.Goals as goal
+
+pub returns : goal.returns
+returns g c =
+    let step = c.args.tables.now in
+    let n = c.args.path.now.limit in
+    let after = c.args.after.now in
+    let of = later_searched g.K.Sink.took g.K.Sink.refused is_cut_in c.saturating_add.result step c.args.position.now n after c.args.meter.now c.deepen_later.new.meter c.args.sink.now c.deepen_later.new.sink c.deepen_later.result c.deepen_later.ensures.delivers c.positions_follow_cubes.ensures in
+    let small : n ≤ 20 = c.deepen_later.ensures.limit in
+    record {
+      solutions = λ e h. (of e h).solutions;
+      path = c.deepen_later.ensures.path;
+      ok = λ e h. (of e h).ok;
+      err = λ e h. (of e h).err;
+      cut = λ e h.
+          cut-over is_cut_in c.saturating_add.result c.args.meter.now (deepening_looks_of step e n) c.args.looks
+          (λ over. omega (arith, over, c.saturating_add.ensures, c.count.ensures, c.requires.meter, deepening_looks-small step e n small))
+          c.deepen_later.result (of e h).over;
+      looks_at_most = λ e h. (of e h).looks_at_most;
+      rises = c.deepen_later.ensures.rises;
+      within = omega (arith, c.deepen_later.ensures.within, c.saturating_add.ensures);
+    }
