@@ -16,6 +16,7 @@ folder=$(realpath -m -- "${2:-build}")
 export NISSY_LIBRARY=$folder/libnissy.so.2
 
 if missing python3 || [ ! -e "$NISSY_LIBRARY" ]; then skips_all "there is no python3 here, or no library that make lib built"; fi
+typed tests/best/*.py
 caller=- module=-
 compiled() { g++ -std=c++17 -O2 -Wall -Wextra -Wpedantic -Werror -Iinclude -o "$room/asked" tests/best/asked.cpp "$folder/libnissy.a"; }
 if missing g++; then skips "C++, since there is no g++"; else

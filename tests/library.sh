@@ -175,6 +175,7 @@ beside_program() {
         caller=("$made/caller")
     fi
     add python3 tests/library/beside_program.py "$program" 1 0.4 "${caller[@]}"
+    add python3 tests/library/beside_model.py 1 1500 "${caller[@]}"
     ended
 }
 if missing python3; then skips "there is no python3 here"; else
