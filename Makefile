@@ -28,7 +28,7 @@ LIBRARY_FILES := \
 	$(BUILD)/$(SONAME):@lib/$(SONAME) \
 	$(BUILD)/libnissy.so:@lib/libnissy.so \
 	include/nissy.h:include/nissy.h \
-	include/nissy.hpp:include/nissy.hpp \
+	$(foreach file,$(notdir $(wildcard include/*.hpp)),include/$(file):include/$(file)) \
 	include/nissy.pc:@lib/pkgconfig/nissy.pc \
 	packaging/cmake/nissy-config.cmake:@lib/cmake/nissy/nissy-config.cmake \
 	packaging/cmake/nissy-config-version.cmake:@lib/cmake/nissy/nissy-config-version.cmake \

@@ -48,7 +48,7 @@ wanted="755 bin/nissy build/nissy
 if [ $library = yes ]; then
     wanted="$wanted
 644 include/nissy.h include/nissy.h
-644 include/nissy.hpp include/nissy.hpp
+$(find include -name '*.hpp' -printf '644 %p %p\n')
 644 lib/cmake/nissy/nissy-config-version.cmake packaging/cmake/nissy-config-version.cmake
 644 lib/cmake/nissy/nissy-config.cmake packaging/cmake/nissy-config.cmake
 644 lib/libnissy.a build/libnissy.a

@@ -87,39 +87,46 @@ tried() { # NAME: the test in C of this name
 for name in calls facts threads fuzz fuzz_facts memory handlers broken_rules; do part tried $name; done
 
 # the headers in C++, by each compiler that is here
-compiled_by() { # COMPILER PROGRAM WORD..: compiles the test in C++, with these words too
-    "$1" "${strict[@]}" "${@:3}" -pthread $wrapped -o "$2" tests/library/nissy.cpp "$folder/libnissy.a"
+compiled_by() { # COMPILER TEST PROGRAM WORD..: compiles the test of this name in C++, with these words too
+    local words=(-pthread)
+    [ "$2" != nissy ] || words+=($wrapped)
+    "$1" "${strict[@]}" "${@:4}" "${words[@]}" -o "$3" "tests/library/$2.cpp" "$folder/libnissy.a"
 }
 tells_older() { # COMPILER
     "$1" -std=c++14 -Iinclude -fsyntax-only -x c++ include/nissy.hpp 2>&1 | head -n 1 | grep -q 'nissy.hpp:.*is for C++17'
 }
-read_strictly() { # COMPILER: callers have warnings of their own, and it is no header of the system
+read_strictly() { # COMPILER HEADER: callers have warnings of their own, and it is no header of the system
     local more=(-Wconversion -Wsign-conversion -Wshadow -Wold-style-cast -Wcast-qual -Wundef)
     [ "$1" = clang++ ] || more+=(-Wuseless-cast)
-    "$1" -std=c++17 "${strict[@]}" "${more[@]}" -x c++ -fsyntax-only include/nissy.hpp
+    "$1" -std=c++17 "${strict[@]}" "${more[@]}" -x c++ -fsyntax-only "$2"
 }
 by_compiler() { # COMPILER
-    local compiler=$1 standard
+    local compiler=$1 standard header test
     holds "nissy.h is C++98 too, by $compiler" "$compiler" -std=c++98 "${strict[@]}" -x c++ -fsyntax-only include/nissy.h
     holds "nissy.hpp tells C++14 that it is for C++17, by $compiler" tells_older "$compiler"
-    holds "nissy.hpp is read without further warnings, by $compiler" read_strictly "$compiler"
+    for header in include/*.hpp; do holds "$header is read without further warnings, by $compiler" read_strictly "$compiler" "$header"; done
     for standard in c++17 c++20; do
-        holds "nissy.cpp compiles as $standard by $compiler" compiled_by "$compiler" "$made/$compiler.$standard" -std=$standard
-        add "$made/$compiler.$standard"
+        for test in nissy headers; do
+            holds "$test.cpp compiles as $standard by $compiler" compiled_by "$compiler" $test "$made/$compiler.$standard.$test" -std=$standard
+            add "$made/$compiler.$standard.$test"
+        done
     done
     ended
 }
 # g++ alone: with the sanitizers, and by valgrind
 with_sanitizers() {
+    local test
     if [ $is_sanitized = yes ]; then
-        holds "nissy.cpp compiles with the sanitizers" compiled_by g++ "$made/nissy.sanitized" -std=c++17 "${sanitized[@]}"
-        add "$made/nissy.sanitized"
+        for test in nissy headers; do
+            holds "$test.cpp compiles with the sanitizers" compiled_by g++ $test "$made/$test.sanitized" -std=c++17 "${sanitized[@]}"
+            add "$made/$test.sanitized"
+        done
     fi
     if [ $sees_races = yes ]; then
-        holds "nissy.cpp compiles with the sanitizer for threads" compiled_by g++ "$made/nissy.raced" -std=c++17 -fsanitize=thread
+        holds "nissy.cpp compiles with the sanitizer for threads" compiled_by g++ nissy "$made/nissy.raced" -std=c++17 -fsanitize=thread
         add "$made/nissy.raced"
     fi
-    valgrinds --leak-check=full "$made/g++.c++17"
+    for test in nissy headers; do valgrinds --leak-check=full "$made/g++.c++17.$test"; done
     ended
 }
 for compiler in g++ clang++; do
@@ -128,6 +135,16 @@ done
 missing g++ || after="by_compiler g++" part with_sanitizers
 printf '#include "nissy.h"\nint main(void) { return nissy_invert("R", 1, 0).status; }\n' > "$room/other.c"
 holds "a call with too few arguments doesn't compile" refuses cc -std=c11 "${strict[@]}" -o "$room/other" "$room/other.c" "$folder/libnissy.a"
+
+# the header in other languages, as EMBEDDING says
+by_cffi() {
+    sed '/^#include/d' include/nissy.h | cc -E -P - > "$made/nissy.cdef"
+    add python3 tests/library/by_cffi.py "$made/nissy.cdef"
+    ended
+}
+read_by_bindgen() { bindgen include/nissy.h > "$made/nissy.rs" && test "$(grep -oE 'fn nissy_[a-z_]+' "$made/nissy.rs" | cut -c 4- | sort)" = "$(declared)"; }
+if python3 -c "import cffi" 2> /dev/null; then part by_cffi; else skips "cffi isn't installed"; fi
+if missing bindgen; then skips "bindgen isn't installed"; else holds "bindgen reads each call of nissy.h" read_by_bindgen; fi
 
 # The oldest processor that the library is for, which does some of its instructions otherwise, and one that is older. The positions of the
 # last answer are the model's.
@@ -158,13 +175,14 @@ beside_program() {
         caller=("$made/caller")
     fi
     add python3 tests/library/beside_program.py "$program" 1 0.4 "${caller[@]}"
+    add python3 tests/library/beside_model.py 1 1500 "${caller[@]}"
     ended
 }
 if missing python3; then skips "there is no python3 here"; else
     part beside_program
-    for trial in processes values module facts; do part python3 tests/library/$trial.py; done
+    for trial in processes values module facts best; do part python3 tests/library/$trial.py; done
     if python3.7 -c "import ctypes" 2> /dev/null; then
-        for trial in module values processes; do part python3.7 tests/library/$trial.py; done
+        for trial in module values processes best; do part python3.7 tests/library/$trial.py; done
     else
         skips "Python 3.7, the oldest that the package is for, isn't installed"
     fi

@@ -18,6 +18,8 @@ The first search of a step builds its tables, which stay for the next ones (clas
 several threads run side by side. The library is the file that NISSY_LIBRARY names, else the one that was installed or built with this
 package, else the system's.
 """
+from ._best import best
+from ._continuations import Continuation, Lengths, Orientation, Reduction, Side as Side
 from ._facts import Axis as Axis, Case, Check, Facts, Pieces, check, facts, facts_all
 from ._given import Step as Step, Text as Text
 from ._library import DONE, FAULT, MOST_INPUT, STOPPED, USAGE
@@ -27,14 +29,16 @@ from ._searches import Tables, count, count_all, near, solve, solve_all
 from ._tokens import Token, tokens
 from ._values import Answer, Count, Cut, Fault, LineFault, Solution, Solutions, StartFault, raising
 
-__all__ = ["DONE", "FAULT", "MOST_INPUT", "STOPPED", "USAGE", "Answer", "Case", "Check", "Count", "Cut", "Facts", "Fault", "LineFault",
-           "Pieces", "Solution", "Solutions", "StartFault", "Tables", "Token", "check", "cleanup", "count", "count_all", "facelets",
-           "facts", "facts_all", "invert", "near", "raising", "run", "scramble", "scrambles", "solve", "solve_all", "steps", "tokens", "unniss"]
+__all__ = ["DONE", "FAULT", "MOST_INPUT", "STOPPED", "USAGE", "Answer", "Case", "Check", "Continuation", "Count", "Cut", "Facts", "Fault",
+           "Lengths", "LineFault", "Orientation", "Pieces", "Reduction", "Solution", "Solutions", "StartFault", "Tables", "Token", "best",
+           "check", "cleanup", "count", "count_all", "facelets", "facts", "facts_all", "invert", "near", "raising", "run", "scramble",
+           "scrambles", "solve", "solve_all", "steps", "tokens", "unniss"]
 
 __version__ = version()
 del version
 
 # what others see of these, as in a traceback or in what was pickled, is named by the package
-for _public in (Answer, Case, Check, Count, Cut, Facts, Fault, LineFault, Pieces, Solution, Solutions, StartFault, Tables, Token):
+for _public in (Answer, Case, Check, Continuation, Count, Cut, Facts, Fault, Lengths, LineFault, Orientation, Pieces, Reduction, Solution,
+                Solutions, StartFault, Tables, Token):
     _public.__module__ = __name__
 del _public

@@ -1,6 +1,6 @@
-/* Makes the calls of nissy.hpp that standard input asks for, one on each line, and answers each on a line: beside_program.py compares
-   them. Texts come and go as hexadecimal digits behind an `=`. */
-#include "nissy.hpp"
+/* Makes the calls of nissy.hpp that standard input asks for, one on each line, and answers each on a line: beside_program.py and
+   beside_model.py compare them. Texts come and go as hexadecimal digits behind an `=`. */
+#include "nissy_tokens.hpp"
 
 #include <iostream>
 #include <memory>
@@ -64,12 +64,59 @@ std::string drawn(std::istream &asked) {
     return nissy::scramble(state, stream, length) + "\n" + lines(nissy::scrambles(state, stream, length, count));
 }
 
+// The names of those whose bits a mask has.
+template <std::size_t SIZE> std::string chosen(const std::bitset<SIZE> &mask, const std::array<const char *, SIZE> &names) {
+    std::string text;
+    for (std::size_t at = 0; at < SIZE; at++)
+        if (mask[at]) text += (text.empty() ? "" : ",") + std::string(names[at]);
+    return text;
+}
+
+std::string seen(std::string_view line) {
+    static constexpr std::array<const char *, 12> EDGES = {"UR", "UF", "UL", "UB", "DR", "DF", "DL", "DB", "FR", "FL", "BL", "BR"};
+    static constexpr std::array<const char *, 8> CORNERS = {"URF", "UFL", "ULB", "UBR", "DFR", "DLF", "DBL", "DRB"};
+    const nissy::line_facts facts = nissy::facts(line);
+    std::string held, axes;
+    for (const std::string &step : facts.holds()) held += (held.empty() ? "" : ",") + step;
+    for (const nissy::axis_facts &it : facts.axes) {
+        const auto count = [](const auto &places) { return static_cast<int>(places.count()); };
+        if (count(it.bad_edge_places) != it.bad_edges || count(it.bad_corner_places) != it.bad_corners) return "other numbers";
+        if (it.dr_case() != std::to_string(it.bad_corners) + "c" + std::to_string(count(it.misplaced_edge_places)) + "e") return "another case";
+        axes += " " + chosen(it.bad_edge_places, EDGES) + "/" + chosen(it.bad_corner_places, CORNERS) + "/" + chosen(it.misplaced_edge_places, EDGES);
+    }
+    return std::to_string(facts.solved) + " " + std::to_string(facts.moves) + " " + std::to_string(facts.clean_moves) + " " + held + axes;
+}
+
+std::string checked(std::string_view scramble, std::string_view solution) {
+    static constexpr std::array<const char *, 5> FORMS = {"slices", "lower_case", "brackets", "apostrophe", "half_prime"};
+    const nissy::verdict it = nissy::check(scramble, solution);
+    return std::to_string(it.solved) + " " + std::to_string(it.moves) + " " + std::to_string(it.clean_moves) + " " +
+           chosen(std::bitset<5>(it.forms), FORMS);
+}
+
+// The moves, those outside brackets first.
+std::string moves_of(std::string_view line) {
+    std::vector<nissy::token> moves = nissy::tokens(line);
+    std::stable_partition(moves.begin(), moves.end(), [](const nissy::token &move) { return !move.inverse; });
+    std::string text;
+    for (const nissy::token &move : moves) {
+        std::string layers;
+        for (const int layer : move.layers) layers += (layers.empty() ? "" : ",") + std::to_string(layer);
+        text += (text.empty() ? "" : " ") + move.text + "/" + move.axis + "/" + layers + "/" + std::to_string(move.quarters) + "/" +
+                std::to_string(move.inverse);
+    }
+    return text;
+}
+
 std::string called(const std::string &call, std::istream &asked) {
     if (call == "solve" || call == "count") return searched(call, asked);
     if (call == "scrambles") return drawn(asked);
-    std::string hex;
-    asked >> hex;
+    std::string hex, other;
+    asked >> hex >> other;
     const exact line(hex);
+    if (call == "check") return checked(line.view(), exact(other).view());
+    if (call == "facts") return seen(line.view());
+    if (call == "tokens") return moves_of(line.view());
     if (call == "invert") return nissy::invert(line.view());
     if (call == "unniss") return nissy::unniss(line.view());
     if (call == "cleanup") return nissy::cleanup(line.view());

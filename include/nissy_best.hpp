@@ -1,0 +1,313 @@
+// nissy for C++17 and later: the best continuations of a scramble and the moves so far. Header alone, over nissy.hpp, which says what is
+// thrown. A fault's what() names the line that has it.
+#ifndef NISSY_BEST_HPP
+#define NISSY_BEST_HPP
+
+#include "nissy.hpp"
+#include "nissy_ways.hpp"
+
+#include <iterator>
+#include <set>
+#include <tuple>
+
+namespace nissy {
+
+// The scramble, or its inverse, to which moves in brackets belong.
+enum class side { normal, inverse };
+
+// The edge orientation of a continuation.
+struct orientation {
+    std::string step;
+    nissy::side side;
+    std::string moves;
+    int length;
+    std::vector<std::string> twins; // the last turns of its twins: the orientations that differ in the direction of these alone
+};
+
+// The least length of a reduction on each side, if it has one of at most 20 turns there.
+struct lengths {
+    std::optional<int> normal, inverse;
+};
+
+// The domino reduction of a continuation.
+struct reduction {
+    std::string step;
+    nissy::side side;
+    std::string moves;
+    int length;
+    std::vector<std::string> twins; // as those of an orientation; none behind one
+    nissy::lengths lengths;
+};
+
+// How a line goes on to a domino reduction.
+struct continuation {
+    int total;                     // all moves, those so far too, once they are merged on each side
+    std::string line;              // what a solver writes behind the moves so far: moves on the inverse side stand in brackets
+    std::optional<orientation> eo; // none if one holds already
+    reduction dr;
+    std::string dr_case;           // that of the reduction before its moves, such as "4c4e"
+};
+
+// What the search shares. Its names are no part of the interface.
+namespace continuing {
+
+// Twins of an orientation on a side, and the cube after each.
+struct twins {
+    axis_step step;
+    std::size_t on;
+    std::vector<solution> moves;
+    std::vector<cube> cubes;
+};
+
+// A reduction on a side: how many moves there are in all with it, and its own, if it has any solution.
+struct way {
+    int total;
+    std::optional<int> length;
+    std::string moves;
+};
+
+// A reduction after twins, and the bounds of all moves with it.
+struct candidate {
+    const continuing::twins *twins;
+    axis_step step;
+    int least = NEVER, most = NEVER;
+
+    // Widens the bounds by a cube after one of the twins. If a reduction merges with its orientation alone, a twin of that has a shorter one,
+    // so this isn't looked at.
+    void add(const cube &before, const cube &after, const tables &by) {
+        for (const std::size_t on : {NORMAL, INVERSE}) {
+            const std::optional<int> length = by.count(after.lines[on], {20, 0, 1}).length;
+            if (!length) continue;
+            const int total = after.count_made() + *length;
+            most = std::min(most, total);
+            least = std::min(least, total - (before.made[on].empty() ? 0 : most_saved(after.made[on], step)));
+        }
+    }
+};
+
+// How many moves there are in all with a solution on a side of a cube.
+inline int total_with(const cube &from, std::size_t on, const solution &one) {
+    const std::string &made = from.made[on];
+    return turns_of(from.made[1 - on]) + (made.empty() ? one.length : facts(joined(made, one.moves)).clean_moves);
+}
+
+// The first of a step's shortest solutions on a side with which there are fewest moves in all.
+inline way best_way(const cube &from, std::size_t on, const axis_step &step) {
+    way best = {NEVER, std::nullopt, ""};
+    for (const solution &one : tables(step.name).solve(from.lines[on]))
+        if (const int total = total_with(from, on, one); total < best.total) best = {total, one.length, one.moves};
+    return best;
+}
+
+// The best way on a side after any of the twins, and after which.
+inline std::pair<std::size_t, way> best_on(const candidate &one, std::size_t on) {
+    std::pair<std::size_t, way> best = {0, {NEVER, std::nullopt, ""}};
+    for (std::size_t at = 0; at < one.twins->cubes.size(); at++) {
+        way found = best_way(one.twins->cubes[at], on, one.step);
+        if (std::tie(found.total, found.length) < std::tie(best.second.total, best.second.length)) best = {at, std::move(found)};
+    }
+    return best;
+}
+
+// How many moves there are in all.
+inline int total_of(const candidate &one) {
+    return one.least == one.most ? one.most : std::min(best_on(one, NORMAL).second.total, best_on(one, INVERSE).second.total);
+}
+
+// Moves as a line, those on the inverse side in brackets.
+inline std::string written(std::size_t on, const std::string &moves) { return on == NORMAL || moves.empty() ? moves : "(" + moves + ")"; }
+
+// The same of moves after others.
+inline std::string written(std::size_t on, const std::string &moves, std::size_t then_on, const std::string &then) {
+    return on == then_on ? written(on, joined(moves, then)) : joined(written(on, moves), written(then_on, then));
+}
+
+constexpr side side_of(std::size_t on) { return on == NORMAL ? side::normal : side::inverse; }
+
+// A candidate with its moves, the reduction on the side of the orientation if the other one isn't better.
+inline continuation continued(const candidate &one, const start &from, const std::string &dr_case) {
+    const auto &[step, own, moves, cubes] = *one.twins;
+    const std::array<std::pair<std::size_t, way>, 2> ways = {best_on(one, NORMAL), best_on(one, INVERSE)};
+    const std::size_t on = ways[own].second.total <= ways[1 - own].second.total ? own : 1 - own;
+    const auto &[at, found] = ways[on];
+    texts others = last_turns_of_others(moves, moves[at], step);
+    for (std::string &each : others) each = from.named(own, each);
+    const orientation eo = {step.name, side_of(own), from.named(own, moves[at].moves), moves[at].length, others};
+    const lengths both = {ways[NORMAL].second.length, ways[INVERSE].second.length};
+    const reduction dr = {one.step.name, side_of(on), from.named(on, found.moves), turns_of(found.moves), {}, both};
+    return {found.total, written(own, eo.moves, on, dr.moves), eo, dr, dr_case};
+}
+
+// The orientations on a side.
+inline std::vector<twins> orientations_on(const cube &from, std::size_t on, const axis_step &step, std::int64_t slack) {
+    std::vector<twins> found;
+    for (std::vector<solution> &group : grouped(reaching(from.lines[on], step, slack), step)) {
+        twins each = {step, on, std::move(group), {}};
+        const auto after = [&](const solution &one) { return from.after(on, one.moves); };
+        std::transform(each.moves.begin(), each.moves.end(), std::back_inserter(each.cubes), after);
+        found.push_back(std::move(each));
+    }
+    return found;
+}
+
+// The orientations on an axis, the shortest first.
+inline std::vector<twins> orientations(const cube &from, const axis_step &step, std::int64_t slack) {
+    std::vector<twins> found = orientations_on(from, NORMAL, step, slack), others = orientations_on(from, INVERSE, step, slack);
+    found.insert(found.end(), std::make_move_iterator(others.begin()), std::make_move_iterator(others.end()));
+    const auto is_shorter = [](const twins &one, const twins &other) { return one.moves[0].length < other.moves[0].length; };
+    std::stable_sort(found.begin(), found.end(), is_shorter);
+    return found;
+}
+
+// A candidate of twins that go on from a cube.
+inline candidate candidate_of(const cube &before, const twins &each, const axis_step &step) {
+    candidate found = {&each, step};
+    const tables by(step.name);
+    for (const cube &after : each.cubes) found.add(before, after, by);
+    return found;
+}
+
+// The nth least of some numbers, or the greatest if there aren't so many.
+inline int nth_least(std::vector<int> numbers, std::uint64_t nth) {
+    if (numbers.empty() || nth == 0) return -1;
+    const auto place = numbers.begin() + static_cast<std::ptrdiff_t>(std::min<std::uint64_t>(nth, numbers.size()) - 1);
+    std::nth_element(numbers.begin(), place, numbers.end());
+    return *place;
+}
+
+// A candidate with what it is sorted by.
+struct judged {
+    candidate one;
+    int total;
+    axis_facts facts;
+
+    auto rank() const { return std::make_tuple(total, one.twins->moves[0].length, facts.bad_corners + facts.misplaced_edges); }
+};
+
+// The candidates of an axis, both reductions after each of the orientations.
+inline void add_candidates(std::vector<candidate> &to, const cube &before, const std::vector<twins> &every, const oriented_steps &steps) {
+    for (const twins &each : every)
+        for (const axis_step &step : steps.reductions) to.push_back(candidate_of(before, each, step));
+}
+
+// Those that may be among the first `most`: as many have no more moves in all than the bound, and one that can't come down to it is left out.
+inline std::vector<judged> judged_best(const std::vector<candidate> &candidates, std::uint64_t most) {
+    std::vector<int> numbers;
+    for (const candidate &one : candidates) numbers.push_back(one.most);
+    const int enough = nth_least(std::move(numbers), most);
+    std::vector<judged> found;
+    for (const candidate &one : candidates)
+        if (one.least <= enough) found.push_back({one, total_of(one), facts(one.twins->cubes[0].lines[NORMAL]).axes[one.step.axis]});
+    return found;
+}
+
+// The best orientations, each with a reduction.
+inline std::vector<continuation> oriented(const start &from, std::int64_t slack, std::uint64_t most) {
+    std::array<std::vector<twins>, 3> every;
+    std::vector<candidate> candidates;
+    for (std::size_t axis = 0; axis < every.size(); axis++) {
+        every[axis] = orientations(from.cube, STEPS_BY_AXIS[axis].eo, slack);
+        add_candidates(candidates, from.cube, every[axis], STEPS_BY_AXIS[axis]);
+    }
+    std::vector<judged> found = judged_best(candidates, most);
+    std::stable_sort(found.begin(), found.end(), [](const judged &one, const judged &other) { return one.rank() < other.rank(); });
+    found.erase(found.begin() + static_cast<std::ptrdiff_t>(std::min<std::uint64_t>(most, found.size())), found.end());
+    std::vector<continuation> rows;
+    for (const judged &each : found) rows.push_back(continued(each.one, from, each.facts.dr_case()));
+    return rows;
+}
+
+// The reductions of a step that may start on a cube: its solutions on each side, and the least length there.
+struct reductions {
+    axis_step step;
+    std::array<std::vector<solution>, 2> solutions;
+    lengths least;
+};
+
+inline reductions reductions_of(const cube &from, const axis_step &step, std::int64_t slack) {
+    reductions found = {step, {reaching(from.lines[NORMAL], step, slack), reaching(from.lines[INVERSE], step, slack)}, {}};
+    const auto least = [](const std::vector<solution> &all) { return all.empty() ? std::nullopt : std::optional<int>(all[0].length); };
+    found.least = {least(found.solutions[NORMAL]), least(found.solutions[INVERSE])};
+    return found;
+}
+
+// That of twins with the fewest moves in all.
+inline continuation reduced(const start &from, const reductions &all, std::size_t on, const std::vector<solution> &group) {
+    const auto total = [&](const solution &one) { return total_with(from.cube, on, one); };
+    const auto is_better = [&](const solution &one, const solution &other) { return total(one) < total(other); };
+    const solution &best = *std::min_element(group.begin(), group.end(), is_better);
+    texts others = last_turns_of_others(group, best, all.step);
+    for (std::string &each : others) each = from.named(on, each);
+    const reduction dr = {all.step.name, side_of(on), from.named(on, best.moves), best.length, others, all.least};
+    return {total(best), written(on, dr.moves), std::nullopt, dr, ""};
+}
+
+// A continuation without an orientation, with what it is sorted and known by.
+struct ranked {
+    continuation row;
+    nissy_axis axis;
+    int pieces;
+
+    auto rank() const { return std::make_tuple(row.total, row.dr.length, pieces); }
+    auto key() const { return std::make_pair(axis, row.line); }
+};
+
+// The reductions of a step that may start, in the order of their sides.
+inline void add_reduced(std::vector<ranked> &to, const start &from, const reductions &all) {
+    const axis_facts seen = facts(from.cube.lines[NORMAL]).axes[all.step.axis];
+    for (const std::size_t on : {NORMAL, INVERSE})
+        for (const std::vector<solution> &group : grouped(all.solutions[on], all.step)) {
+            to.push_back({reduced(from, all, on, group), all.step.axis, seen.bad_corners + seen.misplaced_edges});
+            to.back().row.dr_case = seen.dr_case();
+        }
+}
+
+// The best of some continuations. Moves that keep two orientations are there once.
+inline std::vector<continuation> best_of(std::vector<ranked> all, std::uint64_t most) {
+    std::stable_sort(all.begin(), all.end(), [](const ranked &one, const ranked &other) { return one.rank() < other.rank(); });
+    std::set<std::pair<nissy_axis, std::string>> known;
+    std::vector<continuation> rows;
+    for (ranked &each : all)
+        if (rows.size() < most && known.insert(each.key()).second) rows.push_back(std::move(each.row));
+    return rows;
+}
+
+// What may follow a cube.
+inline std::vector<continuation> continuations(const start &from, std::int64_t slack, std::uint64_t most) {
+    const std::vector<std::string> held = facts(from.cube.lines[NORMAL]).holds();
+    const auto holds = [&](const axis_step &step) { return std::find(held.begin(), held.end(), step.name) != held.end(); };
+    std::vector<ranked> found;
+    bool is_oriented = false;
+    for (const oriented_steps &steps : STEPS_BY_AXIS) {
+        if (std::any_of(steps.reductions.begin(), steps.reductions.end(), holds)) return {};
+        if (!holds(steps.eo)) continue;
+        is_oriented = true;
+        for (const axis_step &step : steps.reductions) add_reduced(found, from, reductions_of(from.cube, step, slack));
+    }
+    return is_oriented ? best_of(std::move(found), most) : oriented(from, slack, most);
+}
+
+} // namespace continuing
+
+// What may follow a scramble and the moves so far, the best first, up to a domino reduction: each orientation on three axes and both sides, up
+// to `slack` moves longer than the shortest of its axis and side, and after it the reduction on each of two axes with the fewest moves in
+// all, on the better side. If an orientation holds, the reductions, up to `slack` longer; if a reduction is reached, nothing.
+//
+// Moves of `so_far` in brackets are made on the inverse side. All moves count, those so far too, once they are merged on each side. The order
+// is by these, by the moves of the first step, and by the pieces of the case. `most` is how many are returned.
+inline std::vector<continuation> best(std::string_view scramble, std::string_view so_far = {}, std::int64_t slack = 0,
+                                      std::uint64_t most = 20) {
+    detail::turns(slack, "slack");
+    const nissy_check_answer read = nissy_check(detail::bytes(scramble), scramble.size(), detail::bytes(so_far), so_far.size());
+    detail::end_unless_read(read.status, read.fault, read.column, {}, read.line == 1 ? "scramble, " : "moves so far, ");
+    try {
+        return continuing::continuations(continuing::start_of(scramble, so_far), slack, most);
+    } catch (const fault &found) {
+        // each was read by itself, so they are too long together
+        throw fault(found.code(), 0, std::string(found.text()), "moves so far, ");
+    }
+}
+
+} // namespace nissy
+
+#endif

@@ -1,0 +1,207 @@
+// What nissy_best.hpp searches by: a cube on both sides, twins, and the moves that merge. Its names are no part of the interface.
+#ifndef NISSY_WAYS_HPP
+#define NISSY_WAYS_HPP
+
+#include "nissy.hpp"
+
+#include <limits>
+#include <unordered_map>
+#include <unordered_set>
+
+namespace nissy::continuing {
+
+using texts = std::vector<std::string>;
+
+// The sides of a cube, as indices.
+inline constexpr std::size_t NORMAL = 0, INVERSE = 1;
+// The faces of the axes, by nissy_axis.
+inline constexpr std::array<std::string_view, 3> FACES = {"FB", "RL", "UD"};
+// More moves than there can be in all.
+inline constexpr int NEVER = std::numeric_limits<int>::max() / 2;
+
+// A step of the search: an orientation on an axis, or a reduction on an axis after the orientation on another one; and the axis whose quarter
+// turns end its solutions.
+struct axis_step {
+    const char *name;
+    nissy_axis axis, oriented, last;
+
+    std::string_view last_faces() const { return FACES[last]; }
+};
+
+// The orientations, and the reductions that may follow each.
+struct oriented_steps {
+    axis_step eo;
+    std::array<axis_step, 2> reductions;
+};
+inline constexpr std::array<oriented_steps, 3> STEPS_BY_AXIS = {{
+    {{"eofb", NISSY_FB, NISSY_FB, NISSY_FB},
+     {{{"drud-eofb", NISSY_UD, NISSY_FB, NISSY_RL}, {"drrl-eofb", NISSY_RL, NISSY_FB, NISSY_UD}}}},
+    {{"eorl", NISSY_RL, NISSY_RL, NISSY_RL},
+     {{{"drud-eorl", NISSY_UD, NISSY_RL, NISSY_FB}, {"drfb-eorl", NISSY_FB, NISSY_RL, NISSY_UD}}}},
+    {{"eoud", NISSY_UD, NISSY_UD, NISSY_UD},
+     {{{"drrl-eoud", NISSY_RL, NISSY_UD, NISSY_FB}, {"drfb-eoud", NISSY_FB, NISSY_UD, NISSY_RL}}}},
+}};
+
+inline int turns_of(std::string_view line) {
+    return line.empty() ? 0 : static_cast<int>(std::count(line.begin(), line.end(), ' ')) + 1;
+}
+
+inline std::string joined(std::string_view one, std::string_view other) {
+    return std::string(one) + (one.empty() || other.empty() ? "" : " ") + std::string(other);
+}
+
+// A cube as a line of face turns on each side, and the clean turns that a solver made on each to come to it.
+struct cube {
+    std::array<std::string, 2> lines, made;
+
+    int count_made() const { return turns_of(made[NORMAL]) + turns_of(made[INVERSE]); }
+
+    // The cube after a solution on a side.
+    cube after(std::size_t on, const std::string &moves) const {
+        cube next = *this;
+        next.lines[on] = joined(lines[on], moves);
+        next.lines[1 - on] = invert(next.lines[on]);
+        // a solution is clean
+        next.made[on] = made[on].empty() ? moves : cleanup(joined(made[on], moves));
+        return next;
+    }
+};
+
+// The cube after a scramble and the moves so far, and what the faces U D R L F B are called for whoever holds it as these moves leave it: on
+// the normal side alone, since moves on the inverse side come before all rotations.
+struct start {
+    continuing::cube cube;
+    std::string names;
+
+    std::string named(std::size_t on, std::string moves) const {
+        if (on == NORMAL)
+            for (char &letter : moves)
+                if (const auto at = std::string_view("UDRLFB").find(letter); at != std::string_view::npos) letter = names[at];
+        return moves;
+    }
+};
+
+// The face turns of a line, clean and named by the centres, and the rotation that is left behind them.
+inline std::pair<std::string, std::string> home(std::string_view line) {
+    const std::string cleaned = cleanup(line);
+    const std::size_t end = std::min(cleaned.find_first_of("xyz"), cleaned.size());
+    return {cleaned.substr(0, end == cleaned.size() || end == 0 ? end : end - 1), cleaned.substr(end)};
+}
+
+// The moves of a line that was read, outside brackets and inside.
+inline std::array<std::string, 2> sides_of(std::string_view line) {
+    std::array<std::string, 2> sides;
+    std::size_t on = NORMAL;
+    for (const char byte : line) {
+        const bool is_bracket = byte == '(' || byte == ')';
+        if (is_bracket) on = byte == '(' ? INVERSE : NORMAL;
+        sides[on] += is_bracket ? ' ' : byte;
+    }
+    return sides;
+}
+
+// Where a search begins after a scramble and the moves so far. Moves on the inverse side come before the scramble, inverted.
+inline start start_of(std::string_view scramble, std::string_view so_far) {
+    const std::array<std::string, 2> sides = sides_of(so_far);
+    const std::string before = invert(sides[INVERSE]);
+    const auto [turns, rotation] = home(before + " " + unniss(scramble));
+    const auto [normal, last_rotation] = home(rotation + " " + sides[NORMAL]);
+    const std::string line = joined(turns, normal);
+    start from = {{{line, invert(line)}, {normal, invert(home(before).first)}}, ""};
+    for (const char face : std::string_view("UDRLFB")) from.names += home(invert(face + (" " + last_rotation))).first[0];
+    return from;
+}
+
+// Where the turns at the end of a solution begin that are all of these faces.
+inline std::size_t last_turns_at(std::string_view moves, std::string_view faces) {
+    std::size_t begin = moves.size();
+    while (begin > 0) {
+        const std::size_t before = moves.rfind(' ', begin - 2) + 1;
+        if (faces.find(moves[before]) == std::string_view::npos) break;
+        begin = before;
+    }
+    return begin;
+}
+
+// The last turns of the twins but one.
+inline texts last_turns_of_others(const std::vector<solution> &twins, const solution &one, const axis_step &step) {
+    texts others;
+    for (const solution &each : twins)
+        if (each != one) others.push_back(each.moves.substr(last_turns_at(each.moves, step.last_faces())));
+    return others;
+}
+
+// Solutions with their twins together, which differ in the direction of their last quarter turns alone, in the order of the first of each.
+inline std::vector<std::vector<solution>> grouped(const std::vector<solution> &solutions, const axis_step &step) {
+    std::vector<std::vector<solution>> groups;
+    std::unordered_map<std::string, std::size_t> known;
+    for (const solution &each : solutions) {
+        std::string key = each.moves;
+        const auto last = key.begin() + static_cast<std::ptrdiff_t>(last_turns_at(key, step.last_faces()));
+        key.erase(std::remove(last, key.end(), '\''), key.end());
+        const auto [place, is_new] = known.emplace(std::move(key), groups.size());
+        if (is_new) groups.emplace_back();
+        groups[place->second].push_back(each);
+    }
+    return groups;
+}
+
+// Whether one of the shorter beginnings of a solution, which have at least so many turns, is a solution too. Of two turns of opposite faces,
+// which may change places, each may come first.
+inline bool is_reached_earlier(const solution &one, int least, const std::unordered_set<std::string_view> &known) {
+    const std::string_view moves = one.moves;
+    std::size_t end = moves.size();
+    for (int count = one.length; count > least; count--) {
+        const std::size_t blank = moves.rfind(' ', end - 1), last = blank + 1, cut = blank == std::string_view::npos ? 0 : blank;
+        if (known.count(moves.substr(0, cut))) return true;
+        const std::size_t before = cut ? moves.rfind(' ', cut - 1) + 1 : 0;
+        const auto is_of_both = [&](std::string_view faces) {
+            return faces.find(moves[before]) != std::string_view::npos && faces.find(moves[last]) != std::string_view::npos;
+        };
+        if (cut && std::any_of(FACES.begin(), FACES.end(), is_of_both)) {
+            const std::string other = std::string(moves.substr(0, before)) + std::string(moves.substr(last, end - last));
+            if (known.count(other)) return true;
+        }
+        end = cut;
+    }
+    return false;
+}
+
+// The solutions of a step on a side, without those in which it is reached before their last turn.
+inline std::vector<solution> reaching(const std::string &line, const axis_step &step, std::int64_t slack) {
+    search which;
+    which.slack = slack;
+    std::vector<solution> all = tables(step.name).solve(line, which), kept;
+    std::unordered_set<std::string_view> known;
+    for (const solution &each : all) known.insert(each.moves);
+    for (const solution &each : all)
+        if (!is_reached_earlier(each, all.front().length, known)) kept.push_back(each);
+    return kept;
+}
+
+// How many of some turns can be taken back by a step that has no quarter turns of these faces.
+inline int taken_back(std::string_view turns, std::string_view halves) {
+    int back = 0;
+    for (std::size_t at = 0; at < turns.size(); at = std::min(turns.find(' ', at), turns.size() - 1) + 1)
+        if (halves.find(turns[at]) == std::string_view::npos || turns.substr(at + 1, 1) == "2") back++;
+    return back;
+}
+
+// How many moves a reduction can save at most since its first turns merge with the last ones that are made on its side, or take them back.
+inline int most_saved(std::string_view made, const axis_step &step) {
+    int saved = 0;
+    while (!made.empty()) {
+        const char face = made[made.rfind(' ') + 1];
+        const auto has_face = [face](std::string_view faces) { return faces.find(face) != std::string_view::npos; };
+        const std::size_t begin = last_turns_at(made, *std::find_if(FACES.begin(), FACES.end(), has_face));
+        const int turns = turns_of(made.substr(begin)), back = taken_back(made.substr(begin), FACES[step.oriented]);
+        saved += turns + back;
+        if (back < turns) break;
+        made = made.substr(0, begin ? begin - 1 : 0);
+    }
+    return saved;
+}
+
+} // namespace nissy::continuing
+
+#endif

@@ -1,0 +1,132 @@
+"""A cube on both sides, and the ways from it to a reduction: how many moves there are in all, once those of a step are merged with those that
+were made before them on the same side."""
+from __future__ import annotations
+
+import re
+from typing import Dict, Iterable, List, NamedTuple, Optional, Sequence, Tuple
+
+from ._facts import facts_all
+from ._given import Step
+from ._lines import cleanup, invert, unniss
+from ._searches import count_all, solve
+from ._twins import FACES
+from ._values import Solution, raising
+
+NORMAL, INVERSE = SIDES = (0, 1)
+NEVER = 10_000
+"""More moves than there can be in all."""
+
+
+class Cube(NamedTuple):
+    """A cube as a line of face turns on each side, and the clean turns that a solver made on each to come to it."""
+
+    lines: Tuple[str, str]
+    made: Tuple[str, str]
+
+    def count_made(self) -> int:
+        """Returns how many turns are made."""
+        return turns_of(self.made[NORMAL]) + turns_of(self.made[INVERSE])
+
+    def after(self, side: int, moves: str) -> Cube:
+        """Returns the cube after a solution on a side."""
+        line, made = f"{self.lines[side]} {moves}", self.made[side]
+        # a solution is clean
+        made = cleanup(f"{made} {moves}") if made else str(moves)
+        return Cube(_on(side, line, invert(line)), _on(side, made, self.made[1 - side]))
+
+
+class Start(NamedTuple):
+    """The cube after a scramble and the moves so far, and what the faces are called for whoever holds it as these moves leave it: on the
+    normal side alone, since those on the inverse side come before all rotations."""
+
+    cube: Cube
+    names: Dict[int, str]
+
+    def named(self, side: int, moves: str) -> str:
+        """Returns moves on a side as they are written behind the moves so far."""
+        return moves.translate(self.names) if side == NORMAL else str(moves)
+
+
+def _on(side: int, own: str, other: str) -> Tuple[str, str]:
+    """Returns what belongs to each side, by what belongs to one and to the other."""
+    return (own, other) if side == NORMAL else (other, own)
+
+
+def turns_of(line: str) -> int:
+    """Returns how many turns a line has, between any two of which a blank stands."""
+    return line.count(" ") + 1 if line else 0
+
+
+def _home(line: str) -> Tuple[str, str]:
+    """Returns a line's face turns, clean and named by the centres, and the rotation that is left behind them."""
+    moves = cleanup(line).split()
+    return " ".join(move for move in moves if move[0] not in "xyz"), " ".join(move for move in moves if move[0] in "xyz")
+
+
+def read(scramble: str, so_far: str) -> Start:
+    """Returns where a search begins after a scramble and the moves so far, both of which spell moves. Moves on the inverse side come before
+    the scramble, inverted. Raises LineFault if they are too many together."""
+    # inside brackets is each second part
+    parts = re.split("[()]", so_far)
+    before = invert(" ".join(parts[1::2]))
+    start, rotation = _home(f"{before} {unniss(scramble)}")
+    normal, rotation = _home(f"{rotation} {' '.join(parts[::2])}")
+    line = f"{start} {normal}".strip()
+    names = {ord(face): _home(invert(f"{face} {rotation}"))[0][0] for face in "UDRLFB"} if rotation else {}
+    return Start(Cube((line, invert(line)), (normal, invert(_home(before)[0]))), names)
+
+
+def least_lengths(step: Step, cubes: Iterable[Cube]) -> List[Tuple[Optional[int], Optional[int]]]:
+    """Returns a step's least length on each side of each cube."""
+    lines = [line for cube in cubes for line in cube.lines]
+    lengths = [count.length for count in raising(count_all(step, lines, most=1))]
+    return list(zip(lengths[::2], lengths[1::2]))
+
+
+def _most_saved(made: str, step: Step) -> int:
+    """Returns how many moves a reduction can save at most since its first turns merge with the last ones that are made on its side, or take
+    them back."""
+    halves, turns, saved = FACES[step[-2:]], made.split(), 0
+    while turns:
+        faces = next(faces for faces in FACES.values() if turns[-1][0] in faces)
+        last = turns[-2:] if len(turns) > 1 and turns[-2][0] in faces else turns[-1:]
+        back = [turn for turn in last if turn[0] not in halves or turn.endswith("2")]
+        saved += len(last) + len(back)
+        if len(back) < len(last):
+            break
+        del turns[-len(last):]
+    return saved
+
+
+def bounds(before: Cube, after: Cube, step: Step, lengths: Sequence[Optional[int]]) -> Tuple[int, int]:
+    """Returns the least and the most that all moves can be with a reduction after an orientation, by its length on each side. If it merges with
+    the orientation alone, a twin of that has a shorter one, so this isn't looked at."""
+    count, least, most = after.count_made(), NEVER, NEVER
+    for made_before, made, length in zip(before.made, after.made, lengths):
+        if length is not None:
+            most = min(most, count + length)
+            least = min(least, count + length - (_most_saved(made, step) if made_before else 0))
+    return least, most
+
+
+def totals(cube: Cube, side: int, solutions: Sequence[Solution]) -> List[int]:
+    """Returns how many moves there are in all with each solution on a side of a cube."""
+    made, others = cube.made[side], turns_of(cube.made[1 - side])
+    if not made:
+        return [others + moves.length for moves in solutions]
+    return [others + seen.clean_moves for seen in raising(facts_all([f"{made} {moves}" for moves in solutions]))]
+
+
+class Way(NamedTuple):
+    """A step on a side: how many moves there are in all with it, and its own, if it has any solution."""
+
+    total: int
+    length: Optional[int]
+    moves: str
+
+
+def best_way(cube: Cube, side: int, step: Step) -> Way:
+    """Returns the first of a step's shortest solutions on a side with which there are fewest moves in all."""
+    solutions = solve(step, cube.lines[side])
+    ways = [Way(total, moves.length, moves) for total, moves in zip(totals(cube, side, solutions), solutions)]
+    return min(ways, key=lambda way: way.total, default=Way(NEVER, None, ""))

@@ -1,0 +1,62 @@
+"""Asks `best` the same in Python, in C++ and in JavaScript, and compares what they answer byte by byte.
+
+    python3 tests/best/alike.py SEED COUNT [CALLER [MODULE]]
+
+CALLER is the program of asked.cpp, and MODULE the WebAssembly module; `-` stands for none. The last line is `N passed, M failed`.
+"""
+import dataclasses
+import json
+import os
+import subprocess
+import sys
+from typing import List
+
+HERE = os.path.dirname(os.path.abspath(__file__))
+sys.path[:0] = [os.path.join(HERE, ".."), os.path.join(HERE, "..", "..", "python")]
+
+import nissy  # noqa: E402
+from questions import Question, drawn  # noqa: E402
+from tally import Tally  # noqa: E402
+
+
+def answer(question: Question) -> object:
+    """What Python answers, as JSON has it."""
+    try:
+        rows = nissy.best(question.scramble, question.so_far, slack=question.slack, most=question.most)
+    except nissy.Fault as fault:
+        return {"line": fault.line, "column": getattr(fault, "column", None), "text": fault.text}
+    return [dataclasses.asdict(row) for row in rows]
+
+
+def written(question: Question) -> str:
+    """The answer as a line."""
+    return json.dumps(answer(question), separators=(",", ":"))
+
+
+def answers_of(command: List[str], questions: List[Question]) -> List[str]:
+    """What a caller in another language answers."""
+    asked = "".join(question.as_line() + "\n" for question in questions)
+    return subprocess.run(command, input=asked, stdout=subprocess.PIPE, check=True, encoding="utf-8").stdout.splitlines()
+
+
+def main() -> None:
+    """All questions, by each caller."""
+    tally, (seed, count) = Tally(), map(int, sys.argv[1:3])
+    questions = list(drawn(seed, count))
+    wanted = [written(question) for question in questions]
+    callers = [([caller], name) for caller, name in zip(sys.argv[3:4], ["C++"])] + \
+        [(["node", os.path.join(HERE, "asked.mjs"), module], "JavaScript") for module in sys.argv[4:5]]
+    for command, name in callers:
+        if "-" in command:
+            continue
+        got = answers_of(command, questions)
+        tally.equal(f"how many answers there are in {name}", len(got), len(wanted))
+        for question, ours, theirs in zip(questions, wanted, got):
+            tally.equal(f"{question} in {name}", theirs, ours)
+    tally.holds("some have rows", sum(line.startswith("[{") for line in wanted) > count / 2)
+    tally.holds("some have none", "[]" in wanted)
+    tally.end()
+
+
+if __name__ == "__main__":
+    main()

@@ -1,0 +1,228 @@
+"""Counts what `best` says by slow means: each orientation and each reduction that the program's `near` lists, of which the model of
+tests/model cleans the moves, tells the case and what is reached. All rows are compared, with their totals, lengths, cases and order.
+
+    python3 tests/best/counted.py PROGRAM SEED COUNT
+
+The last line is `N passed, M failed`.
+"""
+import os
+import subprocess
+import sys
+from typing import Any, Dict, Iterator, List, NamedTuple, Sequence, Tuple
+
+HERE = os.path.dirname(os.path.abspath(__file__))
+sys.path[:0] = [os.path.join(HERE, "..", folder) for folder in ("model", "", os.path.join("..", "python"))]
+
+import nissy  # noqa: E402
+from bad_pieces import EDGES, is_reached, misfits, of_axis  # noqa: E402
+from cube import Move, brought_home, effect_of, inverse_of  # noqa: E402
+from notation import OPPOSITE, clean, read, to_faces, words_of  # noqa: E402
+from questions import Drawing, Question, drawn  # noqa: E402
+from solving import AXIS, flip_set  # noqa: E402
+from tally import Tally  # noqa: E402
+
+# how many questions the gate asks, and of how many rows of one it is tried that they go on as they say
+MOST_QUICK, MOST_GONE_ON = 20, 60
+Moves = List[Move]
+# what a solution or a row is known by
+Key = Tuple[Any, ...]
+SIDES = ("normal", "inverse")
+AXES = ("fb", "rl", "ud")
+STEPS = {axis: [f"dr{other}-eo{axis}" for other in ("ud", "rl", "fb") if other != axis] for axis in AXES}
+FACES_OF = {"fb": "FB", "rl": "RL", "ud": "UD"}
+
+
+class Cube(NamedTuple):
+    """The moves of a cube on each side, and those that were made there."""
+
+    lines: Tuple[Moves, Moves]
+    made: Tuple[Moves, Moves]
+
+    def after(self, side: int, moves: Moves) -> "Cube":
+        """The cube after moves on a side."""
+        line, made = self.lines[side] + moves, self.made[side] + moves
+        other, others = inverse_of(line), self.made[1 - side]
+        return Cube((other, line), (others, made)) if side else Cube((line, other), (made, others))
+
+    def total(self) -> int:
+        """All moves that are made."""
+        return sum(len(clean(moves)) for moves in self.made)
+
+
+class Group(NamedTuple):
+    """Twins, with the cube after each, and their place."""
+
+    place: Tuple[int, int, int]
+    key: Key
+    cubes: List[Cube]
+
+
+class Wanted(NamedTuple):
+    """What a row says."""
+
+    total: int
+    length: int
+    pieces: int
+    place: Tuple[int, ...]
+    key: Key
+    lengths: Tuple[int, int]
+
+
+class Program:
+    """The program, of which `near` lists solutions."""
+
+    def __init__(self, path: str) -> None:
+        self.path = path
+
+    def near(self, step: str, slack: int, lines: Sequence[Moves]) -> List[List[Moves]]:
+        """The solutions of each line."""
+        text = "".join(words_of(line) + "\n" for line in lines)
+        out = subprocess.run([self.path, "near", step, "20", str(slack)], input=text, stdout=subprocess.PIPE, check=True, encoding="utf-8").stdout
+        return [[read(line.rpartition("(")[0].encode())[0] for line in part.splitlines()] for part in out.split("\n\n")[:len(lines)]]
+
+
+def is_oriented(moves: Moves, axis: str) -> bool:
+    """Whether the edges are oriented on an axis."""
+    return not misfits(EDGES, flip_set(AXIS[axis]), brought_home(effect_of(moves)))
+
+
+def holds(moves: Moves, step: str) -> bool:
+    """Whether a cube has reached a step."""
+    return is_oriented(moves, step[-2:]) and (len(step) == 4 or is_reached(step, {axis: of_axis(axis, effect_of(moves)) for axis in AXIS}))
+
+
+def pieces(moves: Moves, step: str) -> Tuple[int, int]:
+    """The bad corners and the misplaced edges before a reduction."""
+    seen = of_axis(step[2:4], effect_of(moves))
+    return len(seen.bad_corners), len(seen.misplaced_edges)
+
+
+def beginnings(moves: Moves) -> Iterator[Moves]:
+    """What is made before the last move: of two neighbours that turn opposite faces either may come first."""
+    for count in range(len(moves)):
+        yield moves[:count]
+        if count and OPPOSITE[moves[count - 1][0]] == moves[count][0]:
+            yield moves[:count - 1] + [moves[count]]
+
+
+def is_new(before: Moves, moves: Moves, step: str, least: int) -> bool:
+    """Whether a step isn't reached before the last move. None is with fewer moves than the least."""
+    return not any(holds(before + some, step) for some in beginnings(moves) if len(some) >= least)
+
+
+def twin_key(moves: Moves, step: str) -> Key:
+    """The moves, without the direction of the last quarter turns of the axis that reaches the step."""
+    last = next(faces for axis, faces in FACES_OF.items() if axis not in (step[2:4], step[-2:])) if "-" in step else FACES_OF[step[2:]]
+    end = len(moves)
+    while end and moves[end - 1][0] in last:
+        end -= 1
+    return (*moves[:end], *((face, quarters == 2) for face, quarters in moves[end:]))
+
+
+def groups(program: Program, cube: Cube, step: str, slack: int) -> List[Group]:
+    """The solutions of a step on both sides, those that are twins together."""
+    found: Dict[Key, Group] = {}
+    for side, solutions in enumerate(program.near(step, slack, cube.lines)):
+        least = len(solutions[0])
+        kept = [moves for moves in solutions if is_new(cube.lines[side], moves, step, least)]
+        for at, moves in enumerate(kept):
+            key = (step, SIDES[side], twin_key(moves, step))
+            found.setdefault(key, Group((len(moves), side, at), key, [])).cubes.append(cube.after(side, moves))
+    return list(found.values())
+
+
+def after_orientations(program: Program, cube: Cube, slack: int) -> Iterator[Wanted]:
+    """All rows before an orientation."""
+    for number, axis in enumerate(AXES):
+        every = groups(program, cube, "eo" + axis, slack)
+        for at, step in enumerate(STEPS[axis]):
+            lines = [line for group in every for after in group.cubes for line in after.lines]
+            found = iter(program.near(step, 0, lines))
+            for group in every:
+                ways: Tuple[List[Tuple[int, int]], List[Tuple[int, int]]] = ([], [])
+                for after in group.cubes:
+                    for side in (0, 1):
+                        ways[side].extend((after.after(side, moves).total(), len(moves)) for moves in next(found))
+                best = [min(on) for on in ways]
+                yield Wanted(min(best)[0], group.place[0], sum(pieces(group.cubes[0].lines[0], step)), (number, *group.place, at),
+                             (step, *group.key), (best[0][1], best[1][1]))
+
+
+def reductions(program: Program, cube: Cube, axes: List[str], slack: int) -> Iterator[Wanted]:
+    """All rows after orientations that hold."""
+    for axis in axes:
+        for at, step in enumerate(STEPS[axis]):
+            least = program.near(step, 0, cube.lines)
+            for group in groups(program, cube, step, slack):
+                side, best = group.place[1], min(group.cubes, key=Cube.total)
+                key = (step, SIDES[side], words_of(best.lines[side][len(cube.lines[side]):]))
+                yield Wanted(best.total(), group.place[0], sum(pieces(cube.lines[0], step)), (AXES.index(axis), at, *group.place[1:]), key,
+                             (len(least[0][0]), len(least[1][0])))
+
+
+def wanted_rows(program: Program, question: Question) -> List[Wanted]:
+    """All rows in their order."""
+    normal, bracketed = read(question.so_far.encode())
+    line = inverse_of(bracketed) + read(question.scramble.encode())[0] + normal
+    cube = Cube((line, inverse_of(line)), (normal, bracketed))
+    held = [axis for axis in AXES if is_oriented(line, axis)]
+    if any(holds(line, step) for axis in held for step in STEPS[axis]):
+        return []
+    rows = sorted(reductions(program, cube, held, question.slack) if held else after_orientations(program, cube, question.slack))
+    # where two orientations hold, the same moves may keep both: they are there once
+    once = {(it.key[0][2:4], *it.key[1:]): it for it in reversed(rows)}
+    return [it for it in rows if once[it.key[0][2:4], *it.key[1:]] is it]
+
+
+def as_wanted(row: nissy.Continuation) -> Tuple[object, ...]:
+    """What a row of the package says."""
+    part: Any = row.eo or row.dr
+    key: Key = (row.dr.step, row.dr.side, row.dr.moves)
+    if row.eo:
+        key = (row.dr.step, row.eo.step, row.eo.side, twin_key(read(row.eo.moves.encode())[0], row.eo.step))
+    return row.total, part.length, row.case.corners + row.case.edges, key, (row.dr.lengths.normal, row.dr.lengths.inverse)
+
+
+def goes_on(question: Question, row: nissy.Continuation) -> bool:
+    """Whether what a solver writes on reaches the reduction, from a cube of this case, with as many moves as is said."""
+    normal, bracketed = read(f"{question.so_far} {row.line}".encode())
+    start, before = read(question.scramble.encode()), read(f"{question.so_far} {written(row)}".encode())
+    scramble = start[0] + inverse_of(start[1])
+    cubes = [to_faces(inverse_of(inside) + scramble + outside)[0] for outside, inside in (before, (normal, bracketed))]
+    count = sum(len(clean(to_faces(moves)[0])) for moves in (normal, bracketed))
+    return holds(cubes[1], row.dr.step) and count == row.total and row.case == "{}c{}e".format(*pieces(cubes[0], row.dr.step))
+
+
+def written(row: nissy.Continuation) -> str:
+    """The moves of the orientation, if there is one."""
+    return "" if row.eo is None else row.eo.moves if row.eo.side == "normal" else f"({row.eo.moves})"
+
+
+def main() -> None:
+    """Some questions, of which those without faults are counted, and those that turn the cube are gone on with."""
+    program, (seed, count), tally = Program(sys.argv[1]), map(int, sys.argv[2:4]), Tally()
+    draw, counted = Drawing(seed), 0
+    # a slack takes half a minute
+    slow = [Question(draw.scramble(), so_far, 1) for so_far in ("", draw.both_sides())] if count > MOST_QUICK else []
+    for question in [*slow, *(it for it in drawn(seed, 2 * count) if it.slack == 0 or "(" in it.so_far and it.most == 5)]:
+        try:
+            rows = nissy.best(question.scramble, question.so_far, slack=question.slack, most=None)
+        except nissy.Fault:
+            continue
+        tally.holds(f"{question}: rows go on so", all(goes_on(question, row) for row in rows[:MOST_GONE_ON]))
+        some = nissy.best(question.scramble, question.so_far, slack=question.slack, most=question.most)
+        tally.holds(f"{question}: the first rows", some == rows[:question.most])
+        if counted < count and not set(question.scramble + question.so_far) & set("udrlfbwMESxyz"):
+            counted += 1
+            count_rows(tally, program, question, rows)
+    tally.holds(f"{counted} questions are counted", counted == count)
+    tally.end()
+
+
+def count_rows(tally: Tally, program: Program, question: Question, rows: List[nissy.Continuation]) -> None:
+    """Compares the rows of a question with those that were counted."""
+    tally.equal(f"{question}", [as_wanted(row) for row in rows], [(*it[:3], *it[4:]) for it in wanted_rows(program, question)])
+
+
+if __name__ == "__main__":
+    main()

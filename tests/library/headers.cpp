@@ -1,0 +1,92 @@
+/* The headers beside nissy.hpp: the moves of a line, and the best continuations. */
+#include "nissy_best.hpp"
+#include "nissy_tokens.hpp"
+
+#include "faults.h"
+
+#include <stdexcept>
+
+namespace {
+
+using nissy::side;
+using nissy::token;
+
+// A call throws this fault, and says this.
+template <typename Call> void has_fault(Call call, int code, std::size_t column, const std::string &what) {
+    try {
+        call();
+        holds(0, "it throws", what.c_str());
+    } catch (const nissy::fault &thrown) {
+        holds(thrown.code() == code && thrown.column() == column && thrown.what() == what, "its fault", what.c_str());
+    }
+}
+
+template <typename Thrown, typename Call> void throws(Call call, const char *of) {
+    try {
+        call();
+        holds(0, "it throws", of);
+    } catch (const Thrown &thrown) {
+        holds(thrown.what()[0] != 0, "it says what", of);
+    }
+}
+
+// The moves of lines that a person can tell.
+void moves_are_told() {
+    const std::vector<token> wanted = {{"R", 'x', {1}, 1, false}, {"Uw2", 'y', {0, 1}, 2, true}, {"M", 'x', {0}, -1, true}, {"F'", 'z', {1}, -1, false}};
+    holds(nissy::tokens("R (u2' M) F\xe2\x80\x99") == wanted, "its moves", "R (u2' M) F’");
+    holds(wanted[0] != wanted[1], "moves differ", "R");
+    std::string texts, quarters;
+    for (const token &move : nissy::tokens("RL'x2()D l Lw' b2")) texts += move.text + ",";
+    for (const token &move : nissy::tokens("L L' L2 E E' S")) quarters += std::to_string(move.quarters) + ",";
+    holds(texts == "R,L',x2,D,Lw,Lw',Bw2,", "without blanks", "RL'x2()D l Lw' b2");
+    holds(quarters == "-1,1,2,-1,1,1,", "their quarters", "L L' L2 E E' S");
+    holds(nissy::tokens("z")[0].layers == std::vector<int>{-1, 0, 1} && nissy::tokens("b")[0].layers == std::vector<int>{-1, 0}, "layers", "z b");
+    holds(nissy::tokens({}).empty() && nissy::tokens(" (\t)\r").empty(), "no moves", "");
+    for (const fault_row &row : UNREAD) throws<nissy::fault>([&] { nissy::tokens(row.line); }, row.line);
+}
+
+// Rows that a person can tell: one turn from a reduction, and one from an orientation.
+void continuations_are_told() {
+    const auto held = nissy::best("R U");
+    holds(held.size() > 2 && !held[0].eo && held[0].total == 1 && held[1].total == 1, "an orientation holds", "R U");
+    const nissy::reduction &first = held[0].dr, &second = held[1].dr;
+    holds(held[0].line == "(R)" && first.step == "drud-eofb" && first.side == side::inverse && first.moves == "R", "the first", "R U");
+    holds(first.twins == std::vector<std::string>{"R'"} && first.length == 1 && first.lengths.inverse == 1, "its twin and lengths", "R U");
+    holds(held[1].line == "U" && second.step == "drrl-eofb" && second.side == side::normal && second.lengths.normal == 1, "the second", "R U");
+    holds(held[0].dr_case == "4c4e" && held[1].dr_case == "4c4e", "their cases", "R U");
+    const nissy::continuation undone = nissy::best("U R F").at(0);
+    holds(undone.total == 2 && undone.eo && undone.eo->length == 1 && undone.dr.length == 1 && undone.dr.twins.empty(), "two moves", "U R F");
+    holds(nissy::best("U R F", "F' R").empty() && nissy::best("U", "R2 (D)").empty(), "a reduction is reached", "U R F");
+    // F' and F2 of the moves so far merge
+    holds(nissy::best("U R F'", "F2").at(0).total == 2, "moves so far count, merged", "U R F'");
+}
+
+void rows_are_counted() {
+    const char *scramble = "R' U' F D2 L2 F R2 U2 R2 B D2 L B2 D' B2 L' R' B' D2 B2 R' U' F";
+    const auto all = nissy::best(scramble, "", 0, NISSY_ALL), some = nissy::best(scramble, {}, 0, 7);
+    holds(all.size() > 200 && some.size() == 7 && nissy::best(scramble, "", 0, 0).empty(), "as many as are asked for", scramble);
+    for (std::size_t at = 0; at < some.size(); at++) holds(some[at].line == all[at].line, "they are the first", some[at].line.c_str());
+    for (std::size_t at = 1; at < all.size(); at++) holds(all[at - 1].total <= all[at].total, "they are sorted", all[at].line.c_str());
+    holds(nissy::best(scramble, "", 1).at(0).total <= all[0].total, "a slack makes it no longer", scramble);
+}
+
+void faults_are_thrown() {
+    has_fault([] { nissy::best("R q", "("); }, NISSY_NOT_A_MOVE, 3, "nissy: scramble, column 3: not a move");
+    has_fault([] { nissy::best("R", "(U"); }, NISSY_UNCLOSED, 1, "nissy: moves so far, column 1: bracket not closed");
+    std::string many;
+    for (int at = 0; at < 100; at++) many += at % 2 ? "U" : "R";
+    has_fault([&] { nissy::best(many + many, many); }, NISSY_TOO_LONG, 0, "nissy: moves so far, more than 256 moves");
+    throws<std::length_error>([] { nissy::best(std::string(NISSY_MOST_INPUT + 1, ' ')); }, "16,777,217 blanks");
+    throws<std::out_of_range>([] { nissy::best("R", "", 21); }, "a slack of 21");
+    throws<std::out_of_range>([] { nissy::best("R", "", -1); }, "a slack below 0");
+}
+
+} // namespace
+
+int main() {
+    moves_are_told();
+    continuations_are_told();
+    rows_are_counted();
+    faults_are_thrown();
+    return ended();
+}
