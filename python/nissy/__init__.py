@@ -9,6 +9,9 @@ r"""nissy for Python: moves and searches of the 3x3x3 cube, by the proved librar
     Count(length=1, solutions=2, nodes=20)
     >>> nissy.facts("R U2 R").case["ud"]
     '4c2e'
+    >>> print(*nissy.best("U R F", most=2), sep="\n")
+    F' R (2)
+    F (U) (2)
     >>> nissy.cleanup("R Q")
     Traceback (most recent call last):
     nissy.LineFault: column 3: not a move
