@@ -80,7 +80,7 @@ function inListOrder(turns) {
 /** The face turns that are typed, or null where the text isn't moves.
  * @param {string} text @returns {string[] | null} */
 function turnsOf(text) {
-    const plain = text.replace(/[\u2019\u2032\u00B4`]/g, "'").toUpperCase();
+    const plain = text.replace(/[\u2019\u2032\u00B4\u0060]/g, "'").toUpperCase();
     if (!/^\s*(?:[UDRLFB](?:2'?|')?\s*)*$/.test(plain)) return null;
     return inListOrder((plain.match(/[UDRLFB][2']*/g) ?? []).map((turn) => turn.replace("2'", "2")));
 }
