@@ -66,6 +66,8 @@ def shown(window: Window, address: str, act: str) -> dict[str, object]:
     """What a window shows of a state, once all is answered."""
     window.open("about:blank")
     window.open(address)
+    # so that none of them is further than another
+    window.script("document.getElementById('best-further').checked = false")
     if not window.until(DONE):
         raise TimeoutError(f"no answer at {address}")
     if act != "":

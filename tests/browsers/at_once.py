@@ -83,7 +83,7 @@ def best_of_many(tally: Tally, browser: Browser) -> None:
     tally.equal(
         "what the note says",
         browser.text("best-note"),
-        f"{count:,} of {count:,} EOs tried. {CUT:,} rows. The list is cut: the best are kept.",
+        f"{count:,} of {count:,} EOs tried. The best {CUT:,} rows.",
     )
     while len(browser.script(ROWS)) < SHOWN:
         browser.script("document.getElementById('best-more').click()")

@@ -15,7 +15,8 @@ CHOOSE = "const slack = document.getElementById('slack'); slack.value = argument
 TYPE = "const it = document.getElementById('filter'); it.value = arguments[1]; it.dispatchEvent(new Event('input'));"
 ROWS = """return [...document.querySelectorAll('#best-body tr')].map((row) => {
     const [total, moves, state, next, normal, inverse] = [...row.children].map((each) => each.textContent);
-    return [total, row.querySelector('.take').textContent, state, next.split(' ').slice(0, 2).join(' '), normal, inverse];
+    const lengths = [normal, inverse].map((each) => each.split('×')[0]);
+    return [total, row.querySelector('.take').textContent, state, next.split(' ').slice(0, 2).join(' '), ...lengths];
 })"""
 SHOWN_FILTERS = "return ['best-filters', 'best-turns'].map((name) => !document.getElementById(name).hidden)"
 MORE = "const more = document.getElementById('best-more'); if (more.hidden) return true; more.click(); return false"
@@ -90,7 +91,7 @@ def best(tally: Tally, browser: Browser) -> None:
     tally.holds("there are some", len(every) > len(wanted) > 20)
     note = browser.text("best-note")
     tally.equal("how many were tried", note.split(" tried")[0], f"{len(every) // 2} of {len(every) // 2} EOs")
-    tally.equal("the first of them are shown", len(browser.script(ROWS)), 8)
+    tally.equal("the first of them are shown", len(browser.script(ROWS)), 6)
     tally.holds("and more when they are asked for", browser.until(MORE))
     rows = [tuple(row) for row in browser.script(ROWS)]
     holds_rows(tally, "twins are one row, the better of them", rows, wanted)

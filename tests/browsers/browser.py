@@ -12,11 +12,13 @@ from selenium.webdriver.common.keys import Keys
 from net import letters_of, stickers_of
 
 PATIENCE = 180
+# longer continuations are looked for by themselves only while the page is seen: for most of what is tried it isn't, so that rows stay
+UNSEEN = 'Object.defineProperty(Document.prototype, "hidden", { configurable: true, get: () => !window.isSeen });'
 IDLE = """
     return document.querySelector("#results[aria-busy=false]") !== null
-        && document.querySelector("[aria-busy=true]:not([hidden], #best)") === null"""
+        && document.querySelector("[aria-busy=true]:not([hidden], #best, #best-body)") === null"""
 # the best are looked for by themselves, and most of the page doesn't wait for them
-BEST = "return document.querySelector('#best[aria-busy=true]') === null"
+BEST = "return document.querySelector('#best[aria-busy=true], #best-body[aria-busy=true]') === null"
 
 
 class Browser:
@@ -35,6 +37,8 @@ class Browser:
         self.page = page
         self.command("Emulation.setDeviceMetricsOverride", width=width, height=height, deviceScaleFactor=1, mobile=False)
         self.command("Emulation.setEmulatedMedia", features=[{"name": "prefers-color-scheme", "value": colours}])
+        self.command("Page.enable")
+        self.command("Page.addScriptToEvaluateOnNewDocument", source=UNSEEN)
 
     def __enter__(self) -> "Browser":
         return self

@@ -15,11 +15,15 @@ from pathlib import Path
 sys.path.insert(0, str(Path(__file__).resolve().parent.parent))
 
 import addresses
+import ahead
 import at_once
 import best
+import desk
 import faults
 import filters
+import first
 import focus
+import further
 import kept
 import keyboard
 import line
@@ -32,6 +36,7 @@ import sizes
 import steps
 import still
 import stops
+import teacher
 import trifles
 import turned
 import workers
@@ -40,7 +45,7 @@ from selenium.common.exceptions import WebDriverException
 from tally import Tally
 
 PARTS = (keyboard, faults, workers, addresses, best, searches, at_once, turned, steps, line, kept, focus, stops, phone, narrow, sizes, settings, filters,
-    looks, still, trifles)
+    looks, still, trifles, further, desk, first, ahead, teacher)
 
 TOP = Path(__file__).resolve().parent.parent.parent
 NO_ENGINE = "globalThis.WebAssembly = undefined;\n"

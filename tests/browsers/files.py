@@ -32,6 +32,7 @@ REFUSED = (
     ("main.js", "export default 1;\n", "an export of another form"),
     ("main.js", 'const text = "</script>";\n', "an end of its element"),
     ("main.js", 'const text = "<!--";\n', "a comment of the page"),
+    ("main.js", "const text = `R\n  U`;\n", "a text of several lines"),
     ("style.css", "</style>", "an end of the style"),
     ("print.css", "</style>", "an end of the style in a part of it"),
     ("style.css", '@import url("./print.css");', "an import of another form in the style"),
@@ -76,6 +77,7 @@ def is_plain(tally: Tally, page: str) -> None:
     for name in ('script type="module"', 'script type="text/plain" id="worker-script"'):
         script = re.sub(r"/\*[\s\S]*?\*/|^\s*//.*$", "", element(page, name), flags=re.MULTILINE)
         tally.holds(f"{name} is there", len(script) > 1000)
+        tally.equal(f"{name}: lines with an indent", re.findall(r"^ +\S*", script, re.MULTILINE), [])
         tally.equal(f"{name}: markup", re.findall(MARKUP, script), [])
         tally.equal(f"{name}: requests", re.findall(ASKING, script), [])
         tally.equal(f"{name}: imports that are left", re.findall(r"^\s*(?:import|export)\b.*", script, re.MULTILINE), [])
@@ -92,7 +94,7 @@ def is_whole(tally: Tally, page: str) -> None:
     for name in " ".join(named).split():
         tally.holds(f"{name}, which a label or a text names, is there", name in ids)
     # the one that a script opens has no button
-    helps = sorted(set(re.findall(r'<div popover id="([^"]+)"', page)) - {"uncopied"})
+    helps = sorted(set(re.findall(r'<div popover id="([^"]+)"', page)) - {"uncopied", "said"})
     tally.equal("each help has its button", sorted(re.findall(r'popovertarget="([^"]+)"', page)), helps)
     module = gzip.decompress(base64.b64decode(element(page, 'script type="text/plain" id="engine-module"'), validate=True))
     tally.equal("the module's first bytes", module[:4], b"\0asm")

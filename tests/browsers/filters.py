@@ -35,7 +35,7 @@ def of_the_best(tally: Tally, browser: Browser) -> None:
     tally.holds("and all are there", browser.texts("#best-body tr"))
     tally.equal("the focus is at the fold", browser.script("return document.activeElement.closest('#best-options') !== null"), True)
     values = "return [...document.querySelectorAll('#best-filters select:not(#best-sort)')].map((each) => each.value)"
-    tally.equal("no field is set", browser.script(values), [""] * 5)
+    tally.equal("no field is set", browser.script(values), [""] * 6)
 
 
 def of_a_list(tally: Tally, browser: Browser) -> None:

@@ -208,7 +208,7 @@ def words(tally: Tally, browser: Browser) -> None:
     tally.equal(
         "the columns of the best",
         browser.texts("#best-table thead th")[:6],
-        ["In all", "Moves", "Reach", "Then DR", "Normal", "Inverse"],
+        ["In all", "Moves", "Reaches", "Then DR", "Normal moves", "Inverse moves"],
     )
     sides = "return [...document.querySelectorAll('#best-body tr:first-child .number')].map((each) => [each.title, each.ariaLabel])"
     browser.wait_best()
@@ -229,8 +229,8 @@ def goes_on(tally: Tally, browser: Browser) -> None:
     legend = "return document.querySelector('#steps .head .least').checkVisibility()"
     ways: tuple[tuple[str, set[str], list[str]], ...] = (
         ("", {"eo"}, []),
-        ("&steps=normal.D2_R2_L_U", {"dr"}, ["Another EO, which need not keep this one"]),
-        ("&steps=normal.D2_R2_L_U~normal.B_R_D2_B_R_B_R_B", set(), ["Another EO or DR, which need not keep this DR"]),
+        ("&steps=normal.D2_R2_L_U", {"dr"}, ["Another EO in place of this one"]),
+        ("&steps=normal.D2_R2_L_U~normal.B_R_D2_B_R_B_R_B", set(), ["Another EO or DR in place of this DR"]),
     )
     for steps, kinds, said in ways:
         browser.open(ADDRESS + steps)

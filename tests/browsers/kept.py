@@ -8,6 +8,10 @@ from steps import ADDRESS, EXAMPLE, SCRAMBLE
 from tally import Tally
 
 KEPT_SAID = "return [...document.querySelectorAll('#kept-list .total')].every((each) => each.textContent !== '')"
+# what is said by a popover, and whether that is seen just below a button
+UNDER = """const [said, button] = arguments.length === 2 && [...arguments].map((name) => document.getElementById(name));
+    const [over, under] = [button, said].map((each) => each.getBoundingClientRect());
+    return [said.textContent, said.matches(':popover-open') && Math.abs(under.top - over.bottom) < 20];"""
 KEPT_WORDS = """return [...document.querySelectorAll('#kept-list li')]
     .map((each) => [...each.querySelectorAll('.moves, .chip, .case')].map((one) => one.textContent))"""
 
@@ -87,10 +91,9 @@ def copies_kept(tally: Tally, browser: Browser) -> None:
     browser.until("return document.querySelectorAll('#line-list li').length === 1")
     browser.wait()
     browser.click("#keep-line")
-    tally.holds(
-        "no more than fit",
-        browser.text("alert").startswith("No more lines can be kept") and len(browser.texts("#kept-list li")) == 24,
-    )
+    tally.equal("no more than fit", len(browser.texts("#kept-list li")), 24)
+    said = browser.script(UNDER, "said", "keep-line")
+    tally.equal("which is said under the star", said, ["24 lines are kept, and there can be no more: remove one of them first.", True])
 
 
 def keeps_reductions(tally: Tally, browser: Browser) -> None:

@@ -100,7 +100,7 @@ def begins(tally: Tally, browser: Browser) -> None:
     browser.open("#scramble=R_q")
     tally.equal("with a fault: the nets, the welcome, the best", browser.script(seen), [False, False, False])
     browser.open()
-    tally.equal("without a scramble: a solved cube, the welcome", browser.script(seen), [True, True, False])
+    tally.equal("without a scramble: the welcome alone", browser.script(seen), [False, True, False])
     raw = "return [...document.querySelectorAll('.sticker')].filter((each) => !each.dataset.colour).length"
     tally.equal("stickers without a colour that are seen", browser.script(raw), 0)
     browser.driver.get("about:blank")

@@ -190,7 +190,7 @@ def offers_what_is_read(tally: Tally, browser: Browser) -> None:
     browser.until("return location.hash === '#side=inverse'")
     browser.open()
     tally.equal("a side alone doesn't take its place", browser.text("last-line"), "B D")
-    browser.script("document.getElementById('seeds').open = true; document.querySelector('[data-example=\"R U\"]').click()")
+    browser.fill("scramble", "R U")
     browser.until("return document.querySelectorAll('#steps-body .cell').length > 0")
     browser.wait()
     back(browser)

@@ -37,8 +37,9 @@ def shows_uncopied(tally: Tally, browser: Browser) -> None:
     """A text that the browser refuses to copy is shown, selected."""
     browser.command("Page.enable")
     script = browser.command("Page.addScriptToEvaluateOnNewDocument", source=REFUSED)
-    browser.open(LINE)
-    browser.click("#copy-fmc")
+    browser.open(LINE + "&kept=inverse.B_D_R_F2_B_D")
+    browser.until("return document.querySelector('#kept-list .total').textContent !== ''")
+    browser.click("#copy-kept")
     selected = "const it = document.getElementById('uncopied-text'); return it.value.slice(it.selectionStart, it.selectionEnd)"
     tally.holds("the text is seen", browser.until("return document.getElementById('uncopied').matches(':popover-open')"))
     text = browser.script(selected)
@@ -46,7 +47,7 @@ def shows_uncopied(tally: Tally, browser: Browser) -> None:
     tally.equal("it has the focus", browser.focused(), "uncopied-text")
     browser.press(Keys.ESCAPE)
     tally.equal("and is closed", browser.script("return document.querySelector(':popover-open') === null"), True)
-    tally.equal("the focus is back", browser.focused(), "copy-fmc")
+    tally.equal("the focus is back", browser.focused(), "copy-kept")
     browser.command("Page.removeScriptToEvaluateOnNewDocument", identifier=script["identifier"])
 
 

@@ -3,7 +3,10 @@
 import { REDUCTIONS, isSide, stepNamed } from "./steps.js";
 
 /** @typedef {import("./steps.js").Part} Part */
-/** @typedef {{step: string, side: import("./steps.js").Side, slack: number, isAll: boolean}} List */
+/**
+ * @typedef {{step: string, side: import("./steps.js").Side, slack: number, isAll: boolean, split?: number}} List
+ * `split`: how many moves its solutions begin with on the other side
+ */
 /** @typedef {{parts: Part[], note: string, next: string}} Candidate `next`: the reduction that it was kept with, or "" */
 /** @typedef {{scramble: string, parts: Part[], side: import("./steps.js").Side, list: List | null, kept: Candidate[]}} State */
 
@@ -18,6 +21,7 @@ const MOST_NAMED = 5;
 const LONGEST_NAME = 24;
 const MOVES = /^[UDRLFBMESxyzw2']+( [UDRLFBMESxyzw2']+)*$/;
 const ALL_ROWS = "all";
+const SPLIT = /^split([12])$/;
 
 /** @returns {State} */
 export const emptyState = () => ({ scramble: "", parts: [], side: "normal", list: null, kept: [] });
@@ -43,13 +47,18 @@ const writtenParts = (parts) => parts.map(({ side, moves }) => `${side}.${writte
 /** @param {Candidate} candidate */
 const writtenCandidate = ({ parts, note, next }) => [writtenParts(parts), written(note), next].join(";").replace(/;+$/, "");
 
+/** @param {List} list */
+function writtenList({ step, side, slack, isAll, split = 0 }) {
+    return [step, side, slack, ...(isAll ? [ALL_ROWS] : []), ...(split > 0 ? [`split${split}`] : [])].join(".");
+}
+
 /** @param {State} state */
 export function addressOf({ scramble, parts, side, list, kept }) {
     const fields = [];
     if (scramble !== "") fields.push(`scramble=${written(scramble)}`);
     if (parts.length > 0) fields.push(`steps=${writtenParts(parts)}`);
     if (side !== "normal") fields.push(`side=${side}`);
-    if (list) fields.push(`list=${[list.step, list.side, list.slack, ...(list.isAll ? [ALL_ROWS] : [])].join(".")}`);
+    if (list) fields.push(`list=${writtenList(list)}`);
     if (kept.length > 0) fields.push(`kept=${kept.map(writtenCandidate).join(",")}`);
     return `#${fields.join("&")}`;
 }
@@ -75,10 +84,14 @@ function readParts(text) {
 
 /** @param {string} text @returns {List} */
 function readList(text) {
-    const [step, side, slack, all, ...rest] = text.split(".");
+    const [step, side, slack, ...others] = text.split(".");
     const known = stepNamed(step) && isSide(side) && /^[0-9]$/.test(slack) && Number(slack) <= GREATEST_SLACK;
-    if (!known || rest.length > 0 || (all !== undefined && all !== ALL_ROWS)) throw new Error("no list");
-    return { step, side, slack: Number(slack), isAll: all === ALL_ROWS };
+    const isAll = others[0] === ALL_ROWS;
+    const [written, ...rest] = isAll ? others.slice(1) : others;
+    const split = SPLIT.exec(written ?? "");
+    if (!known || rest.length > 0 || (written !== undefined && split === null)) throw new Error("no list");
+    const list = { step, side, slack: Number(slack), isAll };
+    return split === null ? list : { ...list, split: Number(split[1]) };
 }
 
 /** @param {string} text @returns {Candidate} */

@@ -1,53 +1,43 @@
-// The card of the best continuations: looked for by themselves, with progress, a way to stop, filters, and rows that go on.
+// The card of the best continuations: looked for by themselves, longer ones too, with progress, a way to stop, filters, and rows that go on.
+import { bestRow } from "./best-row.js";
 import { Stopped } from "./calls.js";
-import { announce, announceLater, counted, element, part, setBusy } from "./element.js";
+import { announce, announceLater, counted, element, part, setBusy, tell } from "./element.js";
 import { BestFilter, FilterSigns, NOT_MOVES } from "./filter.js";
 import { byCase, byTotal, findContinuations } from "./finder.js";
-import { focusButton, focusWithin, roveWithin, starButton, takeButton } from "./rows.js";
-import { SIDES, bracketed, isReduced, reducedAfter } from "./steps.js";
+import { FurtherSearch } from "./further.js";
+import { ShownReductions } from "./reductions.js";
+import { focusButton, focusWithin, roveWithin } from "./rows.js";
+import { isReduced, reducedAfter } from "./steps.js";
 import { isNarrow } from "./view.js";
 
 /** @typedef {import("./finder.js").Row} Row */
 /** @typedef {import("./finder.js").Question} Question */
-/** @typedef {import("./steps.js").Part} Part */
+/** @typedef {import("./further.js").Further} Further */
 
 const LOOKING_FOR_BEST = "Looking for the best …";
-/** How many rows are shown at first: where the page is narrow fewer, so that the table below them is seen. */
-const SHOWN_FIRST = { narrow: 3, wide: 8 };
+/** How many rows are shown at first, so that the table below them is seen: where the page is narrow fewer, and of reductions more, since
+ * none follows them in their row. */
+const SHOWN_FIRST = { narrow: 3, wide: 6, ofReductions: 8 };
 const SHOWN_MORE = 40;
-/** How many signs the style adds to a row that was seen, and how wide a sign of a twin is beside one of the moves. */
-const SEEN_SIGNS = 2;
-const SIGN_OF_TWIN = 0.7;
 /** Of how many searches what was found is kept. */
 const MOST_KEPT_SEARCHES = 8;
 
-const shownFirst = () => (isNarrow() ? SHOWN_FIRST.narrow : SHOWN_FIRST.wide);
+/** @param {string[]} reached */
+function shownFirst(reached) {
+    if (isNarrow()) return SHOWN_FIRST.narrow;
+    return reached.length > 0 ? SHOWN_FIRST.ofReductions : SHOWN_FIRST.wide;
+}
 
 /** What a search is known by.
  * @param {Question} question */
 const nameOfSearch = ({ now, slack, isAll }) => [now.normal, now.inverse, slack, isAll].join("/");
 
-/** A cell whose role stays where a narrow page lays the row out as a grid.
- * @param {"td" | "th"} name */
-function cell(name, attributes, ...children) {
-    const role = name === "th" ? { role: "rowheader", scope: "row" } : { role: "cell" };
-    return element(name, { ...role, ...attributes }, ...children);
-}
-
-/**
- * The cell of a row's moves and twins, which tells the style how many signs stand on one line, where the page is narrow and elsewhere.
- * @param {HTMLElement} take @param {string[]} others the last turns of the twins @param {boolean} isBeside whether they stand beside the
- * moves there
- */
-function movesCell(take, others, isBeside) {
-    const either = others.length === 1 ? others[0] : `${others.length} twins`;
-    const twin = others.length === 0 ? "" : ` or ${either}`;
-    const made = cell("td", {}, take, ...(twin === "" ? [] : [element("small", { class: "twins" }, twin)]));
-    const seen = take.classList.contains("seen") ? SEEN_SIGNS : 0;
-    const [own, beside] = [take.textContent.length + seen, SIGN_OF_TWIN * twin.length];
-    made.style.setProperty("--signs", String(own + (isBeside ? beside : 0)));
-    made.style.setProperty("--signs-wide", String(own + beside));
-    return made;
+/** How many rows that aren't seen belong before the last one that is.
+ * @param {Row[]} rows @param {string[]} seen the keys of those that are seen */
+function newAmong(rows, seen) {
+    const known = new Set(seen);
+    const last = rows.findLastIndex(({ key }) => known.has(key));
+    return rows.slice(0, Math.max(0, last)).filter(({ key }) => !known.has(key)).length;
 }
 
 export class BestContinuations {
@@ -56,21 +46,38 @@ export class BestContinuations {
     #filter = new BestFilter({ changed: () => this.#filtered(), typed: () => this.#typed() });
     #signs = new FilterSigns("best", () => this.#clear());
     #question = null;
+    /** @type {Further | null} what the rows are shown of */
     #progress = null;
+    /** @type {Further | null} what was found since, if rows of it belong among those that are seen */
+    #newer = null;
+    #isAsked = false;
+    #further;
+    /** @type {Map<string, Further>} */
     #found = new Map();
-    #shown = shownFirst();
+    #reductions;
+    #shown = 0;
     #body = part("best-body");
 
     /**
      * @param {import("./finder.js").Finder[]} finders of its own, one an axis
-     * @param {{goOn: (row: Row) => void, star: (part: Part, next?: string) => void,
-     *     isStarred: (part: Part, next?: string) => boolean, isSeen: (part: Part, next?: string) => boolean, shown: () => void}} acts
+     * @param {import("./calls.js").Calls} calls that tell more of rows that are seen
+     * @param {import("./best-row.js").RowActs & {shown: () => void, isBusy: () => boolean}} acts `isBusy`: whether the page waits for
+     * something else
      */
-    constructor(finders, acts) {
+    constructor(finders, calls, acts) {
         this.#finders = finders;
+        this.#reductions = new ShownReductions(calls, this.#body);
         this.#acts = acts;
+        this.#further = new FurtherSearch(finders, {
+            isBusy: acts.isBusy,
+            turned: () => this.#working(this.#isAsked),
+            found: (progress) => this.#foundFurther(progress),
+            ended: (fault) => this.#endedFurther(fault),
+        });
         roveWithin(this.#body);
-        part("best-stop").addEventListener("click", () => this.#stop());
+        part("best-stop").addEventListener("click", () => this.#stopped());
+        part("best-new").addEventListener("click", () => this.#showNewer());
+        part("best-further").addEventListener("change", () => this.#turnFurther());
         for (const name of ["best-slack", "best-all"]) part(name).addEventListener("change", () => this.#ask());
         part("best-sort").addEventListener("change", () => this.#filtered());
         part("best-more").addEventListener("click", () => this.#more());
@@ -84,7 +91,9 @@ export class BestContinuations {
         this.#stop();
         this.#question = cube;
         this.#progress = null;
-        this.#shown = shownFirst();
+        this.#newer = null;
+        this.#reductions.clear();
+        this.#shown = shownFirst(cube?.reached ?? []);
         const isNeeded = cube !== null && !isReduced(cube.reached);
         // until another cube is known nothing shows or hides the card, or what is read below it would move
         if (cube !== null) part("best").hidden = !isNeeded;
@@ -92,10 +101,12 @@ export class BestContinuations {
             this.#body.replaceChildren();
             part("best-note").textContent = "";
             part("best-more").hidden = true;
+            this.#tellNewer(0);
             this.#working(false);
             return;
         }
         part("best-table").classList.toggle("of-reductions", cube.reached.length > 0);
+        part("best-unasked").hidden = cube.reached.length > 0;
         this.#filter.begin(reducedAfter(cube.reached));
         this.#ask();
     }
@@ -112,9 +123,9 @@ export class BestContinuations {
         for (const finder of this.#finders) finder.end();
     }
 
-    /** Whether the best are looked for. */
+    /** Whether the best that were asked for are looked for. */
     isWorking() {
-        return !part("best-stop").disabled;
+        return this.#isAsked;
     }
 
     /** Shows the stars as they are. */
@@ -130,7 +141,8 @@ export class BestContinuations {
 
     /** Shows what the filters leave, from its beginning. */
     #filtered() {
-        this.#shown = shownFirst();
+        this.#shown = shownFirst(this.#question?.reached ?? []);
+        this.#takeNewer();
         this.#draw();
     }
 
@@ -143,7 +155,9 @@ export class BestContinuations {
     /** Makes the row seen that has this name, and answers its button, or null.
      * @param {string} key */
     reveal(key) {
-        const at = (this.#rows() ?? []).findIndex((row) => row.key === key);
+        const placeIn = (progress) => (this.#rows(progress) ?? []).findIndex((row) => row.key === key);
+        if (placeIn(this.#progress) < 0) this.#takeNewer();
+        const at = placeIn(this.#progress);
         if (at < 0) return null;
         this.#shown = Math.max(this.#shown, at + 1);
         this.#draw();
@@ -151,38 +165,116 @@ export class BestContinuations {
     }
 
     #stop() {
+        this.#further.stop();
         for (const finder of this.#finders) finder.stop();
+    }
+
+    /** Stops what is looked for, as it is asked to. */
+    #stopped() {
+        const isFurther = this.#further.isOn();
+        this.#stop();
+        // a search that was asked for says so itself
+        if (isFurther) this.#endedFurther(new Stopped());
     }
 
     #ask() {
         if (this.#question === null) return;
         this.#stop();
+        this.#newer = null;
+        this.#tellNewer(0);
         this.#question = { ...this.#question, slack: Number(part("best-slack").value), isAll: part("best-all").checked };
         const known = this.#found.get(nameOfSearch(this.#question));
-        if (known) this.#show(known);
-        else this.#find(this.#question);
+        if (!known) return void this.#find(this.#question);
+        this.#show(known);
+        this.#goFurther();
+    }
+
+    /** Goes on by itself from what was found, if it may. */
+    #goFurther() {
+        this.#working(false);
+        if (part("best-further").checked) this.#further.begin({ ...this.#question, slack: this.#progress.slack }, this.#progress);
+    }
+
+    #turnFurther() {
+        if (this.#isAsked || this.#question === null) return;
+        if (!part("best-further").checked) this.#stopped();
+        else if (this.#found.has(nameOfSearch(this.#question))) this.#ask();
+    }
+
+    /**
+     * Takes what was found without being asked for. Rows that are seen stay where they are: what belongs among them waits until it is asked
+     * for.
+     * @param {Further} progress
+     */
+    #foundFurther(progress) {
+        if (progress.done === progress.all) this.#keep(this.#question, progress);
+        const seen = [...this.#body.querySelectorAll(".take")].map(({ dataset }) => dataset.key);
+        const rows = this.#rows(progress) ?? [];
+        this.#newer = progress;
+        this.#tellProgress(progress);
+        if (!seen.every((key, at) => rows[at]?.key === key)) this.#tellNewer(newAmong(rows, seen), rows[0]);
+        else this.#takeNewer();
+        if (seen.length < Math.min(rows.length, this.#shown)) this.#draw();
+        this.#tellRows(rows.length);
+    }
+
+    /** @param {Error | null} fault why no longer ones are looked for, or null if they are found */
+    #endedFurther(fault) {
+        if (fault) this.#brokenOff(fault);
+        this.#working(false);
+    }
+
+    /** Takes the rows that were found since into those that are shown. */
+    #takeNewer() {
+        if (this.#newer === null) return;
+        this.#progress = this.#newer;
+        this.#newer = null;
+        this.#tellNewer(0);
+    }
+
+    /** Says how many rows belong among those that are seen, and of the first of them how good it is, if it is better than all.
+     * @param {number} count @param {Row} [first] */
+    #tellNewer(count, first) {
+        const isBest = count > 0 && first.total < (this.#rows(this.#progress)[0]?.total ?? 0);
+        const words = `${counted(count, "new row")}${isBest ? `: ${counted(first.total, "move")}` : ""}`;
+        tell(part("best-new"), count === 0 ? "" : words);
+        if (isBest) announceLater(words);
+    }
+
+    /** Shows the rows that were found since in their places, and goes to the first of them. */
+    #showNewer() {
+        const seen = new Set([...this.#body.querySelectorAll(".take")].map(({ dataset }) => dataset.key));
+        this.#takeNewer();
+        this.#draw();
+        const first = [...this.#body.querySelectorAll(".take")].find(({ dataset }) => !seen.has(dataset.key));
+        (first ?? part("best-heading")).focus({ preventScroll: true });
     }
 
     /** @param {Question} question */
     async #find(question) {
         const isStill = () => question === this.#question;
+        const { slack } = question;
         this.#progress = null;
         this.#showRows([]);
+        this.#tellNewer(0);
         this.#working(true);
         part("best-note").textContent = LOOKING_FOR_BEST;
         try {
-            await findContinuations(this.#finders, question, (progress) => isStill() && this.#show(progress));
-            if (isStill()) this.#keep(question);
+            await findContinuations(this.#finders, question, (progress) => isStill() && this.#show({ ...progress, slack }));
+            if (!isStill()) return;
+            this.#keep(question, this.#progress);
+            this.#goFurther();
         } catch (fault) {
-            if (isStill()) this.#brokenOff(fault);
+            if (!isStill()) return;
+            this.#brokenOff(fault);
+            this.#working(false);
         }
-        if (isStill()) this.#working(false);
     }
 
     /** Keeps what was found, in place of what was kept longest.
-     * @param {Question} question */
-    #keep(question) {
-        this.#found.set(nameOfSearch(question), this.#progress);
+     * @param {Question} question @param {Further} found */
+    #keep(question, found) {
+        this.#found.set(nameOfSearch(question), found);
         if (this.#found.size > MOST_KEPT_SEARCHES) this.#found.delete(this.#found.keys().next().value);
     }
 
@@ -194,40 +286,52 @@ export class BestContinuations {
         announce(text);
     }
 
-    #working(isWorking) {
+    /** Shows whether something is looked for, that was asked for or not.
+     * @param {boolean} isAsked */
+    #working(isAsked) {
+        this.#isAsked = isAsked;
+        const isOn = isAsked || this.#further.isOn();
         const stop = part("best-stop");
         // what can't be pressed can't keep the focus
-        if (!isWorking && document.activeElement === stop) part("best-heading").focus({ preventScroll: true });
+        if (!isOn && document.activeElement === stop) part("best-heading").focus({ preventScroll: true });
         // it stays where it is, and so does all below it
-        stop.disabled = !isWorking;
-        part("best-progress").hidden = !isWorking;
-        setBusy("best", isWorking, "");
-        if (isWorking) part("best-progress").removeAttribute("value");
+        stop.disabled = !isOn;
+        part("best-progress").hidden = !isOn;
+        setBusy("best", isAsked, "");
+        if (isOn) part("best-progress").removeAttribute("value");
     }
 
+    /** @param {Further} progress */
     #show(progress) {
         this.#progress = progress;
-        if (progress.all !== null) {
-            part("best-progress").max = Math.max(progress.all, 1);
-            part("best-progress").value = progress.done;
-        }
+        this.#tellProgress(progress);
         if (progress.done === progress.all) this.#working(false);
         this.#filter.offer(progress.rows);
         this.#draw();
         this.#acts.shown();
     }
 
-    #tried() {
-        const { done, all } = this.#progress;
-        const isOfReductions = this.#question.reached.length > 0;
-        if (isOfReductions) return "";
-        // how many there are isn't known until the longer ones are found
-        return all === null ? `${counted(done, "EO")} tried.` : `${done.toLocaleString("en")} of ${counted(all, "EO")} tried.`;
+    /** @param {Further} progress */
+    #tellProgress({ done, all }) {
+        if (all === null) return part("best-progress").removeAttribute("value");
+        part("best-progress").max = Math.max(all, 1);
+        part("best-progress").value = done;
     }
 
-    /** The rows that the filters leave, in their order; or null if what is typed isn't moves. */
-    #rows() {
-        const rows = this.#filter.left(this.#progress?.rows ?? []);
+    #tried() {
+        const { done, all, slack } = this.#newer ?? this.#progress;
+        const isOfReductions = this.#question.reached.length > 0;
+        if (isOfReductions) return "";
+        const longer = slack > this.#question.slack ? `Up to ${slack} longer: ` : "";
+        // how many there are isn't known until the longer ones are found
+        if (all === null) return `${longer}${counted(done, "EO")} tried.`;
+        return `${longer}${done.toLocaleString("en")} of ${counted(all, "EO")} tried.`;
+    }
+
+    /** The rows that the filters leave, in their order; or null if what is typed isn't moves.
+     * @param {Further | null} progress */
+    #rows(progress) {
+        const rows = this.#filter.left(progress?.rows ?? []);
         if (part("best-sort").value === "case") rows?.sort((one, other) => byCase(one, other) || byTotal(one, other));
         return rows;
     }
@@ -235,28 +339,36 @@ export class BestContinuations {
     #draw() {
         this.#signs.show(this.#filter.count(), false);
         if (this.#progress === null) return this.#showRows([]);
-        const left = this.#rows();
+        const left = this.#rows(this.#progress);
         const rows = left ?? [];
         const shown = rows.slice(0, this.#shown);
-        this.#showRows(shown.map((row) => this.#row(row)));
+        this.#showRows(shown.map((row) => bestRow(row, this.#acts)));
+        if (!this.#isAsked) this.#reductions.tell(this.#question, shown);
         this.#signs.show(this.#filter.count(), rows.length === 0 && this.#progress.rows.length > 0);
-        part("best-more").hidden = shown.length === rows.length;
+        this.#tellRows(left === null ? null : rows.length);
+    }
+
+    /** Says how many rows there are, and whether more may be shown.
+     * @param {number | null} left how many the filters leave; null if what is typed isn't moves */
+    #tellRows(left) {
+        part("best-more").hidden = this.#shown >= (left ?? 0);
         // on one line with what stands beside it
-        part("best-more").textContent = `${isNarrow() ? "More" : "Show more"} of ${rows.length.toLocaleString("en")}`;
-        part("best-note").textContent = left === null ? NOT_MOVES : this.#note(rows.length);
+        part("best-more").textContent = `${isNarrow() ? "More" : "Show more"} of ${(left ?? 0).toLocaleString("en")}`;
+        part("best-note").textContent = left === null ? NOT_MOVES : this.#note(left);
     }
 
     /** @param {number} left how many rows are left */
     #note(left) {
-        const { rows, isCut } = this.#progress;
-        const all = counted(rows.length, "row");
-        const of = left === rows.length ? all : `${left.toLocaleString("en")} of ${all}`;
-        return `${this.#tried()} ${of}.${isCut ? " The list is cut: the best are kept." : ""}`.trim();
+        const { rows, isCut } = this.#newer ?? this.#progress;
+        const all = `${isCut ? "best " : ""}${counted(rows.length, "row")}`;
+        const of = left === rows.length ? `${isCut ? "The " : ""}${all}` : `${left.toLocaleString("en")} of ${isCut ? "the " : ""}${all}`;
+        return `${this.#tried()} ${of}.`.trim();
     }
 
     #more() {
         const from = this.#body.children.length;
         this.#shown += SHOWN_MORE;
+        this.#takeNewer();
         this.#draw();
         this.#body.querySelectorAll(".take")[from]?.focus();
     }
@@ -272,35 +384,5 @@ export class BestContinuations {
         const same = buttons.find(({ dataset }) => dataset.key === focused.key);
         if (same) focusButton(same, focused.place);
         else (buttons[0] ?? part("best-heading")).focus({ preventScroll: true });
-    }
-
-    /** @param {Row} row */
-    #row(row) {
-        const { total, part: added, state, next, others, key } = row;
-        const line = added.moves === "" ? "no moves" : bracketed([added]);
-        const isSeen = this.#acts.isSeen(added, next?.step);
-        const all = Number.isFinite(total) ? String(total) : "–";
-        const take = takeButton(line, { key, isSeen }, () => this.#acts.goOn(row));
-        // one orientation has a row, and a star, for each reduction that may follow
-        const whole = next ? `${line}, ${next.marks} ${next.case}` : line;
-        const star = starButton(whole, this.#acts.isStarred(added, next?.step), () => this.#acts.star(added, next?.step));
-        const cells = [cell("th", {}, all), movesCell(take, others, next !== null), cell("td", { class: "axis" }, state)];
-        if (next) {
-            cells.push(cell("td", { class: "axis" }, next.marks, " ", element("span", { class: "case" }, next.case)));
-            cells.push(...SIDES.map((side) => this.#length(next, side)));
-        }
-        return element("tr", { role: "row", "data-marks": next ? next.marks : state }, ...cells, cell("td", {}, star));
-    }
-
-    /** @param {import("./finder.js").Next} next @param {import("./steps.js").Side} side */
-    #length({ lengths, totals, side: best }, side) {
-        const isBest = lengths[side] !== null && totals[side] === totals[best];
-        const words = lengths[side] === null ? "no DR" : `DR in ${counted(lengths[side], "move")}`;
-        const inAll = lengths[side] === null ? "" : `, ${totals[side]} in all`;
-        const about = {
-            class: isBest ? "best number" : "number", "data-side": side === "normal" ? "N" : "I", title: `${side} side${inAll}`,
-            "aria-label": `${words} on the ${side} side${inAll}`,
-        };
-        return cell("td", about, lengths[side] === null ? "–" : String(lengths[side]));
     }
 }

@@ -3,6 +3,7 @@
 import { announce, part } from "./element.js";
 import { newlyReached } from "./position.js";
 import { bracketed } from "./steps.js";
+import { tellAt } from "./view.js";
 
 /** @typedef {import("./position.js").Walk} Walk */
 
@@ -68,9 +69,10 @@ function showUncopied(text) {
     announce("The browser doesn't let the page copy. The text is selected: copy it with the keys of your system.");
 }
 
-/** @param {string} text @param {HTMLElement} button @param {HTMLElement | null} shownIn what shows the text, if anything does */
+/** @param {string} text @param {HTMLElement} button @param {HTMLElement | null} shownIn what shows the text, if anything does
+ * @returns {Promise<boolean>} whether it is copied */
 export async function copy(text, button, shownIn = null) {
-    if (text === "") return;
+    if (text === "") return false;
     let isDone = true;
     try {
         await navigator.clipboard.writeText(text);
@@ -88,4 +90,15 @@ export async function copy(text, button, shownIn = null) {
         showUncopied(text);
         sayOn(button, "Not copied");
     }
+    return isDone;
+}
+
+const LINK_OF_FILE = "The link is copied. This page is a file, so the link leads to it on this computer alone. Whoever else has the file can put what "
+    + "stands after the # behind its address.";
+
+/** Copies the address of the page, and says of a file's that it is one.
+ * @param {HTMLElement} button */
+export async function copyLink(button) {
+    const isCopied = await copy(location.href, button);
+    if (isCopied && location.protocol === "file:") tellAt(button, LINK_OF_FILE);
 }

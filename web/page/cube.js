@@ -1,8 +1,9 @@
 // The card of the cube: the nets of both sides, the pieces that are marked on them, how they are held, and moves that are played on them.
 import { badEdges, caseOf, pieceName } from "./cases.js";
-import { announce, element, part } from "./element.js";
-import { emptyNet, plainView, showCube, turnedView } from "./net.js";
+import { announce, element, part, tell } from "./element.js";
+import { emptyNet, plainView, showCube, stickerOf, turnedView } from "./net.js";
 import { SIDES } from "./steps.js";
+import { PIECES, nameOfPiece, whyOf } from "./why.js";
 
 /** @typedef {import("./steps.js").Side} Side */
 
@@ -44,7 +45,12 @@ export class Cube {
         for (const side of SIDES) {
             this.#nets[side] = emptyNet();
             part(`net-${side}`).prepend(this.#nets[side]);
+            this.#nets[side].addEventListener("click", ({ target }) => this.#press(side, stickerOf(this.#nets[side], target)));
         }
+        part("piece").append(...PIECES.map((place) => element("option", { value: place }, nameOfPiece(place))));
+        part("piece").addEventListener("change", () => this.#tellWhy(SIDES));
+        part("cube-large").addEventListener("click", () => this.#enlarge(!part("cube").matches(".large")));
+        part("cube").addEventListener("keydown", (event) => this.#typed(event));
         const kinds = ["EO", "DR"].flatMap((kind) => AXES_TO_MARK.map((axis) => `${kind} ${axis}`));
         this.#choice.append(...kinds.map((kind) => element("option", { value: kind }, kind)));
         this.#choice.addEventListener("change", () => this.#draw());
@@ -73,7 +79,43 @@ export class Cube {
         [this.#ask, this.#frames] = [ask, null];
         part("cube").hidden = false;
         part("player").hidden = count === 0;
+        part("piece").value = "";
+        tell(part("why"), "");
         this.#draw();
+    }
+
+    /** Tells of the piece whose sticker is pressed why it is good or bad.
+     * @param {Side} side @param {number} sticker */
+    #press(side, sticker) {
+        if (sticker < 0) return;
+        const name = nameOfPiece(this.#view[sticker]);
+        part("piece").value = PIECES.find((place) => nameOfPiece(place) === name) ?? "";
+        this.#tellWhy([side]);
+    }
+
+    /** @param {Side[]} sides on which it is told of the piece that is chosen */
+    #tellWhy(sides) {
+        const place = part("piece").value;
+        const { letters, choice } = this.#shown();
+        const choiceOfPiece = choice === PLAIN ? "" : choice;
+        const told = sides.map((side) => `${side === "normal" ? "Normal" : "Inverse"}: ${whyOf(letters[side], Number(place), choiceOfPiece)}`);
+        tell(part("why"), place === "" ? "" : told.join(" "));
+    }
+
+    /** Shows the nets as large as the window, or as they were.
+     * @param {boolean} isLarge */
+    #enlarge(isLarge) {
+        part("cube").classList.toggle("large", isLarge);
+        part("cube-large").textContent = isLarge ? "Smaller" : "Larger";
+        part("cube-large").setAttribute("aria-pressed", String(isLarge));
+    }
+
+    #typed(event) {
+        if (event.key !== "Escape" || !part("cube").matches(".large")) return;
+        // what else it closes is behind the nets
+        event.stopPropagation();
+        this.#enlarge(false);
+        part("cube-large").focus();
     }
 
     /** What the cell of the open list would mark, or "".
@@ -140,11 +182,17 @@ export class Cube {
 
     #draw() {
         if (this.#letters === null) return;
-        const choice = this.#choice.value === FOLLOW ? this.#pointed || this.#open || PLAIN : this.#choice.value;
-        const frame = this.#frame === this.#count ? null : this.#frames[this.#frame];
-        for (const side of SIDES) this.#drawSide(side, (frame?.letters ?? this.#letters)[side], choice);
+        const { letters, choice } = this.#shown();
+        for (const side of SIDES) this.#drawSide(side, letters[side], choice);
         const move = this.#frames?.[this.#frame].move;
         part("played").textContent = `${this.#frame} of ${this.#count}${move ? `: ${move}` : ""}`;
+    }
+
+    /** The letters that are seen, and what is marked on them. */
+    #shown() {
+        const choice = this.#choice.value === FOLLOW ? this.#pointed || this.#open || PLAIN : this.#choice.value;
+        const frame = this.#frame === this.#count ? null : this.#frames[this.#frame];
+        return { letters: frame?.letters ?? this.#letters, choice };
     }
 
     #drawSide(side, letters, choice) {

@@ -80,7 +80,7 @@ function inListOrder(turns) {
 /** The face turns that are typed, or null where the text isn't moves.
  * @param {string} text @returns {string[] | null} */
 function turnsOf(text) {
-    const plain = text.replace(/[\u2019\u2032\u00B4`]/g, "'").toUpperCase();
+    const plain = text.replace(/[\u2019\u2032\u00B4\u0060]/g, "'").toUpperCase();
     if (!/^\s*(?:[UDRLFB](?:2'?|')?\s*)*$/.test(plain)) return null;
     return inListOrder((plain.match(/[UDRLFB][2']*/g) ?? []).map((turn) => turn.replace("2'", "2")));
 }
@@ -92,6 +92,13 @@ const hasTurns = (moves, wanted) => wanted.length === 0 || ` ${moves} `.includes
 /** The last turn of some moves, "" where there is none.
  * @param {string} moves */
 const lastTurn = (moves) => moves.slice(moves.lastIndexOf(" ") + 1);
+
+/** Some moves, and their twins.
+ * @param {string} moves @param {string[]} others the last turns of the twins */
+export function withTwins(moves, others) {
+    const own = moves.split(" ");
+    return [moves, ...others.map((end) => [...own.slice(0, -end.split(" ").length), end].join(" "))];
+}
 
 /**
  * Fields for turns that stand one after another, and for the last turn.
@@ -141,9 +148,7 @@ export class TurnFilter {
         if (wanted === null) return null;
         const last = this.#last.value;
         return ({ moves, others }) => {
-            const own = moves.split(" ");
-            const twins = others.map((end) => [...own.slice(0, -end.split(" ").length), end].join(" "));
-            return [moves, ...twins].some((each) => hasTurns(each, wanted) && (last === "" || lastTurn(each) === last));
+            return withTwins(moves, others).some((each) => hasTurns(each, wanted) && (last === "" || lastTurn(each) === last));
         };
     }
 }
@@ -231,7 +236,7 @@ const leaves = (field, value) => field.value === "" || field.value === value;
 export class BestFilter {
     #cases;
     #turns;
-    #orientation = { axis: part("best-axis"), side: part("best-side"), next: part("best-next") };
+    #orientation = { axis: part("best-axis"), side: part("best-side"), next: part("best-next"), total: part("best-total") };
     #reduction = { axis: part("best-reduction"), side: part("best-reduction-side") };
     #isOfReductions = false;
 
@@ -284,7 +289,8 @@ export class BestFilter {
         const some = rows.filter(({ state, part: own }) => leaves(axis, state) && leaves(side, own.side));
         if (!this.#isOfReductions) {
             const hasCase = this.#cases.test() ?? (() => true);
-            return some.filter(({ next }) => leaves(this.#orientation.next, next.marks) && hasCase(next.case));
+            const most = this.#orientation.total.value === "" ? Infinity : Number(this.#orientation.total.value);
+            return some.filter(({ next, total }) => leaves(this.#orientation.next, next.marks) && hasCase(next.case) && total <= most);
         }
         const hasTurn = this.#turns.test();
         return hasTurn && some.filter(({ part: { moves }, others }) => hasTurn({ moves, others }));

@@ -1,12 +1,14 @@
 // The card of the candidates that are kept: each with its moves, what it reaches, its case and a note; gone on with, taken away, or copied.
-import { LONGEST_NOTE } from "./address.js";
+import { LONGEST_NOTE, MOST_CANDIDATES, fitsAddress } from "./address.js";
 import { Stopped } from "./calls.js";
 import { caseName } from "./cases.js";
 import { copy, fmcOfAll } from "./copying.js";
-import { counted, element, part, spoken, tell } from "./element.js";
+import { announce, counted, element, part, spoken, tell } from "./element.js";
 import { WayTo } from "./places.js";
 import { walkKept } from "./position.js";
 import { ORIENTATIONS, REDUCTIONS, SIDES, bracketed, isReduced, reductionsAfter, stateOf, statesOf, stepNamed } from "./steps.js";
+import { tellAt, withoutMoving } from "./view.js";
+import { MOST_ARE_KEPT, NO_ROOM } from "./words.js";
 
 /** @typedef {import("./address.js").Candidate} Candidate */
 /** @typedef {import("./steps.js").Part} Part */
@@ -27,7 +29,7 @@ const saidOf = ({ parts, next }) => spoken(bracketed(parts)) + (next === "" ? ""
  * What is kept once a line is starred, or no longer if it was, and whether it is.
  * @param {Candidate[]} candidates @param {Part[]} parts @param {string} next @returns {{kept: Candidate[], isKept: boolean}}
  */
-export function withStar(candidates, parts, next) {
+function withStar(candidates, parts, next) {
     const others = candidates.filter((each) => nameOfCandidate(each) !== nameOf(parts, next));
     const isKept = others.length === candidates.length;
     return { kept: isKept ? [...others, { parts, note: "", next }] : others, isKept };
@@ -120,6 +122,8 @@ export class KeptCandidates {
     #acts;
     #candidates = [];
     #walks = [];
+    /** @type {Candidate[] | null} what was kept before some were taken away, as long as nothing else changed */
+    #before = null;
     /** the field of each candidate's note */
     #notes = [];
     #scramble = "";
@@ -135,6 +139,8 @@ export class KeptCandidates {
         this.#calls = calls;
         this.#acts = acts;
         part("copy-kept").addEventListener("click", (event) => copy(this.#text(), event.currentTarget));
+        part("kept-clear").addEventListener("click", () => this.#clear());
+        part("kept-back").addEventListener("click", () => this.#undo());
         part("kept-sort").addEventListener("change", () => this.#draw());
     }
 
@@ -152,9 +158,58 @@ export class KeptCandidates {
             return;
         }
         this.#walks = [];
-        part("kept").hidden = candidates.length === 0;
+        this.#offerBack(null);
         this.#way.show(candidates.length === 0 ? "" : `★ ${candidates.length}`, `Kept: ${counted(candidates.length, "line")}`);
         this.#draw();
+    }
+
+    /**
+     * Keeps a line, or takes it away if it is kept.
+     * @param {import("./address.js").State} state @param {HTMLElement} button under which is said why it isn't kept @param {Part[]} parts
+     * @param {string} [next] the reduction that it is kept with
+     */
+    star(state, button, parts, next = "") {
+        const { kept, isKept } = withStar(state.kept, parts, next);
+        if (kept.length > MOST_CANDIDATES) return tellAt(button, MOST_ARE_KEPT);
+        if (!fitsAddress({ ...state, kept })) return tellAt(button, NO_ROOM);
+        withoutMoving(part("results"), () => (isKept ? this.#acts.change(kept) : this.leave(kept)));
+        announce(`${spoken(bracketed(parts))}: ${isKept ? "kept" : "no longer kept"}.`);
+    }
+
+    /**
+     * Leaves fewer candidates, which can be undone until something else changes.
+     * @param {Candidate[]} left
+     */
+    leave(left) {
+        const before = this.#candidates;
+        this.#acts.change(left);
+        this.#offerBack(before);
+        announce(`${part("kept-left-words").textContent} A button below the list undoes that.`);
+    }
+
+    /** Offers what was kept before, or nothing.
+     * @param {Candidate[] | null} before */
+    #offerBack(before) {
+        const isFocused = document.activeElement === part("kept-back");
+        this.#before = before;
+        const count = before === null ? 0 : before.length - this.#candidates.length;
+        part("kept-left").hidden = count === 0;
+        part("kept-left-words").textContent = count === 0 ? "" : `${counted(count, "line")} ${count === 1 ? "was" : "were"} removed.`;
+        part("kept").classList.toggle("empty", this.#candidates.length === 0 && count === 0);
+        part("kept-clear").hidden = this.#candidates.length === 0;
+        // what is hidden can't keep the focus
+        if (isFocused && count === 0) part("kept-heading").focus({ preventScroll: true });
+    }
+
+    #clear() {
+        this.leave([]);
+        part("kept-back").focus({ preventScroll: true });
+    }
+
+    #undo() {
+        const { length } = this.#before;
+        this.#acts.change(this.#before);
+        announce(`${counted(length, "line")} ${length === 1 ? "is" : "are"} kept again.`);
     }
 
     #names() {
@@ -243,7 +298,7 @@ export class KeptCandidates {
         const row = [...this.#list.children].find((each) => each.contains(document.activeElement));
         const next = row?.nextElementSibling ?? row?.previousElementSibling;
         const control = next?.querySelector("[data-control^=away]").dataset.control;
-        this.#acts.change(this.#candidates.filter((_, place) => place !== at));
-        if (row) (this.#control(control) ?? part("line-heading")).focus({ preventScroll: true });
+        this.leave(this.#candidates.filter((_, place) => place !== at));
+        if (row) (this.#control(control) ?? part("kept-back")).focus({ preventScroll: true });
     }
 }

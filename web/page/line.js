@@ -91,7 +91,6 @@ export class LineSoFar {
     #words = [];
     /** @type {Side} */
     #side = "normal";
-    #fmc = "";
 
     /**
      * @param {import("./calls.js").Calls} calls
@@ -115,7 +114,7 @@ export class LineSoFar {
             const button = part(`copy-${name}`);
             button.addEventListener("click", () => copy(part(name).textContent, button, part(name)));
         }
-        part("copy-fmc").addEventListener("click", (event) => copy(this.#fmc, event.currentTarget));
+        part("copy-fmc").addEventListener("click", (event) => copy(part("fmc").textContent, event.currentTarget, part("fmc")));
     }
 
     /** Shows on which side moves by hand go.
@@ -156,12 +155,11 @@ export class LineSoFar {
             lost: element("span", { class: "lost", "aria-live": "polite", hidden: true }),
             count: element("span", { class: "count" }),
         }));
-        this.#fmc = "";
         for (const name of ["finished", "own-read"]) tell(part(name), "");
         part("line-list").replaceChildren(...parts.map((each, index) => this.#item(each, index)));
         part("line-empty").hidden = parts.length > 0;
         // where the engine can't read them, no line of other parts stays to be copied
-        if (bracketed(parts) !== part("bracketed").textContent) this.#showWhole(bracketed(parts), "", UNKNOWN);
+        if (bracketed(parts) !== part("bracketed").textContent) this.#showWhole({ line: bracketed(parts), joined: "", total: UNKNOWN });
         for (const name of ["line-list", "whole", "undo", "bar-total", "bar-undo", "keep-line"]) part(name).hidden = parts.length === 0;
     }
 
@@ -170,8 +168,10 @@ export class LineSoFar {
      * @param {Walk} walk @param {string} whole without brackets @param {string} scramble
      */
     describe(walk, whole, scramble) {
-        this.#fmc = fmcOf(scramble, walk);
-        this.#showWhole(bracketed(walk.parts), whole, counted(walk.totals.at(-1), "move"), noteOfJoined(walk));
+        this.#showWhole({
+            line: bracketed(walk.parts), joined: whole, total: counted(walk.totals.at(-1), "move"), note: noteOfJoined(walk),
+            fmc: fmcOf(scramble, walk),
+        });
         this.#words.forEach(({ reaches, lost, count }, index) => {
             const inAll = index === 0 ? "" : `, ${walk.totals[index + 1]} in all`;
             count.textContent = `${counted(walk.turns[index], "move")}${inAll}`;
@@ -190,11 +190,13 @@ export class LineSoFar {
         return (this.#reached[index] ?? []).filter((state) => !holds.includes(state));
     }
 
-    /** @param {string} line @param {string} joined @param {string} total @param {string} [note] on what is joined */
-    #showWhole(line, joined, total, note = "") {
-        const texts = { bracketed: line, joined, total, "bar-line": line || NO_MOVES, "bar-total": total };
+    /** @param {{line: string, joined: string, total: string, note?: string, fmc?: string}} texts `note`: on what is joined */
+    #showWhole({ line, joined, total, note = "", fmc = "" }) {
+        const texts = { bracketed: line, joined, total, fmc, "bar-line": line || NO_MOVES, "bar-total": total };
         for (const [name, text] of Object.entries(texts)) part(name).textContent = text;
         tell(part("joined-note"), note);
+        // without inverse moves it is the same
+        part("whole").classList.toggle("alike", joined === line);
     }
 
     #item(each, index) {

@@ -2,11 +2,12 @@
 // workers.
 import { compiled } from "../module/source.js";
 import { Calls, workersOf } from "./calls.js";
-import { copy } from "./copying.js";
+import { copyLink } from "./copying.js";
 import { part } from "./element.js";
 import { Finder } from "./finder.js";
 import { offerLast } from "./last.js";
 import { Page } from "./page.js";
+import { offerCover } from "./rows.js";
 import { offerThemes, placeHelp } from "./view.js";
 
 const newWorker = workersOf(part("worker-script").textContent);
@@ -28,9 +29,10 @@ function start(module) {
 
 part("unstarted").remove();
 offerThemes();
+offerCover();
 placeHelp();
 offerLast();
-part("copy-link").addEventListener("click", (event) => copy(location.href, event.currentTarget));
+part("copy-link").addEventListener("click", ({ currentTarget }) => copyLink(currentTarget));
 // if it can't be compiled each worker says why, once it is asked
 unpacked()
     .then((bytes) => compiled(bytes).catch(() => bytes))

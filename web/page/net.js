@@ -43,6 +43,10 @@ export function emptyNet() {
     return net;
 }
 
+/** Which of the stickers of a net an element is in, by their order; -1 if none.
+ * @param {SVGElement} net @param {Element} target */
+export const stickerOf = (net, target) => [...net.querySelectorAll(".sticker")].indexOf(target.closest(".sticker"));
+
 /** The letters in words: each face with its three rows.
  * @param {string} letters */
 function inWords(letters) {
@@ -86,6 +90,14 @@ function pointOf(place) {
         [1 - column, 1 - row, -2],
     ];
     return points[Math.floor(place / 9)];
+}
+
+/** The places of all stickers of the piece that one is on, in their order.
+ * @param {number} place */
+export function pieceAt(place) {
+    const nameOfCubie = (each) => pointOf(each).map((at) => Math.sign(at)).join();
+    const wanted = nameOfCubie(place);
+    return PLACES.filter((each) => nameOfCubie(each) === wanted);
 }
 
 /** Where each turn of the whole cube takes a point.

@@ -1,5 +1,5 @@
 // The page's state, and what each change of it makes the parts of the page show.
-import { MOST_CANDIDATES, emptyState, fitsAddress, readAddress } from "./address.js";
+import { emptyState, readAddress } from "./address.js";
 import { BestContinuations } from "./best.js";
 import { Readiness, Stopped } from "./calls.js";
 import { copy } from "./copying.js";
@@ -7,7 +7,7 @@ import { Cube } from "./cube.js";
 import { announce, announceLater, part, setBusy, spoken, tell } from "./element.js";
 import { EngineFault } from "./engine.js";
 import { NextFocus } from "./focus.js";
-import { KeptCandidates, withStar } from "./kept.js";
+import { KeptCandidates } from "./kept.js";
 import { LineSoFar } from "./line.js";
 import { readKept, readScramble, readSteps, readWritten } from "./lines.js";
 import { plainLine } from "./pasted.js";
@@ -17,9 +17,9 @@ import { ScrambleField } from "./scramble.js";
 import { OpenList, SolutionList } from "./solutions.js";
 import { ORIENTATIONS, bracketed, isReduced, stateOf, stepNamed } from "./steps.js";
 import { StepTable } from "./table.js";
-import { awaitAnswer, isBare, keepInView, listenToKeys, setUsable, showBeginning, showStart, star, withoutMoving } from "./view.js";
+import { awaitAnswer, isBare, keepInView, listenToKeys, setUsable, showBeginning, showStart, star, waitsForAnswers } from "./view.js";
 import { tellFailed } from "./watch.js";
-import { NO_ROOM, titleOfPage, unanswered, whyNotListed, whyUnread } from "./words.js";
+import { titleOfPage, unanswered, whyNotListed, whyUnread } from "./words.js";
 
 /** @typedef {import("./address.js").State} State */
 /** @typedef {import("./steps.js").Part} Part */
@@ -52,13 +52,13 @@ export class Page {
         this.#keptCalls = newCalls();
         // what is asked for by hand is never given up for another cube
         this.#byHand = newCalls();
-        this.#scramble = new ScrambleField(this.#byHand, (scramble, isNew, fmc) => this.#setScramble(scramble, isNew, fmc));
-        this.#line = new LineSoFar(this.#byHand, { change: (change) => this.#changeLine(change), star: () => this.#star(this.#state.parts) });
+        this.#scramble = new ScrambleField(this.#byHand, (scramble, change) => this.#setScramble(scramble, change));
+        this.#line = new LineSoFar(this.#byHand, { change: (change) => this.#changeLine(change), star: () => this.#starLine() });
         this.#table = new StepTable((step, side) => this.#open(step, side));
         const stars = {
-            star: (added, next) => this.#star([...this.#state.parts, added], next),
-            isStarred: (added, next) => this.#kept.has([...this.#state.parts, added], next),
-            isSeen: (added, next) => this.#seen.has(this.#state.scramble, [...this.#state.parts, added], next),
+            star: (button, added, next) => this.#kept.star(this.#state, button, [...this.#state.parts, ...added], next),
+            isStarred: (added, next) => this.#kept.has([...this.#state.parts, ...added], next),
+            isSeen: (added, next) => this.#seen.has(this.#state.scramble, [...this.#state.parts, ...added], next),
         };
         this.#kept = new KeptCandidates(this.#keptCalls, {
             goOn: (parts, next) => this.#goOnKept(parts, next && { ...next, slack: 0, isAll: false }),
@@ -66,14 +66,16 @@ export class Page {
         });
         this.#list = new SolutionList({
             ...stars,
-            take: (taken) => this.#take(taken),
+            take: (taken, key) => this.#take(taken, key),
             change: (change) => this.#changeList(change),
             copy,
         });
         const [list, finders] = [newCalls(), ORIENTATIONS.map(finder)];
         this.#openList = new OpenList(list, this.#list);
         this.#readiness = new Readiness({ calls: this.#calls, byHand: this.#byHand, list, finders });
-        this.#best = new BestContinuations(finders, { ...stars, goOn: (row) => this.#goOn(row), shown: () => this.#goBack() });
+        this.#best = new BestContinuations(finders, this.#keptCalls, {
+            ...stars, goOn: (row) => this.#goOn(row), shown: () => this.#goBack(), isBusy: waitsForAnswers,
+        });
         keepInView(part("side-column"));
         part("skip").addEventListener("click", () => this.#table.focus());
         part("again").addEventListener("click", () => this.#tryAgain());
@@ -88,7 +90,7 @@ export class Page {
             n: onLine(() => this.#line.turn("normal")),
             i: onLine(() => this.#line.turn("inverse")),
             u: onLine(() => this.#line.undoStep()),
-            s: onLine(() => star(() => this.#star(this.#state.parts))),
+            s: onLine(() => star(() => this.#starLine())),
             "/": () => (this.#state.list && !part("results").inert ? this.#list.focusFilter() : this.#scramble.focus()),
             Escape: () => this.#state.list && this.#changeList(null),
         });
@@ -156,10 +158,10 @@ export class Page {
         if ("kept" in change) this.#showKept();
     }
 
-    /** @param {string} scramble @param {boolean} isNew @param {import("./scramble.js").Fmc | null} fmc */
-    async #setScramble(scramble, isNew, fmc) {
+    /** @param {string} scramble @param {import("./scramble.js").ScrambleChange} change */
+    async #setScramble(scramble, { isNew, fmc, isStep }) {
         const left = isNew ? this.#state.kept.length : 0;
-        this.#change(isNew ? { ...emptyState(), scramble } : { scramble });
+        this.#change(isNew ? { ...emptyState(), scramble } : { scramble }, { isStep });
         this.#scramble.tellLeft(left);
         if (!fmc) return;
         const turn = this.#turn;
@@ -187,7 +189,7 @@ export class Page {
         this.#line.turnTo(this.#state.side);
         this.#kept.show(this.#state.kept);
         this.#table.hold();
-        if (!this.#state.list) this.#openList.show("", null, "");
+        if (!this.#state.list) this.#openList.show("", null, null);
         this.#best.reset(null);
         announceLater("");
         tellFailed("");
@@ -305,8 +307,8 @@ export class Page {
         const { list } = this.#state;
         if (list && !this.#cube) return;
         this.#nets.follow(list ? stateOf(stepNamed(list.step)) : "");
-        const name = list ? [this.#turn, list.step, list.side, list.slack, list.isAll].join(" ") : "";
-        const isShown = await this.#openList.show(name, list, list ? this.#cube.now[list.side] : "");
+        const name = list ? [this.#turn, list.step, list.side, list.slack, list.isAll, list.split ?? 0].join(" ") : "";
+        const isShown = await this.#openList.show(name, list, list && this.#cube.now);
         if (!isShown) return;
         if (this.#nextFocus.take("list")) this.#list.focus();
         this.#goBack();
@@ -322,14 +324,9 @@ export class Page {
         if (kept.length > 0 && this.#cube) this.#kept.describe(this.#cube.scramble, this.#cube.written);
     }
 
-    /** Keeps a line with moves, or takes it away if it is kept.
-     * @param {Part[]} parts @param {string} [next] the reduction that it is kept with */
-    #star(parts, next = "") {
-        if (parts.length === 0) return;
-        const { kept, isKept } = withStar(this.#state.kept, parts, next);
-        if (kept.length > MOST_CANDIDATES || !fitsAddress({ ...this.#state, kept })) return tell(part("alert"), NO_ROOM);
-        withoutMoving(part("results"), () => this.#change({ kept }));
-        announce(`${spoken(bracketed(parts))}: ${isKept ? "kept" : "no longer kept"}.`);
+    /** Keeps the line so far, or takes it away. */
+    #starLine() {
+        if (this.#state.parts.length > 0) this.#kept.star(this.#state, part("keep-line"), this.#state.parts);
     }
 
     /** @param {string} step @param {import("./steps.js").Side} side of the list, which is opened, or closed if it is open */
@@ -357,18 +354,18 @@ export class Page {
         return from !== null;
     }
 
-    /** @param {Part} taken @param {string} [key] of its row */
-    #take(taken, key = taken.moves) {
+    /** @param {Part[]} taken @param {string} key of its row */
+    #take(taken, key) {
         this.#seen.add(this.#state, taken, key);
-        this.#change({ parts: [...this.#state.parts, taken], side: taken.side }, { focusNext: "table" });
-        announce(`${spoken(bracketed([taken]))} is taken.`);
+        this.#change({ parts: [...this.#state.parts, ...taken], side: taken.at(-1).side }, { focusNext: "table" });
+        announce(`${spoken(bracketed(taken))} is taken.`);
     }
 
     /** @param {import("./finder.js").Row} row of the best, which is taken; the list of its reduction opens */
     #goOn({ part: taken, next, key }) {
-        if (!next) return this.#take(taken, key);
+        if (!next) return this.#take([taken], key);
         const { parts } = this.#state;
-        this.#seen.add(this.#state, taken, key, next.step);
+        this.#seen.add(this.#state, [taken], key, next.step);
         const list = { step: next.step, side: next.side, slack: 0, isAll: false };
         this.#change({ parts: taken.moves === "" ? parts : [...parts, taken], side: next.side, list }, { focusNext: "list" });
     }

@@ -3,7 +3,7 @@
 
 /** @typedef {{line: string, places: number[], leftOut: string[]}} PlainLine */
 
-const APOSTROPHES = /[\u2018\u2019\u02BC\u2032\u00B4`]/;
+const APOSTROPHES = /[\u2018\u2019\u02BC\u2032\u00B4\u0060]/;
 const UNSEEN = /[\u200B-\u200D\u2060\uFEFF]/;
 const COMMAS = /[,;]/;
 

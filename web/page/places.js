@@ -138,12 +138,13 @@ export class Seen {
 
     /**
      * Keeps that a line was taken, from which row and beside which list, and with which step after it.
-     * @param {import("./address.js").State} state @param {Part} taken @param {string} key of the row @param {string} [next]
+     * @param {import("./address.js").State} state @param {Part[]} taken @param {string} key of the row @param {string} [next]
      */
     add({ scramble, parts, list }, taken, key, next = "") {
-        const all = [...parts, taken];
+        const all = [...parts, ...taken];
         for (const step of new Set(["", next])) this.#names.add(nameOfSeen(scramble, all, step));
-        this.#rows.set(nameOfSeen(scramble, all, ""), { key, list });
+        // of a step that is split an undo leaves the half
+        if (taken.length === 1) this.#rows.set(nameOfSeen(scramble, all, ""), { key, list });
     }
 
     /**

@@ -1,6 +1,6 @@
 // Rows of moves, in a list or a table: what is pressed in each, and one stop of the Tab key for all of them, with the arrow keys, Home and
 // End from row to row, and from button to button within one.
-import { element, spoken } from "./element.js";
+import { element, part, spoken } from "./element.js";
 
 /**
  * The button that takes the moves of a row.
@@ -10,7 +10,7 @@ import { element, spoken } from "./element.js";
 export function takeButton(text, { key, about = [], isSeen }, click) {
     return element("button", {
         type: "button",
-        class: isSeen ? "take moves seen" : "take moves",
+        class: `take moves${isSeen ? " seen" : ""}${uncovered.has(key) ? " uncovered" : ""}`,
         tabindex: -1,
         "data-key": key,
         "aria-label": [spoken(text), ...about, ...(isSeen ? ["seen"] : [])].join(", "),
@@ -18,8 +18,28 @@ export function takeButton(text, { key, about = [], isSeen }, click) {
     }, text);
 }
 
+/** @type {Set<string>} the rows that were pressed since moves are covered */
+const uncovered = new Set();
+
+/** Lets moves be covered, for a class: the first press of a row shows its moves, and the next one takes them. */
+export function offerCover() {
+    const field = part("cover");
+    field.addEventListener("change", () => {
+        uncovered.clear();
+        for (const each of document.querySelectorAll(".uncovered")) each.classList.remove("uncovered");
+        document.body.classList.toggle("covers", field.checked);
+    });
+    addEventListener("click", (event) => {
+        const take = event.target instanceof Element ? event.target.closest(".covers .take:not(.uncovered)") : null;
+        if (!(take instanceof HTMLElement)) return;
+        event.stopPropagation();
+        uncovered.add(take.dataset.key);
+        take.classList.add("uncovered");
+    }, { capture: true });
+}
+
 /** The button that keeps the moves of a row.
- * @param {string} text @param {boolean} isKept @param {() => void} click */
+ * @param {string} text @param {boolean} isKept @param {(button: HTMLElement) => void} click */
 export function starButton(text, isKept, click) {
     return element("button", {
         type: "button",
@@ -27,7 +47,7 @@ export function starButton(text, isKept, click) {
         tabindex: -1,
         "aria-pressed": String(isKept),
         "aria-label": `Keep ${spoken(text)}`,
-        click,
+        click: ({ currentTarget }) => click(currentTarget),
     }, isKept ? "★" : "☆");
 }
 

@@ -9,6 +9,10 @@ import { withoutMoving } from "./view.js";
 import { placeOfFault, showFault } from "./words.js";
 
 /** @typedef {import("./pasted.js").Fmc} Fmc */
+/**
+ * @typedef {{isNew: boolean, fmc: Fmc | null, isStep: boolean}} ScrambleChange a new scramble begins a new line, one that is mended keeps it;
+ * `isStep`: whether the browser's Back leads to what was before
+ */
 
 const PAUSE = 150;
 const SEEDS = "A seed is a whole number from 0 to 18,446,744,073,709,551,615.";
@@ -32,17 +36,18 @@ export class ScrambleField {
     #draws = 0;
     #leftOut = [];
     #isRead = false;
-    #isClosed = false;
-    /** the scramble that was read last, and whether what is pasted takes the place of all of it */
+    /** the scramble that was read last, and whether what is pasted, or typed, takes the place of all of it */
     #last = "";
     #isReplaced = false;
+    /** whether it was deleted, and whether the browser's history has an entry of its own for what is typed since */
+    #isEmptied = false;
+    #isDraft = false;
     /** whether the field has no room for the end of what is pasted */
     #isCut = false;
 
     /**
      * @param {import("./calls.js").Calls} calls
-     * @param {(scramble: string, isNew: boolean, fmc: Fmc | null) => void} changed a new scramble begins a new line, one that is typed
-     * keeps it
+     * @param {(scramble: string, change: ScrambleChange) => void} changed
      */
     constructor(calls, changed) {
         this.#calls = calls;
@@ -55,6 +60,11 @@ export class ScrambleField {
             // the browser takes as much of it as the field has room for, without a word
             const pasted = clipboardData?.getData("text").replace(/\r\n/g, "\n").length ?? 0;
             this.#isCut = value.length - (selectionEnd - selectionStart) + pasted > LONGEST_SCRAMBLE;
+        });
+        this.#field.addEventListener("beforeinput", ({ inputType }) => {
+            const { value, selectionStart, selectionEnd } = this.#field;
+            const isAll = value.trim() !== "" && selectionStart === 0 && selectionEnd === value.length;
+            if (isAll && inputType.startsWith("insert") && inputType !== "insertFromPaste") this.#isEmptied = true;
         });
         this.#field.addEventListener("scroll", () => {
             this.#backdrop.scrollTop = this.#field.scrollTop;
@@ -90,6 +100,8 @@ export class ScrambleField {
             this.#leftOut = [];
         }
         this.#last = scramble || this.#last;
+        this.#isEmptied = false;
+        this.#isDraft = false;
     }
 
     /**
@@ -111,7 +123,6 @@ export class ScrambleField {
         if (words !== part("scramble-read").textContent) tell(part("scramble-read"), words);
         part("scramble-folded").textContent = text;
         this.#isRead = read !== null && read.line !== "";
-        this.#closeSeeds();
         const isTyped = document.activeElement === this.#field;
         if (!isTyped || !this.#isRead) this.#fold(this.#isRead);
     }
@@ -126,13 +137,6 @@ export class ScrambleField {
         part("left-words").textContent = count === 0 ? "" : words;
         // what is hidden can't keep the focus
         if (isFocused && count === 0) [part("random"), part("scramble-edit")].find((each) => each.checkVisibility())?.focus();
-    }
-
-    /** Closes what begins a page, once there is a scramble; what is opened later stays open. */
-    #closeSeeds() {
-        if (!this.#isRead || this.#isClosed || part("seeds").contains(document.activeElement)) return;
-        this.#isClosed = true;
-        part("seeds").open = false;
     }
 
     /**
@@ -191,14 +195,36 @@ export class ScrambleField {
         ];
         this.#isCut = false;
         if (fmc) this.#field.value = plain.line.trim();
-        const isOther = isReplaced && ![plain.line.trim(), ""].includes(this.#last.trim());
-        this.#last = plain.line || this.#last;
-        this.#changed(fmc ? plain.line.trim() : plain.line, fmc !== null || isOther, fmc);
+        const isNew = this.#isOther(plain.line.trim(), isReplaced) || fmc !== null;
+        // Back leads to the scramble that was deleted and its lines, also once another one is typed
+        const isStep = (isNew || this.#isEmptied) && !this.#isDraft;
+        this.#isDraft = this.#isEmptied;
+        this.#changed(fmc ? plain.line.trim() : plain.line, { isNew, fmc, isStep });
+    }
+
+    /**
+     * Whether a scramble is another one than the last: it was pasted in its place, or typed after it was deleted. The beginning of the same
+     * one may be typed again.
+     * @param {string} line @param {boolean} isPasted in its place
+     */
+    #isOther(line, isPasted) {
+        const last = this.#last.trim();
+        if (line === "") {
+            this.#isEmptied = last !== "";
+            return false;
+        }
+        const isAgain = this.#isEmptied && !isPasted && last.startsWith(line);
+        const isOther = last !== "" && last !== line && (isPasted || this.#isEmptied) && !isAgain;
+        if (isAgain && last !== line) return false;
+        this.#isEmptied = false;
+        this.#last = line;
+        return isOther;
     }
 
     #put(scramble) {
+        const isStep = !this.#isDraft;
         this.show(scramble);
-        this.#changed(scramble, true, null);
+        this.#changed(scramble, { isNew: true, fmc: null, isStep });
     }
 
     async #draw(seed) {

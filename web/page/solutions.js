@@ -6,13 +6,15 @@ import { announce, announceLater, counted, element, part, setBusy, spoken, tell 
 import { printAll, solve } from "./engine.js";
 import { FilterSigns, ListFilter, NOT_MOVES } from "./filter.js";
 import { focusButton, focusWithin, roveWithin, starButton, takeButton } from "./rows.js";
+import { splitSolutions } from "./split.js";
 import { bracketed, reductionsAfter, stateOf, stepNamed, titleOf } from "./steps.js";
 import { mergeTwins, withoutEarlier } from "./twins.js";
 import { isNarrow } from "./view.js";
 
 /** @typedef {import("./address.js").List} List */
 /** @typedef {import("./steps.js").Part} Part */
-/** @typedef {import("./twins.js").Twins & {letters?: string}} Entry a solution, and the letters after it where they are known */
+/** @typedef {import("./twins.js").Twins & {letters?: string, begin?: Part, line?: string}} Entry a solution, the letters after it where they
+ * are known, and where it is split what it begins with on the other side, with the cube's line after that */
 
 /** From more signs on a line leaves no room for what is pressed beside it on a phone. */
 const LONG_LINE = 18;
@@ -32,6 +34,10 @@ function grouped(items, nameOf) {
     return groups;
 }
 
+/** What a solution is known by.
+ * @param {Entry} entry */
+const keyOf = ({ moves, begin }) => (begin === undefined ? moves : `${begin.moves}, ${moves}`);
+
 export class SolutionList {
     #acts;
     #list = null;
@@ -46,12 +52,13 @@ export class SolutionList {
     #groups = part("solutions-groups");
 
     /**
-     * @param {{take: (part: Part) => void, change: (change: Partial<List> | null) => void, star: (part: Part) => void,
-     *     isStarred: (part: Part) => boolean, isSeen: (part: Part) => boolean, copy: (text: string, button: HTMLElement) => void}} acts
+     * @param {{take: (parts: Part[], key: string) => void, change: (change: Partial<List> | null) => void, star: (button: HTMLElement, parts: Part[]) => void,
+     *     isStarred: (parts: Part[]) => boolean, isSeen: (parts: Part[]) => boolean, copy: (text: string, button: HTMLElement) => void}} acts
      */
     constructor(acts) {
         this.#acts = acts;
         part("slack").addEventListener("change", () => acts.change({ slack: Number(part("slack").value) }));
+        part("split").addEventListener("change", () => acts.change({ split: Number(part("split").value) }));
         part("twins").addEventListener("change", () => acts.change({ isAll: part("twins").checked }));
         part("solutions-close").addEventListener("click", () => acts.change(null));
         part("list-sort").addEventListener("change", () => this.#filtered());
@@ -80,21 +87,24 @@ export class SolutionList {
         part("solutions-heading").textContent = `${titleOf(stepNamed(list.step))}, ${list.side} side`;
         part("solutions").dataset.marks = stateOf(stepNamed(list.step));
         part("slack").value = String(list.slack);
+        part("split").value = String(list.split ?? 0);
         part("twins").checked = list.isAll;
+        part("twins").disabled = (list.split ?? 0) > 0;
         part("case-filters").hidden = stepNamed(list.step).needs !== null;
         tell(part("solutions-note"), LOOKING);
     }
 
     /**
      * Takes the solutions of the open list, and returns those whose letters are wanted.
-     * @param {import("./engine.js").Solution[]} all @param {boolean} whole
+     * @param {(import("./engine.js").Solution | import("./split.js").SplitSolution)[]} all @param {boolean} whole
      */
     take(all, whole) {
         this.#all = all;
         this.#whole = whole;
-        const { step, isAll } = this.#list;
-        this.#left = isAll ? all : withoutEarlier(all);
-        this.#entries = isAll ? all.map((each) => ({ ...each, others: [] })) : mergeTwins(this.#left, step);
+        const { step, isAll, split = 0 } = this.#list;
+        const isEach = isAll || split > 0;
+        this.#left = isEach ? all : withoutEarlier(all);
+        this.#entries = isEach ? all.map((each) => ({ ...each, others: [] })) : mergeTwins(this.#left, step);
         return stepNamed(step).needs === null ? this.#entries.slice(0, MOST_WITH_CASES) : [];
     }
 
@@ -135,7 +145,7 @@ export class SolutionList {
     /** Makes the row of some moves seen, and answers its button, or null.
      * @param {string} key */
     reveal(key) {
-        const at = this.#all === null ? -1 : this.#ordered.findIndex(({ moves }) => moves === key);
+        const at = this.#all === null ? -1 : this.#ordered.findIndex((entry) => keyOf(entry) === key);
         if (at >= this.#shown) {
             this.#shown = at + 1;
             this.#draw();
@@ -178,7 +188,7 @@ export class SolutionList {
         const next = this.#ordered[this.#shown];
         this.#shown += MOST_SHOWN;
         this.#draw();
-        this.reveal(next.moves)?.focus();
+        this.reveal(keyOf(next))?.focus();
     }
 
     /** The same once nothing more is typed, and says it. */
@@ -251,14 +261,17 @@ export class SolutionList {
         return element("div", { class: "group" }, element("h3", {}, `${name}: ${counted(all, "row")}`), list);
     }
 
-    #partOf(moves) {
-        return { side: this.#list.side, moves };
+    /** The steps that a solution is: where it is split two.
+     * @param {Entry} entry @returns {Part[]} */
+    #partsOf({ moves, begin }) {
+        const own = { side: this.#list.side, moves };
+        return begin === undefined ? [own] : [begin, own];
     }
 
     /** A solution as it is shown: on the inverse side in brackets.
      * @param {Entry} entry */
-    #textOf({ moves }) {
-        return bracketed([this.#partOf(moves)]);
+    #textOf(entry) {
+        return bracketed(this.#partsOf(entry));
     }
 
     /** @param {Entry} entry */
@@ -266,17 +279,17 @@ export class SolutionList {
         const { moves, others } = entry;
         if (moves === "") return element("li", { class: "reached" }, "no moves: it is reached");
         const text = this.#textOf(entry);
-        const added = this.#partOf(moves);
+        const [added, key] = [this.#partsOf(entry), keyOf(entry)];
         const cases = this.#casesOf(entry).map(({ axis, name, state }) =>
             element("span", { class: "case", "data-marks": state }, `${axis} ${name}`));
-        const twins = others.length === 0 ? [] : [element("small", { class: "twins" }, `or ${others.join(", ")}`)];
+        const twins = others.length === 0 ? [] : [element("small", { class: "twins" }, `or … ${others.join(", … ")}`)];
         const about = [...this.#casesOf(entry).map(({ axis, name }) => `${axis} ${name}`), ...others.map((other) => `or ${spoken(other)}`)];
         return element("li", {},
-            takeButton(text, { key: moves, about, isSeen: this.#acts.isSeen(added) }, () => this.#acts.take(added)),
+            takeButton(text, { key, about, isSeen: this.#acts.isSeen(added) }, () => this.#acts.take(added, key)),
             ...twins,
             ...(cases.length === 0 ? [] : [element("span", { class: "cases" }, ...cases)]),
             element("span", { class: "acts" },
-                starButton(text, this.#acts.isStarred(added), () => this.#acts.star(added)),
+                starButton(text, this.#acts.isStarred(added), (button) => this.#acts.star(button, added)),
                 element("button", {
                     type: "button",
                     class: "copy",
@@ -309,14 +322,14 @@ export class OpenList {
     /**
      * Shows a list, or that none is open; one that is shown already stays. Says whether it is shown in the end.
      * @param {string} name what tells it from others @param {import("./address.js").List | null} list
-     * @param {string} line of the cube on its side
+     * @param {import("./steps.js").Lines | null} now the cube
      */
-    async show(name, list, line) {
+    async show(name, list, now) {
         if (name === this.#name) return false;
         this.#name = name;
         this.#calls.stop();
         // the engine searches while the card is drawn; what is wrong is said where it is waited for
-        const asked = list ? solve(this.#calls, list.step, list.slack, line) : null;
+        const asked = list && (list.split ? splitSolutions(this.#calls, list, now) : solve(this.#calls, list.step, list.slack, now[list.side]));
         asked?.catch(() => {});
         this.#list.open(list);
         if (!list) return false;
@@ -325,7 +338,7 @@ export class OpenList {
             const { solutions, whole } = await asked;
             if (!isStill()) return false;
             const wanted = this.#list.take(solutions, whole);
-            const letters = await printAll(this.#calls, wanted.map(({ moves }) => `${line} ${moves}`));
+            const letters = await printAll(this.#calls, wanted.map(({ moves, line = now[list.side] }) => `${line} ${moves}`));
             if (!isStill()) return false;
             this.#list.show(letters);
             announce(`${titleOf(stepNamed(list.step))}, ${list.side} side: ${this.#list.summary()}.`);

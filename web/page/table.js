@@ -156,7 +156,7 @@ export class StepTable {
     /** What stands above the offers that begin anew.
      * @param {Cube} cube */
     #anew({ reached }) {
-        const words = isReduced(reached) ? "Another EO or DR, which need not keep this DR" : "Another EO, which need not keep this one";
+        const words = isReduced(reached) ? "Another EO or DR in place of this DR" : "Another EO in place of this one";
         return element("tr", { class: "anew" }, element("td", { colspan: 3, class: "note" }, words));
     }
 

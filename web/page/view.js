@@ -20,7 +20,12 @@ export function showBeginning(state) {
     // it may have been done since the page was opened
     if (isShown && part("welcome").hidden) offerLast();
     part("welcome").hidden = !isShown;
+    document.body.classList.toggle("bare", isShown);
+    part("kept").hidden = isShown && state.kept.length === 0;
 }
+
+/** Whether a part of the page waits for answers. */
+export const waitsForAnswers = () => document.querySelector('[aria-busy="true"]:not([hidden])') !== null;
 
 /** Hides what an address shows until it is known, so that nothing is seen to move; what takes long is seen before.
  * @param {import("./address.js").State | null} state that is awaited, or null if it is there */
@@ -130,6 +135,16 @@ function placeUnder(text, button) {
     const furthest = document.documentElement.clientWidth - text.offsetWidth - MARGIN;
     text.style.left = `${Math.max(MARGIN, Math.min(left, furthest)) + scrollX}px`;
     text.style.top = `${bottom + MARGIN + scrollY}px`;
+}
+
+/** Says something under a button, until something else is pressed.
+ * @param {HTMLElement} button @param {string} text */
+export function tellAt(button, text) {
+    const said = part("said");
+    said.textContent = text;
+    if (!said.matches(":popover-open")) said.showPopover();
+    placeUnder(said, button);
+    announce(text);
 }
 
 /** Makes every help of the page stand under the button that opens it. */

@@ -1,11 +1,13 @@
 // Sentences: why a line can't be read, with a mark at the place in the text that was typed, why there is no answer, and the page's title.
 import { EngineMissing } from "../module/faults.js";
+import { MOST_CANDIDATES } from "./address.js";
 import { element } from "./element.js";
 import { EngineFault } from "./engine.js";
 import { MOST_MOVES } from "./lines.js";
 import { bracketed, openSteps, stateOf, stepNamed, titleOf } from "./steps.js";
 
-export const NO_ROOM = "No more lines can be kept: the address of the page has no room for them.";
+export const MOST_ARE_KEPT = `${MOST_CANDIDATES} lines are kept, and there can be no more: remove one of them first.`;
+export const NO_ROOM = "The address of the page has no room for another line: remove one that is kept, or shorten a note.";
 export const NOT_IN_ADDRESS = "The address of the page has no room for all of this, and stays as it was.";
 const PAGE_NAME = "nissy";
 const TOO_MANY = `more than ${MOST_MOVES} moves`;

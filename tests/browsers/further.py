@@ -1,0 +1,132 @@
+"""The best go on by themselves: after the shortest EOs those of one move more, then of two, while the page is seen and nothing else is
+asked. Rows that are seen stay in their place until they are asked to make room."""
+import re
+import time
+
+from at_once import LISTEN
+from best import ROWS, SCRAMBLE, address_of
+from browser import Browser
+from tally import Tally
+
+SEEN = "window.isSeen = true;"
+TURN = "window.isSeen = arguments[0]; document.dispatchEvent(new Event('visibilitychange'))"
+NOTE = "document.getElementById('best-note').textContent"
+ENDED = "return document.getElementById('best-stop').disabled"
+KEYS = "return [...document.querySelectorAll('#best-body .take')].map((each) => each.dataset.key)"
+FIRST_ROW = "return Math.round(document.querySelector('#best-body .take').getBoundingClientRect().top)"
+IS_NEW = "return !document.getElementById('best-new').hidden"
+# longer than the page waits before it goes on
+LONGER_THAN_REST = 2
+# longer EOs lead to a better one
+WORSE = "F' B2 U2 L2 D' B R' D' F2 R' U2 L2 F' U' B L2 U' F U B2 D F' U' R2 U"
+
+
+def begins(browser: Browser, scramble: str) -> None:
+    """Opens a page that isn't seen yet, with what was asked for."""
+    browser.open(address_of(scramble))
+    browser.wait_best()
+
+
+def shows_all(browser: Browser) -> list[list[str]]:
+    """Has what was found since shown, and as many rows as are compared."""
+    browser.script("const it = document.getElementById('best-new'); if (!it.hidden) it.click()")
+    while len(browser.script(ROWS)) < 48:
+        browser.script("document.getElementById('best-more').click()")
+    return browser.script(ROWS)
+
+
+def goes_on(tally: Tally, browser: Browser) -> None:
+    """Not while the page isn't seen; then to two moves more, to the same rows as if these had been asked for."""
+    begins(browser, WORSE)
+    note = browser.text("best-note")
+    first = browser.script(ROWS)
+    time.sleep(LONGER_THAN_REST)
+    seen = (browser.text("best-note"), browser.script(ROWS), browser.script(ENDED))
+    tally.equal("it waits while the page isn't seen", seen, (note, first, True))
+    browser.script(TURN, True)
+    tally.holds("then come those of one move more", browser.until(f"return {NOTE}.startsWith('Up to 1 longer: ')"))
+    tally.holds("and of two", browser.until(f"return {NOTE}.startsWith('Up to 2 longer: ')"))
+    tally.holds("to their end", browser.until(ENDED))
+    done, all_of_them = re.findall("[0-9,]+", browser.text("best-note").removeprefix("Up to 2 longer"))[:2]
+    tally.equal("all are tried", done, all_of_them)
+    found = shows_all(browser)
+    tally.equal("by all moves", [int(row[0]) for row in found], sorted(int(row[0]) for row in found))
+    browser.choose("best-slack", "2")
+    browser.wait_best()
+    # of those that are as good as the last another one may be shown
+    below = [sorted(row for row in rows if row[0] != found[-1][0]) for rows in (found, shows_all(browser))]
+    tally.equal("they are what a search of two moves more finds", below[0], below[1])
+    tally.holds("of which there are some", len(below[0]) > 6)
+    tally.holds("which is more than the shortest", found[: len(first)] != first)
+
+
+def keeps_rows(tally: Tally, browser: Browser) -> None:
+    """Rows that are seen stay until they are asked to make room; then the first that is new has the focus, and nothing has moved before."""
+    begins(browser, WORSE)
+    keys, top = browser.script(KEYS), browser.script(FIRST_ROW)
+    best = int(browser.script(ROWS)[0][0])
+    height = "return document.getElementById('best-head').offsetHeight"
+    before = browser.script(height)
+    browser.script(TURN, True)
+    tally.holds("more is found", browser.until(IS_NEW))
+    tally.equal("the rows stay", (browser.script(KEYS), browser.script(FIRST_ROW)), (keys, top))
+    browser.until(ENDED)
+    tally.equal("to the end", (browser.script(KEYS), browser.script(FIRST_ROW), browser.script(height)), (keys, top, before))
+    words = browser.text("best-new")
+    said = re.fullmatch(r"[0-9,]+ new rows?: (\d+) moves", words)
+    tally.holds(f"a button says that better ones are there: {words}", said and int(said[1]) < best)
+    browser.click("#best-new")
+    rows = browser.script(ROWS)
+    tally.equal("which it shows", (rows[0][0], browser.script(FIRST_ROW), browser.script(IS_NEW)), (said[1] if said else "", top, False))
+    tally.equal("the first of them has the focus", browser.script("return document.activeElement.dataset.key"), browser.script(KEYS)[0])
+
+
+def pauses(tally: Tally, browser: Browser) -> None:
+    """A page that is left looks for nothing, and goes on once it is seen again; a stop ends it, and a choice keeps it from beginning."""
+    script = browser.command("Page.addScriptToEvaluateOnNewDocument", source=LISTEN)
+    begins(browser, WORSE)
+    asked = "return window.asked.filter((each) => each === 'best').length"
+    count = browser.script(asked)
+    browser.script(TURN, True)
+    browser.until(f"return {NOTE}.startsWith('Up to 2 longer: ')")
+    workers = browser.workers()
+    browser.script(TURN, False)
+    end = time.monotonic() + 10
+    while browser.workers() >= workers and time.monotonic() < end:
+        time.sleep(0.1)
+    tally.holds("what it looked for is given up", browser.workers() < workers)
+    left = (browser.script(asked), browser.text("best-note"))
+    time.sleep(LONGER_THAN_REST)
+    tally.equal("and nothing is asked", (browser.script(asked), browser.text("best-note")), left)
+    browser.script(TURN, True)
+    tally.holds("it goes on", browser.until(f"return window.asked.filter((each) => each === 'best').length > {left[0]}"))
+    browser.click("#best-stop")
+    note = browser.text("best-note")
+    tally.holds(f"a stop says how far it came: {note}", note.startswith("Stopped. Up to 2 longer: "))
+    count = browser.script(asked)
+    time.sleep(LONGER_THAN_REST)
+    tally.equal("and ends it", (browser.script(asked), browser.script(ENDED)), (count, True))
+    browser.command("Page.removeScriptToEvaluateOnNewDocument", identifier=script["identifier"])
+    browser.open(address_of(SCRAMBLE))
+    browser.script("document.getElementById('best-further').click()")
+    browser.wait_best()
+    note = browser.text("best-note")
+    browser.script(TURN, True)
+    time.sleep(LONGER_THAN_REST)
+    tally.equal("it doesn't begin where it is switched off", (browser.text("best-note"), browser.script(ENDED)), (note, True))
+
+
+def three_moves(tally: Tally, browser: Browser) -> None:
+    """Three moves more are looked for if they are asked for."""
+    begins(browser, "R U F")
+    before = browser.text("best-note")
+    browser.choose("best-slack", "3")
+    browser.wait_best()
+    note = browser.text("best-note")
+    tally.holds(f"three moves more: {note}", note != before and "tried" in note)
+
+
+def try_all(tally: Tally, browser: Browser) -> None:
+    """All of them."""
+    for part in (goes_on, keeps_rows, pauses, three_moves):
+        part(tally, browser)

@@ -1,0 +1,124 @@
+// The reductions after the rows of the best that are seen: how many of the shortest there are on each side, and the first with which the row
+// has its moves in all. They are asked for once a row is shown, since thousands are never looked at.
+import { tellReductions } from "./best-row.js";
+import { setBusy } from "./element.js";
+import { countAll, invertAll, turnsOfAll } from "./engine.js";
+import { withTwins } from "./filter.js";
+import { bracketed, joined, otherSide } from "./steps.js";
+
+/** @typedef {import("./finder.js").Row} Row */
+/** @typedef {import("./steps.js").Lines} Lines */
+/** @typedef {import("./steps.js").Part} Part */
+/** @typedef {import("./steps.js").Side} Side */
+/** @typedef {{counts: Record<Side, number | null>, first: Part | null}} Reductions `counts`: null where there is none */
+/** @typedef {{now: Lines, parts: Part[]}} Cube */
+/** @typedef {{row: Row, twins: Lines[]}} Asked a row with the cube after its moves, and after those of its twins */
+
+/** How many of a row's reductions are tried, where some save moves with those before them. */
+const MOST_TRIED = 300;
+
+/**
+ * The cube after each row.
+ * @param {import("./calls.js").Calls} calls @param {Cube} cube @param {Row[]} rows @returns {Promise<Asked[]>}
+ */
+async function cubesAfter(calls, { now }, rows) {
+    return Promise.all(rows.map(async (row) => {
+        const { part: { side, moves }, others } = row;
+        const twins = withTwins(moves, others);
+        const inverted = await invertAll(calls, twins);
+        const other = otherSide(side);
+        const linesOf = (each, at) => ({ ...now, [side]: joined(now[side], each), [other]: joined(inverted[at], now[other]) });
+        return { row, twins: twins.map(linesOf) };
+    }));
+}
+
+/**
+ * The first of some reductions with which a row has as many moves in all as it says; or null.
+ * @param {import("./calls.js").Calls} calls @param {Part[]} before @param {Part[]} reductions @param {number} total
+ * @returns {Promise<Part | null>}
+ */
+async function firstOf(calls, before, reductions, total) {
+    const totalsOf = (some) => turnsOfAll(calls, some.map((each) => bracketed([...before, each])));
+    // mostly it is the first of all: only where moves merge may it be another one
+    const [own] = await totalsOf(reductions.slice(0, 1));
+    if (own === undefined || own === total) return reductions[0] ?? null;
+    const totals = await totalsOf(reductions);
+    return reductions[totals.indexOf(total)] ?? null;
+}
+
+/** How many of a row's reductions have the length that it shows for a side: those after the first of its twins that has some.
+ * @param {import("./calls.js").Calls} calls @param {Asked} asked @param {Side} side */
+async function solutionsOn(calls, { row: { next }, twins }, side) {
+    const counts = await countAll(calls, next.step, twins.map((lines) => lines[side]));
+    return counts.find(({ length }) => length === next.lengths[side])?.solutions ?? null;
+}
+
+/**
+ * What is known of the reductions of a row.
+ * @param {import("./calls.js").Calls} calls @param {Cube} cube @param {Asked} asked @returns {Promise<Reductions>}
+ */
+async function reductionsBy(calls, { parts }, asked) {
+    const { row: { next, part, total }, twins: [lines] } = asked;
+    const sides = [next.side, otherSide(next.side)];
+    const [normal, inverse, solutions] = await Promise.all([
+        solutionsOn(calls, asked, "normal"),
+        solutionsOn(calls, asked, "inverse"),
+        calls.solveAll(next.step, sides.map((side) => lines[side]), { most: MOST_TRIED }),
+    ]);
+    const all = sides.flatMap((side, at) => solutions[at].map(({ moves }) => ({ side, moves })));
+    return { counts: { normal, inverse }, first: await firstOf(calls, [...parts, part], all, total) };
+}
+
+/**
+ * What is known of the reductions of some rows, by the keys of these.
+ * @param {import("./calls.js").Calls} calls @param {Cube} cube @param {Row[]} rows each with a reduction that follows
+ * @returns {Promise<Map<string, Reductions>>}
+ */
+async function reductionsOf(calls, cube, rows) {
+    const asked = await cubesAfter(calls, cube, rows);
+    const found = await Promise.all(asked.map((each) => reductionsBy(calls, cube, each)));
+    return new Map(rows.map(({ key }, at) => [key, found[at]]));
+}
+
+/** Tells of the rows that are shown what follows them. */
+export class ShownReductions {
+    #calls;
+    #body;
+    /** @type {Map<string, Reductions | null>} by the keys of rows; null while it is asked for */
+    #known = new Map();
+
+    /** @param {import("./calls.js").Calls} calls @param {HTMLElement} body of the table */
+    constructor(calls, body) {
+        this.#calls = calls;
+        this.#body = body;
+    }
+
+    /** Forgets what is known, since another cube is shown. */
+    clear() {
+        this.#known = new Map();
+        setBusy(this.#body.id, false);
+    }
+
+    /** @param {Cube} cube @param {Row[]} shown */
+    async tell(cube, shown) {
+        const known = this.#known;
+        for (const { key } of shown) this.#show(key, known.get(key));
+        const unknown = shown.filter(({ key, next }) => next !== null && !known.has(key));
+        if (unknown.length === 0) return;
+        for (const { key } of unknown) known.set(key, null);
+        setBusy(this.#body.id, true);
+        // what the rows are chosen by is there without it
+        const found = await reductionsOf(this.#calls, cube, unknown).catch(() => new Map());
+        for (const [key, each] of found) known.set(key, each);
+        if (known !== this.#known) return;
+        for (const [key, each] of found) this.#show(key, each);
+        setBusy(this.#body.id, [...known.values()].includes(null) && found.size > 0);
+    }
+
+    /** @param {string} key of a row @param {Reductions | null | undefined} reductions */
+    #show(key, reductions) {
+        const take = [...this.#body.querySelectorAll(".take")].find(({ dataset }) => dataset.key === key);
+        const row = take?.closest("tr");
+        if (row && reductions) tellReductions(row, reductions);
+    }
+}

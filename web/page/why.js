@@ -1,0 +1,77 @@
+// Why a piece is good or bad, in a sentence: which of its colours tells, on which face that belongs, and where it is.
+import { pieceAt } from "./net.js";
+
+const FACE_LETTERS = "URFDLB";
+/** The axes in the order in which their colours tell; that of the step itself comes second. */
+const TELLING_AXES = ["U/D", "F/B", "R/L"];
+/** In which order the faces of a piece are named. */
+const NAMED_FIRST = "UDFBRL";
+
+/** The face that a place is on.
+ * @param {number} place */
+const faceAt = (place) => FACE_LETTERS[Math.floor(place / 9)];
+
+/** The places of the piece that a place belongs to, in the order in which its faces are named.
+ * @param {number} place */
+const placesOf = (place) => pieceAt(place).sort((one, other) => NAMED_FIRST.indexOf(faceAt(one)) - NAMED_FIRST.indexOf(faceAt(other)));
+
+/** What a piece is called by its faces, such as `UF`.
+ * @param {number} place of one of its stickers */
+export const nameOfPiece = (place) => placesOf(place).map(faceAt).join("");
+
+/** One place of each edge, and then of each corner. */
+export const PIECES = [2, 3].flatMap((count) =>
+    Array.from({ length: 54 }, (_, place) => place).filter((place) => {
+        const places = placesOf(place);
+        return places.length === count && places[0] === place;
+    }));
+
+/** The two faces of an axis in words.
+ * @param {string} axis */
+const eitherOf = (axis) => axis.replace("/", " or ");
+
+/** Which of some faces is of the first axis that has one of them.
+ * @param {string[]} faces @param {string[]} axes */
+const whichTells = (faces, axes) => axes.map((axis) => faces.findIndex((face) => axis.includes(face))).find((at) => at >= 0);
+
+/** Whether an edge is oriented on an axis.
+ * @param {string[]} faces where it is @param {string[]} colours that it has there @param {string} axis */
+function edgeOriented(faces, colours, axis) {
+    const [first, last] = TELLING_AXES.filter((each) => each !== axis);
+    const axes = [first, axis, last];
+    const [told, telling] = [whichTells(colours, axes), whichTells(faces, axes)];
+    const rule = `${eitherOf(first)} tells, else ${eitherOf(axis)}`;
+    if (told === telling) return `good for EO ${axis}: its ${colours[told]} is on ${faces[told]} (${rule})`;
+    return `bad for EO ${axis}: its ${colours[told]} belongs on ${faces[telling]}, and is on ${faces[told]} (${rule})`;
+}
+
+/** Whether an edge is on its side of a slice.
+ * @param {string[]} faces @param {string[]} colours @param {string} axis of the reduction */
+function edgePlaced(faces, colours, axis) {
+    const isIn = (letters) => !letters.some((each) => axis.includes(each));
+    const belongs = isIn(colours) ? `in the slice, since it has no ${eitherOf(axis)}` : `outside the slice, since it has ${eitherOf(axis)}`;
+    return isIn(colours) === isIn(faces) ? `good for DR ${axis}: it is ${belongs}` : `bad for DR ${axis}: it belongs ${belongs}`;
+}
+
+/** Whether a corner is oriented on an axis.
+ * @param {string[]} faces @param {string[]} colours @param {string} axis */
+function cornerOriented(faces, colours, axis) {
+    const at = colours.findIndex((colour) => axis.includes(colour));
+    if (axis.includes(faces[at])) return `good for DR ${axis}: its ${colours[at]} is on ${faces[at]}`;
+    return `bad for DR ${axis}: its ${colours[at]} belongs on ${eitherOf(axis)}, and is on ${faces[at]}`;
+}
+
+/**
+ * Why a piece is good or bad.
+ * @param {string} letters of the cube @param {number} place of one of its stickers @param {string} choice what is marked, such as `EO F/B`,
+ * or "" for each axis
+ */
+export function whyOf(letters, place, choice) {
+    const places = placesOf(place);
+    const [faces, colours] = [places.map(faceAt), places.map((each) => letters[each])];
+    const [kind, wanted] = choice.split(" ");
+    const told = { 2: kind === "DR" ? edgePlaced : edgeOriented, 3: cornerOriented }[places.length];
+    if (told === undefined) return "";
+    const axes = wanted === undefined ? TELLING_AXES : [wanted];
+    return `${faces.join("")} is ${axes.map((axis) => told(faces, colours, axis)).join("; ")}.`;
+}
