@@ -1,18 +1,19 @@
 // The list of a step's solutions: grouped by length or by case, filtered by turns and by case, and cut if it is long; and its engine: a
 // list that is looked for gives way to another one, and can be stopped.
+import { mergeTwins, withoutEarlier } from "../module/twins.js";
 import { Stopped } from "./calls.js";
-import { caseName, farnessOf, sizeOf } from "./cases.js";
+import { farnessOf, sizeOf } from "./cases.js";
 import { announce, announceLater, counted, element, part, setBusy, spoken, tell } from "./element.js";
-import { printAll, solve } from "./engine.js";
+import { solve } from "./engine.js";
 import { FilterSigns, ListFilter, NOT_MOVES } from "./filter.js";
 import { focusButton, focusWithin, roveWithin, starButton, takeButton } from "./rows.js";
-import { bracketed, reductionsAfter, stateOf, stepNamed, titleOf } from "./steps.js";
-import { mergeTwins, withoutEarlier } from "./twins.js";
+import { axisName, bracketed, reductionsAfter, stateOf, stepNamed, titleOf } from "./steps.js";
 import { isNarrow } from "./view.js";
 
 /** @typedef {import("./address.js").List} List */
 /** @typedef {import("./steps.js").Part} Part */
-/** @typedef {import("./twins.js").Twins & {letters?: string}} Entry a solution, and the letters after it where they are known */
+/** @typedef {import("../module/facts.js").Facts} Facts */
+/** @typedef {import("../module/twins.js").Twins & {facts?: Facts}} Entry a solution, and the cube after it where that is known */
 
 /** From more signs on a line leaves no room for what is pressed beside it on a phone. */
 const LONG_LINE = 18;
@@ -86,8 +87,8 @@ export class SolutionList {
     }
 
     /**
-     * Takes the solutions of the open list, and returns those whose letters are wanted.
-     * @param {import("./engine.js").Solution[]} all @param {boolean} whole
+     * Takes the solutions of the open list, and returns those whose cases are wanted.
+     * @param {import("../module/replies.js").Solution[]} all @param {boolean} whole
      */
     take(all, whole) {
         this.#all = all;
@@ -99,10 +100,10 @@ export class SolutionList {
     }
 
     /** Shows the list, with what is known of its cases.
-     * @param {string[]} letters after each of those that were wanted */
-    show(letters) {
-        letters.forEach((each, at) => {
-            this.#entries[at].letters = each;
+     * @param {Facts[]} facts after each of those that were wanted */
+    show(facts) {
+        facts.forEach((each, at) => {
+            this.#entries[at].facts = each;
         });
         this.#filter.offerLastTurns(this.#entries);
         this.#setWorking(false);
@@ -189,9 +190,9 @@ export class SolutionList {
 
     /** The names of the cases after a solution, for each reduction that may follow.
      * @param {Entry} entry */
-    #casesOf({ letters }) {
-        if (letters === undefined) return [];
-        const caseOfOne = (step) => ({ state: stateOf(step), axis: step.axis, name: caseName(letters, step.axis) });
+    #casesOf({ facts }) {
+        if (facts === undefined) return [];
+        const caseOfOne = (step) => ({ state: stateOf(step), axis: axisName(step.axis), name: facts.cases[step.axis] });
         return reductionsAfter(this.#list.step).map(caseOfOne);
     }
 
@@ -325,9 +326,9 @@ export class OpenList {
             const { solutions, whole } = await asked;
             if (!isStill()) return false;
             const wanted = this.#list.take(solutions, whole);
-            const letters = await printAll(this.#calls, wanted.map(({ moves }) => `${line} ${moves}`));
+            const facts = await this.#calls.factsAll(wanted.map(({ moves }) => `${line} ${moves}`));
             if (!isStill()) return false;
-            this.#list.show(letters);
+            this.#list.show(facts);
             announce(`${titleOf(stepNamed(list.step))}, ${list.side} side: ${this.#list.summary()}.`);
             return true;
         } catch (fault) {
