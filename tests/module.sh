@@ -1,6 +1,6 @@
 #!/usr/bin/env bash
 # Tries the module for pages of `make build/nissy.wasm` and its JavaScript, web/module, in node, beside PROGRAM, and in a page without a bundler;
-# and what the page says of a cube by its letters alone beside the module:
+# and the best continuations beside a count of its own:
 #
 #     tests/module.sh [PROGRAM [MODULE]]
 #
@@ -21,7 +21,7 @@ if missing python3; then
 else
     part python3 tests/module/beside_program.py "$program" "$module" 1 0.25
 fi
-for trial in typed in_worker wrong overridden rows plain cases totals; do part node "tests/module/$trial.mjs" "$module"; done
+for trial in typed in_worker wrong overridden rows plain twins totals best pool; do part node "tests/module/$trial.mjs" "$module"; done
 
 # Debian's Python has Debian's selenium, whatever other Python comes first
 python=/usr/bin/python3

@@ -100,6 +100,8 @@ def keeps_reductions(tally: Tally, browser: Browser) -> None:
     """A row of the best is kept with its reduction: the star is of that row, and what is kept says what the row says, sorted by it."""
     browser.open(ADDRESS)
     browser.wait_best()
+    # two rows of one orientation may stand further down
+    browser.click("#best-more")
     rows = browser.script(ROWS)
     one, other = next(pair for pair in combinations(range(len(rows)), 2) if rows[pair[0]][1] == rows[pair[1]][1])
     stars = "return [...document.querySelectorAll('#best-body .star')].map((each) => each.ariaPressed === 'true')"

@@ -17,12 +17,20 @@ const ROWS = [
   ["a number of solutions that no search has", ["solve", "eofb", "F", { most: Number.MAX_SAFE_INTEGER }], F_OR_ITS_INVERSE],
   ["no options", ["solve", "eofb", "F", {}], F_OR_ITS_INVERSE],
   ["options that are left open", ["solve", "eofb", "F", { limit: undefined, slack: undefined, most: undefined }], F_OR_ITS_INVERSE],
+  ["the moves of a line", ["tokens", "R (u2' M) F\u2019"], [
+    { text: "R", axis: "x", layers: [1], quarters: 1, inverse: false },
+    { text: "Uw2", axis: "y", layers: [0, 1], quarters: 2, inverse: true },
+    { text: "M", axis: "x", layers: [0], quarters: -1, inverse: true },
+    { text: "F'", axis: "z", layers: [1], quarters: -1, inverse: false },
+  ]],
+  ["no moves of a line", ["tokens", " ()"], []],
   ["the steps", ["steps"], STEPS],
 ];
 
 // a call, and the fault that it throws: text, column, step, what would have to hold before it, and message
 const FAULTS = [
   [["invert", "U".repeat(257)], "more than 256 moves", 257, null, null, "column 257: more than 256 moves"],
+  [["tokens", "R q"], "not a move", 3, null, null, "column 3: not a move"],
   [["count", "drud-eofb", "F"], "eofb does not hold", null, "drud-eofb", "eofb", "eofb does not hold"],
   [["solve", "dr-eorl", "R"], "eorl does not hold", null, "dr-eorl", "eorl", "eorl does not hold"],
 ];
@@ -53,18 +61,33 @@ function* sharedFaults() {
   }
 }
 
+// lines at fault, with the column in bytes and the character
+const CHARACTERS = [["R q", 3, 3], ["R\u2019 q", 6, 4], ["R2\u2019 U\u2019 \u{1f600}", 12, 8], [Uint8Array.of(0x52, 0xe2, 0x80, 0x99, 0x71), 5, 3]];
+
+/** What a call throws, or null. */
+async function faultOf(nissy, call, given) {
+  try {
+    await nissy[call](...given);
+    return null;
+  } catch (fault) {
+    return fault;
+  }
+}
+
 /** Rows, by `Nissy` or by what has the same calls as promises. */
 export async function tryRows(nissy) {
   for (const [what, [call, ...given], wanted] of [...ROWS, ...sharedRows()]) same(what, await nissy[call](...given), wanted);
   for (const [[call, ...given], ...wanted] of [...FAULTS, ...sharedFaults()]) {
-    let fault = null;
-    try {
-      await nissy[call](...given);
-    } catch (stop) {
-      fault = stop;
-    }
+    const fault = await faultOf(nissy, call, given);
     const seen = [fault instanceof NissyFault, fault?.name, fault?.text, fault?.column, fault?.step, fault?.start, fault?.message];
     same(`${call} ${given.join(", ").slice(0, 20)}`, seen, [true, "NissyFault", ...wanted]);
+  }
+  for (const [line, ...wanted] of CHARACTERS) {
+    const calls = [["invert", line], ["solve", "eofb", line], ["check", "", line], ["factsAll", ["R", line]], ["countAll", "eofb", [line]]];
+    for (const [call, ...given] of calls) {
+      const { column, character } = await faultOf(nissy, call, given);
+      same(`${call}: the character at fault of ${line}`, [column, character], wanted);
+    }
   }
 }
 

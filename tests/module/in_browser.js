@@ -1,5 +1,5 @@
-// Tries the module in a page without a bundler: the engine itself, and one in a worker. What was seen is left beside what is wanted.
-import { Nissy, NissyFault, NissyWorker } from "./browser.js";
+// Tries the module in a page without a bundler: the engine itself, one in a worker, and several. What was seen is left beside what is wanted.
+import { Nissy, NissyFault, NissyPool, NissyWorker } from "./browser.js";
 
 const seen = [];
 const same = (what, got, wanted) => seen.push([what, JSON.stringify(got), JSON.stringify(wanted)]);
@@ -34,11 +34,27 @@ async function tryWorker() {
   worker.end();
 }
 
+async function tryPool() {
+  const pool = await NissyPool.start(3, fetch("nissy.wasm"));
+  const lines = Array.from({ length: 5_000 }, (_, at) => (at % 2 === 0 ? "R U F" : "R q"));
+  let told = 0;
+  const onProgress = (done) => {
+    told = done;
+  };
+  const counts = await pool.countAll("eofb", lines, { faults: "value", onProgress });
+  const isRight = (each, at) => (at % 2 === 0 ? each.length === 1 : each.column === 3 && each.line === at + 1);
+  same("counts by several workers", [counts.length, counts.every(isRight), told], [5_000, true, 5_000]);
+  const [row] = await pool.best("R U", { most: 1 });
+  same("the best by several workers", [row.line, row.total], ["(R)", 1]);
+  pool.end();
+}
+
 try {
   await tryCalls(await Nissy.load(fetch("nissy.wasm")));
   const missing = await refusalOf(Nissy.load(fetch("none.wasm")));
   same("a module that isn't there", missing, [false, "Error", "the module can't be had: the request was answered by status 404"]);
   await tryWorker();
+  await tryPool();
 } catch (fault) {
   same("all is tried", String(fault), "");
 }

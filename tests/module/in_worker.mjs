@@ -5,7 +5,7 @@
 // The last line is `N passed, M failed`, and the status is 1 where M isn't 0.
 import { getEventListeners } from "node:events";
 import { performance } from "node:perf_hooks";
-import { NissyWorker, loadNissy } from "../../web/module/node.js";
+import { Nissy, NissyWorker, loadNissy } from "../../web/module/node.js";
 import { WorkerCalls } from "../../web/module/worker-calls.js";
 import { tryMany as tryManyLines, tryOptions, tryReadOptions, tryRows, tryWrongValues } from "./called.mjs";
 import { tryBounds, tryChecks, tryFacts, tryMixed } from "./judged.mjs";
@@ -169,6 +169,27 @@ async function tryMany(worker) {
   same("no line is searched after a fault", first, ["NissyFault", "line 1, column 3: not a move"]);
 }
 
+/** The best continuations, with their progress, as the engine itself finds them; and given up. */
+async function tryBest(worker) {
+  const nissy = await Nissy.load(moduleBytes);
+  const scramble = nissy.scramble(20261127, 1, 25);
+  const told = [];
+  const rows = await worker.best(scramble, { soFar: "R (U)", slack: 1, most: 5, onProgress: (done, all) => told.push([done, all]) });
+  same("the best", rows, nissy.best(scramble, { soFar: "R (U)", slack: 1, most: 5 }));
+  same("their progress", [told[0][0], told[told.length - 1][0] === told[told.length - 1][1], told.length > 2], [0, true, true]);
+  same("a fault of the moves so far", await thrown(() => worker.best("R", { soFar: "R q" })), ["NissyFault", "line 2, column 3: not a move"]);
+  const fault = await worker.best("R\u2019 q").catch((stop) => stop);
+  same("all of a fault", [fault.text, fault.line, fault.column, fault.character], ["not a move", 1, 6, 4]);
+  const enough = () => {
+    throw new RangeError("enough");
+  };
+  same("what the caller throws", await thrown(() => worker.best(scramble, { onProgress: enough })), ["RangeError", "enough"]);
+  const stop = new AbortController();
+  const onProgress = () => stop.abort(new RangeError("no more"));
+  same("given up", await thrown(() => worker.best(scramble, { slack: 3, signal: stop.signal, onProgress })), ["RangeError", "no more"]);
+  same("a call after these", await isRight(worker), true);
+}
+
 /** Workers that can't be started, or have another module. */
 async function tryUnstarted() {
   const empty = Uint8Array.of(0, 0x61, 0x73, 0x6d, 1, 0, 0, 0);
@@ -292,6 +313,7 @@ await tryOwnOptions(worker);
 await tryNoOptions(worker);
 await tryMany(worker);
 for (const judge of [tryFacts, tryChecks, tryBounds, tryMixed]) await judge(worker);
+await tryBest(worker);
 await tryStopped(worker);
 await trySignals(worker);
 await tryOneSignal(worker);

@@ -1,49 +1,23 @@
-// Tries what web/page/search.js says of all moves, beside a count of the merged lines: of each row of the best on drawn scrambles, before
+// Tries what web/module/best-search.js says of all moves, beside a count of the merged lines: of each row of the best on drawn scrambles, before
 // an orientation, after moves by hand and after an orientation, the number in all is that of the shortest line that goes on so.
 //
 //     node tests/module/totals.mjs MODULE
 //
 // The last line is `N passed, M failed`, and the status is 1 where M isn't 0.
+import { continuations } from "../../web/module/best-search.js";
+import { ORIENTATIONS, reductionsAfter } from "../../web/module/best-steps.js";
 import { Nissy } from "../../web/module/nissy.js";
-import { found } from "../../web/page/search.js";
-import { ORIENTATIONS, reductionsAfter } from "../../web/page/steps.js";
-import { mergeTwins } from "../../web/page/twins.js";
+import { mergeTwins } from "../../web/module/twins.js";
+import { madeBy } from "../../web/module/ways.js";
+import { SIDES, cubeAfter, inAll, merged } from "./counting.mjs";
 import { ended, moduleBytes, same } from "./tally.mjs";
 
 const LEAST_ROWS = 500;
-const OPPOSITE = { U: "D", D: "U", R: "L", L: "R", F: "B", B: "F" };
-const QUARTERS = { "": 1, 2: 2, "'": 3 };
-const SIDES = ["normal", "inverse"];
 const nissy = await Nissy.load(moduleBytes);
-
-/** How many moves some turns have once those of one face are merged that only turns of the opposite face stand between. */
-function merged(text) {
-  const made = [];
-  for (const turn of text.split(" ").filter(Boolean)) {
-    const face = turn[0];
-    let at = made.length - 1;
-    while (at >= 0 && made[at].face === OPPOSITE[face]) at--;
-    if (at < 0 || made[at].face !== face) made.push({ face, quarters: QUARTERS[turn.slice(1)] });
-    else made[at].quarters = (made[at].quarters + QUARTERS[turn.slice(1)]) % 4;
-    if (at >= 0 && made[at].quarters === 0) made.splice(at, 1);
-  }
-  return made.length;
-}
-
-/** The moves of some parts on one side. */
-const on = (parts, side) => parts.filter((part) => part.side === side).map(({ moves }) => moves).join(" ");
-const inAll = (parts) => SIDES.reduce((sum, side) => sum + merged(on(parts, side)), 0);
-
-/** The cube on both sides after a scramble and some parts. */
-function cubeAfter(scramble, parts) {
-  const [normal, inverse] = SIDES.map((side) => on(parts, side));
-  const line = `${nissy.invert(inverse)} ${scramble} ${normal}`;
-  return { normal: line, inverse: nissy.invert(line) };
-}
 
 /** The least count of a line with a reduction after it, and on each side, with the least length there of those that have it. */
 function leastAfter(scramble, parts, step) {
-  const now = cubeAfter(scramble, parts);
+  const now = cubeAfter(nissy, scramble, parts);
   return SIDES.map((side) => {
     const all = nissy.solve(step, now[side], { slack: 0, most: 1_000_000 });
     const totals = all.map(({ moves }) => inAll([...parts, { side, moves }]));
@@ -51,16 +25,22 @@ function leastAfter(scramble, parts, step) {
   });
 }
 
-const rowsOf = (question, orientation) => [...found(nissy, orientation, question)].flatMap(({ rows }) => rows);
+/** The rows of an axis, after the steps that hold. */
+function rowsOf(lines, parts, reached, orientation, slack) {
+  const position = { lines, made: madeBy(nissy, parts) };
+  const found = [...continuations(nissy, position, reached, [orientation], { slack, isAll: false, most: Infinity })];
+  return found.flatMap(({ rows }) => rows);
+}
+
 /** How many rows were tried; of how many merging matters, and of how many a hidden twin is better on a side. */
 const tried = { rows: 0, merged: 0, twins: 0 };
 
 /** The rows before an orientation: all moves of the best twin, and the least of all on each side. */
 function tryOrientations(scramble, parts) {
-  const now = cubeAfter(scramble, parts);
+  const now = cubeAfter(nissy, scramble, parts);
   for (const { name } of ORIENTATIONS) {
     const all = SIDES.flatMap((side) => mergeTwins(nissy.solve(name, now[side], { slack: 0 }), name).map((each) => ({ ...each, side })));
-    const rows = rowsOf({ now, parts, reached: [], slack: 0, isAll: false }, name);
+    const rows = rowsOf(now, parts, [], name, 0);
     same(`${scramble}, ${name}: rows`, rows.length >= all.length && rows.length > 0, true);
     for (const { total, part, next, others } of rows) {
       const own = part.moves.split(" ");
@@ -84,8 +64,7 @@ function tryOrientations(scramble, parts) {
 
 /** The rows after an orientation that holds. */
 function tryReductions(scramble, parts, orientation) {
-  const question = { now: cubeAfter(scramble, parts), parts, reached: [orientation], slack: 1, isAll: false };
-  for (const { total, part, others } of rowsOf(question, orientation)) {
+  for (const { total, part, others } of rowsOf(cubeAfter(nissy, scramble, parts), parts, [orientation], orientation, 1)) {
     const own = part.moves.split(" ");
     const ends = others.map((end) => [...own.slice(0, own.length - end.split(" ").length), end].join(" "));
     const totals = [part.moves, ...ends].map((moves) => inAll([...parts, { side: part.side, moves }]));

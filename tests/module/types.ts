@@ -1,9 +1,9 @@
 // A caller in TypeScript, who is told of what is wrong: tests/module.sh has tsc read this beside the types of the module.
 import {
-  isStep, loadNissy, Nissy, NissyFault, NissyWorker, SearchCut, VERSION, type Check, type Count, type EdgePlace, type Facts, type Form, type Solution,
-  type Solutions, type Step,
+  isStep, loadNissy, Nissy, NissyFault, NissyPool, NissyWorker, SearchCut, VERSION, type BestRow, type Check, type Count, type EdgePlace,
+  type Facts, type Form, type Solution, type Solutions, type Step, type Token,
 } from "./node.js";
-import { NissyWorker as NissyWorkerOfBrowsers } from "./browser.js";
+import { NissyPool as NissyPoolOfBrowsers, NissyWorker as NissyWorkerOfBrowsers } from "./browser.js";
 import type { CountReply, LineFault, LineReply, StartFault } from "./replies.js";
 
 export async function calls(bytes: Uint8Array, compiled: WebAssembly.Module, request: Promise<Response>): Promise<string> {
@@ -54,6 +54,21 @@ export async function bounded(nissy: Nissy, worker: NissyWorker, step: string): 
   return counts.length + told.length + all.length + (solutions.cut === true ? 1 : 0);
 }
 
+export async function followed(nissy: Nissy, worker: NissyWorker, bytes: Uint8Array, signal: AbortSignal): Promise<string> {
+  const onProgress = (done: number, all: number | null): boolean => done === all;
+  const rows: BestRow[] = nissy.best("R U F", { soFar: "(R)", slack: 1, most: 5, onProgress });
+  const [{ line, total, eo, dr }] = await worker.best(bytes, { signal, onProgress });
+  const lengths: (number | null)[] = [dr.lengths.normal, dr.lengths.inverse];
+  const tokens: Token[] = [...nissy.tokens(line), ...(await worker.tokens(line, { signal }))];
+  const pools = [await NissyPool.start(4), await NissyPoolOfBrowsers.start(2, bytes)];
+  const counts: (Count | NissyFault | RangeError)[] = await pools[0].countAll("eofb", ["R"], { faults: "value", signal, onProgress });
+  const facts: Facts[] = await pools[1].factsAll(["R"], { onProgress });
+  const solutions: Solutions[] = await pools[0].solveAll("eofb", ["R"] as const, { most: 1 });
+  const best: BestRow[] = await pools[1].best("R U F", { slack: 1 });
+  for (const pool of pools) pool.end();
+  return [rows, total, eo?.moves, lengths, tokens.map(({ layers }) => layers[0]), counts, facts, solutions, best, pools[0].size].join(" ");
+}
+
 export function cutAfter(error: unknown): number | null {
   return error instanceof SearchCut ? error.count.nodes : null;
 }
@@ -102,6 +117,12 @@ export function wrong(nissy: Nissy, worker: NissyWorker): void {
   nissy.count("eofb", "R").length.toFixed();
   // @ts-expect-error a promise is no string
   worker.invert("R").length;
+  // @ts-expect-error an orientation may hold already
+  nissy.best("R")[0].eo.moves.trim();
+  // @ts-expect-error a pool is told how many workers it has
+  void NissyPool.start();
+  // @ts-expect-error nor is there a module beside those of a browser
+  void NissyPoolOfBrowsers.start(2);
   // @ts-expect-error a browser's worker has no module beside it
   void NissyWorkerOfBrowsers.start();
 }

@@ -1,4 +1,5 @@
-// The engine in a worker of a browser.
+// The engine in a worker of a browser, and in several.
+import { WorkerPool } from "./pool.js";
 import { WorkerCalls, listenedTo } from "./worker-calls.js";
 
 export * from "./nissy.js";
@@ -29,6 +30,15 @@ function besideThis() {
   return new Worker(new URL("./worker.js", import.meta.url), { type: "module" });
 }
 
+/**
+ * What starts workers.
+ * @param {() => Worker} made
+ */
+function workersBy(made) {
+  if (typeof made !== "function") throw new TypeError("what makes the worker is no function");
+  return listenedTo(made, made === besideThis ? place : undefined);
+}
+
 /** The engine in a worker. */
 export class NissyWorker extends WorkerCalls {
   /**
@@ -39,7 +49,20 @@ export class NissyWorker extends WorkerCalls {
    * @returns {Promise<NissyWorker>}
    */
   static async start(source, made = besideThis) {
-    if (typeof made !== "function") throw new TypeError("what makes the worker is no function");
-    return super.startBy(source, listenedTo(made, made === besideThis ? place : undefined));
+    return super.startBy(source, workersBy(made));
+  }
+}
+
+/** Engines in several workers, which share many lines. */
+export class NissyPool extends WorkerPool {
+  /**
+   * Starts engines, as `NissyWorker.start` starts one.
+   * @param {number} workers how many
+   * @param {ModuleSource | Promise<ModuleSource>} source
+   * @param {() => Worker} [made] makes a worker
+   * @returns {Promise<NissyPool>}
+   */
+  static async start(workers, source, made = besideThis) {
+    return super.startBy(workers, source, workersBy(made));
   }
 }

@@ -1,5 +1,5 @@
 // What callers hand over, checked: nothing of another type reaches the module, and nobody can change it later.
-import { Bytes, encoded, kindOf, lengthOf, putBytes, wide } from "./natives.js";
+import { Bytes, encoded, kindOf, lengthOf, putBytes, textIn, wide } from "./natives.js";
 
 /** @typedef {string | Uint8Array} Text */
 
@@ -50,6 +50,16 @@ export function takenLine(line, what) {
   const bytes = isString && line.length > MOST_INPUT ? null : bytesOf(line, what);
   if (bytes === null || lengthOf(bytes) > MOST_INPUT) throw new RangeError(`${what} has more bytes than the engine reads`);
   return bytes;
+}
+
+/**
+ * Which character of a line stands at a column, from 1: what stands before a fault spells moves, so it can be read.
+ * @param {Text} line
+ * @param {number} column in bytes from 1
+ */
+export function characterAt(line, column) {
+  const bytes = typeof line === "string" ? encoded(line.slice(0, column)) : line;
+  return textIn(bytes.subarray(0, column - 1)).length + 1;
 }
 
 /**

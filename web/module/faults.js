@@ -1,15 +1,21 @@
 // What calls throw beside a `TypeError` for a value of another type and a `RangeError` for one out of its range.
 
+/**
+ * Where a fault is: `column`, in bytes of UTF-8 from 1, and `character`, the same in characters as JavaScript counts them, both null if it
+ * isn't at one place; `step`, which can't begin at the line's cube, null if the line can't be read, and `start`, the step that would have to
+ * hold before that one; `line`, of many, from 1, null if there was one.
+ * @typedef {{column: number | null, character: number | null, step: string | null, start: string | null, line: number | null}} FaultPlace
+ */
+
+/** @typedef {FaultPlace & {text: string}} FaultParts a fault as a plain value */
+
 /** A line at fault, in the program's words, or a cube at which a step can't begin. */
 export class NissyFault extends Error {
   /**
    * @param {string} text what is wrong
-   * @param {number | null} column where, in bytes of UTF-8 from 1; null if it isn't at one place
-   * @param {string | null} step which can't begin at the line's cube; null if the line can't be read
-   * @param {string | null} start the step that would have to hold before that one
-   * @param {number | null} line of many, from 1; null if there was one
+   * @param {Partial<FaultPlace>} place null is what isn't given
    */
-  constructor(text, column, step = null, start = null, line = null) {
+  constructor(text, { column = null, character = null, step = null, start = null, line = null }) {
     const places = [];
     if (line !== null) places.push(`line ${line}`);
     if (column !== null) places.push(`column ${column}`);
@@ -17,6 +23,7 @@ export class NissyFault extends Error {
     this.name = "NissyFault";
     this.text = text;
     this.column = column;
+    this.character = character;
     this.step = step;
     this.start = start;
     this.line = line;
@@ -27,7 +34,21 @@ export class NissyFault extends Error {
    * @param {number} line from 1
    */
   inLine(line) {
-    return new NissyFault(this.text, this.column, this.step, this.start, line);
+    return new NissyFault(this.text, { ...this.#place(), line });
+  }
+
+  /**
+   * The same as a plain value.
+   * @returns {FaultParts}
+   */
+  parts() {
+    return { text: this.text, ...this.#place() };
+  }
+
+  /** @returns {FaultPlace} */
+  #place() {
+    const { column, character, step, start, line } = this;
+    return { column, character, step, start, line };
   }
 }
 

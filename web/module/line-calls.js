@@ -1,5 +1,5 @@
 // The calls of the module on one line each, and those that read none: what goes into its memory, and what the answer is read as.
-import { MOST_WIDE } from "./bytes.js";
+import { MOST_WIDE, characterAt } from "./bytes.js";
 import { LINE_ANSWER, LINE_ROOM, SEARCH_ANSWER, SOLUTION } from "./layout.js";
 import { aligned, roomFor } from "./memory.js";
 import { wide } from "./natives.js";
@@ -40,25 +40,27 @@ const outOf = (reply) => (reply.status === STATUS.done ? reply.out : "");
  * Why a call on a line has no value. The module is asked for the words, so its answer is read before.
  * @param {Instance} instance
  * @param {Head} head of the answer
+ * @param {Text} [line] which was read
  * @param {string} [step] which is searched
  * @returns {NoValue}
  */
-export function refusal(instance, { status, fault, column }, step = "") {
+export function refusal(instance, { status, fault, column }, line = "", step = "") {
   if (status !== STATUS.fault) return /** @type {NoValue} */ ({ status });
   const text = outOf(written(instance, (exports, at, out, room) => exports.nissy_fault_text(at, fault, out, room)));
   if (fault === START) return { status, fault, step, start: outOf(rewritten(instance, "nissy_start", step)), text };
-  return /** @type {NoValue} */ ({ status, fault, column, text });
+  return /** @type {NoValue} */ ({ status, fault, column, character: characterAt(line, column), text });
 }
 
 /**
  * The reply of a call that wrote a line.
  * @param {Instance} instance
  * @param {number} out where
+ * @param {Text} [line] which was read
  * @returns {LineReply}
  */
-function lineAt(instance, out) {
+function lineAt(instance, out, line) {
   const head = headAt(instance.memory, instance.answer);
-  if (head.status !== STATUS.done) return refusal(instance, head);
+  if (head.status !== STATUS.done) return refusal(instance, head, line);
   return { status: STATUS.done, out: instance.memory.text(out, instance.answered(LINE_ANSWER.length)) };
 }
 
@@ -75,7 +77,7 @@ export function rewritten(instance, name, line) {
   memory.reach(out + LINE_ROOM);
   const length = memory.putLine(free, line);
   instance.call((exports) => exports[name](wide(answer), wide(free), wide(length), wide(out), wide(LINE_ROOM)));
-  return lineAt(instance, out);
+  return lineAt(instance, out, line);
 }
 
 /**
@@ -106,7 +108,7 @@ function solvedIn(instance, { step, line, limit, slack, most, nodes }, room) {
   instance.call(({ nissy_solve: solve }) =>
     solve(wide(answer), wide(tables), wide(free), wide(length), limit, slack, bound(most), bound(nodes), wide(out), wide(room)));
   const head = headAt(memory, answer);
-  if (head.status !== STATUS.done && head.status !== STATUS.cut) return refusal(instance, head, step);
+  if (head.status !== STATUS.done && head.status !== STATUS.cut) return refusal(instance, head, line, step);
   return { ...countAt(memory, answer), out: memory.text(out, instance.answered(SEARCH_ANSWER.length)) };
 }
 
@@ -137,7 +139,7 @@ export function counted(instance, { step, line, limit, slack, most, nodes }) {
   instance.call(({ nissy_count: count }) =>
     count(wide(answer), wide(tables), wide(free), wide(length), limit, slack, bound(most), bound(nodes)));
   const head = headAt(memory, answer);
-  return head.status === STATUS.done || head.status === STATUS.cut ? countAt(memory, answer) : refusal(instance, head, step);
+  return head.status === STATUS.done || head.status === STATUS.cut ? countAt(memory, answer) : refusal(instance, head, line, step);
 }
 
 /**
@@ -151,7 +153,7 @@ export function seen(instance, { line }) {
   const length = memory.putLine(free, line);
   instance.call(({ nissy_facts: facts }) => facts(wide(answer), wide(free), wide(length)));
   const head = headAt(memory, answer);
-  return head.status === STATUS.done ? factsAt(memory, answer) : refusal(instance, head);
+  return head.status === STATUS.done ? factsAt(memory, answer) : refusal(instance, head, line);
 }
 
 /**
@@ -168,5 +170,5 @@ export function checked(instance, { scramble, solution }) {
   instance.call(({ nissy_check: check }) => check(wide(answer), wide(free), wide(length), wide(behind), wide(solutionLength)));
   const head = headAt(memory, answer);
   const { line, ...told } = checkAt(memory, answer);
-  return head.status === STATUS.done ? told : { ...refusal(instance, head), line };
+  return head.status === STATUS.done ? told : { ...refusal(instance, head, line === 1 ? scramble : solution), line };
 }

@@ -4,7 +4,7 @@ import { bound, counted, refusal, seen, solved } from "./line-calls.js";
 import { aligned, roomFor } from "./memory.js";
 import { wide } from "./natives.js";
 import { countAt, factsAt, headAt } from "./read-answers.js";
-import { STATUS, hasValue } from "./replies.js";
+import { endsAll, hasValue } from "./replies.js";
 
 /** @typedef {import("./bytes.js").Text} Text */
 /** @typedef {import("./instance.js").Exports} Exports */
@@ -110,7 +110,8 @@ function answerPiece(instance, { bytes, read, ask }, lines, step) {
     return hasValue(memory.byte(place + HEAD.status)) ? read(memory, place) : headAt(memory, place);
   });
   // all of them are read before the module is asked for the words of a fault, which it writes over them
-  return told.map((each) => (hasValue(each.status) ? /** @type {OneReply} */ (each) : refusal(instance, /** @type {Head} */ (each), step)));
+  return told.map((each, at) =>
+    (hasValue(each.status) ? /** @type {OneReply} */ (each) : refusal(instance, /** @type {Head} */ (each), lines[at], step)));
 }
 
 /**
@@ -166,14 +167,13 @@ function answerNext(instance, { each, lines }, question, begin) {
  * @returns {OneReply[]}
  */
 export function answerAll(instance, request) {
-  const { each, lines, faults } = request;
+  const { lines } = request;
   const question = questionOf(instance, request);
   /** @type {OneReply[]} */
   const replies = [];
   const isLast = (/** @type {OneReply} */ reply) => {
     replies.push(reply);
-    if (reply.status === STATUS.cut) return each.call !== "facts" && each.cut === "throw";
-    return reply.status !== STATUS.done && faults === "throw";
+    return endsAll(request, reply);
   };
   while (replies.length < lines.length) {
     if (answerNext(instance, request, question, replies.length).some(isLast)) break;

@@ -7,13 +7,15 @@
  *
  * A call ends before it returns: a long search belongs into a worker, as `NissyWorker` of browser.js and of node.js has one.
  */
+import { bestRows } from "./best.js";
 import { Engine } from "./engine.js";
 import { NoWebAssembly } from "./faults.js";
-import { allOf, checkIn, countIn, factsIn, lineIn, linesIn, outputLinesIn, solutionsIn } from "./replies.js";
+import { allOf, checkIn, countIn, factsIn, lineIn, linesIn, outputLinesIn, shownIn, solutionsIn, tokensIn } from "./replies.js";
 import {
-  allRequest, checkRequest, countRequest, factsRequest, lineRequest, runRequest, scrambleRequest, scramblesRequest, solveRequest,
-  stepsRequest,
+  allRequest, bestRequest, checkRequest, countRequest, factsRequest, lineRequest, runRequest, scrambleRequest, scramblesRequest,
+  solveRequest, stepsRequest,
 } from "./requests.js";
+import { progressOf } from "./signals.js";
 
 export { EngineMissing, NissyFault, NoWebAssembly, SearchCut, Stopped } from "./faults.js";
 export { CORNER_PLACES, EDGE_PLACES } from "./facts.js";
@@ -21,6 +23,12 @@ export { STEPS, isStep } from "./steps.js";
 
 /** @typedef {import("./bytes.js").Text} Text */
 /** @typedef {import("./source.js").ModuleSource} ModuleSource */
+/** @typedef {import("./best.js").BestOrientation} BestOrientation */
+/** @typedef {import("./best.js").BestProgress} BestProgress */
+/** @typedef {import("./best.js").BestReduction} BestReduction */
+/** @typedef {import("./best.js").BestRow} BestRow */
+/** @typedef {import("./requests.js").BestWanted} BestWanted */
+/** @typedef {import("./signals.js").Followed} Followed */
 /** @typedef {import("./replies.js").Answer} Answer */
 /** @typedef {import("./replies.js").Count} Count */
 /** @typedef {import("./facts.js").Axis} Axis */
@@ -32,6 +40,7 @@ export { STEPS, isStep } from "./steps.js";
 /** @typedef {import("./replies.js").Solution} Solution */
 /** @typedef {import("./replies.js").Solutions} Solutions */
 /** @typedef {import("./requests.js").Many} Many */
+/** @typedef {import("./tokens.js").Token} Token */
 /** @typedef {import("./requests.js").Request} Request */
 /** @typedef {import("./requests.js").Wanted} Wanted */
 /** @typedef {import("./requests.js").Within} Within */
@@ -103,6 +112,18 @@ export class Nissy {
    */
   cleanup(line) {
     return lineIn(this.#answer(lineRequest("cleanup", line)));
+  }
+
+  /**
+   * The moves of a line as they are written, one after another.
+   * @param {Text} line
+   * @returns {Token[]}
+   */
+  tokens(line) {
+    const request = lineRequest("unniss", line);
+    // a line that is no line of moves is refused
+    lineIn(this.#answer(request));
+    return tokensIn(request);
   }
 
   /**
@@ -183,6 +204,15 @@ export class Nissy {
    */
   check(scramble, solution) {
     return checkIn(this.#answer(checkRequest(scramble, solution)));
+  }
+
+  /**
+   * What may follow a scramble and the moves so far, the best first: each shortest orientation on either side with each reduction that may
+   * follow it, or the reductions, if an orientation holds. There are none after a reduction. A fault is told as `check` tells it.
+   * @param {Text} scramble @param {BestWanted & Followed} [options] @returns {BestRow[]}
+   */
+  best(scramble, options) {
+    return shownIn(bestRows(this, bestRequest(scramble, options), progressOf(options)));
   }
 
   /**

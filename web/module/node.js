@@ -1,7 +1,9 @@
 // nissy in node: the module is a file, and a worker is a thread.
 import { readFile } from "node:fs/promises";
 import { Worker } from "node:worker_threads";
+import { hasOwn } from "./natives.js";
 import { Nissy } from "./nissy.js";
+import { WorkerPool } from "./pool.js";
 import { WorkerCalls } from "./worker-calls.js";
 
 export * from "./nissy.js";
@@ -18,7 +20,8 @@ const besideThis = () => readFile(new URL("./nissy.wasm", import.meta.url));
 function newThread(took, failed) {
   const worker = new Worker(new URL("./worker-node.js", import.meta.url));
   worker.on("message", (data) => {
-    worker.unref();
+    // the answer is still to come
+    if (!hasOwn(data, "progress")) worker.unref();
     took(data);
   });
   worker.on("error", (error) => failed(error.message));
@@ -47,5 +50,18 @@ export class NissyWorker extends WorkerCalls {
    */
   static async start(source = besideThis()) {
     return super.startBy(source, newThread);
+  }
+}
+
+/** Engines in several threads, which share many lines. */
+export class NissyPool extends WorkerPool {
+  /**
+   * Starts engines, by the module beside this file if no other is given. Rejects with `EngineMissing` if the threads can't be started.
+   * @param {number} workers how many
+   * @param {ModuleSource | Promise<ModuleSource>} [source]
+   * @returns {Promise<NissyPool>}
+   */
+  static async start(workers, source = besideThis()) {
+    return super.startBy(workers, source, newThread);
   }
 }

@@ -3,6 +3,7 @@ import { eachOf } from "./bytes.js";
 import { checkOf, factsOf } from "./facts.js";
 import { NissyFault, SearchCut } from "./faults.js";
 import { textIn } from "./natives.js";
+import { tokensOf } from "./tokens.js";
 
 /**
  * What a run returns.
@@ -36,8 +37,8 @@ import { textIn } from "./natives.js";
  */
 
 /**
- * A line that can't be read: the number of its fault, the column where that is, and the program's words for it.
- * @typedef {{status: 1, fault: 1 | 2 | 3 | 4 | 5, column: number, text: string}} LineFault
+ * A line that can't be read: the number of its fault, where that is, in bytes and in characters, and the program's words for it.
+ * @typedef {{status: 1, fault: 1 | 2 | 3 | 4 | 5, column: number, character: number, text: string}} LineFault
  */
 
 /**
@@ -58,7 +59,7 @@ import { textIn } from "./natives.js";
 /** @typedef {SeenFacts | NoValue} FactsReply */
 /** @typedef {SeenCheck | NoValue & {line: number}} CheckReply of which `line` is the line at fault: 1, the scramble, or 2, the solution */
 /** @typedef {Answer | LineReply | CountReply | SolveReply | FactsReply | CheckReply} OneReply */
-/** @typedef {OneReply | OneReply[]} Reply */
+/** @typedef {OneReply | OneReply[] | import("./best.js").BestReply} Reply */
 
 const BRACKET = "(".charCodeAt(0);
 const ZERO = "0".charCodeAt(0);
@@ -80,8 +81,9 @@ export const START = 6;
  * @returns {NissyFault}
  */
 function faultIn(reply) {
-  if (reply.fault !== START) return new NissyFault(reply.text, reply.column);
-  return new NissyFault(`${reply.start} ${reply.text}`, null, reply.step, reply.start);
+  if (reply.fault !== START) return new NissyFault(reply.text, reply);
+  const { step, start, text } = reply;
+  return new NissyFault(`${start} ${text}`, { step, start });
 }
 
 /**
@@ -113,6 +115,9 @@ function withValue(reply) {
 
 /** @param {LineReply} reply @returns {string} */
 export const lineIn = (reply) => withValue(reply).out;
+
+/** @param {{line: import("./bytes.js").Text}} request of a line that was read @returns {import("./tokens.js").Token[]} */
+export const tokensIn = ({ line }) => tokensOf(typeof line === "string" ? line : textIn(line));
 
 /** @param {string} text @returns {string[]} its lines, each of which a line feed ends */
 const linesOf = (text) => text.split("\n").slice(0, -1);
@@ -175,6 +180,25 @@ export const factsIn = (reply) => factsOf(withValue(reply));
 export function checkIn(reply) {
   if (reply.status === STATUS.done) return checkOf(reply);
   throw inLine(errorIn(reply), reply.line);
+}
+
+/** @param {import("./best.js").BestReply} reply */
+export function bestIn(reply) {
+  if ("fault" in reply) throw new NissyFault(reply.fault.text, reply.fault);
+  return reply.rows;
+}
+
+/** @param {import("./best.js").RowWithMoves[]} rows @returns {import("./best.js").BestRow[]} */
+export const shownIn = (rows) => rows.map(({ shown }) => shown);
+
+/**
+ * Whether the reply for a line of many ends the call, so that no line behind it is answered.
+ * @param {import("./requests.js").AllRequest} asked
+ * @param {OneReply} reply
+ */
+export function endsAll({ each, faults }, reply) {
+  if (reply.status === STATUS.cut) return each.call !== "facts" && each.cut === "throw";
+  return reply.status !== STATUS.done && faults === "throw";
 }
 
 /**

@@ -1,4 +1,5 @@
 // What is asked of the engine, in plain values that a worker can be sent, each checked if it comes from a caller.
+import { ORIENTATIONS } from "./best-steps.js";
 import { bytesOf, eachOf, joinedWords, stringOf, takenLine, wholeNumber, wideNumber } from "./bytes.js";
 import { hasOwn } from "./natives.js";
 
@@ -12,12 +13,15 @@ import { hasOwn } from "./natives.js";
 /** @typedef {Search & {call: "solve"}} SolveRequest */
 /** @typedef {{call: "facts", line: Text}} FactsRequest */
 /** @typedef {{call: "check", scramble: Text, solution: Text}} CheckRequest */
+/** @typedef {{call: "best", scramble: Text, soFar: Text, slack: number, most: number, axes: readonly Step[]}} BestRequest */
 /** @typedef {{call: "scramble", state: bigint, stream: bigint, length: number}} ScrambleRequest */
 /** @typedef {{call: "steps"}} StepsRequest */
 /** @typedef {CountRequest | SolveRequest | FactsRequest} OfEach what many lines may be asked */
 /** @typedef {RunRequest | LineRequest | OfEach | CheckRequest | ScrambleRequest | StepsRequest} OneRequest */
 /** @typedef {{call: "all", each: OfEach, lines: Text[], faults: Telling}} AllRequest what is asked of each line, whose own line is none */
-/** @typedef {OneRequest | AllRequest} Request */
+/** @typedef {OneRequest | AllRequest} Request what an engine is asked */
+/** @typedef {Request | BestRequest} Asked what a worker is asked */
+/** @typedef {import("./steps.js").Step} Step */
 
 /**
  * How far a step is searched: `limit`, the most turns of a solution, 20 at most and if it isn't given; `slack`, how many turns more than
@@ -35,8 +39,18 @@ import { hasOwn } from "./natives.js";
  * @typedef {{faults?: Telling}} Many
  */
 
+/**
+ * What is wanted of the best continuations: `soFar`, the moves that were made after the scramble, those in brackets on its inverse, none if
+ * it isn't given; `slack`, how many turns longer than the shortest of its side an orientation may be, none if it isn't given; `most`, how
+ * many rows, 20 if it isn't given.
+ * @typedef {{soFar?: Text, slack?: number, most?: number}} BestWanted
+ */
+
 /** The most turns of a search. */
 const MOST_TURNS = 20;
+
+/** How many of the best are told. */
+const MOST_TOLD = 20;
 
 /** The most turns of a scramble, the most scrambles, and the most bytes of a turn with what stands behind it. */
 const MOST_SCRAMBLED = 256;
@@ -73,9 +87,10 @@ export const lineRequest = (call, line) => ({ call, line: takenLine(line, "the l
  * @param {unknown} options
  * @param {string} name
  * @param {string} what it is, for the error
+ * @param {number} [otherwise] what it is if it isn't given
  */
-function boundOf(options, name, what) {
-  const given = optionOf(options, name, Infinity);
+function boundOf(options, name, what, otherwise = Infinity) {
+  const given = optionOf(options, name, otherwise);
   return given === Infinity ? given : wholeNumber(given, what, Number.MAX_SAFE_INTEGER);
 }
 
@@ -117,6 +132,24 @@ export const checkRequest = (scramble, solution) => ({
   call: "check",
   scramble: takenLine(scramble, "the scramble"),
   solution: takenLine(solution, "the solution"),
+});
+
+/** Each orientation. */
+const ALL_AXES = ORIENTATIONS.map(({ name }) => name);
+
+/**
+ * @param {unknown} scramble
+ * @param {unknown} [options]
+ * @param {readonly Step[]} [axes] the orientations that are looked at
+ * @returns {BestRequest}
+ */
+export const bestRequest = (scramble, options = {}, axes = ALL_AXES) => ({
+  call: "best",
+  scramble: takenLine(scramble, "the scramble"),
+  soFar: takenLine(optionOf(options, "soFar", ""), "the moves so far"),
+  slack: wholeNumber(optionOf(options, "slack", 0), "the slack", MOST_TURNS),
+  most: boundOf(options, "most", "the greatest number of rows", MOST_TOLD),
+  axes,
 });
 
 /**

@@ -1,10 +1,13 @@
 // The engine's side of a worker: the first message brings the module, and each later one is answered.
+import { bestReply } from "./best.js";
 import { Engine } from "./engine.js";
+import { Nissy } from "./nissy.js";
 
 /** @typedef {import("./replies.js").Reply} Reply */
-/** @typedef {import("./requests.js").Request} Request */
+/** @typedef {import("./requests.js").Asked} Asked */
 /** @typedef {{module: WebAssembly.Module | ArrayBuffer | Uint8Array}} Beginning the first message */
-/** @typedef {{id: number, request: Request}} Question each later one */
+/** @typedef {{id: number, request: Asked}} Question each later one */
+/** @typedef {{id: number, progress: import("./best.js").BestProgress}} Progressed what comes before some answers */
 /** @typedef {{id: number, reply: Reply}} Answered */
 /** @typedef {{id: number, error: {name: string, message: string}}} Unanswered */
 
@@ -53,7 +56,8 @@ export function serveBy(port, start, answer) {
  */
 export function serve(port) {
   serveBy(port, (module) => Engine.start(module), (engine, /** @type {Question} */ { id, request }) => {
-    const reply = engine.answer(request);
+    const tell = (/** @type {import("./best.js").BestProgress} */ progress) => port.postMessage({ id, progress });
+    const reply = request.call === "best" ? bestReply(new Nissy(engine), request, tell) : engine.answer(request);
     port.postMessage({ id, reply }, buffersOf(reply));
   });
 }

@@ -1,10 +1,28 @@
-// The signals by which callers give calls up. However many calls have the same one, a worker listens to it once.
+// The signals by which callers give calls up, and what they are told of the progress. However many calls have the same signal, a worker listens
+// to it once.
+import { Stopped } from "./faults.js";
 import { optionOf } from "./requests.js";
 
 /**
  * What gives a call up: it rejects with the signal's reason.
  * @typedef {{signal?: AbortSignal}} Stoppable
  */
+
+/**
+ * What is told how far a call is: how much is done, and of how much, null until that is known.
+ * @typedef {{onProgress?: (done: number, all: number | null) => void}} Followed
+ */
+
+/**
+ * @param {unknown} [options]
+ * @returns {(progress: {done: number, all: number | null}) => void}
+ */
+export function progressOf(options = {}) {
+  const onProgress = optionOf(options, "onProgress");
+  if (onProgress === undefined) return () => {};
+  if (typeof onProgress !== "function") throw new TypeError("what is told of the progress is no function");
+  return ({ done, all }) => onProgress(done, all);
+}
 
 /**
  * @param {unknown} [options]
@@ -17,6 +35,12 @@ export function signalOf(options = {}) {
   if (typeof signal?.aborted !== "boolean" || !listens) throw new TypeError("the signal is no AbortSignal");
   return signal;
 }
+
+/**
+ * @param {AbortSignal} signal
+ * @returns {unknown} why it gives calls up
+ */
+export const reasonOf = (signal) => signal.reason ?? new Stopped();
 
 /**
  * The calls that each signal gives up.

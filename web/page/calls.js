@@ -6,11 +6,6 @@ import { watched } from "./watch.js";
 
 export { EngineMissing, Stopped } from "../module/faults.js";
 
-/** @typedef {{status: number, out: string, err: string, full: boolean}} Told what the program answers, as texts */
-
-/** How many bytes an answer may have, at first and at most: the page holds it as a text, and as a list. */
-const SHORT_ANSWER = 1_048_576;
-const LONGEST_ANSWER = 33_554_432;
 const UNREADABLE = "An answer of it can't be read.";
 
 /**
@@ -56,15 +51,6 @@ export class Calls extends WorkerCalls {
     /** @param {(name?: string) => Worker} newWorker @param {import("../module/worker-calls.js").SentModule} module */
     constructor(newWorker, module) {
         super(module, watched(() => newWorker()));
-    }
-
-    /** What the program answers to words and input.
-     * @param {string[]} words @param {string} input @returns {Promise<Told>} */
-    async tell(words, input) {
-        const short = await this.run(words, input, { room: SHORT_ANSWER });
-        const { status, out, err, full } = short.full ? await this.run(words, input, { room: LONGEST_ANSWER }) : short;
-        const text = new TextDecoder();
-        return { status, full, out: text.decode(out), err: text.decode(err) };
     }
 
     /** Has the tables of some steps built before they are needed, one after another, until calls are given up.

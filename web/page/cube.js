@@ -1,37 +1,36 @@
 // The card of the cube: the nets of both sides, the pieces that are marked on them, how they are held, and moves that are played on them.
-import { badEdges, caseOf, pieceName } from "./cases.js";
+import { AXES } from "../module/best-steps.js";
+import { stickersOf } from "./cases.js";
 import { announce, element, part, tell } from "./element.js";
 import { emptyNet, plainView, showCube, stickerOf, turnedView } from "./net.js";
-import { SIDES } from "./steps.js";
+import { SIDES, axisName } from "./steps.js";
 import { PIECES, nameOfPiece, whyOf } from "./why.js";
 
+/** @typedef {import("./position.js").View} View */
 /** @typedef {import("./steps.js").Side} Side */
 
 const FOLLOW = "follow";
 const PLAIN = "none";
 const BEAT = 700;
-const AXES_TO_MARK = ["F/B", "R/L", "U/D"];
 
 /**
- * The pieces that a choice marks, and what they are called; a choice is `EO F/B` or `DR U/D`.
- * @param {string} letters @param {string} choice
+ * The places of the pieces that a choice marks, and what they are called; a choice is `EO F/B` or `DR U/D`.
+ * @param {import("../module/facts.js").Facts} facts @param {string} choice
  */
-function marksOf(letters, choice) {
-    const [kind, axis] = choice.split(" ");
-    if (kind === "EO") {
-        const edges = badEdges(letters, axis);
-        return { pieces: edges, words: `${edges.length} bad` };
-    }
-    const { corners, edges } = caseOf(letters, axis);
-    return { pieces: [...corners, ...edges], words: `${corners.length}c${edges.length}e` };
+function marksOf({ badEdges, badCorners, misplacedEdges, cases }, choice) {
+    const [kind, name] = choice.split(" ");
+    const axis = AXES.find((each) => axisName(each) === name);
+    if (kind === "EO") return { pieces: badEdges[axis], words: `${badEdges[axis].length} bad` };
+    return { pieces: [...badCorners[axis], ...misplacedEdges[axis]], words: cases[axis] };
 }
 
 export class Cube {
     #nets = {};
-    #letters = null;
+    /** @type {Record<Side, View> | null} */
+    #views = null;
     #count = 0;
     #ask = null;
-    /** @type {{move: string, letters: Record<Side, string>}[] | null} */
+    /** @type {{move: string, views: Record<Side, View>}[] | null} */
     #frames = null;
     #frame = 0;
     #timer = 0;
@@ -51,7 +50,7 @@ export class Cube {
         part("piece").addEventListener("change", () => this.#tellWhy(SIDES));
         part("cube-large").addEventListener("click", () => this.#enlarge(!part("cube").matches(".large")));
         part("cube").addEventListener("keydown", (event) => this.#typed(event));
-        const kinds = ["EO", "DR"].flatMap((kind) => AXES_TO_MARK.map((axis) => `${kind} ${axis}`));
+        const kinds = ["EO", "DR"].flatMap((kind) => AXES.map((axis) => `${kind} ${axisName(axis)}`));
         this.#choice.append(...kinds.map((kind) => element("option", { value: kind }, kind)));
         this.#choice.addEventListener("change", () => this.#draw());
         for (const kind of ["pointerover", "focusin"]) part("choices").addEventListener(kind, (event) => this.#point(event.target));
@@ -69,12 +68,12 @@ export class Cube {
 
     /**
      * Shows a cube.
-     * @param {Record<Side, string>} letters @param {number} count how many moves lead to it from the scramble
-     * @param {() => Promise<{move: string, letters: Record<Side, string>}[]>} ask for the cube after each of them
+     * @param {Record<Side, View>} views @param {number} count how many moves lead to it from the scramble
+     * @param {() => Promise<{move: string, views: Record<Side, View>}[]>} ask for the cube after each of them
      */
-    show(letters, count, ask) {
+    show(views, count, ask) {
         this.stop();
-        this.#letters = letters;
+        this.#views = views;
         [this.#count, this.#frame] = [count, count];
         [this.#ask, this.#frames] = [ask, null];
         part("cube").hidden = false;
@@ -93,12 +92,13 @@ export class Cube {
         this.#tellWhy([side]);
     }
 
-    /** @param {Side[]} sides on which it is told of the piece that is chosen */
+    /** @param {readonly Side[]} sides on which it is told of the piece that is chosen */
     #tellWhy(sides) {
         const place = part("piece").value;
-        const { letters, choice } = this.#shown();
+        const { views, choice } = this.#shown();
         const choiceOfPiece = choice === PLAIN ? "" : choice;
-        const told = sides.map((side) => `${side === "normal" ? "Normal" : "Inverse"}: ${whyOf(letters[side], Number(place), choiceOfPiece)}`);
+        const why = (side) => whyOf(views[side].letters, Number(place), choiceOfPiece);
+        const told = sides.map((side) => `${side === "normal" ? "Normal" : "Inverse"}: ${why(side)}`);
         tell(part("why"), place === "" ? "" : told.join(" "));
     }
 
@@ -181,26 +181,26 @@ export class Cube {
     }
 
     #draw() {
-        if (this.#letters === null) return;
-        const { letters, choice } = this.#shown();
-        for (const side of SIDES) this.#drawSide(side, letters[side], choice);
+        if (this.#views === null) return;
+        const { views, choice } = this.#shown();
+        for (const side of SIDES) this.#drawSide(side, views[side], choice);
         const move = this.#frames?.[this.#frame].move;
         part("played").textContent = `${this.#frame} of ${this.#count}${move ? `: ${move}` : ""}`;
     }
 
-    /** The letters that are seen, and what is marked on them. */
+    /** The cube that is seen, and what is marked on it. */
     #shown() {
         const choice = this.#choice.value === FOLLOW ? this.#pointed || this.#open || PLAIN : this.#choice.value;
         const frame = this.#frame === this.#count ? null : this.#frames[this.#frame];
-        return { letters: frame?.letters ?? this.#letters, choice };
+        return { views: frame?.views ?? this.#views, choice };
     }
 
-    #drawSide(side, letters, choice) {
-        const marks = choice === PLAIN ? null : marksOf(letters, choice);
+    #drawSide(side, { letters, facts }, choice) {
+        const marks = choice === PLAIN ? null : marksOf(facts, choice);
         const words = marks === null ? "" : `${choice}: ${marks.words}`;
-        const names = marks === null ? "" : `, ${marks.pieces.map(pieceName).join(" ") || "none"}`;
+        const names = marks === null ? "" : `, ${marks.pieces.join(" ") || "none"}`;
         const title = `The cube on the ${side} side${words === "" ? "" : `; ${words}${names}`}`;
-        const places = marks === null ? null : new Set(marks.pieces.flat());
+        const places = marks === null ? null : new Set(stickersOf(marks.pieces));
         showCube(this.#nets[side], letters, title, { places, view: this.#view });
         part(`marked-${side}`).textContent = words === "" ? "" : ` · ${words}`;
     }

@@ -187,7 +187,7 @@ export class ListFilter {
 
     /**
      * What is left of a list, each entry by itself or one of its twins; or null if what is typed isn't moves.
-     * @template {import("./twins.js").Twins} Entry
+     * @template {import("../module/twins.js").Twins} Entry
      * @param {Entry[]} entries @param {(entry: Entry) => {name: string}[]} casesOf @returns {Entry[] | null}
      */
     left(entries, casesOf) {

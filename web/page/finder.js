@@ -1,50 +1,39 @@
 // Finds the best continuations: on each axis by a worker of its own with the engine in it, which the first search starts and a stop ends.
 // What they find is one list, sorted by all moves, those made counted too.
+import { bestOf } from "../module/best-rows.js";
 import { EngineMissing, Stopped } from "../module/faults.js";
-import { ORIENTATIONS } from "./steps.js";
+import { ORIENTATIONS, stateOf, stepNamed } from "./steps.js";
 import { watched } from "./watch.js";
+
+export { byTotal } from "../module/best-rows.js";
 
 /** @typedef {import("./steps.js").Part} Part */
 /** @typedef {import("./steps.js").Side} Side */
 
+/** @typedef {import("../module/best-rows.js").Next & {marks: string, case: string}} Next the reduction that follows, with what it reaches */
+/** @typedef {Omit<import("../module/best-rows.js").Row, "next"> & {state: string, next: Next | null}} Row with what its part reaches */
 /**
- * @typedef {{step: string, marks: string, side: Side, case: string, far: number, lengths: Record<Side, number | null>,
- *     totals: Record<Side, number>}} Next
- * the reduction that follows: its least length on each side, and all moves with it
+ * @typedef {{now: import("./steps.js").Lines, parts: Part[], reached: string[], slack: number, isAll: boolean}}
+ * Question
  */
-/**
- * @typedef {{total: number, part: Part, length: number, state: string, next: Next | null, others: string[], key: string}} Row
- * `total`: moves in all; `state`: what the part reaches; `others`: the last turns of those that differ in these alone
- */
-/** @typedef {{now: import("./steps.js").Lines, parts: Part[], reached: string[], slack: number, isAll: boolean}} Question */
-/** @typedef {{done: number, all: number | null, rows: Row[], isCut: boolean}} Found `all`: null where it isn't known yet; new rows alone */
-/** @typedef {{done: number, all: number | null, rows: Row[], isCut: boolean}} Progress */
+/** @typedef {import("../module/best-search.js").Found} Found */
+/** @typedef {{done: number, all: number | null, rows: Row[], isCut: boolean}} Progress of new rows alone, or of all */
 
 /** How many rows are kept. */
 export const MOST_KEPT = 10000;
 
-/** @param {Row} one @param {Row} other */
-export const byTotal = (one, other) => one.total - other.total || one.length - other.length || byCase(one, other);
-
-/** How far the case of a row is.
+/** How far the case of a row is; it matters only before its reduction.
  * @param {Row} row */
-const farness = ({ next }) => (next === null ? 0 : next.far);
+const farness = ({ next, far }) => (next === null ? 0 : far);
 
 /** @param {Row} one @param {Row} other */
 export const byCase = (one, other) => farness(one) - farness(other);
 
-/** The best of some rows, of which those that are as good stay in their order.
- * @param {Row[]} rows @returns {Row[]} */
-const bestOf = (rows) => rows.sort(byTotal).slice(0, MOST_KEPT);
-
-/** What was found on all axes as one list. It is the same whichever worker tells first.
- * @param {Row[][]} lists of the axes @returns {Row[]} */
-function joinedRows(lists) {
-    const rows = lists.flat().sort(byTotal);
-    if (rows.length === 0 || rows[0].next !== null) return rows;
-    // where two orientations hold, a reduction may follow each of them
-    const known = new Set();
-    return rows.filter(({ key }) => !known.has(key) && known.add(key));
+/** A row with what it reaches in the page's words.
+ * @param {import("../module/best-rows.js").Row} row @returns {Row} */
+function rowInWords(row) {
+    const next = row.next && { ...row.next, marks: stateOf(stepNamed(row.next.step)), case: row.case };
+    return { ...row, state: stateOf(stepNamed(row.step)), next };
 }
 
 /**
@@ -59,7 +48,7 @@ export async function findContinuations(finders, question, tellProgress) {
     const lists = asked.map(() => []);
     let isCut = false;
     const tell = () => {
-        const rows = joinedRows(lists);
+        const rows = bestOf(lists.flat(), Infinity);
         isCut ||= rows.length > MOST_KEPT;
         rows.length = Math.min(rows.length, MOST_KEPT);
         const done = counts.reduce((sum, each) => sum + each.done, 0);
@@ -68,13 +57,13 @@ export async function findContinuations(finders, question, tellProgress) {
     };
     await Promise.all(asked.map((step, at) => finders[ORIENTATIONS.indexOf(step)].find(step.name, question, (found) => {
         counts[at] = found;
-        lists[at] = bestOf([...lists[at], ...found.rows]);
+        lists[at] = bestOf([...lists[at], ...found.rows], MOST_KEPT);
         isCut ||= found.isCut;
         tell();
     })));
 }
 
-/** @typedef {{id: number, told: (found: Found) => void, ended: () => void, refused: (fault: Error) => void}} Running */
+/** @typedef {{id: number, told: (progress: Progress) => void, ended: () => void, refused: (fault: Error) => void}} Running */
 
 export class Finder {
     #newWorker;
@@ -93,7 +82,7 @@ export class Finder {
 
     /**
      * Finds the best of an axis, and tells of some after the other.
-     * @param {string} orientation @param {Question} question @param {(found: Found) => void} told @returns {Promise<void>}
+     * @param {string} orientation @param {Question} question @param {(progress: Progress) => void} told @returns {Promise<void>}
      */
     find(orientation, question, told) {
         this.stop();
@@ -140,7 +129,7 @@ export class Finder {
     #take(data) {
         const running = this.#running;
         if (running?.id !== data.id) return;
-        if (data.found) return running.told(data.found);
+        if (data.found) return running.told({ ...data.found, rows: data.found.rows.map(rowInWords) });
         this.#running = null;
         if ("error" in data) running.refused(new EngineMissing(data.error.message));
         else running.ended();

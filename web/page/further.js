@@ -108,7 +108,7 @@ export class FurtherSearch {
         search.counts[at] = NOT_YET;
     }
 
-    /** @param {Search} search @param {number} at @param {import("./finder.js").Found} found */
+    /** @param {Search} search @param {number} at @param {import("./finder.js").Progress} found */
     #take(search, at, found) {
         search.counts[at] = found;
         search.isCut ||= found.isCut;

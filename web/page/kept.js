@@ -1,12 +1,11 @@
 // The card of the candidates that are kept: each with its moves, what it reaches, its case and a note; gone on with, taken away, or copied.
 import { LONGEST_NOTE, MOST_CANDIDATES, fitsAddress } from "./address.js";
 import { Stopped } from "./calls.js";
-import { caseName } from "./cases.js";
 import { copy, fmcOfAll } from "./copying.js";
 import { announce, counted, element, part, spoken, tell } from "./element.js";
 import { WayTo } from "./places.js";
 import { walkKept } from "./position.js";
-import { ORIENTATIONS, REDUCTIONS, SIDES, bracketed, isReduced, reductionsAfter, stateOf, statesOf, stepNamed } from "./steps.js";
+import { ORIENTATIONS, REDUCTIONS, SIDES, axisName, bracketed, isReduced, reductionsAfter, stateOf, statesOf, stepNamed } from "./steps.js";
 import { tellAt, withoutMoving } from "./view.js";
 import { MOST_ARE_KEPT, NO_ROOM } from "./words.js";
 
@@ -74,7 +73,7 @@ function sidesOf(parts) {
  * @param {KeptWalk} walk @returns {Stage[]}
  */
 function stagesOfReduced(walk) {
-    const { parts, letters } = walk;
+    const { parts, facts } = walk;
     const reductions = REDUCTIONS.filter(({ name }) => walk.reached.at(-1).includes(name));
     const ways = reductions.map((step) => ({ step, from: heldFrom(walk, step.needs), to: heldFrom(walk, step.name) }));
     const [{ from, to }] = ways.sort((one, other) => one.to - other.to || one.from - other.from);
@@ -83,7 +82,7 @@ function stagesOfReduced(walk) {
     const begin = from < to ? from : 0;
     const before = parts.slice(0, begin);
     const oriented = statesOf(first.map(({ needs }) => needs)).map((state) => `${state}, ${sidesOf(before)}`);
-    const reduced = first.map((step) => (from < to ? `${stateOf(step)} ${caseName(letters[from], step.axis)}` : stateOf(step)));
+    const reduced = first.map((step) => (from < to ? `${stateOf(step)} ${facts[from].cases[step.axis]}` : stateOf(step)));
     const later = to === 0 ? reductions : reductions.filter((step) => !first.some((other) => stateOf(other) === stateOf(step)));
     const stages = [
         { parts: before, states: oriented, cases: [] },
@@ -96,11 +95,11 @@ function stagesOfReduced(walk) {
 /** The stages of a candidate; before a reduction one, with the cases that may follow.
  * @param {KeptWalk} walk @returns {Stage[]} */
 function stagesOf(walk) {
-    const { parts, letters, next } = walk;
+    const { parts, facts, next } = walk;
     const reached = walk.reached.at(-1);
     if (isReduced(reached)) return stagesOfReduced(walk);
     const steps = ORIENTATIONS.filter(({ name }) => reached.includes(name)).flatMap(({ name }) => reductionsAfter(name));
-    const cases = [...new Set(steps.map(({ axis }) => `${axis} ${caseName(letters.at(-1), axis)}`))];
+    const cases = [...new Set(steps.map(({ axis }) => `${axisName(axis)} ${facts.at(-1).cases[axis]}`))];
     return [{ parts, states: statesOf(reached), cases: next === null ? cases : [wordsOfNext(walk)] }];
 }
 
@@ -229,7 +228,7 @@ export class KeptCandidates {
             this.#draw();
         } catch (fault) {
             if (candidates !== this.#candidates || fault instanceof Stopped) return;
-            tell(part("alert"), `The lines that are kept can't be read: ${fault.words ?? fault.message}.`);
+            tell(part("alert"), `The lines that are kept can't be read: ${fault.text ?? fault.message}.`);
         }
     }
 

@@ -1,7 +1,6 @@
 // The card of the line so far: the steps that were taken, each of which may be edited or taken away, undo, moves by hand, the switch of
 // sides, and the whole to copy.
 import { Stopped } from "./calls.js";
-import { isSolved } from "./cases.js";
 import { copy, fmcOf } from "./copying.js";
 import { announce, counted, element, part, spoken, tell } from "./element.js";
 import { readByHand } from "./lines.js";
@@ -32,10 +31,10 @@ const listed = (words) => [words.slice(0, -1).join(", "), ...words.slice(-1)].fi
 
 /** What is said of a line that ends, or "".
  * @param {Walk} walk */
-function endOf({ parts, letters, reached, totals }) {
+function endOf({ parts, facts, reached, totals }) {
     const total = counted(totals.at(-1), "move");
     if (parts.length === 0) return "";
-    if (isSolved(letters.at(-1))) return `Solved: ${total}.`;
+    if (facts.at(-1).solved) return `Solved: ${total}.`;
     if (!isReduced(reached.at(-1))) return "";
     const states = statesOf(reached.at(-1)).filter((state) => state.startsWith("DR"));
     return `${listed(states)} ${states.length === 1 ? "is" : "are"} reached: ${total}. nissy has no step after a DR: go on by hand.`;
@@ -57,8 +56,8 @@ const withOthers = (list, index, others) => [...list.slice(0, index), ...others,
 
 /** What is to be known of a line without brackets before the cube is solved, or "".
  * @param {Walk} walk */
-function noteOfJoined({ parts, letters }) {
-    if (isSolved(letters.at(-1)) || !parts.some(({ side }) => side === "inverse")) return "";
+function noteOfJoined({ parts, facts }) {
+    if (facts.at(-1).solved || !parts.some(({ side }) => side === "inverse")) return "";
     return "Not finished: the inverse moves stand at the end as premoves, and what follows goes before them.";
 }
 

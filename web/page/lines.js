@@ -1,7 +1,8 @@
 // How lines are read: as the engine writes them, and by face turns alone if they turn the whole cube. The engine pushes such turns to
 // the end of a line; there they are left out, so that each letter names the same face in all that follows.
+import { NissyFault } from "../module/faults.js";
 import { LONGEST_NOTE, MOST_CANDIDATES } from "./address.js";
-import { EngineFault, cleanAll, joinAll } from "./engine.js";
+import { cleanAll, joinAll } from "./engine.js";
 import { plainLine } from "./pasted.js";
 import { bracketed } from "./steps.js";
 
@@ -16,7 +17,7 @@ const FACE_TURNS = /^[UDRLFB2' ]*$/;
  * @param {string} cleaned */
 function withoutTurns(cleaned) {
     const line = cleaned.replace(/[xyz][2']?/g, "").replace(/ +/g, " ").replace(/\( /g, "(").replace(/ \)/g, ")");
-    if ((line.match(/[UDRLFB]/g)?.length ?? 0) > MOST_MOVES) throw new EngineFault(`more than ${MOST_MOVES} moves, as face turns`);
+    if ((line.match(/[UDRLFB]/g)?.length ?? 0) > MOST_MOVES) throw new NissyFault(`more than ${MOST_MOVES} moves, as face turns`, {});
     return line.replace(/\(\)/g, "").trim();
 }
 
@@ -31,13 +32,6 @@ function runsOf(text, side) {
     );
 }
 
-/** A line as the engine reads it, without brackets.
- * @param {Calls} calls @param {string} line */
-async function readLine(calls, line) {
-    const [read] = await joinAll(calls, [line]);
-    return read;
-}
-
 /** What the last scramble was read as: each step asks for it again.
  * @type {{text: string, line: string, isTurned: boolean} | null} */
 let lastRead = null;
@@ -46,7 +40,7 @@ let lastRead = null;
  * @param {Calls} calls @param {string} text */
 export async function readScramble(calls, text) {
     if (lastRead?.text !== text) {
-        const [cleaned] = await cleanAll(calls, [await readLine(calls, text)]);
+        const cleaned = await calls.cleanup(await calls.unniss(text));
         const line = withoutTurns(cleaned);
         lastRead = { text, line, isTurned: line !== cleaned };
     }
@@ -58,14 +52,14 @@ export async function readScramble(calls, text) {
  * @param {Calls} calls @param {string} text @param {Side} side where moves go in a line without brackets @returns {Promise<Part[]>}
  */
 export async function readByHand(calls, text, side) {
-    const read = await readLine(calls, text);
-    const line = FACE_TURNS.test(read) ? text : withoutTurns((await cleanAll(calls, [text]))[0]);
+    const read = await calls.unniss(text);
+    const line = FACE_TURNS.test(read) ? text : withoutTurns(await calls.cleanup(text));
     const runs = runsOf(line, text.includes("(") ? "normal" : side);
     const moves = await joinAll(calls, runs.map((run) => run.moves));
     return runs.map((run, index) => ({ side: run.side, moves: moves[index] })).filter((run) => run.moves !== "");
 }
 
-/** @typedef {{line: string, fault: EngineFault}} Unread a line of a text that can't be read, and why */
+/** @typedef {{line: string, fault: NissyFault}} Unread a line of a text that can't be read, and why */
 
 /**
  * The steps of some lines of text, as solvers write them, up to the first that can't be read.
@@ -78,7 +72,7 @@ async function readAllByHand(calls, texts) {
         try {
             parts.push(...(await readByHand(calls, line, "normal")));
         } catch (fault) {
-            if (!(fault instanceof EngineFault)) throw fault;
+            if (!(fault instanceof NissyFault)) throw fault;
             return { parts, unread: { line, fault } };
         }
     }
@@ -106,7 +100,7 @@ export async function readWritten(calls, { steps, candidates }) {
 /** The steps of an address, each read as moves by hand are.
  * @param {Calls} calls @param {Part[]} parts @returns {Promise<Part[]>} */
 export async function readSteps(calls, parts) {
-    await readLine(calls, bracketed(parts));
+    await calls.unniss(bracketed(parts));
     const lines = parts.map(({ moves }) => moves);
     const read = await joinAll(calls, lines);
     const cleaned = await cleanAll(calls, lines);
@@ -124,7 +118,7 @@ export async function readKept(calls, kept) {
         try {
             return { ...each, parts: await readSteps(calls, each.parts) };
         } catch (fault) {
-            if (fault instanceof EngineFault) return each;
+            if (fault instanceof NissyFault) return each;
             throw fault;
         }
     }));

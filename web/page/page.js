@@ -1,11 +1,11 @@
 // The page's state, and what each change of it makes the parts of the page show.
+import { NissyFault } from "../module/faults.js";
 import { emptyState, readAddress } from "./address.js";
 import { BestContinuations } from "./best.js";
 import { Readiness, Stopped } from "./calls.js";
 import { copy } from "./copying.js";
 import { Cube } from "./cube.js";
 import { announce, announceLater, part, setBusy, spoken, tell } from "./element.js";
-import { EngineFault } from "./engine.js";
 import { NextFocus } from "./focus.js";
 import { KeptCandidates } from "./kept.js";
 import { LineSoFar } from "./line.js";
@@ -118,8 +118,8 @@ export class Page {
             state.kept = await readKept(this.#calls, state.kept);
         } catch (stop) {
             if (turn !== this.#turn) return;
-            if (!(stop instanceof EngineFault)) return this.#showUnread(state, stop);
-            tell(part("alert"), `The steps of this address can't be read: ${stop.words}.`);
+            if (!(stop instanceof NissyFault)) return this.#showUnread(state, stop);
+            tell(part("alert"), `The steps of this address can't be read: ${stop.text}.`);
             Object.assign(state, { parts: [], list: null });
         }
         if (turn !== this.#turn) return;
@@ -226,7 +226,7 @@ export class Page {
         try {
             read = await readScramble(this.#calls, plainLine(this.#state.scramble).line);
         } catch (stop) {
-            if (!(stop instanceof EngineFault)) throw stop;
+            if (!(stop instanceof NissyFault)) throw stop;
             fault = stop;
         }
         if (turn !== this.#turn) return null;
@@ -236,14 +236,14 @@ export class Page {
         return read;
     }
 
-    #showCube({ line: scramble, isTurned }, { walk, now, letters, whole }) {
+    #showCube({ line: scramble, isTurned }, { walk, now, views, whole }) {
         const { parts } = this.#state;
         const reached = walk.reached.at(-1);
         // as it was typed, if what follows names the faces so
         const written = isTurned ? scramble : plainLine(this.#state.scramble).line.trim().replace(/ +/g, " ");
-        this.#cube = { scramble, written, now, reached, letters: letters.normal, made: walk.totals.at(-1) };
+        this.#cube = { scramble, written, now, reached, facts: views.normal.facts, made: walk.totals.at(-1) };
         const count = parts.reduce((sum, { moves }) => sum + moves.split(" ").length, 0);
-        this.#nets.show(letters, count, () => framesOf(this.#byHand, scramble, parts));
+        this.#nets.show(views, count, () => framesOf(this.#byHand, scramble, parts));
         this.#line.describe(walk, whole, written);
         setUsable(true);
         part("choices").hidden = isBare(this.#state);
@@ -380,7 +380,7 @@ export class Page {
         if (fault instanceof Stopped) return;
         setBusy("results", false);
         part("results").inert = true;
-        if (fault instanceof EngineFault) tell(part("alert"), unanswered(fault));
+        if (fault instanceof NissyFault) tell(part("alert"), unanswered(fault));
         else tellFailed(unanswered(fault));
     }
 

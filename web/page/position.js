@@ -1,22 +1,23 @@
-// What the engine says of a scramble and the moves after it: the cube after each step, its letters, what is reached, and which steps may
+// What the engine says of a scramble and the moves after it: the cube after each step, what is reached, and which steps may
 // follow.
-import { badEdges, caseName, reachedBy } from "./cases.js";
-import { cleanAll, countAll, firstAll, invertAll, joinAll, printAll, turnsOfAll } from "./engine.js";
-import { mergersOf, movesIn } from "./merging.js";
-import { SIDES, bracketed, isReduced, joined, movesOn, openSteps, stateOf, statesOf } from "./steps.js";
+import { caseOfStep } from "./cases.js";
+import { cleanAll, firstAll, invertAll, printAll } from "./engine.js";
+import { mergersOf, movesIn } from "../module/merging.js";
+import { SIDES, bracketed, isReduced, joined, movesOn, offeredAmong, openSteps, stateOf, statesOf } from "./steps.js";
 
+/** @typedef {import("../module/facts.js").Facts} Facts */
+/** @typedef {import("../module/replies.js").Count} Count */
 /** @typedef {import("./steps.js").Side} Side */
 /** @typedef {import("./steps.js").Part} Part */
 /** @typedef {import("./steps.js").Lines} Lines */
-/** @typedef {import("./engine.js").Count} Count */
 /** @typedef {Count & {total: number}} Counted `total`: all moves with the shortest, once they are merged; Infinity if there is none */
 /** @typedef {{step: import("./steps.js").OfferedStep, normal: Counted, inverse: Counted}} Offer */
 /** @typedef {Record<Side, string[]>} Made the clean moves that are made on each side */
 /**
  * What is known of a line after each beginning, from none of its parts to all.
- * @typedef {{parts: Part[], lines: Lines[], letters: string[], inverse: string, reached: string[][], totals: number[],
+ * @typedef {{parts: Part[], lines: Lines[], facts: Facts[], inverse: Facts, reached: string[][], totals: number[],
  *     turns: number[]}} Walk
- * `inverse`: the letters of the inverse side at the end; `turns`: of each part
+ * `inverse`: of the inverse side at the end; `turns`: of each part
  */
 
 /** The beginnings of parts, from none to all.
@@ -28,11 +29,11 @@ const beginningsOfParts = (parts) => Array.from({ length: parts.length + 1 }, (_
  * @param {import("./calls.js").Calls} calls @param {string} scramble @param {Part[][]} all @returns {Promise<Lines[]>}
  */
 async function linesAfter(calls, scramble, all) {
-    const sides = all.map((parts) => ({ normal: joined(scramble, movesOn(parts, "normal")), inverse: movesOn(parts, "inverse") }));
-    const inverted = await invertAll(calls, sides.flatMap(({ normal, inverse }) => [normal, inverse]));
-    return sides.map(({ normal, inverse }, index) => ({
-        normal: joined(inverted[2 * index + 1], normal),
-        inverse: joined(inverted[2 * index], inverse),
+    const inverseOf = await invertAll(calls, [scramble, ...all.flat().map(({ moves }) => moves)]);
+    const undone = (parts, side) => joined(...parts.filter((part) => part.side === side).map(({ moves }) => inverseOf(moves)).reverse());
+    return all.map((parts) => ({
+        normal: joined(undone(parts, "inverse"), scramble, movesOn(parts, "normal")),
+        inverse: joined(undone(parts, "normal"), inverseOf(scramble), movesOn(parts, "inverse")),
     }));
 }
 
@@ -42,33 +43,28 @@ async function linesAfter(calls, scramble, all) {
  * @returns {Promise<Walk[]>}
  */
 export async function walkAll(calls, scramble, candidates) {
-    const beginnings = candidates.flatMap(beginningsOfParts);
-    const lines = await linesAfter(calls, scramble, beginnings);
-    let last = -1;
-    const ends = candidates.map((parts) => lines[(last += parts.length + 1)]);
-    const letters = await printAll(calls, [...lines.map(({ normal }) => normal), ...ends.map(({ inverse }) => inverse)]);
-    const alone = candidates.flat().map((part) => [part]);
-    const turns = await turnsOfAll(calls, [...beginnings, ...alone].map(bracketed));
-    const walks = [];
-    let begin = 0;
-    let part = beginnings.length;
-    for (const parts of candidates) {
-        const end = begin + parts.length + 1;
-        const seen = letters.slice(begin, end);
-        const inverse = letters[beginnings.length + walks.length];
-        walks.push({
+    const walks = candidates.map((parts) => ({ parts, beginnings: beginningsOfParts(parts) }));
+    const lines = await linesAfter(calls, scramble, walks.flatMap(({ beginnings }) => beginnings));
+    const alone = candidates.flat().map(({ moves }) => moves);
+    const made = walks.flatMap(({ beginnings }) => beginnings).flatMap((parts) => SIDES.map((side) => movesOn(parts, side)));
+    const cubes = lines.flatMap(({ normal, inverse }) => [normal, inverse]);
+    const asked = [...new Set([...cubes, ...made, ...alone])];
+    const told = await calls.factsAll(asked);
+    const known = new Map(asked.map((line, at) => [line, told[at]]));
+    const turnsOf = (line) => known.get(line).cleanMoves;
+    return walks.map(({ parts, beginnings }) => {
+        const own = lines.splice(0, beginnings.length);
+        const facts = own.map(({ normal }) => known.get(normal));
+        return {
             parts,
-            lines: lines.slice(begin, end),
-            letters: seen,
-            inverse,
-            reached: seen.map(reachedBy),
-            totals: turns.slice(begin, end),
-            turns: turns.slice(part, part + parts.length),
-        });
-        begin = end;
-        part += parts.length;
-    }
-    return walks;
+            lines: own,
+            facts,
+            inverse: known.get(own.at(-1).inverse),
+            reached: facts.map(({ holds }) => offeredAmong(holds)),
+            totals: beginnings.map((each) => SIDES.reduce((sum, side) => sum + turnsOf(movesOn(each, side)), 0)),
+            turns: parts.map(({ moves }) => turnsOf(moves)),
+        };
+    });
 }
 
 /** @typedef {{state: string, case: string, lengths: (number | null)[], total: number, side: Side}} Next
@@ -78,11 +74,11 @@ export async function walkAll(calls, scramble, candidates) {
 
 /** What is said of a reduction that follows a line.
  * @param {Walk} walk @param {Offer} offer @returns {Next} */
-function nextOf({ letters }, offer) {
+function nextOf({ facts }, offer) {
     const lengths = SIDES.map((side) => offer[side].length);
     const total = Math.min(...SIDES.map((side) => offer[side].total));
     const side = SIDES.find((each) => offer[each].total === total);
-    return { state: stateOf(offer.step), case: caseOfStep(letters.at(-1), offer.step), lengths, total, side };
+    return { state: stateOf(offer.step), case: caseOfStep(facts.at(-1), offer.step), lengths, total, side };
 }
 
 /** What is made on each side, clean.
@@ -112,24 +108,31 @@ export async function walkKept(calls, scramble, candidates) {
  * @param {import("./calls.js").Calls} calls @param {string} scramble by its face turns @param {Part[]} parts
  */
 export async function examine(calls, scramble, parts) {
-    const [[walk], [whole], made] = await Promise.all([
-        walkAll(calls, scramble, [parts]), joinAll(calls, [bracketed(parts)]), madeBy(calls, parts),
+    const [[walk], whole, made] = await Promise.all([
+        walkAll(calls, scramble, [parts]), calls.unniss(bracketed(parts)), madeBy(calls, parts),
     ]);
-    return { walk, made, now: walk.lines.at(-1), letters: { normal: walk.letters.at(-1), inverse: walk.inverse }, whole };
+    const now = walk.lines.at(-1);
+    const [normal, inverse] = await printAll(calls, SIDES.map((side) => now[side]));
+    const views = { normal: { letters: normal, facts: walk.facts.at(-1) }, inverse: { letters: inverse, facts: walk.inverse } };
+    return { walk, made, now, views, whole };
 }
+
+/** @typedef {{letters: string, facts: Facts}} View what is drawn of a cube, and marked */
 
 /**
  * The cube on both sides after the scramble and after each move of some parts.
  * @param {import("./calls.js").Calls} calls @param {string} scramble by its face turns @param {Part[]} parts
- * @returns {Promise<{move: string, letters: Record<Side, string>}[]>}
+ * @returns {Promise<{move: string, views: Record<Side, View>}[]>}
  */
 export async function framesOf(calls, scramble, parts) {
     const moves = parts.flatMap(({ side, moves: text }) => text.split(" ").map((move) => ({ side, moves: move })));
     const lines = await linesAfter(calls, scramble, beginningsOfParts(moves));
-    const letters = await printAll(calls, lines.flatMap(({ normal, inverse }) => [normal, inverse]));
+    const cubes = lines.flatMap(({ normal, inverse }) => [normal, inverse]);
+    const [letters, facts] = await Promise.all([printAll(calls, cubes), calls.factsAll(cubes)]);
+    const viewAt = (at) => ({ letters: letters[at], facts: facts[at] });
     return lines.map((_, at) => ({
         move: at === 0 ? "" : bracketed([moves[at - 1]]),
-        letters: { normal: letters[2 * at], inverse: letters[2 * at + 1] },
+        views: { normal: viewAt(2 * at), inverse: viewAt(2 * at + 1) },
     }));
 }
 
@@ -154,7 +157,7 @@ async function mostSaved(calls, step, line, made, length) {
  * @returns {Promise<Offer>}
  */
 async function offerOf(calls, step, now, made) {
-    const counts = await countAll(calls, step.name, [now.normal, now.inverse]);
+    const counts = await calls.countAll(step.name, [now.normal, now.inverse]);
     const [normal, inverse] = await Promise.all(SIDES.map(async (side, at) => {
         const { length } = counts[at];
         if (length === null) return { ...counts[at], total: Infinity };
@@ -195,14 +198,6 @@ export async function inPortions(groups) {
     // what is wrong is said where they are waited for
     for (const portion of portions) portion.catch(() => {});
     return portions;
-}
-
-/** What solvers choose a step by: bad edges, or the case.
- * @param {string} letters @param {import("./steps.js").OfferedStep} step */
-export function caseOfStep(letters, { axis, needs }) {
-    if (needs !== null) return caseName(letters, axis);
-    const count = badEdges(letters, axis).length;
-    return `${count} bad edge${count === 1 ? "" : "s"}`;
 }
 
 /** What a step of a line newly reaches; a reduction says the orientations that hold with it.

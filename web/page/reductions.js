@@ -2,9 +2,9 @@
 // has its moves in all. They are asked for once a row is shown, since thousands are never looked at.
 import { tellReductions } from "./best-row.js";
 import { setBusy } from "./element.js";
-import { countAll, invertAll, turnsOfAll } from "./engine.js";
+import { invertAll } from "./engine.js";
 import { withTwins } from "./filter.js";
-import { bracketed, joined, otherSide } from "./steps.js";
+import { SIDES, joined, movesOn, otherSide } from "./steps.js";
 
 /** @typedef {import("./finder.js").Row} Row */
 /** @typedef {import("./steps.js").Lines} Lines */
@@ -22,14 +22,14 @@ const MOST_TRIED = 300;
  * @param {import("./calls.js").Calls} calls @param {Cube} cube @param {Row[]} rows @returns {Promise<Asked[]>}
  */
 async function cubesAfter(calls, { now }, rows) {
-    return Promise.all(rows.map(async (row) => {
-        const { part: { side, moves }, others } = row;
-        const twins = withTwins(moves, others);
-        const inverted = await invertAll(calls, twins);
+    const twinsOfRow = ({ part: { moves }, others }) => withTwins(moves, others);
+    const inverseOf = await invertAll(calls, rows.flatMap(twinsOfRow));
+    return rows.map((row) => {
+        const { side } = row.part;
         const other = otherSide(side);
-        const linesOf = (each, at) => ({ ...now, [side]: joined(now[side], each), [other]: joined(inverted[at], now[other]) });
-        return { row, twins: twins.map(linesOf) };
-    }));
+        const linesOf = (moves) => ({ ...now, [side]: joined(now[side], moves), [other]: joined(inverseOf(moves), now[other]) });
+        return { row, twins: twinsOfRow(row).map(linesOf) };
+    });
 }
 
 /**
@@ -38,7 +38,10 @@ async function cubesAfter(calls, { now }, rows) {
  * @returns {Promise<Part | null>}
  */
 async function firstOf(calls, before, reductions, total) {
-    const totalsOf = (some) => turnsOfAll(calls, some.map((each) => bracketed([...before, each])));
+    const totalsOf = async (some) => {
+        const facts = await calls.factsAll(some.flatMap((each) => SIDES.map((side) => movesOn([...before, each], side))));
+        return some.map((_, at) => facts[2 * at].cleanMoves + facts[2 * at + 1].cleanMoves);
+    };
     // mostly it is the first of all: only where moves merge may it be another one
     const [own] = await totalsOf(reductions.slice(0, 1));
     if (own === undefined || own === total) return reductions[0] ?? null;
@@ -49,7 +52,7 @@ async function firstOf(calls, before, reductions, total) {
 /** How many of a row's reductions have the length that it shows for a side: those after the first of its twins that has some.
  * @param {import("./calls.js").Calls} calls @param {Asked} asked @param {Side} side */
 async function solutionsOn(calls, { row: { next }, twins }, side) {
-    const counts = await countAll(calls, next.step, twins.map((lines) => lines[side]));
+    const counts = await calls.countAll(next.step, twins.map((lines) => lines[side]));
     return counts.find(({ length }) => length === next.lengths[side])?.solutions ?? null;
 }
 

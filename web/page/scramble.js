@@ -3,7 +3,7 @@
 import { LONGEST_SCRAMBLE } from "./address.js";
 import { Stopped } from "./calls.js";
 import { announce, announceLater, counted, element, part, tell } from "./element.js";
-import { EngineFault, scrambleOf } from "./engine.js";
+import { NoSeed, scrambleOf } from "./engine.js";
 import { plainLine, readFmc, wordsOfLeftOut } from "./pasted.js";
 import { withoutMoving } from "./view.js";
 import { placeOfFault, showFault } from "./words.js";
@@ -240,7 +240,7 @@ export class ScrambleField {
             announce(`Scramble from seed ${seed}: ${scramble}`);
         } catch (fault) {
             if (draw !== this.#draws || fault instanceof Stopped) return;
-            show(fault instanceof EngineFault ? new Error(SEEDS) : fault);
+            show(fault instanceof NoSeed ? new Error(SEEDS) : fault);
         }
     }
 }

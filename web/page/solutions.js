@@ -1,20 +1,21 @@
 // The list of a step's solutions: grouped by length or by case, filtered by turns and by case, and cut if it is long; and its engine: a
 // list that is looked for gives way to another one, and can be stopped.
+import { mergeTwins, withoutEarlier } from "../module/twins.js";
 import { Stopped } from "./calls.js";
-import { caseName, farnessOf, sizeOf } from "./cases.js";
+import { farnessOf, sizeOf } from "./cases.js";
 import { announce, announceLater, counted, element, part, setBusy, spoken, tell } from "./element.js";
-import { printAll, solve } from "./engine.js";
+import { solve } from "./engine.js";
 import { FilterSigns, ListFilter, NOT_MOVES } from "./filter.js";
 import { focusButton, focusWithin, roveWithin, starButton, takeButton } from "./rows.js";
 import { splitSolutions } from "./split.js";
-import { bracketed, reductionsAfter, stateOf, stepNamed, titleOf } from "./steps.js";
-import { mergeTwins, withoutEarlier } from "./twins.js";
+import { axisName, bracketed, reductionsAfter, stateOf, stepNamed, titleOf } from "./steps.js";
 import { isNarrow } from "./view.js";
 
 /** @typedef {import("./address.js").List} List */
 /** @typedef {import("./steps.js").Part} Part */
-/** @typedef {import("./twins.js").Twins & {letters?: string, begin?: Part, line?: string}} Entry a solution, the letters after it where they
- * are known, and where it is split what it begins with on the other side, with the cube's line after that */
+/** @typedef {import("../module/facts.js").Facts} Facts */
+/** @typedef {import("../module/twins.js").Twins & {facts?: Facts, begin?: Part, line?: string}} Entry a solution, the cube after it where that
+ * is known, and where it is split what it begins with on the other side, with the cube's line after that */
 
 /** From more signs on a line leaves no room for what is pressed beside it on a phone. */
 const LONG_LINE = 18;
@@ -95,8 +96,8 @@ export class SolutionList {
     }
 
     /**
-     * Takes the solutions of the open list, and returns those whose letters are wanted.
-     * @param {(import("./engine.js").Solution | import("./split.js").SplitSolution)[]} all @param {boolean} whole
+     * Takes the solutions of the open list, and returns those whose cases are wanted.
+     * @param {(import("../module/replies.js").Solution | import("./split.js").SplitSolution)[]} all @param {boolean} whole
      */
     take(all, whole) {
         this.#all = all;
@@ -109,10 +110,10 @@ export class SolutionList {
     }
 
     /** Shows the list, with what is known of its cases.
-     * @param {string[]} letters after each of those that were wanted */
-    show(letters) {
-        letters.forEach((each, at) => {
-            this.#entries[at].letters = each;
+     * @param {Facts[]} facts after each of those that were wanted */
+    show(facts) {
+        facts.forEach((each, at) => {
+            this.#entries[at].facts = each;
         });
         this.#filter.offerLastTurns(this.#entries);
         this.#setWorking(false);
@@ -199,9 +200,9 @@ export class SolutionList {
 
     /** The names of the cases after a solution, for each reduction that may follow.
      * @param {Entry} entry */
-    #casesOf({ letters }) {
-        if (letters === undefined) return [];
-        const caseOfOne = (step) => ({ state: stateOf(step), axis: step.axis, name: caseName(letters, step.axis) });
+    #casesOf({ facts }) {
+        if (facts === undefined) return [];
+        const caseOfOne = (step) => ({ state: stateOf(step), axis: axisName(step.axis), name: facts.cases[step.axis] });
         return reductionsAfter(this.#list.step).map(caseOfOne);
     }
 
@@ -338,9 +339,9 @@ export class OpenList {
             const { solutions, whole } = await asked;
             if (!isStill()) return false;
             const wanted = this.#list.take(solutions, whole);
-            const letters = await printAll(this.#calls, wanted.map(({ moves, line = now[list.side] }) => `${line} ${moves}`));
+            const facts = await this.#calls.factsAll(wanted.map(({ moves, line = now[list.side] }) => `${line} ${moves}`));
             if (!isStill()) return false;
-            this.#list.show(letters);
+            this.#list.show(facts);
             announce(`${titleOf(stepNamed(list.step))}, ${list.side} side: ${this.#list.summary()}.`);
             return true;
         } catch (fault) {

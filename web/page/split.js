@@ -64,8 +64,8 @@ async function leastAfter(calls, step, beginnings) {
 export async function splitSolutions(calls, { step, side, slack, split }, now) {
     const other = otherSide(side);
     const all = beginningsWith(step, split).map((turns) => turns.join(" "));
-    const inverted = await invertAll(calls, all);
-    const beginnings = all.map((moves, at) => ({ begin: { side: other, moves }, line: joined(inverted[at], now[side]) }));
+    const inverseOf = await invertAll(calls, all);
+    const beginnings = all.map((moves) => ({ begin: { side: other, moves }, line: joined(inverseOf(moves), now[side]) }));
     const least = await leastAfter(calls, step, beginnings);
     if (least === null) return { solutions: [], whole: true };
     const limit = Math.min(LONGEST_AFTER, least + slack);

@@ -1,12 +1,12 @@
 // The table of the steps that may follow: a row for each, with what solvers choose by, and a cell for each side with the least length, what
 // it makes in all, and how many solutions there are; what is reached, in a line; and the looks, in a table of their own.
+import { caseOfStep } from "./cases.js";
 import { counted, element, part } from "./element.js";
-import { caseOfStep } from "./position.js";
 import { SIDES, isReduced, openSteps, stateOf, statesOf, titleOf } from "./steps.js";
 
 /** @typedef {import("./position.js").Offer} Offer */
 /** @typedef {import("./steps.js").Side} Side */
-/** @typedef {{letters: string, made: number, reached: string[]}} Cube */
+/** @typedef {{facts: import("../module/facts.js").Facts, made: number, reached: string[]}} Cube */
 
 /**
  * The least length, what that makes in all, if moves were made before, and how many solutions there are.
@@ -18,7 +18,7 @@ function wordsOf({ length, total, solutions }, made) {
 }
 
 /** A step that is still to be counted. */
-const UNCOUNTED = { length: null, total: Infinity, solutions: 0, looks: 0 };
+const UNCOUNTED = { length: null, total: Infinity, solutions: 0, nodes: 0 };
 
 /** Whether offers are reductions.
  * @param {Offer[]} offers */
@@ -96,7 +96,7 @@ export class StepTable {
             [...(group === anew ? [this.#anew(cube)] : []), ...this.#rows(group, cube, list)]));
         this.#looks.replaceChildren(...groups.flat().map((offer) => element("tr", {},
             element("th", { scope: "row" }, titleOf(offer.step)),
-            ...SIDES.map((side) => element("td", { class: "number" }, offer[side].looks.toLocaleString("en"))))));
+            ...SIDES.map((side) => element("td", { class: "number" }, offer[side].nodes.toLocaleString("en"))))));
         const all = groups.flat();
         part("no-reduction").hidden = cube.reached.length > 0;
         part("steps-table").hidden = all.length === 0;
@@ -167,7 +167,7 @@ export class StepTable {
         return group.map((offer) => element("tr", { "data-marks": stateOf(offer.step) },
             element("th", { scope: "row" },
                 element("span", { class: "axis" }, isOneOf ? titleOf(offer.step) : stateOf(offer.step)),
-                element("small", {}, ` ${caseOfStep(cube.letters, offer.step)}`)),
+                element("small", {}, ` ${caseOfStep(cube.facts, offer.step)}`)),
             ...SIDES.map((side) => this.#cell(offer, side, { least, made: cube.made, list }))));
     }
 

@@ -1,8 +1,7 @@
 // Sentences: why a line can't be read, with a mark at the place in the text that was typed, why there is no answer, and the page's title.
-import { EngineMissing } from "../module/faults.js";
+import { EngineMissing, NissyFault } from "../module/faults.js";
 import { MOST_CANDIDATES } from "./address.js";
 import { element } from "./element.js";
-import { EngineFault } from "./engine.js";
 import { MOST_MOVES } from "./lines.js";
 import { bracketed, openSteps, stateOf, stepNamed, titleOf } from "./steps.js";
 
@@ -18,10 +17,10 @@ const MOST_SIGNS = 40;
 export const engineFails = (message) => `The engine doesn't work here. ${message}`;
 
 /** Why there is no answer.
- * @param {Error & {words?: string}} fault */
+ * @param {Error & {text?: string}} fault */
 export function unanswered(fault) {
     if (fault instanceof EngineMissing) return engineFails(fault.message);
-    const words = fault.words ?? fault.message;
+    const words = fault.text ?? fault.message;
     if (words !== TOO_MANY) return `There is no answer: ${words}.`;
     return `The scramble and the moves after it can't be read together: they have ${TOO_MANY}.`;
 }
@@ -47,20 +46,6 @@ export function whyNotListed(name, reached) {
 
 const AROUND = 24;
 const LONGEST_WORD = 12;
-
-/** The place of a column in a text: columns count bytes from 1.
- * @param {string} text @param {number} column */
-export function placeOfColumn(text, column) {
-    const bytes = new TextEncoder();
-    let before = 0;
-    let place = 0;
-    for (const sign of text) {
-        before += bytes.encode(sign).length;
-        if (before >= column) break;
-        place += sign.length;
-    }
-    return place;
-}
 
 /** A text in which each sign has its place: blanks have one width, and what isn't seen is told by a sign.
  * @param {string} text */
@@ -92,17 +77,17 @@ function sentenceOfMove(line, place) {
 }
 
 /** The engine's words as a solver reads them.
- * @param {EngineFault} fault @param {string} line what the engine read */
+ * @param {NissyFault} fault @param {string} line what the engine read */
 function sentenceOf(fault, line) {
-    const place = fault.column === null ? 0 : placeOfColumn(line, fault.column);
+    const place = (fault.character ?? 1) - 1;
     const sentences = {
         "not a move": () => sentenceOfMove(line, place),
         "bracket inside a bracket": () => "A bracket stands inside a bracket.",
         "bracket closed that was not opened": () => "A bracket is closed that was not opened.",
         "bracket not closed": () => "A bracket isn't closed.",
     };
-    const sentence = Object.hasOwn(sentences, fault.words) ? sentences[fault.words] : null;
-    return sentence === null ? `${fault.words[0].toUpperCase()}${fault.words.slice(1)}.` : sentence();
+    const sentence = Object.hasOwn(sentences, fault.text) ? sentences[fault.text] : null;
+    return sentence === null ? `${fault.text[0].toUpperCase()}${fault.text.slice(1)}.` : sentence();
 }
 
 /** What is said of a text with a line that can't be read, or "".
@@ -131,9 +116,9 @@ function marked(text, place) {
  * Where a fault is in the text that was typed, or null.
  * @param {import("./pasted.js").PlainLine} plain @param {Error | null} fault @param {string} text @returns {number | null}
  */
-export function placeOfFault({ line, places }, fault, text) {
-    if (!(fault instanceof EngineFault) || fault.column === null) return null;
-    return places[placeOfColumn(line, fault.column)] ?? text.length;
+export function placeOfFault({ places }, fault, text) {
+    if (!(fault instanceof NissyFault) || fault.character === null) return null;
+    return places[fault.character - 1] ?? text.length;
 }
 
 /**
@@ -146,7 +131,7 @@ export function showFault(where, field, plain, fault, text) {
     where.replaceChildren();
     field.setAttribute("aria-invalid", String(fault !== null));
     if (fault === null) return;
-    where.append(element("p", {}, fault instanceof EngineFault ? sentenceOf(fault, plain.line) : fault.message));
+    where.append(element("p", {}, fault instanceof NissyFault ? sentenceOf(fault, plain.line) : fault.message));
     const place = placeOfFault(plain, fault, text);
     if (place !== null) where.append(marked(text.replace(/[\r\n]/g, " "), place));
 }

@@ -1,0 +1,185 @@
+// Engines in several threads that share many lines: 100,000 of them beside one engine, in order; their faults, their progress, what gives
+// them up, and threads that end.
+//
+//     node tests/module/pool.mjs MODULE
+//
+// The last line is `N passed, M failed`, and the status is 1 where M isn't 0.
+import { execFileSync } from "node:child_process";
+import { getEventListeners } from "node:events";
+import { mkdtempSync, rmSync, writeFileSync } from "node:fs";
+import { tmpdir } from "node:os";
+import { join } from "node:path";
+import { performance } from "node:perf_hooks";
+import { NissyPool } from "../../web/module/node.js";
+import { Nissy } from "../../web/module/nissy.js";
+import { WorkerPool } from "../../web/module/pool.js";
+import { ended, moduleBytes, same, thrown } from "./tally.mjs";
+
+const LINES = 100_000;
+const TURNS = [..."UDRLFB"].flatMap((face) => [face, `${face}2`, `${face}'`]);
+const ENDLESS = "R U F2 L D R B";
+const LONG = { slack: 14 };
+const SOON = 30_000;
+const nissy = await Nissy.load(moduleBytes);
+
+let state = 20261127;
+
+/** The next of some numbers that are always the same, from 0 to below `end`. */
+function drawn(end) {
+  state = (Math.imul(state, 1664525) + 1013904223) >>> 0;
+  return Math.floor((state / 2 ** 32) * end);
+}
+
+/** Short lines, of which some in a hundred can't be read. */
+const drawnLines = (count) => Array.from({ length: count }, () => {
+  const turns = Array.from({ length: drawn(8) }, () => TURNS[drawn(18)]);
+  return drawn(100) === 0 ? [...turns, "q"].join(" ") : turns.join(" ");
+});
+
+/** What a value is, a fault too. */
+const plain = (told) => (told instanceof Error ? [told.name, told.message, told.line, told.column] : told);
+
+/** Which of two lists differ at the first place, if they do. */
+function differing(one, other) {
+  const at = one.findIndex((each, index) => JSON.stringify(plain(each)) !== JSON.stringify(plain(other[index])));
+  return at < 0 && one.length === other.length ? "nowhere" : [at, plain(one[at]), plain(other[at])];
+}
+
+/** Many lines as one engine has them, with the progress. */
+async function tryMany(pool, lines) {
+  const faults = "value";
+  const told = [];
+  const onProgress = (done, all) => told.push([done, all]);
+  same("facts of many lines", differing(await pool.factsAll(lines, { faults, onProgress }), nissy.factsAll(lines, { faults })), "nowhere");
+  same("the progress goes on", told.every(([done], at) => at === 0 || done > told[at - 1][0]), true);
+  same("up to all", told[told.length - 1], [lines.length, lines.length]);
+  same("which is said each time", new Set(told.map(([, all]) => all)), new Set([lines.length]));
+  const counts = await pool.countAll("eofb", lines, { faults, slack: 1, onProgress: () => {} });
+  same("counts of many lines", differing(counts, nissy.countAll("eofb", lines, { faults, slack: 1 })), "nowhere");
+  const some = lines.slice(0, 5_000);
+  const found = await pool.solveAll("eo", some, { faults, most: 2 });
+  same("solutions of many lines", differing(found, nissy.solveAll("eo", some, { faults, most: 2 })), "nowhere");
+  const bytes = some.map((line, at) => (at % 2 === 0 ? new TextEncoder().encode(line) : line));
+  same("of bytes", differing(await pool.factsAll(bytes, { faults }), nissy.factsAll(bytes, { faults })), "nowhere");
+}
+
+/** Faults as one engine has them, wherever they stand. */
+async function tryFaults(pool) {
+  const good = Array.from({ length: 3_000 }, () => "R U");
+  for (const places of [[0], [2_999], [1_500, 2_999], [255, 256], [256], [1_023]]) {
+    const lines = good.map((line, at) => (places.includes(at) ? "R q" : line));
+    const message = `line ${places[0] + 1}, column 3: not a move`;
+    same(`the first fault of ${places}`, await thrown(() => pool.factsAll(lines)), ["NissyFault", message]);
+  }
+  same("a step that can't begin", await thrown(() => pool.countAll("dr-eofb", ["", "R", "F"])), ["NissyFault", "line 3: eofb does not hold"]);
+  const cut = { nodes: 10 };
+  const isCut = (engine) => thrown(() => engine.countAll("eofb", ["", ENDLESS], cut));
+  same("a search that is cut", await isCut(pool), await isCut(nissy));
+  const values = await pool.countAll("eofb", ["", ENDLESS], { ...cut, cut: "value" });
+  same("or told", values.map((each) => each.cut), [undefined, true]);
+  const begun = performance.now();
+  const endless = Array.from({ length: 12 }, () => ENDLESS);
+  same("lines behind a fault aren't waited for", await thrown(() => pool.countAll("eo", ["q", ...endless], LONG)), ["NissyFault", "line 1, column 1: not a move"]);
+  same("so it is told soon", performance.now() - begun < SOON, true);
+}
+
+/** Values that no call takes. */
+async function tryWrong(pool) {
+  for (const wrong of [0, -1, 1.5, 1_025, Number.NaN]) same(`${wrong} workers`, (await thrown(() => NissyPool.start(wrong, moduleBytes)))[0], "RangeError");
+  for (const wrong of ["2", null, undefined, 2n]) same(`${String(wrong)} workers`, (await thrown(() => NissyPool.start(wrong, moduleBytes)))[0], "TypeError");
+  same("no array", await thrown(() => pool.factsAll("R")), ["TypeError", "the lines are no array"]);
+  same("a line of another type", await thrown(() => pool.countAll("eofb", ["R", 3])), ["TypeError", "line 2 is neither a string nor a Uint8Array"]);
+  same("no step", await thrown(() => pool.countAll("htr", [])), ["RangeError", 'there is no step of the name "htr"']);
+  same("no options", await thrown(() => pool.factsAll(["R"], null)), ["TypeError", "the options are no object"]);
+  same("no function", (await thrown(() => pool.factsAll(["R"], { onProgress: 3 })))[0], "TypeError");
+  same("no signal", await thrown(() => pool.factsAll(["R"], { signal: {} })), ["TypeError", "the signal is no AbortSignal"]);
+  same("no lines", [await pool.factsAll([]), await pool.solveAll("eofb", [])], [[], []]);
+  const enough = () => {
+    throw new RangeError("enough");
+  };
+  same("what the caller throws", await thrown(() => pool.factsAll(["R", "U"], { onProgress: enough })), ["RangeError", "enough"]);
+  same("a call after these", (await pool.countAll("eofb", ["F"]))[0].length, 1);
+}
+
+/** Calls that are given up, each with what it rejects with. */
+async function tryGivenUp(pool) {
+  const lines = Array.from({ length: 40 }, () => ENDLESS);
+  const long = (options) => thrown(() => pool.countAll("eo", lines, { ...LONG, ...options }));
+  const reason = new RangeError("no more");
+  const stop = new AbortController();
+  const given = long({ signal: stop.signal });
+  const other = pool.factsAll(["R", "U"]);
+  setTimeout(() => stop.abort(reason), 50);
+  same("by its signal", await given, ["RangeError", "no more"]);
+  same("another call of the pool goes on", (await other).length, 2);
+  same("nothing listens to the signal", getEventListeners(stop.signal, "abort").length, 0);
+  same("a signal that was given before", await long({ signal: AbortSignal.abort(reason) }), ["RangeError", "no more"]);
+  for (const how of ["stop", "end"]) {
+    const calls = [long({}), long({})];
+    await new Promise((done) => setTimeout(done, 50));
+    pool[how]();
+    same(`by ${how}`, await Promise.all(calls), [["AbortError", "stopped"], ["AbortError", "stopped"]]);
+    same(`a call after ${how}`, (await pool.countAll("eofb", ["F", "R"])).map(({ length }) => length), [1, 0]);
+  }
+}
+
+/** Threads that fail: what they had is rejected, and the next call starts others. */
+async function tryDead() {
+  let left = 2;
+  const fails = (took, failed) => {
+    const isDead = left > 0;
+    left -= 1;
+    return {
+      postMessage: (message) => {
+        if ("module" in message) return;
+        setTimeout(() => (isDead ? failed("it has ended") : took({ id: message.id, reply: message.request.lines.map(() => ({ status: 1, fault: 1, column: 1, character: 1, text: "here" })) })));
+      },
+      terminate: () => {},
+    };
+  };
+  const pool = new WorkerPool(2, moduleBytes, fails);
+  same("a worker that ends", await thrown(() => pool.factsAll(["R", "U", "F"])), ["EngineMissing", "it has ended"]);
+  const next = await pool.factsAll(["R", "U"], { faults: "value" });
+  same("the next call", next.map(({ text }) => text), ["here", "here"]);
+}
+
+/** The best continuations, an axis a worker. */
+async function tryBest(pool) {
+  const scramble = nissy.scramble(20261127, 1, 25);
+  for (const [soFar, slack] of [["", 0], ["R (U)", 0], ["", 1], [nissy.solve("eorl", scramble, { most: 1 })[0].moves, 1]]) {
+    const told = [];
+    const rows = await pool.best(scramble, { soFar, slack, onProgress: (done, all) => told.push([done, all]) });
+    same(`the best of ${soFar}, slack ${slack}`, rows, nissy.best(scramble, { soFar, slack }));
+    same("up to all", told[told.length - 1][0], told[told.length - 1][1]);
+  }
+  same("a fault", await thrown(() => pool.best("R", { soFar: "q" })), ["NissyFault", "line 2, column 1: not a move"]);
+  same("the best that are given up", await thrown(() => pool.best(scramble, { slack: 3, signal: AbortSignal.timeout(20) })), ["TimeoutError", "The operation was aborted due to timeout"]);
+}
+
+/** A process ends by itself once nothing is asked any more. */
+function tryEnd() {
+  const folder = mkdtempSync(join(tmpdir(), "nissy-pool-"));
+  const script = join(folder, "script.mjs");
+  writeFileSync(script, `import { readFileSync } from "node:fs";
+    import { NissyPool } from ${JSON.stringify(new URL("../../web/module/node.js", import.meta.url).href)};
+    const pool = await NissyPool.start(3, readFileSync(process.argv[2]));
+    console.log((await pool.countAll("eofb", Array.from({ length: 50 }, () => "R U F"))).length, pool.size);`);
+  const said = String(execFileSync(process.execPath, [script, process.argv[2]], { timeout: 2 * SOON }));
+  rmSync(folder, { recursive: true });
+  same("a process ends by itself", said, "50 3\n");
+}
+
+const pool = await NissyPool.start(3, moduleBytes);
+await tryMany(pool, drawnLines(LINES));
+await tryFaults(pool);
+await tryWrong(pool);
+await tryGivenUp(pool);
+await tryBest(pool);
+await tryDead();
+const alone = await NissyPool.start(1, moduleBytes);
+await tryFaults(alone);
+await tryBest(alone);
+alone.end();
+tryEnd();
+pool.end();
+ended();

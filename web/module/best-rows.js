@@ -1,0 +1,118 @@
+// The rows of the best continuations: what is in one, their order, and how twins become one row.
+import { twinKey } from "./twins.js";
+
+/** @typedef {import("./sides.js").Part} Part */
+/** @typedef {import("./sides.js").Side} Side */
+/** @typedef {import("./steps.js").Step} Step */
+
+/**
+ * @template Kept
+ * @typedef {import("./sides.js").OnSides<Kept>} OnSides
+ */
+
+/** @typedef {Part & {length: number, place: number[]}} Sided a solution on its side, and its place among all: by sides, and within its list */
+
+/**
+ * The reduction that follows an orientation: the side on which it is best, the least length on each side, and all moves with it.
+ * @typedef {{step: Step, side: Side, lengths: OnSides<number | null>, totals: OnSides<number>}} Next
+ */
+
+/**
+ * @typedef {object} Row
+ * @property {number} total all moves, those that were made before counted too
+ * @property {Step} step what the part reaches
+ * @property {Part} part
+ * @property {number} length
+ * @property {Next | null} next none if the part is the reduction itself
+ * @property {string} case of the reduction, such as `4c4e`
+ * @property {number} far how many corners and edges the case has
+ * @property {string[]} others the last turns of the twins that differ in these alone
+ * @property {readonly number[]} place among all rows that are as good
+ * @property {string} key what the row is known by
+ */
+
+/**
+ * The order of rows: by all moves, by those of the part, by how far the case is, an edge being as far as a corner, and then by their place.
+ * @param {Row} one
+ * @param {Row} other
+ */
+export function byTotal(one, other) {
+  const judged = one.total - other.total || one.length - other.length || one.far - other.far;
+  if (judged !== 0) return judged;
+  const at = one.place.findIndex((each, index) => each !== other.place[index]);
+  return at < 0 ? 0 : one.place[at] - other.place[at];
+}
+
+/**
+ * The best of some rows in their order, each once: if two orientations hold, a reduction may follow each of them.
+ * @template {Row} Each
+ * @param {Each[]} rows
+ * @param {number} most
+ * @returns {Each[]}
+ */
+export function bestOf(rows, most) {
+  const known = new Set();
+  const sorted = rows.slice().sort(byTotal);
+  return sorted.filter(({ key }) => !known.has(key) && known.add(key)).slice(0, most);
+}
+
+/**
+ * Puts those together that are twins, if not each is wanted.
+ * @param {Sided[]} list
+ * @param {Step} step
+ * @param {boolean} isAll
+ * @returns {{key: string, group: Sided[]}[]}
+ */
+export function twinsOf(list, step, isAll) {
+  /** @type {Map<string, Sided[]>} */
+  const groups = new Map();
+  for (const each of list) {
+    const key = [each.side, isAll ? each.moves : twinKey(each.moves, step)].join(".");
+    const group = groups.get(key);
+    if (group) group.push(each);
+    else groups.set(key, [each]);
+  }
+  return [...groups].map(([key, group]) => ({ key, group }));
+}
+
+/** Counts rows by their moves, and says from how many on a row can't be kept, since as many are better. */
+export class Bound {
+  #most;
+  /** @type {number[]} */ #counts = [];
+
+  /** @param {number} most how many rows are kept */
+  constructor(most) {
+    this.#most = most;
+  }
+
+  /** @param {Row[]} rows */
+  add(rows) {
+    for (const { total } of rows) if (total !== Infinity) this.#counts[total] = (this.#counts[total] ?? 0) + 1;
+  }
+
+  get() {
+    let seen = 0;
+    for (let total = 0; total < this.#counts.length; total += 1) {
+      seen += this.#counts[total] ?? 0;
+      if (seen >= this.#most) return total + 1;
+    }
+    return Infinity;
+  }
+}
+
+/** How many orientations, twins as one, are tried before rows are told: few at first, so that some are there soon. */
+const BATCHES = [100, 500, 1500];
+
+/**
+ * A list in batches.
+ * @template Item
+ * @param {Item[]} list
+ * @returns {Generator<Item[]>}
+ */
+export function* batchesOf(list) {
+  for (let from = 0, size = 0; from < list.length; size += 1) {
+    const end = from + BATCHES[Math.min(size, BATCHES.length - 1)];
+    yield list.slice(from, end);
+    from = end;
+  }
+}

@@ -1,0 +1,193 @@
+// The best continuations of a scramble and the moves so far, as values: the rows of the search, each with the moves of its reduction.
+import { ORIENTATIONS } from "./best-steps.js";
+import { bestOf } from "./best-rows.js";
+import { continuations } from "./best-search.js";
+import { NissyFault } from "./faults.js";
+import { movesIn } from "./merging.js";
+import { textIn } from "./natives.js";
+import { SIDES, bracketed, joined, movesOfSides } from "./sides.js";
+import { afterPart, leastOf, totalWith } from "./ways.js";
+
+/** @typedef {import("./best-rows.js").Row} Row */
+/** @typedef {import("./nissy.js").Nissy} Nissy */
+/** @typedef {import("./requests.js").BestRequest} BestRequest */
+/** @typedef {import("./sides.js").Part} Part */
+/** @typedef {import("./sides.js").Side} Side */
+/** @typedef {import("./steps.js").Step} Step */
+/** @typedef {import("./ways.js").Position} Position */
+
+/**
+ * @template Kept
+ * @typedef {import("./sides.js").OnSides<Kept>} OnSides
+ */
+
+/**
+ * An orientation: its moves on one side, and the last turns of those that differ in the direction of these alone, its twins.
+ * @typedef {{step: Step, side: Side, moves: string, length: number, twins: string[]}} BestOrientation
+ */
+
+/**
+ * A reduction: its moves on one side, and the least length on each side, null if there is none of at most 20 turns. It has twins only if it
+ * follows no orientation of its row.
+ * @typedef {BestOrientation & {lengths: OnSides<number | null>}} BestReduction
+ */
+
+/**
+ * What may follow the moves so far.
+ * @typedef {object} BestRow
+ * @property {number} total the clean turns of both sides in all, those of the moves so far counted too
+ * @property {string} line the moves that follow, with those on the inverse side in brackets
+ * @property {BestOrientation | null} eo none if one holds already
+ * @property {BestReduction} dr
+ * @property {string} case of the reduction, such as `4c4e`
+ */
+
+/** @typedef {Row & {shown: BestRow}} RowWithMoves a row of the search, and what callers see of it */
+
+/** @typedef {{done: number, all: number | null}} BestProgress how many were tried, and of how many, null until that is known */
+/** @typedef {(progress: BestProgress) => void} TellProgress */
+
+/** @typedef {(moves: string) => string} Naming of moves by the letters that they have after a turn of the whole cube */
+/** @typedef {{position: Position, named: OnSides<Naming>}} Start */
+
+/**
+ * A line as face turns, and the turn of the whole cube that is left then.
+ * @param {Nissy} nissy
+ * @param {string} line
+ */
+function cleanedIn(nissy, line) {
+  const cleaned = nissy.cleanup(line);
+  return { turns: movesIn(cleaned), rotation: joined(...(cleaned.match(/[xyz][2']?/g) ?? [])) };
+}
+
+/**
+ * How moves are written after a turn of the whole cube: the engine reads them in the turned frame.
+ * @param {Nissy} nissy
+ * @param {string} rotation
+ * @returns {Naming}
+ */
+function namingAfter(nissy, rotation) {
+  if (rotation === "") return (moves) => moves;
+  const letterOf = (/** @type {string} */ face) => movesIn(nissy.invert(nissy.cleanup(nissy.invert(joined(face, rotation)))))[0][0];
+  const letters = new Map([..."UDRLFB"].map((face) => [face, letterOf(face)]));
+  return (moves) => moves.replace(/[UDRLFB]/g, (face) => String(letters.get(face)));
+}
+
+/**
+ * The cube on both sides, where its axes are those of the normal side's centres. A turn of the whole cube that is left at the end of the normal
+ * side renames what follows there; on the inverse side it stands before all moves, and renames none.
+ * @param {Nissy} nissy
+ * @param {string} scramble
+ * @param {string} soFar
+ * @returns {Start}
+ */
+function startOf(nissy, scramble, soFar) {
+  const moves = movesOfSides(soFar);
+  const undone = nissy.invert(moves.inverse);
+  const before = cleanedIn(nissy, joined(undone, nissy.unniss(scramble)));
+  const made = cleanedIn(nissy, joined(before.rotation, moves.normal));
+  const normal = joined(...before.turns, ...made.turns);
+  // named as what follows them names the faces
+  const madeInverse = movesIn(nissy.invert(joined(...cleanedIn(nissy, undone).turns)));
+  return {
+    position: {
+      lines: { normal, inverse: nissy.invert(normal) },
+      made: { normal: made.turns, inverse: madeInverse },
+    },
+    named: { normal: namingAfter(nissy, made.rotation), inverse: (each) => each },
+  };
+}
+
+/**
+ * The first of the shortest solutions with which a row has as many moves in all as it says.
+ * @param {Nissy} nissy
+ * @param {Position} position before the reduction
+ * @param {Step} step
+ * @param {Side} side
+ * @param {number} total
+ */
+function firstOf(nissy, position, step, side, total) {
+  const solutions = nissy.solve(step, position.lines[side]);
+  const first = solutions.find(({ moves }) => totalWith(nissy, position, { side, moves }) === total);
+  if (first === undefined) throw new Error("no reduction has as many moves as were counted");
+  return first;
+}
+
+/**
+ * What callers see of a row: with the moves of its reduction.
+ * @param {Nissy} nissy
+ * @param {Start} start
+ * @param {Row} row
+ * @returns {BestRow}
+ */
+function shownOf(nissy, { position, named }, { total, step, part, length, next, others, case: name }) {
+  const { side } = part;
+  const found = { step, side, moves: named[side](part.moves), length, twins: others.map(named[side]) };
+  if (next === null) {
+    const [normal, inverse] = SIDES.map((each) => leastOf(nissy, step, position.lines[each], Infinity));
+    return { total, line: bracketed([found]), eo: null, dr: { ...found, lengths: { normal, inverse } }, case: name };
+  }
+  const first = firstOf(nissy, afterPart(nissy, position, part), next.step, next.side, total);
+  const moves = named[next.side](first.moves);
+  const dr = { step: next.step, side: next.side, moves, length: first.length, twins: [], lengths: next.lengths };
+  return { total, line: bracketed([found, dr].filter((each) => each.moves !== "")), eo: found, dr, case: name };
+}
+
+/**
+ * @param {Nissy} nissy
+ * @param {BestRequest} request
+ * @param {string} soFar
+ * @param {TellProgress} tell
+ * @returns {RowWithMoves[]}
+ */
+function rowsAfter(nissy, { scramble, slack, most, axes }, soFar, tell) {
+  const start = startOf(nissy, typeof scramble === "string" ? scramble : textIn(scramble), soFar);
+  const { holds } = nissy.facts(start.position.lines.normal);
+  if (holds.some((step) => step.startsWith("dr"))) return [];
+  const held = ORIENTATIONS.filter(({ name }) => holds.includes(name));
+  const asked = (held.length > 0 ? held : ORIENTATIONS).map(({ name }) => name).filter((name) => axes.includes(name));
+  /** @type {Row[]} */
+  let rows = [];
+  for (const { done, all, rows: added } of continuations(nissy, start.position, holds, asked, { slack, isAll: false, most })) {
+    rows = bestOf([...rows, ...added], most);
+    tell({ done, all });
+  }
+  return rows.map((row) => ({ ...row, shown: shownOf(nissy, start, row) }));
+}
+
+/**
+ * The best continuations on the axes that are asked for.
+ * @param {Nissy} nissy
+ * @param {BestRequest} request
+ * @param {TellProgress} tell
+ * @returns {RowWithMoves[]}
+ */
+export function bestRows(nissy, request, tell) {
+  const { scramble, soFar } = request;
+  nissy.check(scramble, soFar);
+  try {
+    return rowsAfter(nissy, request, typeof soFar === "string" ? soFar : textIn(soFar), tell);
+  } catch (fault) {
+    // each line was read by itself, so they have too many moves together
+    if (fault instanceof NissyFault) throw new NissyFault(fault.text, { line: 2 });
+    throw fault;
+  }
+}
+
+/** @typedef {{rows: RowWithMoves[]} | {fault: import("./faults.js").FaultParts}} BestReply what a worker sends */
+
+/**
+ * The same as a plain value.
+ * @param {Nissy} nissy
+ * @param {BestRequest} request
+ * @param {TellProgress} tell
+ * @returns {BestReply}
+ */
+export function bestReply(nissy, request, tell) {
+  try {
+    return { rows: bestRows(nissy, request, tell) };
+  } catch (fault) {
+    if (fault instanceof NissyFault) return { fault: fault.parts() };
+    throw fault;
+  }
+}

@@ -1,0 +1,207 @@
+// Several workers that share many lines: these go to them in pieces, and the answers come back in the order of the lines.
+import { bestOf } from "./best-rows.js";
+import { ORIENTATIONS } from "./best-steps.js";
+import { wholeNumber } from "./bytes.js";
+import { Stopped } from "./faults.js";
+import { Pieces } from "./pieces.js";
+import { allOf, bestIn, countIn, factsIn, shownIn, solutionsIn } from "./replies.js";
+import { allRequest, bestRequest, countRequest, factsRequest, solveRequest, stepsRequest } from "./requests.js";
+import { Signals, progressOf, reasonOf, signalOf } from "./signals.js";
+import { compiled } from "./source.js";
+import { WorkerQueue } from "./worker-queue.js";
+
+/** @typedef {import("./best.js").BestProgress} BestProgress */
+/** @typedef {import("./best.js").BestReply} BestReply */
+/** @typedef {import("./best.js").BestRow} BestRow */
+/** @typedef {import("./best.js").TellProgress} TellProgress */
+/** @typedef {import("./bytes.js").Text} Text */
+/** @typedef {import("./facts.js").Facts} Facts */
+/** @typedef {import("./replies.js").Count} Count */
+/** @typedef {import("./replies.js").OneReply} OneReply */
+/** @typedef {import("./replies.js").Solutions} Solutions */
+/** @typedef {import("./requests.js").AllRequest} AllRequest */
+/** @typedef {import("./requests.js").Asked} Asked */
+/** @typedef {import("./requests.js").BestWanted} BestWanted */
+/** @typedef {import("./requests.js").Many} Many */
+/** @typedef {import("./requests.js").Wanted} Wanted */
+/** @typedef {import("./signals.js").Followed} Followed */
+/** @typedef {import("./signals.js").Stoppable} Stoppable */
+/** @typedef {import("./source.js").ModuleSource} ModuleSource */
+/** @typedef {import("./worker-queue.js").NewWorker} NewWorker */
+/** @typedef {import("./worker-queue.js").SentModule} SentModule */
+
+/**
+ * @template {string} Name
+ * @typedef {import("./steps.js").StepName<Name>} StepName
+ */
+
+/**
+ * @template Value, Options
+ * @typedef {import("./replies.js").Told<Value, Options>} Told
+ */
+
+/** The most workers of a pool. */
+const MOST_WORKERS = 1_024;
+
+/** @typedef {{stop: AbortController, reason: unknown}} Going a call, what gives up its requests, and why it did */
+
+/**
+ * How far all of some requests are.
+ * @param {BestProgress[]} each
+ * @returns {BestProgress}
+ */
+const sumOf = (each) => ({
+  done: each.reduce((sum, { done }) => sum + done, 0),
+  all: each.reduce((/** @type {number | null} */ sum, { all }) => (sum === null || all === null ? null : sum + all), 0),
+});
+
+/** Engines in several workers. What `Nissy` throws, the promises of their calls are rejected with; so is each whose worker ends. */
+export class WorkerPool {
+  /** @type {WorkerQueue[]} */ #queues;
+  /** @type {Set<Going>} */ #going = new Set();
+  /** @type {Signals<Going>} */ #signals = new Signals((going, signal) => this.#giveUp(going, reasonOf(signal)));
+
+  /**
+   * Engines whose workers are started by the first calls.
+   * @param {number} workers
+   * @param {SentModule} module
+   * @param {NewWorker} newWorker
+   */
+  constructor(workers, module, newWorker) {
+    this.#queues = Array.from({ length: workers }, () => new WorkerQueue(module, newWorker));
+  }
+
+  /**
+   * Starts engines. Rejects with `NoWebAssembly` if the host runs none, and with `EngineMissing` if the workers can't be started.
+   * @param {number} workers
+   * @param {ModuleSource | Promise<ModuleSource>} source
+   * @param {NewWorker} newWorker
+   * @returns {Promise<WorkerPool>}
+   */
+  static async startBy(workers, source, newWorker) {
+    const count = wholeNumber(workers, "the number of workers", MOST_WORKERS);
+    if (count === 0) throw new RangeError("a pool has one worker at least");
+    const pool = new this(count, await compiled(source), newWorker);
+    // one that isn't answered means that no worker can be started
+    await pool.#queues[0].answer(stepsRequest());
+    return pool;
+  }
+
+  /** How many workers there are. */
+  get size() {
+    return this.#queues.length;
+  }
+
+  /**
+   * @template {string} Name
+   * @template {Wanted & Many & Followed & Stoppable} [Options={}]
+   * @param {StepName<Name>} step @param {readonly Text[]} lines @param {Options} [options] @returns {Promise<Told<Solutions, Options>[]>}
+   */
+  async solveAll(step, lines, options) {
+    const request = allRequest(() => solveRequest(step, "", options), lines, options);
+    return allOf(await this.#answerAll(request, options), request, (/** @type {any} */ reply) => solutionsIn(reply, request.each));
+  }
+
+  /**
+   * @template {string} Name
+   * @template {Wanted & Many & Followed & Stoppable} [Options={}]
+   * @param {StepName<Name>} step @param {readonly Text[]} lines @param {Options} [options] @returns {Promise<Told<Count, Options>[]>}
+   */
+  async countAll(step, lines, options) {
+    const request = allRequest(() => countRequest(step, "", options), lines, options);
+    return allOf(await this.#answerAll(request, options), request, (/** @type {any} */ reply) => countIn(reply, request.each));
+  }
+
+  /**
+   * @template {Many & Followed & Stoppable} [Options={}]
+   * @param {readonly Text[]} lines @param {Options} [options] @returns {Promise<Told<Facts, Options>[]>}
+   */
+  async factsAll(lines, options) {
+    const request = allRequest(() => factsRequest(""), lines, options);
+    return allOf(await this.#answerAll(request, options), request, (/** @type {any} */ reply) => factsIn(reply));
+  }
+
+  /**
+   * Each axis is looked at by a worker.
+   * @param {Text} scramble @param {BestWanted & Followed & Stoppable} [options] @returns {Promise<BestRow[]>}
+   */
+  async best(scramble, options) {
+    const requests = ORIENTATIONS.map(({ name }) => bestRequest(scramble, options, [name]));
+    const tell = progressOf(options);
+    /** @type {BestProgress[]} */
+    const progress = requests.map(() => ({ done: 0, all: null }));
+    const follow = (/** @type {number} */ at) => (/** @type {BestProgress} */ told) => {
+      progress[at] = told;
+      tell(sumOf(progress));
+    };
+    const replies = await this.#together(options, (signal) =>
+      Promise.all(requests.map((request, at) => this.#queues[at % this.size].answer(request, { signal }, follow(at)))));
+    return shownIn(bestOf(replies.flatMap(bestIn), requests[0].most));
+  }
+
+  /** Gives up all calls. */
+  stop() {
+    this.#giveUp(new Set(this.#going), new Stopped());
+  }
+
+  /** Gives up all calls, and ends the workers. A later call starts others. */
+  end() {
+    this.stop();
+    for (const queue of this.#queues) queue.end();
+  }
+  /**
+   * Asks the workers of many lines, each of the next piece that none has.
+   * @param {AllRequest} request
+   * @param {Followed & Stoppable} [options]
+   * @returns {Promise<any[]>} the replies in the order of the lines, up to the first that ends the call
+   */
+  #answerAll(request, options) {
+    const tell = progressOf(options);
+    const pieces = new Pieces(request, this.size);
+    return this.#together(options, (signal) => new Promise((resolve, reject) => {
+      const work = async (/** @type {WorkerQueue} */ queue) => {
+        for (let at = pieces.next(); at !== null; at = pieces.next()) {
+          pieces.take(at, await queue.answer(pieces.requestOf(at), { signal }));
+          tell(pieces.progress());
+          // those behind a fault aren't waited for
+          if (pieces.areWhole()) resolve(pieces.replies());
+        }
+      };
+      for (const queue of this.#queues) work(queue).catch(reject);
+    }));
+  }
+
+  /**
+   * Makes the requests of a call, which are given up together, if one of them fails too.
+   * @template Value
+   * @param {Stoppable | undefined} options
+   * @param {(signal: AbortSignal) => Promise<Value>} ask
+   * @returns {Promise<Value>}
+   */
+  async #together(options, ask) {
+    const signal = signalOf(options);
+    if (signal?.aborted) throw reasonOf(signal);
+    /** @type {Going} */
+    const going = { stop: new AbortController(), reason: undefined };
+    if (signal) this.#signals.add(signal, going);
+    this.#going.add(going);
+    try {
+      return await ask(going.stop.signal);
+    } catch (error) {
+      // hosts of some years ago keep no reason
+      throw going.reason ?? error;
+    } finally {
+      this.#going.delete(going);
+      if (signal) this.#signals.remove(signal, going);
+      going.stop.abort();
+    }
+  }
+
+  /** @param {Set<Going>} calls @param {unknown} reason */
+  #giveUp(calls, reason) {
+    for (const going of calls) {
+      going.reason = reason;
+      going.stop.abort(reason);
+    }
+  }
+}

@@ -1,0 +1,100 @@
+// Twins: solutions of one step that differ in the direction of their last quarter turns alone. The same holds after each, and all have one
+// case. And solutions in which the step was reached before their last move.
+import { AXES, FACES_OF, lastAxisOf, stepNamed } from "./best-steps.js";
+
+/** @typedef {import("./replies.js").Solution} Solution */
+/** @typedef {Solution & {others: string[]}} Twins a solution, with the last moves of its twins */
+
+/**
+ * Where the last moves of a line begin that turn one axis alone.
+ * @param {string} moves
+ * @param {string} faces the axis's
+ */
+function startOfLast(moves, faces) {
+  let start = moves.length;
+  while (start > 0) {
+    const before = moves.lastIndexOf(" ", start - 2) + 1;
+    if (!faces.includes(moves[before])) break;
+    start = before;
+  }
+  return start;
+}
+
+/** @param {string} moves @param {string} step its name */
+const startOfTwin = (moves, step) => startOfLast(moves, FACES_OF[lastAxisOf(stepNamed(step))]);
+
+/**
+ * What twins have in common: the moves, without the direction of their last quarter turns.
+ * @param {string} moves
+ * @param {string} step its name
+ */
+export function twinKey(moves, step) {
+  const start = startOfTwin(moves, step);
+  return moves.slice(0, start) + moves.slice(start).replaceAll("'", "");
+}
+
+/**
+ * The last turns of some moves, in whose direction twins differ.
+ * @param {string} moves
+ * @param {string} step its name
+ */
+export const lastTurnsOf = (moves, step) => moves.slice(startOfTwin(moves, step));
+
+/**
+ * Puts twins together, each under the first of them.
+ * @param {readonly Solution[]} solutions
+ * @param {string} step its name
+ * @returns {Twins[]}
+ */
+export function mergeTwins(solutions, step) {
+  /** @type {Map<string, Twins>} */
+  const merged = new Map();
+  for (const { moves, length } of solutions) {
+    const key = twinKey(moves, step);
+    const first = merged.get(key);
+    if (first) first.others.push(lastTurnsOf(moves, step));
+    else merged.set(key, { moves, length, others: [] });
+  }
+  return [...merged.values()];
+}
+
+/**
+ * Whether two turns are of one axis, so that they may change places.
+ * @param {string} one
+ * @param {string} other
+ */
+const areOfOneAxis = (one, other) => AXES.some((axis) => FACES_OF[axis].includes(one) && FACES_OF[axis].includes(other));
+
+/**
+ * The beginnings of a line that have fewer moves, but at least so many; of two turns of opposite faces, which may change places, each may
+ * come first.
+ * @param {string} moves
+ * @param {number} length
+ * @param {number} least
+ */
+function* beginningsOf(moves, length, least) {
+  let end = moves.length;
+  for (let count = length; count > least; count -= 1) {
+    const cut = Math.max(0, moves.lastIndexOf(" ", end - 1));
+    const before = moves.lastIndexOf(" ", cut - 1) + 1;
+    yield moves.slice(0, cut);
+    if (cut > 0 && areOfOneAxis(moves[before], moves[cut + 1])) yield moves.slice(0, before) + moves.slice(cut + 1, end);
+    end = cut;
+  }
+}
+
+/**
+ * The solutions in which the step isn't reached before the last move.
+ * @template {Solution} Each
+ * @param {Each[]} solutions all, from the shortest on
+ */
+export function withoutEarlier(solutions) {
+  const least = solutions[0]?.length ?? 0;
+  if (solutions[solutions.length - 1]?.length === least) return solutions;
+  const known = new Set(solutions.map(({ moves }) => moves));
+  return solutions.filter(({ moves, length }) => {
+    if (length === least) return true;
+    for (const beginning of beginningsOf(moves, length, least)) if (known.has(beginning)) return false;
+    return true;
+  });
+}

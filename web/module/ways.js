@@ -1,0 +1,137 @@
+// Ways from a cube to a step: the cube on both sides with the moves that were made there, the least length of the step, and all moves with
+// it, once those of each side are merged.
+import { mergersOf, movesIn } from "./merging.js";
+import { SIDES, joined, movesOn, otherSide } from "./sides.js";
+
+/** @typedef {import("./nissy.js").Nissy} Nissy */
+/** @typedef {import("./sides.js").Part} Part */
+/** @typedef {import("./sides.js").Side} Side */
+/** @typedef {import("./steps.js").Step} Step */
+
+/**
+ * @template Kept
+ * @typedef {import("./sides.js").OnSides<Kept>} OnSides
+ */
+
+/**
+ * A cube: as a line of face turns on each side, and the clean moves that were made there.
+ * @typedef {{lines: OnSides<string>, made: OnSides<string[]>}} Position
+ */
+
+/** @typedef {{length: number | null, total: number}} Way the least length of a step on a side, if it has one, and all moves with it */
+
+/** The most turns of a solution that the engine looks for. */
+const MOST_SEARCHED = 20;
+
+/** @param {Position} position */
+export const countOf = ({ made }) => made.normal.length + made.inverse.length;
+
+/**
+ * What parts make on each side.
+ * @param {Nissy} nissy
+ * @param {readonly Part[]} parts
+ * @returns {OnSides<string[]>}
+ */
+export function madeBy(nissy, parts) {
+  const [normal, inverse] = SIDES.map((side) => movesIn(nissy.cleanup(movesOn(parts, side))));
+  return { normal, inverse };
+}
+
+/**
+ * What is made on a side once a part follows.
+ * @param {Nissy} nissy
+ * @param {string[]} made
+ * @param {string} moves
+ */
+function mergedWith(nissy, made, moves) {
+  const line = joined(made.join(" "), moves);
+  return movesIn(made.length === 0 ? line : nissy.cleanup(line));
+}
+
+/**
+ * The position after a part: its moves follow the line of their side, and come inverted before the other one's.
+ * @param {Nissy} nissy
+ * @param {Position} position
+ * @param {Part} part
+ * @returns {Position}
+ */
+export function afterPart(nissy, { lines, made }, { side, moves }) {
+  const other = otherSide(side);
+  const after = { [side]: joined(lines[side], moves), [other]: joined(nissy.invert(moves), lines[other]) };
+  return {
+    lines: /** @type {OnSides<string>} */ (after),
+    made: { ...made, [side]: mergedWith(nissy, made[side], moves) },
+  };
+}
+
+/**
+ * The least length of a step, or null if it is more than a limit.
+ * @param {Nissy} nissy
+ * @param {Step} step
+ * @param {string} line
+ * @param {number} limit
+ */
+export function leastOf(nissy, step, line, limit) {
+  return limit < 0 ? null : (nissy.solve(step, line, { limit: Math.min(MOST_SEARCHED, limit), most: 1 })[0]?.length ?? null);
+}
+
+/**
+ * How many moves a shortest solution of a length may save, since it merges with what is made on its side.
+ * @param {Nissy} nissy
+ * @param {Step} step
+ * @param {string} line
+ * @param {string[]} made
+ * @param {number} length
+ * @returns {number}
+ */
+function mostSaved(nissy, step, line, made, length) {
+  const saved = mergersOf(made, step, line).map(({ moves, count, saved: own, before }) => {
+    const after = `${line} ${moves}`;
+    if (leastOf(nissy, step, after, length - count) === null) return 0;
+    return own + mostSaved(nissy, step, after, before, length - count);
+  });
+  return Math.max(0, ...saved);
+}
+
+/**
+ * How many moves a step saves at most by merging, whatever its solutions are.
+ * @param {string[]} made
+ * @param {Step} step
+ * @returns {number}
+ */
+const mostMerged = (made, step) => Math.max(0, ...mergersOf(made, step, "").map(({ saved, before }) => saved + mostMerged(before, step)));
+
+/**
+ * The best way to a step on a side: of its shortest solutions there one that merges most.
+ * @param {Nissy} nissy
+ * @param {Step} step
+ * @param {Position} position
+ * @param {Side} side
+ * @returns {Way}
+ */
+export function wayTo(nissy, step, position, side) {
+  const [line, made] = [position.lines[side], position.made[side]];
+  const length = leastOf(nissy, step, line, MOST_SEARCHED);
+  if (length === null) return { length, total: Infinity };
+  return { length, total: countOf(position) + length - mostSaved(nissy, step, line, made, length) };
+}
+
+/**
+ * Whether a step may be had with fewer moves in all than a bound; one that can't isn't looked for further.
+ * @param {Nissy} nissy
+ * @param {Step} step
+ * @param {Position} position
+ * @param {number} bound
+ */
+export function isWithin(nissy, step, position, bound) {
+  const left = bound - 1 - countOf(position);
+  return SIDES.some((side) => leastOf(nissy, step, position.lines[side], left + mostMerged(position.made[side], step)) !== null);
+}
+
+/**
+ * All moves with a part that follows.
+ * @param {Nissy} nissy
+ * @param {Position} position
+ * @param {Part} part
+ */
+export const totalWith = (nissy, { made }, { side, moves }) => made[otherSide(side)].length + mergedWith(nissy, made[side], moves).length;

@@ -1,0 +1,177 @@
+// The queue of a worker: what is asked of it, one after another. What runs is stopped by ending the worker, and the next request starts
+// another.
+import { EngineMissing, Stopped } from "./faults.js";
+import { hasOwn } from "./natives.js";
+import { Signals, reasonOf, signalOf } from "./signals.js";
+
+/** @typedef {import("./best.js").TellProgress} TellProgress */
+/** @typedef {import("./requests.js").Asked} Asked */
+/** @typedef {import("./serve.js").Answered} Answered */
+/** @typedef {import("./serve.js").Progressed} Progressed */
+/** @typedef {import("./serve.js").Unanswered} Unanswered */
+/** @typedef {import("./signals.js").Stoppable} Stoppable */
+
+/**
+ * What a worker can be sent: the module compiled, or its bytes, which it compiles then.
+ * @typedef {WebAssembly.Module | ArrayBuffer | Uint8Array} SentModule
+ */
+
+/**
+ * A worker: what it is sent, and its end.
+ * @typedef {{postMessage: (message: unknown) => void, terminate: () => void}} Sent
+ */
+
+/**
+ * Starts a worker whose messages are taken, and of which it is told that it failed.
+ * @typedef {(took: (data: Answered | Unanswered | Progressed) => void, failed: (message: string) => void) => Sent} NewWorker
+ */
+
+/**
+ * @typedef {{id: number, request: Asked, followed: TellProgress, answered: (reply: any) => void, refused: (reason: unknown) => void}} Call
+ */
+
+/**
+ * @param {{name: string, message: string}} error of the worker
+ * @returns {Error}
+ */
+const errorOf = ({ name, message }) => (name === "RangeError" ? new RangeError(message) : new EngineMissing(message));
+
+/** What is asked of a worker, and given up. */
+export class WorkerQueue {
+  /** @type {SentModule} */ #module;
+  /** @type {NewWorker} */ #newWorker;
+  /** @type {Sent | null} */ #worker = null;
+  /** @type {Call | null} */ #running = null;
+  /** @type {Call[]} */ #waiting = [];
+  /** @type {Signals<Call>} */ #signals = new Signals((calls, signal) => this.#giveUp(calls, reasonOf(signal)));
+  #next = 0;
+
+  /**
+   * A worker that is started by the first request.
+   * @param {SentModule} module
+   * @param {NewWorker} newWorker
+   */
+  constructor(module, newWorker) {
+    this.#module = module;
+    this.#newWorker = newWorker;
+  }
+
+  /** Gives up the requests that wait for their turn; one that runs goes on. */
+  drop() {
+    const dropped = this.#waiting;
+    this.#waiting = [];
+    for (const call of dropped) call.refused(new Stopped());
+  }
+
+  /** Gives up all requests. */
+  stop() {
+    this.drop();
+    if (this.#running) this.#giveUp(new Set([this.#running]), new Stopped());
+  }
+
+  /** Gives up all requests, and ends the worker. A later request starts another one. */
+  end() {
+    this.#end(new Stopped());
+  }
+
+  /**
+   * What the engine returns.
+   * @param {Asked} request
+   * @param {Stoppable} [options]
+   * @param {TellProgress} [followed]
+   * @returns {Promise<any>}
+   */
+  answer(request, options, followed = () => {}) {
+    const signal = signalOf(options);
+    return new Promise((resolve, reject) => {
+      if (signal?.aborted) {
+        reject(reasonOf(signal));
+        return;
+      }
+      /** @type {<Value>(settle: (value: Value) => void) => (value: Value) => void} */
+      const settled = (settle) => (value) => {
+        settle(value);
+        if (signal) this.#signals.remove(signal, call);
+      };
+      const call = { id: this.#next++, request, followed, answered: settled(resolve), refused: settled(reject) };
+      if (signal) this.#signals.add(signal, call);
+      this.#waiting.push(call);
+      this.#sendNext();
+    });
+  }
+
+  #sendNext() {
+    if (this.#running || this.#waiting.length === 0) return;
+    const call = /** @type {Call} */ (this.#waiting.shift());
+    this.#running = call;
+    try {
+      this.#worker ??= this.#started();
+      this.#worker.postMessage({ id: call.id, request: call.request });
+    } catch (error) {
+      this.#end(new EngineMissing(/** @type {Error} */ (error).message, error));
+    }
+  }
+
+  /** @returns {Sent} a worker that has the module */
+  #started() {
+    const isThisOne = () => worker === this.#worker;
+    const took = (/** @type {Answered | Unanswered | Progressed} */ data) => isThisOne() && this.#take(data);
+    // one that was ended while it loaded says nothing of the next one
+    const worker = this.#newWorker(took, (message) => isThisOne() && this.#end(new EngineMissing(message)));
+    worker.postMessage({ module: this.#module });
+    return worker;
+  }
+
+  /** @param {Answered | Unanswered | Progressed} data */
+  #take(data) {
+    const call = this.#running;
+    if (call?.id !== data.id) return;
+    if (hasOwn(data, "progress")) {
+      this.#follow(call, /** @type {Progressed} */ (data).progress);
+      return;
+    }
+    this.#running = null;
+    // not by `in`, since some script may have given an error to all objects
+    if (hasOwn(data, "error")) call.refused(errorOf(/** @type {Unanswered} */ (data).error));
+    else call.answered(/** @type {Answered} */ (data).reply);
+    this.#sendNext();
+  }
+
+  /**
+   * Tells how far a call is. What that throws gives it up.
+   * @param {Call} call
+   * @param {import("./best.js").BestProgress} progress
+   */
+  #follow(call, progress) {
+    try {
+      call.followed(progress);
+    } catch (error) {
+      this.#giveUp(new Set([call]), error);
+    }
+  }
+
+  /** @param {Set<Call>} calls @param {unknown} reason */
+  #giveUp(calls, reason) {
+    if (this.#running && calls.has(this.#running)) {
+      this.#worker?.terminate();
+      this.#worker = null;
+      this.#running = null;
+    }
+    this.#waiting = this.#waiting.filter((call) => !calls.has(call));
+    for (const call of calls) call.refused(reason);
+    this.#sendNext();
+  }
+
+  /**
+   * Ends the worker, and refuses all calls.
+   * @param {Error} reason
+   */
+  #end(reason) {
+    const given = this.#running ? [this.#running, ...this.#waiting] : this.#waiting;
+    this.#worker?.terminate();
+    this.#worker = null;
+    this.#running = null;
+    this.#waiting = [];
+    for (const call of given) call.refused(reason);
+  }
+}
