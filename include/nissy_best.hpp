@@ -186,14 +186,16 @@ struct judged {
 
 // The candidates of an axis, both reductions after each of the orientations.
 inline void add_candidates(std::vector<candidate> &to, const cube &before, const std::vector<twins> &every, const oriented_steps &steps) {
-    for (const twins &each : every)
-        for (const axis_step &step : steps.reductions) to.push_back(candidate_of(before, each, step));
+    for (const twins &each : every) {
+        to.push_back(candidate_of(before, each, steps.reductions[0]));
+        to.push_back(candidate_of(before, each, steps.reductions[1]));
+    }
 }
 
 // Those that may be among the first `most`: as many have no more moves in all than the bound, and one that can't come down to it is left out.
 inline std::vector<judged> judged_best(const std::vector<candidate> &candidates, std::uint64_t most) {
     std::vector<int> numbers;
-    for (const candidate &one : candidates) numbers.push_back(one.most);
+    std::transform(candidates.begin(), candidates.end(), std::back_inserter(numbers), [](const candidate &one) { return one.most; });
     const int enough = nth_least(std::move(numbers), most);
     std::vector<judged> found;
     for (const candidate &one : candidates)
@@ -213,7 +215,8 @@ inline std::vector<continuation> oriented(const start &from, std::int64_t slack,
     std::stable_sort(found.begin(), found.end(), [](const judged &one, const judged &other) { return one.rank() < other.rank(); });
     found.erase(found.begin() + static_cast<std::ptrdiff_t>(std::min<std::uint64_t>(most, found.size())), found.end());
     std::vector<continuation> rows;
-    for (const judged &each : found) rows.push_back(continued(each.one, from, each.facts.dr_case()));
+    const auto row = [&from](const judged &each) { return continued(each.one, from, each.facts.dr_case()); };
+    std::transform(found.begin(), found.end(), std::back_inserter(rows), row);
     return rows;
 }
 
@@ -252,14 +255,22 @@ struct ranked {
     auto key() const { return std::make_pair(axis, row.line); }
 };
 
-// The reductions of a step that may start, in the order of their sides.
-inline void add_reduced(std::vector<ranked> &to, const start &from, const reductions &all) {
+// The reductions of a step on a side.
+inline void add_reduced(std::vector<ranked> &to, const start &from, const reductions &all, std::size_t on) {
     const axis_facts seen = facts(from.cube.lines[NORMAL]).axes[all.step.axis];
-    for (const std::size_t on : {NORMAL, INVERSE})
-        for (const std::vector<solution> &group : grouped(all.solutions[on], all.step)) {
-            to.push_back({reduced(from, all, on, group), all.step.axis, seen.bad_corners + seen.misplaced_edges});
-            to.back().row.dr_case = seen.dr_case();
-        }
+    for (const std::vector<solution> &group : grouped(all.solutions[on], all.step)) {
+        to.push_back({reduced(from, all, on, group), all.step.axis, seen.bad_corners + seen.misplaced_edges});
+        to.back().row.dr_case = seen.dr_case();
+    }
+}
+
+// Both reductions that may follow an orientation which holds, in the order of their sides.
+inline void add_reductions(std::vector<ranked> &to, const start &from, const oriented_steps &steps, std::int64_t slack) {
+    for (const axis_step &step : steps.reductions) {
+        const reductions all = reductions_of(from.cube, step, slack);
+        add_reduced(to, from, all, NORMAL);
+        add_reduced(to, from, all, INVERSE);
+    }
 }
 
 // The best of some continuations. Moves that keep two orientations are there once.
@@ -282,7 +293,7 @@ inline std::vector<continuation> continuations(const start &from, std::int64_t s
         if (std::any_of(steps.reductions.begin(), steps.reductions.end(), holds)) return {};
         if (!holds(steps.eo)) continue;
         is_oriented = true;
-        for (const axis_step &step : steps.reductions) add_reduced(found, from, reductions_of(from.cube, step, slack));
+        add_reductions(found, from, steps, slack);
     }
     return is_oriented ? best_of(std::move(found), most) : oriented(from, slack, most);
 }

@@ -4,6 +4,7 @@
 
 #include "nissy.hpp"
 
+#include <iterator>
 #include <limits>
 #include <unordered_map>
 #include <unordered_set>
@@ -171,11 +172,13 @@ inline bool is_reached_earlier(const solution &one, int least, const std::unorde
 inline std::vector<solution> reaching(const std::string &line, const axis_step &step, std::int64_t slack) {
     search which;
     which.slack = slack;
-    std::vector<solution> all = tables(step.name).solve(line, which), kept;
+    const std::vector<solution> all = tables(step.name).solve(line, which);
     std::unordered_set<std::string_view> known;
-    for (const solution &each : all) known.insert(each.moves);
-    for (const solution &each : all)
-        if (!is_reached_earlier(each, all.front().length, known)) kept.push_back(each);
+    const auto moves = [](const solution &one) { return std::string_view(one.moves); };
+    std::transform(all.begin(), all.end(), std::inserter(known, known.end()), moves);
+    std::vector<solution> kept;
+    const auto is_new = [&](const solution &one) { return !is_reached_earlier(one, all.front().length, known); };
+    std::copy_if(all.begin(), all.end(), std::back_inserter(kept), is_new);
     return kept;
 }
 

@@ -5,7 +5,7 @@ from __future__ import annotations
 import re
 from typing import Dict, Iterable, List, NamedTuple, Optional, Sequence, Tuple
 
-from ._facts import facts_all
+from ._facts import facts
 from ._given import Step
 from ._lines import cleanup, invert, unniss
 from ._searches import count_all, solve
@@ -114,7 +114,7 @@ def totals(cube: Cube, side: int, solutions: Sequence[Solution]) -> List[int]:
     made, others = cube.made[side], turns_of(cube.made[1 - side])
     if not made:
         return [others + moves.length for moves in solutions]
-    return [others + seen.clean_moves for seen in raising(facts_all([f"{made} {moves}" for moves in solutions]))]
+    return [others + facts(f"{made} {moves}").clean_moves for moves in solutions]
 
 
 class Way(NamedTuple):

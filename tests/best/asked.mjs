@@ -8,13 +8,12 @@ import { Nissy, NissyFault } from "../../web/module/nissy.js";
 
 const nissy = await Nissy.load(readFileSync(process.argv[2]));
 
-/** The rows, or the fault. */
+/** The rows, the fault, or what else is thrown. */
 function answer([scramble, soFar, slack, most]) {
   try {
     return nissy.best(scramble, { soFar, slack: Number(slack), most: Number(most) });
   } catch (fault) {
-    if (!(fault instanceof NissyFault)) throw fault;
-    return { line: fault.line, column: fault.column, text: fault.text };
+    return fault instanceof NissyFault ? { line: fault.line, column: fault.column, text: fault.text } : { error: String(fault) };
   }
 }
 
