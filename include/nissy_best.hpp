@@ -1,5 +1,5 @@
 // nissy for C++17 and later: the best continuations of a scramble and the moves so far. Header alone, over nissy.hpp, which says what is
-// thrown. A fault's what() names the line that has it.
+// thrown; a fault's what() names the line that has it. It is made of proved calls, and isn't proved itself.
 #ifndef NISSY_BEST_HPP
 #define NISSY_BEST_HPP
 
