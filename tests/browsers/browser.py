@@ -96,6 +96,10 @@ class Browser:
         """The text of the part with this id, as it is seen, "" where it is hidden."""
         return self.driver.find_element(By.ID, name).text
 
+    def content(self, name: str) -> str:
+        """The text of the part with this id, also where it is hidden."""
+        return self.script("return document.getElementById(arguments[0]).textContent", name)
+
     def texts(self, selector: str) -> list[str]:
         """The texts of all elements that a selector finds."""
         return self.script("return [...document.querySelectorAll(arguments[0])].map((each) => each.textContent)", selector)

@@ -218,11 +218,11 @@ def stale(tally: Tally, browser: Browser) -> None:
     shown = ("bracketed", "joined", "total")
     for address in ("#scramble=q&steps=normal.R~inverse.U2", "#scramble=" + "R_U_" * 128 + "&steps=normal.R~inverse.U2"):
         browser.open("#scramble=R_U&steps=normal.F_D")
-        tally.equal("a line before", tuple(map(browser.text, shown)), ("F D", "F D", "2 moves"))
+        tally.equal("a line before", tuple(map(browser.content, shown)), ("F D", "F D", "2 moves"))
         browser.script("document.getElementById('results').setAttribute('aria-busy', 'true'); location.hash = arguments[0]", address)
         browser.wait()
         tally.equal("the steps", browser.texts("#line-list .moves"), ["R", "(U2)"])
-        tally.equal("their line, which isn't read", tuple(map(browser.text, shown)), ("R (U2)", "", "…"))
+        tally.equal("their line, which isn't read", tuple(map(browser.content, shown)), ("R (U2)", "", "…"))
         tally.equal("their counts", browser.texts("#line-list .count"), ["", ""])
     browser.click("#copy-joined")
     tally.holds("what isn't known isn't copied", not browser.texts("#status")[0].startswith("Copied"))

@@ -19,7 +19,9 @@ def shows_skeleton(tally: Tally, browser: Browser, what: str, line: str) -> None
     """The whole of the skeleton in both forms, and how long it is."""
     moves = sum(letter in "UDRLFB" for letter in answer("cleanup", line))
     tally.equal(f"{what}: as it is written down", browser.text("bracketed"), line)
-    tally.equal(f"{what}: without brackets", browser.text("joined"), answer("unniss", line))
+    joined = answer("unniss", line)
+    tally.equal(f"{what}: without brackets", browser.content("joined"), joined)
+    tally.equal(f"{what}: which is seen where it differs", browser.text("joined"), "" if joined == line else joined)
     tally.equal(f"{what}: its moves", browser.text("total"), f"{moves} moves")
 
 

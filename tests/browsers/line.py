@@ -234,7 +234,7 @@ def premoves(tally: Tally, browser: Browser) -> None:
     for steps, joined, said in (("normal.R-", "R'", ""), ("inverse.F", "F'", note), ("normal.R-~inverse.F", "R' F'", note),
             ("normal.R-~inverse.F~normal.U-~normal.F", "R' U' F F'", ""), ("normal.R-~inverse.F~normal.U-", "R' U' F'", note)):
         browser.open(f"#scramble=U_R&steps={steps}")
-        tally.equal(f"{steps} without brackets", (browser.text("joined"), browser.text("joined-note")), (joined, said))
+        tally.equal(f"{steps} without brackets", (browser.content("joined"), browser.text("joined-note")), (joined, said))
     browser.act("#undo-step")
     browser.act("#undo-step")
     tally.equal("nothing is said of a line on the normal side", browser.text("joined-note"), "")

@@ -71,6 +71,7 @@ def covers(tally: Tally, browser: Browser) -> None:
 
 def enlarges(tally: Tally, browser: Browser) -> None:
     """The nets fill the window, and Escape brings the page back."""
+    browser.command("Emulation.setDeviceMetricsOverride", width=1440, height=900, deviceScaleFactor=1, mobile=False)
     browser.open(SCRAMBLE + "&list=eorl.normal.0")
     width = "return document.querySelector('.net').getBoundingClientRect().width"
     small = browser.script(width)
@@ -78,10 +79,14 @@ def enlarges(tally: Tally, browser: Browser) -> None:
     box = """const { left, top, width, height } = document.getElementById('cube').getBoundingClientRect();
         return [left, top, width >= innerWidth - 20, height === innerHeight]"""
     tally.equal("the card fills the window", browser.script(box), [0, 0, True, True])
+    covered = """return [0.1, 0.5, 0.9].every((across) => [0.1, 0.5, 0.9].every((down) =>
+        document.elementFromPoint(across * innerWidth, down * innerHeight).closest('#cube')))"""
+    tally.equal("nothing stands above it", browser.script(covered), True)
     tally.holds(f"the nets are larger: {small}, {browser.script(width)}", browser.script(width) > 1.5 * small)
     browser.press(Keys.ESCAPE)
     tally.equal("Escape brings the page back", (browser.script(width), browser.focused()), (small, "cube-large"))
     tally.holds("and leaves the list", browser.listed())
+    browser.command("Emulation.setDeviceMetricsOverride", width=1280, height=1000, deviceScaleFactor=1, mobile=False)
 
 
 def try_all(tally: Tally, browser: Browser) -> None:
