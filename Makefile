@@ -144,7 +144,13 @@ deb: build/nissy build/libnissy.a
 c: build/nissy.c
 	tools/c-archive build
 
-sdist: build/nissy build/nissy.c $(if $(LIBRARY_INSTALLED),build/libnissy.a) $(if $(shell command -v wasm-opt),build/nissy.html) \
+sdist: build/nissy.c
+	tools/sdist build
+
+windows: build/nissy.c
+	tools/windows build
+
+dist: build/nissy build/nissy.c $(if $(LIBRARY_INSTALLED),build/libnissy.a) $(if $(shell command -v wasm-opt),build/nissy.html) \
 		$(if $(shell command -v aarch64-linux-gnu-gcc),arm)
 	tools/dist build/dist $(if $(LIBRARY_INSTALLED),,program)
 

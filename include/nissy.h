@@ -16,7 +16,7 @@
  * as those of 64 bits do, and begins with `status`. If a line may have a fault, `fault` is the second byte and `column` the second four
  * bytes. A field that says yes or no is 1 or 0. What isn't named for a status is 0 after it.
  *
- * Link with -lnissy (pkg-config: nissy). EMBEDDING.md (docs/, or share/doc/nissy/) has examples. nissy.hpp is for C++17 and later. */
+ * Link with -lnissy (pkg-config: nissy). EMBEDDING.md, which comes with it, has examples. nissy.hpp is for C++17 and later. */
 #ifndef NISSY_H
 #define NISSY_H
 

@@ -22,6 +22,10 @@ copied() {
 }
 holds "the files are there" copied
 cd "$room/source" || exit 2
+made_by() { make -n "$1" 2> /dev/null | grep -q "^tools/$2 build"; } # TARGET TOOL
+for names in wheel:wheel npm:npm-package deb:deb c:c-archive sdist:sdist windows:windows dist:dist; do
+    holds "make ${names%:*} packs by tools/${names#*:}" made_by "${names%:*}" "${names#*:}"
+done
 tools/dist "$room/dist" > "$room/said" || fails "the packages are made"
 while read -r line; do skips "$line"; done < <(grep 'left out' "$room/said")
 made=$room/dist
@@ -80,6 +84,13 @@ else
     holds "the wheel is installed" pip install -q --no-index "$wheel"
     holds "its page speaks of nothing that only the repository has" refuses grep -nE "$of_repository" \
         "$room"/venv/lib/python3*/site-packages/nissy-*.dist-info/METADATA
+    # shellcheck disable=SC2016 # the backticks are the page's
+    prints_page() { # each line that its page has behind a call
+        sed -n '/^```python$/,/^```$/p' "$room"/venv/lib/python3*/site-packages/nissy-*.dist-info/METADATA | sed '/^```/d' > "$room/page.py" &&
+            sed -n 's/^print.*  # //p' "$room/page.py" > "$room/wanted" && [ -s "$room/wanted" ] && in_venv "$room/page.py" > "$room/printed" &&
+            diff "$room/wanted" <(grep -xFf "$room/wanted" "$room/printed")
+    }
+    holds "the example of its page prints what the page says" prints_page
     says() { grep -qxF "$1" "$room"/venv/lib/python3*/site-packages/nissy-*.dist-info/WHEEL; }
     holds "it isn't of Python alone" says "Root-Is-Purelib: false"
     for platform in manylinux_2_17 manylinux2014; do holds "it is for $platform" says "Tag: py3-none-${platform}_x86_64"; done
@@ -111,7 +122,15 @@ if [ ! -e "$release" ]; then skips "the archive in C, which wasn't made"; elif m
     mapfile -t commands < <(sed -n 's/^    \(cc .* -o nissy\|\.\/nissy .*\)$/\1/p' README.md)
     by_its_readme() { [ "${#commands[@]}" -eq 2 ] && by_system bash -c "${commands[0]}" && [ "$(by_system bash -c "${commands[1]}")" = "F2 U R'" ]; }
     holds "its program is built and runs by its README" by_its_readme
+    in_place() { # a caller, with what README says to take in the place of -lnissy
+        local words
+        words=$(tr '\n' ' ' < README.md | grep -o -- '-I\. nissy\.c') && write_caller "$room/one.c" &&
+            by_system bash -c "cc -O1 '$room/one.c' -o '$room/one' $words" && "$room/one"
+        [ $? -eq 4 ]
+    }
+    holds "another program is compiled with nissy.c by its README" in_place
     holds "each link of its pages leads to one of them" test -z "$(dead_links .)"
+    holds "they speak of nothing that only the repository has" refuses grep -nE "$of_repository" ./*.md
     holds "its header is the library's" cmp nissy.h "$room/source/include/nissy.h"
     if missing cmake; then skips "CMake isn't installed"; else
         by_cmake() {
@@ -168,6 +187,7 @@ if [ ! -e "$zip" ]; then skips "what is for Windows, which wasn't made"; else
     in_wheel() { python3 -c 'import sys, zipfile; sys.stdout.buffer.write(zipfile.ZipFile(sys.argv[1]).read("nissy/nissy.dll"))' "$made/nissy-$version-py3-none-win_amd64.whl"; }
     holds "its wheel has the same library" cmp "$windows/nissy.dll" <(in_wheel)
     holds "each link of its pages leads to one of them" test -z "$(dead_links "$windows")"
+    holds "they speak of nothing that only the repository has" refuses grep -nE "$of_repository" "$windows"/{*.md,README.txt}
     if [ -z "$wine" ] || [ -z "$server" ]; then skips "running it, since there is no wine"; else
         export WINEPREFIX=$room/wine WINEDEBUG=-all
         mkdir -p "$WINEPREFIX"
