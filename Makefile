@@ -17,7 +17,7 @@ SONAME := libnissy.so.2
 NEEDS_KIT = @command -v rt > /dev/null || { echo "no rt on the PATH: nissy is built by the Rattle kit that README.md names" >&2; exit 1; }
 
 # What program and library are made of, without the crates that only test them or show the libraries' use.
-SOURCES := HANDLES crates.txt $(shell find crates \( -name out -o -name niss_tests -o -name niss_call_tests -o -name niss_builds -o -name eo_axes \) -prune \
+SOURCES := HANDLES crates.txt $(shell find crates \( -name out -o -name niss_tests -o -name niss_call_tests -o -name eo_axes \) -prune \
 	-o -type f \( -name '*.rt' -o -name '*.antt' \) -print)
 
 # Where a distribution looks for each file: below PREFIX, or, behind `@lib` and `@python`, below LIBDIR and PYTHONDIR. A package is built with
