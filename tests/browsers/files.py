@@ -101,6 +101,16 @@ def is_whole(tally: Tally, page: str) -> None:
     tally.equal("marks that are left", re.findall(r">@\w+@<|\"@\w+@\"", page), [])
 
 
+def is_indented(tally: Tally) -> None:
+    """All JavaScript has one indent: of two blanks."""
+    scripts = sorted(each for kind in ("*.js", "*.cjs") for each in (TOP / "web").rglob(kind))
+    tally.holds("there are scripts", len(scripts) > 60)
+    for script in scripts:
+        code = [line for line in script.read_text().splitlines() if not line.lstrip().startswith("*")]
+        least = min((len(line) - len(line.lstrip()) for line in code if line.startswith(" ")), default=2)
+        tally.equal(f"{script.relative_to(TOP)}: its indent", least, 2)
+
+
 def refuses(tally: Tally) -> None:
     """The tool joins the parts of this folder, and refuses what it can't join."""
     for name, text, what in (("style.css", "", ""),) + REFUSED:
@@ -122,6 +132,7 @@ def main() -> None:
     tally.holds("the page isn't too large", len(text.encode()) <= MOST_BYTES)
     for part in (is_closed, is_plain, is_whole):
         part(tally, text)
+    is_indented(tally)
     refuses(tally)
     tally.end()
 

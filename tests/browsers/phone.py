@@ -198,7 +198,7 @@ def lies(tally: Tally, browser: Browser) -> None:
     room = "return parseFloat(getComputedStyle(document.getElementById('best-rows')).minHeight)"
     rows = "return [document.querySelectorAll('#best-body tr').length, document.getElementById('best-table').offsetHeight]"
     count, height = browser.script(rows)
-    tally.holds(f"the room of {count} rows: {height}", count == 8 and height <= browser.script(room) < height + 8)
+    tally.holds(f"the room of {count} rows: {height}", count == 6 and height <= browser.script(room) < height + 8)
     browser.command("Emulation.setDeviceMetricsOverride", width=180, height=740, deviceScaleFactor=1, mobile=True)
     browser.open(f"{ADDRESS}&steps=normal.D2_R2_L_U&kept=normal.R,normal.U;a_note")
     browser.wait_best()

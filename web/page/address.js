@@ -28,11 +28,11 @@ export const emptyState = () => ({ scramble: "", parts: [], side: "normal", list
 
 /** Moves as an address has them: `_` for a blank and `-` for an apostrophe, since some programs cut an address there. */
 function written(text) {
-    const plain = (sign) => `%${sign.charCodeAt(0).toString(16).toUpperCase()}`;
-    return encodeURIComponent(text.replace(/[\uD800-\uDFFF]/gu, "\uFFFD"))
-        .replace(/[-_()*!~.]/g, plain)
-        .replace(/%20/g, "_")
-        .replace(/'/g, "-");
+  const plain = (sign) => `%${sign.charCodeAt(0).toString(16).toUpperCase()}`;
+  return encodeURIComponent(text.replace(/[\uD800-\uDFFF]/gu, "\uFFFD"))
+    .replace(/[-_()*!~.]/g, plain)
+    .replace(/%20/g, "_")
+    .replace(/'/g, "-");
 }
 
 /** A text as the one line that the engine reads of it.
@@ -49,18 +49,18 @@ const writtenCandidate = ({ parts, note, next }) => [writtenParts(parts), writte
 
 /** @param {List} list */
 function writtenList({ step, side, slack, isAll, split = 0 }) {
-    return [step, side, slack, ...(isAll ? [ALL_ROWS] : []), ...(split > 0 ? [`split${split}`] : [])].join(".");
+  return [step, side, slack, ...(isAll ? [ALL_ROWS] : []), ...(split > 0 ? [`split${split}`] : [])].join(".");
 }
 
 /** @param {State} state */
 export function addressOf({ scramble, parts, side, list, kept }) {
-    const fields = [];
-    if (scramble !== "") fields.push(`scramble=${written(scramble)}`);
-    if (parts.length > 0) fields.push(`steps=${writtenParts(parts)}`);
-    if (side !== "normal") fields.push(`side=${side}`);
-    if (list) fields.push(`list=${writtenList(list)}`);
-    if (kept.length > 0) fields.push(`kept=${kept.map(writtenCandidate).join(",")}`);
-    return `#${fields.join("&")}`;
+  const fields = [];
+  if (scramble !== "") fields.push(`scramble=${written(scramble)}`);
+  if (parts.length > 0) fields.push(`steps=${writtenParts(parts)}`);
+  if (side !== "normal") fields.push(`side=${side}`);
+  if (list) fields.push(`list=${writtenList(list)}`);
+  if (kept.length > 0) fields.push(`kept=${kept.map(writtenCandidate).join(",")}`);
+  return `#${fields.join("&")}`;
 }
 
 /** Whether an address has room for a state.
@@ -69,63 +69,63 @@ export const fitsAddress = (state) => addressOf(state).length <= LONGEST_ADDRESS
 
 /** @param {string} text @returns {Part} */
 function readPart(text) {
-    const [side, moves, ...rest] = text.split(".");
-    const plain = spelled(moves ?? "");
-    if (!isSide(side) || rest.length > 0 || !MOVES.test(plain)) throw new Error("not steps");
-    return { side, moves: plain };
+  const [side, moves, ...rest] = text.split(".");
+  const plain = spelled(moves ?? "");
+  if (!isSide(side) || rest.length > 0 || !MOVES.test(plain)) throw new Error("not steps");
+  return { side, moves: plain };
 }
 
 /** @param {string} text @returns {Part[]} */
 function readParts(text) {
-    const parts = text.split("~");
-    if (parts.length > MOST_PARTS) throw new Error("too many");
-    return parts.map(readPart);
+  const parts = text.split("~");
+  if (parts.length > MOST_PARTS) throw new Error("too many");
+  return parts.map(readPart);
 }
 
 /** @param {string} text @returns {List} */
 function readList(text) {
-    const [step, side, slack, ...others] = text.split(".");
-    const known = stepNamed(step) && isSide(side) && /^[0-9]$/.test(slack) && Number(slack) <= GREATEST_SLACK;
-    const isAll = others[0] === ALL_ROWS;
-    const [written, ...rest] = isAll ? others.slice(1) : others;
-    const split = SPLIT.exec(written ?? "");
-    if (!known || rest.length > 0 || (written !== undefined && split === null)) throw new Error("no list");
-    const list = { step, side, slack: Number(slack), isAll };
-    return split === null ? list : { ...list, split: Number(split[1]) };
+  const [step, side, slack, ...others] = text.split(".");
+  const known = stepNamed(step) && isSide(side) && /^[0-9]$/.test(slack) && Number(slack) <= GREATEST_SLACK;
+  const isAll = others[0] === ALL_ROWS;
+  const [written, ...rest] = isAll ? others.slice(1) : others;
+  const split = SPLIT.exec(written ?? "");
+  if (!known || rest.length > 0 || (written !== undefined && split === null)) throw new Error("no list");
+  const list = { step, side, slack: Number(slack), isAll };
+  return split === null ? list : { ...list, split: Number(split[1]) };
 }
 
 /** @param {string} text @returns {Candidate} */
 function readCandidate(text) {
-    const [parts, note = "", next = "", ...rest] = text.split(";");
-    const plain = oneLine(spelled(note));
-    const isKnown = next === "" || REDUCTIONS.some(({ name }) => name === next);
-    if (rest.length > 0 || plain.length > LONGEST_NOTE || !isKnown) throw new Error("no candidates");
-    return { parts: readParts(parts), note: plain, next };
+  const [parts, note = "", next = "", ...rest] = text.split(";");
+  const plain = oneLine(spelled(note));
+  const isKnown = next === "" || REDUCTIONS.some(({ name }) => name === next);
+  if (rest.length > 0 || plain.length > LONGEST_NOTE || !isKnown) throw new Error("no candidates");
+  return { parts: readParts(parts), note: plain, next };
 }
 
 /** What each field of an address puts into the state.
  * @type {Record<string, (state: State, text: string) => void>} */
 const FIELDS = {
-    scramble: (state, text) => {
-        const scramble = oneLine(spelled(text));
-        if (scramble.length > LONGEST_SCRAMBLE) throw new Error("too long");
-        state.scramble = scramble;
-    },
-    steps: (state, text) => {
-        state.parts = readParts(text);
-    },
-    side: (state, text) => {
-        if (!isSide(text)) throw new Error("no side");
-        state.side = text;
-    },
-    list: (state, text) => {
-        state.list = readList(text);
-    },
-    kept: (state, text) => {
-        const candidates = text.split(",");
-        if (candidates.length > MOST_CANDIDATES) throw new Error("too many");
-        state.kept = candidates.map(readCandidate);
-    },
+  scramble: (state, text) => {
+    const scramble = oneLine(spelled(text));
+    if (scramble.length > LONGEST_SCRAMBLE) throw new Error("too long");
+    state.scramble = scramble;
+  },
+  steps: (state, text) => {
+    state.parts = readParts(text);
+  },
+  side: (state, text) => {
+    if (!isSide(text)) throw new Error("no side");
+    state.side = text;
+  },
+  list: (state, text) => {
+    state.list = readList(text);
+  },
+  kept: (state, text) => {
+    const candidates = text.split(",");
+    if (candidates.length > MOST_CANDIDATES) throw new Error("too many");
+    state.kept = candidates.map(readCandidate);
+  },
 };
 
 /**
@@ -133,17 +133,17 @@ const FIELDS = {
  * @param {State} state @param {string} field @param {Set<string>} said @returns {string}
  */
 function readField(state, field, said) {
-    const [name, value, ...rest] = field.split("=");
-    if (!Object.hasOwn(FIELDS, name)) return "unknown";
-    if (value === undefined || rest.length > 0) return "no value";
-    if (said.has(name)) return "said twice";
-    said.add(name);
-    try {
-        FIELDS[name](state, value);
-        return "";
-    } catch (fault) {
-        return fault instanceof URIError ? "broken escapes" : fault.message;
-    }
+  const [name, value, ...rest] = field.split("=");
+  if (!Object.hasOwn(FIELDS, name)) return "unknown";
+  if (value === undefined || rest.length > 0) return "no value";
+  if (said.has(name)) return "said twice";
+  said.add(name);
+  try {
+    FIELDS[name](state, value);
+    return "";
+  } catch (fault) {
+    return fault instanceof URIError ? "broken escapes" : fault.message;
+  }
 }
 
 /**
@@ -151,17 +151,17 @@ function readField(state, field, said) {
  * @param {string} hash @returns {{state: State, fault: string}}
  */
 export function readAddress(hash) {
-    const text = hash.replace(/^#/, "");
-    if (text.length > LONGEST_ADDRESS) return { state: emptyState(), fault: "This address is too long, so the page begins empty." };
-    const state = emptyState();
-    const said = new Set();
-    const leftOut = [];
-    for (const field of text.split("&").filter((each) => each !== "")) {
-        const why = readField(state, field, said);
-        const name = field.split("=")[0];
-        if (why !== "") leftOut.push(`${name.slice(0, LONGEST_NAME)}${name.length > LONGEST_NAME ? "…" : ""} (${why})`);
-    }
-    if (leftOut.length === 0) return { state, fault: "" };
-    const more = leftOut.length > MOST_NAMED ? ` and ${leftOut.length - MOST_NAMED} more` : "";
-    return { state, fault: `Left out of this address: ${leftOut.slice(0, MOST_NAMED).join(", ")}${more}.` };
+  const text = hash.replace(/^#/, "");
+  if (text.length > LONGEST_ADDRESS) return { state: emptyState(), fault: "This address is too long, so the page begins empty." };
+  const state = emptyState();
+  const said = new Set();
+  const leftOut = [];
+  for (const field of text.split("&").filter((each) => each !== "")) {
+    const why = readField(state, field, said);
+    const name = field.split("=")[0];
+    if (why !== "") leftOut.push(`${name.slice(0, LONGEST_NAME)}${name.length > LONGEST_NAME ? "…" : ""} (${why})`);
+  }
+  if (leftOut.length === 0) return { state, fault: "" };
+  const more = leftOut.length > MOST_NAMED ? ` and ${leftOut.length - MOST_NAMED} more` : "";
+  return { state, fault: `Left out of this address: ${leftOut.slice(0, MOST_NAMED).join(", ")}${more}.` };
 }

@@ -18,8 +18,8 @@ const SIGN_OF_TWIN = 0.7;
 /** A cell whose role stays where a narrow page lays the row out as a grid.
  * @param {"td" | "th"} name */
 function cell(name, attributes, ...children) {
-    const role = name === "th" ? { role: "rowheader", scope: "row" } : { role: "cell" };
-    return element(name, { ...role, ...attributes }, ...children);
+  const role = name === "th" ? { role: "rowheader", scope: "row" } : { role: "cell" };
+  return element(name, { ...role, ...attributes }, ...children);
 }
 
 /**
@@ -28,27 +28,27 @@ function cell(name, attributes, ...children) {
  * moves there
  */
 function movesCell(take, others, isBeside) {
-    const either = others.length === 1 ? `… ${others[0]}` : `${others.length} twins`;
-    // all but the last turns is the same
-    const twin = others.length === 0 ? "" : ` or ${either}`;
-    const made = cell("td", {}, take, ...(twin === "" ? [] : [element("small", { class: "twins" }, twin)]));
-    const seen = take.classList.contains("seen") ? SEEN_SIGNS : 0;
-    const [own, beside] = [take.textContent.length + seen, SIGN_OF_TWIN * twin.length];
-    made.style.setProperty("--signs", String(own + (isBeside ? beside : 0)));
-    made.style.setProperty("--signs-wide", String(own + beside));
-    return made;
+  const either = others.length === 1 ? `… ${others[0]}` : `${others.length} twins`;
+  // all but the last turns is the same
+  const twin = others.length === 0 ? "" : ` or ${either}`;
+  const made = cell("td", {}, take, ...(twin === "" ? [] : [element("small", { class: "twins" }, twin)]));
+  const seen = take.classList.contains("seen") ? SEEN_SIGNS : 0;
+  const [own, beside] = [take.textContent.length + seen, SIGN_OF_TWIN * twin.length];
+  made.style.setProperty("--signs", String(own + (isBeside ? beside : 0)));
+  made.style.setProperty("--signs-wide", String(own + beside));
+  return made;
 }
 
 /** @param {import("./finder.js").Next} next @param {import("./steps.js").Side} side */
 function lengthCell({ lengths, totals, side: best }, side) {
-    const isBest = lengths[side] !== null && totals[side] === totals[best];
-    const words = lengths[side] === null ? "no DR" : `DR in ${counted(lengths[side], "move")}`;
-    const inAll = lengths[side] === null ? "" : `, ${totals[side]} in all`;
-    const about = {
-        class: isBest ? "best number" : "number", "data-side": side === "normal" ? "N" : "I", title: `${side} side${inAll}`,
-        "aria-label": `${words} on the ${side} side${inAll}`,
-    };
-    return cell("td", about, lengths[side] === null ? "–" : String(lengths[side]), element("small", { class: "times" }));
+  const isBest = lengths[side] !== null && totals[side] === totals[best];
+  const words = lengths[side] === null ? "no DR" : `DR in ${counted(lengths[side], "move")}`;
+  const inAll = lengths[side] === null ? "" : `, ${totals[side]} in all`;
+  const about = {
+    class: isBest ? "best number" : "number", "data-side": side === "normal" ? "N" : "I", title: `${side} side${inAll}`,
+    "aria-label": `${words} on the ${side} side${inAll}`,
+  };
+  return cell("td", about, lengths[side] === null ? "–" : String(lengths[side]), element("small", { class: "times" }));
 }
 
 /**
@@ -56,34 +56,34 @@ function lengthCell({ lengths, totals, side: best }, side) {
  * @param {HTMLElement} shown the row @param {import("./reductions.js").Reductions} reductions
  */
 export function tellReductions(shown, { counts, first }) {
-    shown.querySelectorAll(".number").forEach((each, at) => {
-        const count = counts[SIDES[at]];
-        if (count === null) return;
-        each.querySelector(".times").textContent = `×${count.toLocaleString("en")}`;
-        each.setAttribute("aria-label", `${each.getAttribute("aria-label")}, ${counted(count, "solution")}`);
-    });
-    const line = first === null ? "" : `then ${bracketed([first])}`;
-    const place = shown.querySelector(".first");
-    place.textContent = line;
-    place.style.setProperty("--signs", String(line.length));
+  shown.querySelectorAll(".number").forEach((each, at) => {
+    const count = counts[SIDES[at]];
+    if (count === null) return;
+    each.querySelector(".times").textContent = `×${count.toLocaleString("en")}`;
+    each.setAttribute("aria-label", `${each.getAttribute("aria-label")}, ${counted(count, "solution")}`);
+  });
+  const line = first === null ? "" : `then ${bracketed([first])}`;
+  const place = shown.querySelector(".first");
+  place.textContent = line;
+  place.style.setProperty("--signs", String(line.length));
 }
 
 /** @param {Row} row @param {RowActs} acts */
 export function bestRow(row, acts) {
-    const { total, part: added, state, next, others, key } = row;
-    const line = added.moves === "" ? "no moves" : bracketed([added]);
-    const isSeen = acts.isSeen([added], next?.step);
-    const all = Number.isFinite(total) ? String(total) : "–";
-    const take = takeButton(line, { key, isSeen }, () => acts.goOn(row));
-    // one orientation has a row, and a star, for each reduction that may follow
-    const whole = next ? `${line}, ${next.marks} ${next.case}` : line;
-    const star = starButton(whole, acts.isStarred([added], next?.step), (button) => acts.star(button, [added], next?.step));
-    const moves = movesCell(take, others, next !== null);
-    const cells = [cell("th", {}, all), moves, cell("td", { class: "axis" }, state)];
-    if (next) {
-        moves.append(element("small", { class: "first moves" }));
-        cells.push(cell("td", { class: "axis" }, next.marks, " ", element("span", { class: "case" }, next.case)));
-        cells.push(...SIDES.map((side) => lengthCell(next, side)));
-    }
-    return element("tr", { role: "row", "data-marks": next ? next.marks : state }, ...cells, cell("td", {}, star));
+  const { total, part: added, state, next, others, key } = row;
+  const line = added.moves === "" ? "no moves" : bracketed([added]);
+  const isSeen = acts.isSeen([added], next?.step);
+  const all = Number.isFinite(total) ? String(total) : "–";
+  const take = takeButton(line, { key, isSeen }, () => acts.goOn(row));
+  // one orientation has a row, and a star, for each reduction that may follow
+  const whole = next ? `${line}, ${next.marks} ${next.case}` : line;
+  const star = starButton(whole, acts.isStarred([added], next?.step), (button) => acts.star(button, [added], next?.step));
+  const moves = movesCell(take, others, next !== null);
+  const cells = [cell("th", {}, all), moves, cell("td", { class: "axis" }, state)];
+  if (next) {
+    moves.append(element("small", { class: "first moves" }));
+    cells.push(cell("td", { class: "axis" }, next.marks, " ", element("span", { class: "case" }, next.case)));
+    cells.push(...SIDES.map((side) => lengthCell(next, side)));
+  }
+  return element("tr", { role: "row", "data-marks": next ? next.marks : state }, ...cells, cell("td", {}, star));
 }

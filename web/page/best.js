@@ -24,8 +24,8 @@ const MOST_KEPT_SEARCHES = 8;
 
 /** @param {string[]} reached */
 function shownFirst(reached) {
-    if (isNarrow()) return SHOWN_FIRST.narrow;
-    return reached.length > 0 ? SHOWN_FIRST.ofReductions : SHOWN_FIRST.wide;
+  if (isNarrow()) return SHOWN_FIRST.narrow;
+  return reached.length > 0 ? SHOWN_FIRST.ofReductions : SHOWN_FIRST.wide;
 }
 
 /** What a search is known by.
@@ -35,354 +35,354 @@ const nameOfSearch = ({ now, slack, isAll }) => [now.normal, now.inverse, slack,
 /** How many rows that aren't seen belong before the last one that is.
  * @param {Row[]} rows @param {string[]} seen the keys of those that are seen */
 function newAmong(rows, seen) {
-    const known = new Set(seen);
-    const last = rows.findLastIndex(({ key }) => known.has(key));
-    return rows.slice(0, Math.max(0, last)).filter(({ key }) => !known.has(key)).length;
+  const known = new Set(seen);
+  const last = rows.findLastIndex(({ key }) => known.has(key));
+  return rows.slice(0, Math.max(0, last)).filter(({ key }) => !known.has(key)).length;
 }
 
 export class BestContinuations {
-    #finders;
-    #acts;
-    #filter = new BestFilter({ changed: () => this.#filtered(), typed: () => this.#typed() });
-    #signs = new FilterSigns("best", () => this.#clear());
-    #question = null;
-    /** @type {Further | null} what the rows are shown of */
-    #progress = null;
-    /** @type {Further | null} what was found since, if rows of it belong among those that are seen */
-    #newer = null;
-    #isAsked = false;
-    #further;
-    /** @type {Map<string, Further>} */
-    #found = new Map();
-    #reductions;
-    #shown = 0;
-    #body = part("best-body");
+  #finders;
+  #acts;
+  #filter = new BestFilter({ changed: () => this.#filtered(), typed: () => this.#typed() });
+  #signs = new FilterSigns("best", () => this.#clear());
+  #question = null;
+  /** @type {Further | null} what the rows are shown of */
+  #progress = null;
+  /** @type {Further | null} what was found since, if rows of it belong among those that are seen */
+  #newer = null;
+  #isAsked = false;
+  #further;
+  /** @type {Map<string, Further>} */
+  #found = new Map();
+  #reductions;
+  #shown = 0;
+  #body = part("best-body");
 
-    /**
-     * @param {import("./finder.js").Finder[]} finders of its own, one an axis
-     * @param {import("./calls.js").Calls} calls that tell more of rows that are seen
-     * @param {import("./best-row.js").RowActs & {shown: () => void, isBusy: () => boolean}} acts `isBusy`: whether the page waits for
-     * something else
-     */
-    constructor(finders, calls, acts) {
-        this.#finders = finders;
-        this.#reductions = new ShownReductions(calls, this.#body);
-        this.#acts = acts;
-        this.#further = new FurtherSearch(finders, {
-            isBusy: acts.isBusy,
-            turned: () => this.#working(this.#isAsked),
-            found: (progress) => this.#foundFurther(progress),
-            ended: (fault) => this.#endedFurther(fault),
-        });
-        roveWithin(this.#body);
-        part("best-stop").addEventListener("click", () => this.#stopped());
-        part("best-new").addEventListener("click", () => this.#showNewer());
-        part("best-further").addEventListener("change", () => this.#turnFurther());
-        for (const name of ["best-slack", "best-all"]) part(name).addEventListener("change", () => this.#ask());
-        part("best-sort").addEventListener("change", () => this.#filtered());
-        part("best-more").addEventListener("click", () => this.#more());
-    }
+  /**
+   * @param {import("./finder.js").Finder[]} finders of its own, one an axis
+   * @param {import("./calls.js").Calls} calls that tell more of rows that are seen
+   * @param {import("./best-row.js").RowActs & {shown: () => void, isBusy: () => boolean}} acts `isBusy`: whether the page waits for
+   * something else
+   */
+  constructor(finders, calls, acts) {
+    this.#finders = finders;
+    this.#reductions = new ShownReductions(calls, this.#body);
+    this.#acts = acts;
+    this.#further = new FurtherSearch(finders, {
+      isBusy: acts.isBusy,
+      turned: () => this.#working(this.#isAsked),
+      found: (progress) => this.#foundFurther(progress),
+      ended: (fault) => this.#endedFurther(fault),
+    });
+    roveWithin(this.#body);
+    part("best-stop").addEventListener("click", () => this.#stopped());
+    part("best-new").addEventListener("click", () => this.#showNewer());
+    part("best-further").addEventListener("change", () => this.#turnFurther());
+    for (const name of ["best-slack", "best-all"]) part(name).addEventListener("change", () => this.#ask());
+    part("best-sort").addEventListener("change", () => this.#filtered());
+    part("best-more").addEventListener("click", () => this.#more());
+  }
 
-    /**
-     * Takes another cube, or none, and looks for the best of it.
-     * @param {{now: import("./steps.js").Lines, parts: import("./steps.js").Part[], reached: string[]} | null} cube
-     */
-    reset(cube) {
-        this.#stop();
-        this.#question = cube;
-        this.#progress = null;
-        this.#newer = null;
-        this.#reductions.clear();
-        this.#shown = shownFirst(cube?.reached ?? []);
-        const isNeeded = cube !== null && !isReduced(cube.reached);
-        // until another cube is known nothing shows or hides the card, or what is read below it would move
-        if (cube !== null) part("best").hidden = !isNeeded;
-        if (!isNeeded) {
-            this.#body.replaceChildren();
-            part("best-note").textContent = "";
-            part("best-more").hidden = true;
-            this.#tellNewer(0);
-            this.#working(false);
-            return;
-        }
-        part("best-table").classList.toggle("of-reductions", cube.reached.length > 0);
-        part("best-unasked").hidden = cube.reached.length > 0;
-        this.#filter.begin(reducedAfter(cube.reached));
-        this.#ask();
+  /**
+   * Takes another cube, or none, and looks for the best of it.
+   * @param {{now: import("./steps.js").Lines, parts: import("./steps.js").Part[], reached: string[]} | null} cube
+   */
+  reset(cube) {
+    this.#stop();
+    this.#question = cube;
+    this.#progress = null;
+    this.#newer = null;
+    this.#reductions.clear();
+    this.#shown = shownFirst(cube?.reached ?? []);
+    const isNeeded = cube !== null && !isReduced(cube.reached);
+    // until another cube is known nothing shows or hides the card, or what is read below it would move
+    if (cube !== null) part("best").hidden = !isNeeded;
+    if (!isNeeded) {
+      this.#body.replaceChildren();
+      part("best-note").textContent = "";
+      part("best-more").hidden = true;
+      this.#tellNewer(0);
+      this.#working(false);
+      return;
     }
+    part("best-table").classList.toggle("of-reductions", cube.reached.length > 0);
+    part("best-unasked").hidden = cube.reached.length > 0;
+    this.#filter.begin(reducedAfter(cube.reached));
+    this.#ask();
+  }
 
-    /** Shows the card, or hides it, before there are rows: so nothing moves when they come.
-     * @param {string[]} reached @param {boolean} isBare whether no scramble is there yet */
-    expect(reached, isBare) {
-        part("best").hidden = isBare || isReduced(reached);
-        part("best-table").classList.toggle("of-reductions", reached.length > 0);
-    }
+  /** Shows the card, or hides it, before there are rows: so nothing moves when they come.
+   * @param {string[]} reached @param {boolean} isBare whether no scramble is there yet */
+  expect(reached, isBare) {
+    part("best").hidden = isBare || isReduced(reached);
+    part("best-table").classList.toggle("of-reductions", reached.length > 0);
+  }
 
-    /** Ends the workers; a later search starts others. */
-    end() {
-        for (const finder of this.#finders) finder.end();
-    }
+  /** Ends the workers; a later search starts others. */
+  end() {
+    for (const finder of this.#finders) finder.end();
+  }
 
-    /** Whether the best that were asked for are looked for. */
-    isWorking() {
-        return this.#isAsked;
-    }
+  /** Whether the best that were asked for are looked for. */
+  isWorking() {
+    return this.#isAsked;
+  }
 
-    /** Shows the stars as they are. */
-    mark() {
-        this.#draw();
-    }
+  /** Shows the stars as they are. */
+  mark() {
+    this.#draw();
+  }
 
-    #clear() {
-        this.#filter.clear();
-        this.#filtered();
-        announce(part("best-note").textContent);
-    }
+  #clear() {
+    this.#filter.clear();
+    this.#filtered();
+    announce(part("best-note").textContent);
+  }
 
-    /** Shows what the filters leave, from its beginning. */
-    #filtered() {
-        this.#shown = shownFirst(this.#question?.reached ?? []);
-        this.#takeNewer();
-        this.#draw();
-    }
+  /** Shows what the filters leave, from its beginning. */
+  #filtered() {
+    this.#shown = shownFirst(this.#question?.reached ?? []);
+    this.#takeNewer();
+    this.#draw();
+  }
 
-    /** The same once nothing more is typed, and says it. */
-    #typed() {
-        this.#filtered();
-        if (this.#progress !== null) announceLater(part("best-note").textContent);
-    }
+  /** The same once nothing more is typed, and says it. */
+  #typed() {
+    this.#filtered();
+    if (this.#progress !== null) announceLater(part("best-note").textContent);
+  }
 
-    /** Makes the row seen that has this name, and answers its button, or null.
-     * @param {string} key */
-    reveal(key) {
-        const placeIn = (progress) => (this.#rows(progress) ?? []).findIndex((row) => row.key === key);
-        if (placeIn(this.#progress) < 0) this.#takeNewer();
-        const at = placeIn(this.#progress);
-        if (at < 0) return null;
-        this.#shown = Math.max(this.#shown, at + 1);
-        this.#draw();
-        return this.#body.querySelectorAll(".take")[at];
-    }
+  /** Makes the row seen that has this name, and answers its button, or null.
+   * @param {string} key */
+  reveal(key) {
+    const placeIn = (progress) => (this.#rows(progress) ?? []).findIndex((row) => row.key === key);
+    if (placeIn(this.#progress) < 0) this.#takeNewer();
+    const at = placeIn(this.#progress);
+    if (at < 0) return null;
+    this.#shown = Math.max(this.#shown, at + 1);
+    this.#draw();
+    return this.#body.querySelectorAll(".take")[at];
+  }
 
-    #stop() {
-        this.#further.stop();
-        for (const finder of this.#finders) finder.stop();
-    }
+  #stop() {
+    this.#further.stop();
+    for (const finder of this.#finders) finder.stop();
+  }
 
-    /** Stops what is looked for, as it is asked to. */
-    #stopped() {
-        const isFurther = this.#further.isOn();
-        this.#stop();
-        // a search that was asked for says so itself
-        if (isFurther) this.#endedFurther(new Stopped());
-    }
+  /** Stops what is looked for, as it is asked to. */
+  #stopped() {
+    const isFurther = this.#further.isOn();
+    this.#stop();
+    // a search that was asked for says so itself
+    if (isFurther) this.#endedFurther(new Stopped());
+  }
 
-    #ask() {
-        if (this.#question === null) return;
-        this.#stop();
-        this.#newer = null;
-        this.#tellNewer(0);
-        this.#question = { ...this.#question, slack: Number(part("best-slack").value), isAll: part("best-all").checked };
-        const known = this.#found.get(nameOfSearch(this.#question));
-        if (!known) return void this.#find(this.#question);
-        this.#show(known);
-        this.#goFurther();
-    }
+  #ask() {
+    if (this.#question === null) return;
+    this.#stop();
+    this.#newer = null;
+    this.#tellNewer(0);
+    this.#question = { ...this.#question, slack: Number(part("best-slack").value), isAll: part("best-all").checked };
+    const known = this.#found.get(nameOfSearch(this.#question));
+    if (!known) return void this.#find(this.#question);
+    this.#show(known);
+    this.#goFurther();
+  }
 
-    /** Goes on by itself from what was found, if it may. */
-    #goFurther() {
-        this.#working(false);
-        if (part("best-further").checked) this.#further.begin({ ...this.#question, slack: this.#progress.slack }, this.#progress);
-    }
+  /** Goes on by itself from what was found, if it may. */
+  #goFurther() {
+    this.#working(false);
+    if (part("best-further").checked) this.#further.begin({ ...this.#question, slack: this.#progress.slack }, this.#progress);
+  }
 
-    #turnFurther() {
-        if (this.#isAsked || this.#question === null) return;
-        if (!part("best-further").checked) this.#stopped();
-        else if (this.#found.has(nameOfSearch(this.#question))) this.#ask();
-    }
+  #turnFurther() {
+    if (this.#isAsked || this.#question === null) return;
+    if (!part("best-further").checked) this.#stopped();
+    else if (this.#found.has(nameOfSearch(this.#question))) this.#ask();
+  }
 
-    /**
-     * Takes what was found without being asked for. Rows that are seen stay where they are: what belongs among them waits until it is asked
-     * for.
-     * @param {Further} progress
-     */
-    #foundFurther(progress) {
-        if (progress.done === progress.all) this.#keep(this.#question, progress);
-        const seen = [...this.#body.querySelectorAll(".take")].map(({ dataset }) => dataset.key);
-        const rows = this.#rows(progress) ?? [];
-        this.#newer = progress;
-        this.#tellProgress(progress);
-        if (!seen.every((key, at) => rows[at]?.key === key)) this.#tellNewer(newAmong(rows, seen), rows[0]);
-        else this.#takeNewer();
-        if (seen.length < Math.min(rows.length, this.#shown)) this.#draw();
-        this.#tellRows(rows.length);
-    }
+  /**
+   * Takes what was found without being asked for. Rows that are seen stay where they are: what belongs among them waits until it is asked
+   * for.
+   * @param {Further} progress
+   */
+  #foundFurther(progress) {
+    if (progress.done === progress.all) this.#keep(this.#question, progress);
+    const seen = [...this.#body.querySelectorAll(".take")].map(({ dataset }) => dataset.key);
+    const rows = this.#rows(progress) ?? [];
+    this.#newer = progress;
+    this.#tellProgress(progress);
+    if (!seen.every((key, at) => rows[at]?.key === key)) this.#tellNewer(newAmong(rows, seen), rows[0]);
+    else this.#takeNewer();
+    if (seen.length < Math.min(rows.length, this.#shown)) this.#draw();
+    this.#tellRows(rows.length);
+  }
 
-    /** @param {Error | null} fault why no longer ones are looked for, or null if they are found */
-    #endedFurther(fault) {
-        if (fault) this.#brokenOff(fault);
-        this.#working(false);
-    }
+  /** @param {Error | null} fault why no longer ones are looked for, or null if they are found */
+  #endedFurther(fault) {
+    if (fault) this.#brokenOff(fault);
+    this.#working(false);
+  }
 
-    /** Takes the rows that were found since into those that are shown. */
-    #takeNewer() {
-        if (this.#newer === null) return;
-        this.#progress = this.#newer;
-        this.#newer = null;
-        this.#tellNewer(0);
-    }
+  /** Takes the rows that were found since into those that are shown. */
+  #takeNewer() {
+    if (this.#newer === null) return;
+    this.#progress = this.#newer;
+    this.#newer = null;
+    this.#tellNewer(0);
+  }
 
-    /** Says how many rows belong among those that are seen, and of the first of them how good it is, if it is better than all.
-     * @param {number} count @param {Row} [first] */
-    #tellNewer(count, first) {
-        const isBest = count > 0 && first.total < (this.#rows(this.#progress)[0]?.total ?? 0);
-        const words = `${counted(count, "new row")}${isBest ? `: ${counted(first.total, "move")}` : ""}`;
-        tell(part("best-new"), count === 0 ? "" : words);
-        if (isBest) announceLater(words);
-    }
+  /** Says how many rows belong among those that are seen, and of the first of them how good it is, if it is better than all.
+   * @param {number} count @param {Row} [first] */
+  #tellNewer(count, first) {
+    const isBest = count > 0 && first.total < (this.#rows(this.#progress)[0]?.total ?? 0);
+    const words = `${counted(count, "new row")}${isBest ? `: ${counted(first.total, "move")}` : ""}`;
+    tell(part("best-new"), count === 0 ? "" : words);
+    if (isBest) announceLater(words);
+  }
 
-    /** Shows the rows that were found since in their places, and goes to the first of them. */
-    #showNewer() {
-        const seen = new Set([...this.#body.querySelectorAll(".take")].map(({ dataset }) => dataset.key));
-        this.#takeNewer();
-        this.#draw();
-        const first = [...this.#body.querySelectorAll(".take")].find(({ dataset }) => !seen.has(dataset.key));
-        (first ?? part("best-heading")).focus({ preventScroll: true });
-    }
+  /** Shows the rows that were found since in their places, and goes to the first of them. */
+  #showNewer() {
+    const seen = new Set([...this.#body.querySelectorAll(".take")].map(({ dataset }) => dataset.key));
+    this.#takeNewer();
+    this.#draw();
+    const first = [...this.#body.querySelectorAll(".take")].find(({ dataset }) => !seen.has(dataset.key));
+    (first ?? part("best-heading")).focus({ preventScroll: true });
+  }
 
-    /** @param {Question} question */
-    async #find(question) {
-        const isStill = () => question === this.#question;
-        const { slack } = question;
-        this.#progress = null;
-        this.#showRows([]);
-        this.#tellNewer(0);
-        this.#working(true);
-        part("best-note").textContent = LOOKING_FOR_BEST;
-        try {
-            await findContinuations(this.#finders, question, (progress) => isStill() && this.#show({ ...progress, slack }));
-            if (!isStill()) return;
-            this.#keep(question, this.#progress);
-            this.#goFurther();
-        } catch (fault) {
-            if (!isStill()) return;
-            this.#brokenOff(fault);
-            this.#working(false);
-        }
+  /** @param {Question} question */
+  async #find(question) {
+    const isStill = () => question === this.#question;
+    const { slack } = question;
+    this.#progress = null;
+    this.#showRows([]);
+    this.#tellNewer(0);
+    this.#working(true);
+    part("best-note").textContent = LOOKING_FOR_BEST;
+    try {
+      await findContinuations(this.#finders, question, (progress) => isStill() && this.#show({ ...progress, slack }));
+      if (!isStill()) return;
+      this.#keep(question, this.#progress);
+      this.#goFurther();
+    } catch (fault) {
+      if (!isStill()) return;
+      this.#brokenOff(fault);
+      this.#working(false);
     }
+  }
 
-    /** Keeps what was found, in place of what was kept longest.
-     * @param {Question} question @param {Further} found */
-    #keep(question, found) {
-        this.#found.set(nameOfSearch(question), found);
-        if (this.#found.size > MOST_KEPT_SEARCHES) this.#found.delete(this.#found.keys().next().value);
-    }
+  /** Keeps what was found, in place of what was kept longest.
+   * @param {Question} question @param {Further} found */
+  #keep(question, found) {
+    this.#found.set(nameOfSearch(question), found);
+    if (this.#found.size > MOST_KEPT_SEARCHES) this.#found.delete(this.#found.keys().next().value);
+  }
 
-    #brokenOff(fault) {
-        this.#stop();
-        const seen = this.#progress ? ` ${this.#tried()}` : "";
-        const text = fault instanceof Stopped ? `Stopped.${seen}` : fault.message;
-        part("best-note").textContent = text;
-        announce(text);
-    }
+  #brokenOff(fault) {
+    this.#stop();
+    const seen = this.#progress ? ` ${this.#tried()}` : "";
+    const text = fault instanceof Stopped ? `Stopped.${seen}` : fault.message;
+    part("best-note").textContent = text;
+    announce(text);
+  }
 
-    /** Shows whether something is looked for, that was asked for or not.
-     * @param {boolean} isAsked */
-    #working(isAsked) {
-        this.#isAsked = isAsked;
-        const isOn = isAsked || this.#further.isOn();
-        const stop = part("best-stop");
-        // what can't be pressed can't keep the focus
-        if (!isOn && document.activeElement === stop) part("best-heading").focus({ preventScroll: true });
-        // it stays where it is, and so does all below it
-        stop.disabled = !isOn;
-        part("best-progress").hidden = !isOn;
-        setBusy("best", isAsked, "");
-        if (isOn) part("best-progress").removeAttribute("value");
-    }
+  /** Shows whether something is looked for, that was asked for or not.
+   * @param {boolean} isAsked */
+  #working(isAsked) {
+    this.#isAsked = isAsked;
+    const isOn = isAsked || this.#further.isOn();
+    const stop = part("best-stop");
+    // what can't be pressed can't keep the focus
+    if (!isOn && document.activeElement === stop) part("best-heading").focus({ preventScroll: true });
+    // it stays where it is, and so does all below it
+    stop.disabled = !isOn;
+    part("best-progress").hidden = !isOn;
+    setBusy("best", isAsked, "");
+    if (isOn) part("best-progress").removeAttribute("value");
+  }
 
-    /** @param {Further} progress */
-    #show(progress) {
-        this.#progress = progress;
-        this.#tellProgress(progress);
-        if (progress.done === progress.all) this.#working(false);
-        this.#filter.offer(progress.rows);
-        this.#draw();
-        this.#acts.shown();
-    }
+  /** @param {Further} progress */
+  #show(progress) {
+    this.#progress = progress;
+    this.#tellProgress(progress);
+    if (progress.done === progress.all) this.#working(false);
+    this.#filter.offer(progress.rows);
+    this.#draw();
+    this.#acts.shown();
+  }
 
-    /** @param {Further} progress */
-    #tellProgress({ done, all }) {
-        if (all === null) return part("best-progress").removeAttribute("value");
-        part("best-progress").max = Math.max(all, 1);
-        part("best-progress").value = done;
-    }
+  /** @param {Further} progress */
+  #tellProgress({ done, all }) {
+    if (all === null) return part("best-progress").removeAttribute("value");
+    part("best-progress").max = Math.max(all, 1);
+    part("best-progress").value = done;
+  }
 
-    #tried() {
-        const { done, all, slack } = this.#newer ?? this.#progress;
-        const isOfReductions = this.#question.reached.length > 0;
-        if (isOfReductions) return "";
-        const longer = slack > this.#question.slack ? `Up to ${slack} longer: ` : "";
-        // how many there are isn't known until the longer ones are found
-        if (all === null) return `${longer}${counted(done, "EO")} tried.`;
-        return `${longer}${done.toLocaleString("en")} of ${counted(all, "EO")} tried.`;
-    }
+  #tried() {
+    const { done, all, slack } = this.#newer ?? this.#progress;
+    const isOfReductions = this.#question.reached.length > 0;
+    if (isOfReductions) return "";
+    const longer = slack > this.#question.slack ? `Up to ${slack} longer: ` : "";
+    // how many there are isn't known until the longer ones are found
+    if (all === null) return `${longer}${counted(done, "EO")} tried.`;
+    return `${longer}${done.toLocaleString("en")} of ${counted(all, "EO")} tried.`;
+  }
 
-    /** The rows that the filters leave, in their order; or null if what is typed isn't moves.
-     * @param {Further | null} progress */
-    #rows(progress) {
-        const rows = this.#filter.left(progress?.rows ?? []);
-        if (part("best-sort").value === "case") rows?.sort((one, other) => byCase(one, other) || byTotal(one, other));
-        return rows;
-    }
+  /** The rows that the filters leave, in their order; or null if what is typed isn't moves.
+   * @param {Further | null} progress */
+  #rows(progress) {
+    const rows = this.#filter.left(progress?.rows ?? []);
+    if (part("best-sort").value === "case") rows?.sort((one, other) => byCase(one, other) || byTotal(one, other));
+    return rows;
+  }
 
-    #draw() {
-        this.#signs.show(this.#filter.count(), false);
-        if (this.#progress === null) return this.#showRows([]);
-        const left = this.#rows(this.#progress);
-        const rows = left ?? [];
-        const shown = rows.slice(0, this.#shown);
-        this.#showRows(shown.map((row) => bestRow(row, this.#acts)));
-        if (!this.#isAsked) this.#reductions.tell(this.#question, shown);
-        this.#signs.show(this.#filter.count(), rows.length === 0 && this.#progress.rows.length > 0);
-        this.#tellRows(left === null ? null : rows.length);
-    }
+  #draw() {
+    this.#signs.show(this.#filter.count(), false);
+    if (this.#progress === null) return this.#showRows([]);
+    const left = this.#rows(this.#progress);
+    const rows = left ?? [];
+    const shown = rows.slice(0, this.#shown);
+    this.#showRows(shown.map((row) => bestRow(row, this.#acts)));
+    if (!this.#isAsked) this.#reductions.tell(this.#question, shown);
+    this.#signs.show(this.#filter.count(), rows.length === 0 && this.#progress.rows.length > 0);
+    this.#tellRows(left === null ? null : rows.length);
+  }
 
-    /** Says how many rows there are, and whether more may be shown.
-     * @param {number | null} left how many the filters leave; null if what is typed isn't moves */
-    #tellRows(left) {
-        part("best-more").hidden = this.#shown >= (left ?? 0);
-        // on one line with what stands beside it
-        part("best-more").textContent = `${isNarrow() ? "More" : "Show more"} of ${(left ?? 0).toLocaleString("en")}`;
-        part("best-note").textContent = left === null ? NOT_MOVES : this.#note(left);
-    }
+  /** Says how many rows there are, and whether more may be shown.
+   * @param {number | null} left how many the filters leave; null if what is typed isn't moves */
+  #tellRows(left) {
+    part("best-more").hidden = this.#shown >= (left ?? 0);
+    // on one line with what stands beside it
+    part("best-more").textContent = `${isNarrow() ? "More" : "Show more"} of ${(left ?? 0).toLocaleString("en")}`;
+    part("best-note").textContent = left === null ? NOT_MOVES : this.#note(left);
+  }
 
-    /** @param {number} left how many rows are left */
-    #note(left) {
-        const { rows, isCut } = this.#newer ?? this.#progress;
-        const all = `${isCut ? "best " : ""}${counted(rows.length, "row")}`;
-        const of = left === rows.length ? `${isCut ? "The " : ""}${all}` : `${left.toLocaleString("en")} of ${isCut ? "the " : ""}${all}`;
-        return `${this.#tried()} ${of}.`.trim();
-    }
+  /** @param {number} left how many rows are left */
+  #note(left) {
+    const { rows, isCut } = this.#newer ?? this.#progress;
+    const all = `${isCut ? "best " : ""}${counted(rows.length, "row")}`;
+    const of = left === rows.length ? `${isCut ? "The " : ""}${all}` : `${left.toLocaleString("en")} of ${isCut ? "the " : ""}${all}`;
+    return `${this.#tried()} ${of}.`.trim();
+  }
 
-    #more() {
-        const from = this.#body.children.length;
-        this.#shown += SHOWN_MORE;
-        this.#takeNewer();
-        this.#draw();
-        this.#body.querySelectorAll(".take")[from]?.focus();
-    }
+  #more() {
+    const from = this.#body.children.length;
+    this.#shown += SHOWN_MORE;
+    this.#takeNewer();
+    this.#draw();
+    this.#body.querySelectorAll(".take")[from]?.focus();
+  }
 
-    /** Shows the rows in place of the last ones; the same row keeps the focus, if it is there.
-     * @param {HTMLElement[]} rows */
-    #showRows(rows) {
-        const focused = focusWithin(this.#body);
-        this.#body.replaceChildren(...rows);
-        const buttons = [...this.#body.querySelectorAll(".take")];
-        buttons[0]?.setAttribute("tabindex", "0");
-        if (focused === null) return;
-        const same = buttons.find(({ dataset }) => dataset.key === focused.key);
-        if (same) focusButton(same, focused.place);
-        else (buttons[0] ?? part("best-heading")).focus({ preventScroll: true });
-    }
+  /** Shows the rows in place of the last ones; the same row keeps the focus, if it is there.
+   * @param {HTMLElement[]} rows */
+  #showRows(rows) {
+    const focused = focusWithin(this.#body);
+    this.#body.replaceChildren(...rows);
+    const buttons = [...this.#body.querySelectorAll(".take")];
+    buttons[0]?.setAttribute("tabindex", "0");
+    if (focused === null) return;
+    const same = buttons.find(({ dataset }) => dataset.key === focused.key);
+    if (same) focusButton(same, focused.place);
+    else (buttons[0] ?? part("best-heading")).focus({ preventScroll: true });
+  }
 }

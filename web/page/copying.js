@@ -12,9 +12,9 @@ import { tellAt } from "./view.js";
  * @param {Walk} walk @param {number} index
  */
 function stepLine(walk, index) {
-    const [own, total] = [walk.turns[index], walk.totals[index + 1]];
-    const count = index === 0 ? `(${total})` : `(${own}/${total})`;
-    return `${bracketed([walk.parts[index]])} // ${[newlyReached(walk, index).join(", "), count].filter(Boolean).join(" ")}`;
+  const [own, total] = [walk.turns[index], walk.totals[index + 1]];
+  const count = index === 0 ? `(${total})` : `(${own}/${total})`;
+  return `${bracketed([walk.parts[index]])} // ${[newlyReached(walk, index).join(", "), count].filter(Boolean).join(" ")}`;
 }
 
 /** The steps of a line, a text of a line each.
@@ -27,8 +27,8 @@ export const fmcOf = (scramble, walk) => [scramble, ...stepLines(walk)].join("\n
 /** Some candidates of a scramble, with their notes.
  * @param {string} scramble @param {{walk: Walk, notes: string[]}[]} candidates */
 export function fmcOfAll(scramble, candidates) {
-    const blocks = candidates.map(({ walk, notes }) => [...stepLines(walk), ...notes.map((note) => `// ${note}`)].join("\n"));
-    return [scramble, ...blocks].join("\n\n");
+  const blocks = candidates.map(({ walk, notes }) => [...stepLines(walk), ...notes.map((note) => `// ${note}`)].join("\n"));
+  return [scramble, ...blocks].join("\n\n");
 }
 
 const MOMENT = 1500;
@@ -36,69 +36,69 @@ const MOMENT = 1500;
 /** A word on a button for a moment.
  * @param {HTMLElement} button @param {string} word */
 function sayOn(button, word) {
-    button.dataset.word ??= button.textContent;
-    button.textContent = word;
-    setTimeout(() => {
-        button.textContent = button.dataset.word;
-    }, MOMENT);
+  button.dataset.word ??= button.textContent;
+  button.textContent = word;
+  setTimeout(() => {
+    button.textContent = button.dataset.word;
+  }, MOMENT);
 }
 
 /** Copies by the older way of browsers, which a page that is opened as a file needs in some.
  * @param {string} text */
 function copiedByField(text) {
-    const field = document.createElement("textarea");
-    const focused = document.activeElement;
-    field.value = text;
-    field.className = "unseen";
-    document.body.append(field);
-    field.select();
-    const isDone = document.execCommand("copy");
-    field.remove();
-    focused?.focus({ preventScroll: true });
-    return isDone;
+  const field = document.createElement("textarea");
+  const focused = document.activeElement;
+  field.value = text;
+  field.className = "unseen";
+  document.body.append(field);
+  field.select();
+  const isDone = document.execCommand("copy");
+  field.remove();
+  focused?.focus({ preventScroll: true });
+  return isDone;
 }
 
 /** Shows a text that can't be copied, selected; the focus goes back once that is closed.
  * @param {string} text */
 function showUncopied(text) {
-    const field = part("uncopied-text");
-    field.value = text;
-    part("uncopied").showPopover();
-    field.focus();
-    field.setSelectionRange(0, text.length);
-    announce("The browser doesn't let the page copy. The text is selected: copy it with the keys of your system.");
+  const field = part("uncopied-text");
+  field.value = text;
+  part("uncopied").showPopover();
+  field.focus();
+  field.setSelectionRange(0, text.length);
+  announce("The browser doesn't let the page copy. The text is selected: copy it with the keys of your system.");
 }
 
 /** @param {string} text @param {HTMLElement} button @param {HTMLElement | null} shownIn what shows the text, if anything does
  * @returns {Promise<boolean>} whether it is copied */
 export async function copy(text, button, shownIn = null) {
-    if (text === "") return false;
-    let isDone = true;
-    try {
-        await navigator.clipboard.writeText(text);
-    } catch {
-        isDone = copiedByField(text);
-    }
-    if (isDone) {
-        announce(`Copied: ${text}`);
-        sayOn(button, "Copied");
-    } else if (shownIn) {
-        getSelection().selectAllChildren(shownIn);
-        announce("Selected; copy it with the keys of your system.");
-        sayOn(button, "Selected");
-    } else {
-        showUncopied(text);
-        sayOn(button, "Not copied");
-    }
-    return isDone;
+  if (text === "") return false;
+  let isDone = true;
+  try {
+    await navigator.clipboard.writeText(text);
+  } catch {
+    isDone = copiedByField(text);
+  }
+  if (isDone) {
+    announce(`Copied: ${text}`);
+    sayOn(button, "Copied");
+  } else if (shownIn) {
+    getSelection().selectAllChildren(shownIn);
+    announce("Selected; copy it with the keys of your system.");
+    sayOn(button, "Selected");
+  } else {
+    showUncopied(text);
+    sayOn(button, "Not copied");
+  }
+  return isDone;
 }
 
 const LINK_OF_FILE = "The link is copied. This page is a file, so the link leads to it on this computer alone. Whoever else has the file can put what "
-    + "stands after the # behind its address.";
+  + "stands after the # behind its address.";
 
 /** Copies the address of the page, and says of a file's that it is one.
  * @param {HTMLElement} button */
 export async function copyLink(button) {
-    const isCopied = await copy(location.href, button);
-    if (isCopied && location.protocol === "file:") tellAt(button, LINK_OF_FILE);
+  const isCopied = await copy(location.href, button);
+  if (isCopied && location.protocol === "file:") tellAt(button, LINK_OF_FILE);
 }

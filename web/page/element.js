@@ -9,9 +9,9 @@
 /** The element of the page that has this id.
  * @param {string} id @returns {PageElement} */
 export function part(id) {
-    const found = document.getElementById(id);
-    if (!found) throw new Error(`the page has no part ${id}`);
-    return /** @type {any} */ (found);
+  const found = document.getElementById(id);
+  if (!found) throw new Error(`the page has no part ${id}`);
+  return /** @type {any} */ (found);
 }
 
 /**
@@ -22,21 +22,21 @@ export function part(id) {
  * @returns {PageElement}
  */
 export function element(name, attributes = {}, ...children) {
-    const made = document.createElement(name);
-    for (const [key, value] of Object.entries(attributes)) {
-        if (typeof value === "function") made.addEventListener(key, value);
-        else if (value === true) made.setAttribute(key, "");
-        else if (value !== false) made.setAttribute(key, String(value));
-    }
-    made.append(...children);
-    return /** @type {any} */ (made);
+  const made = document.createElement(name);
+  for (const [key, value] of Object.entries(attributes)) {
+    if (typeof value === "function") made.addEventListener(key, value);
+    else if (value === true) made.setAttribute(key, "");
+    else if (value !== false) made.setAttribute(key, String(value));
+  }
+  made.append(...children);
+  return /** @type {any} */ (made);
 }
 
 /** Shows text in an element, and hides the element where there is none.
  * @param {HTMLElement} where @param {string} text */
 export function tell(where, text) {
-    where.textContent = text;
-    where.hidden = text === "";
+  where.textContent = text;
+  where.hidden = text === "";
 }
 
 const QUIET = 700;
@@ -45,8 +45,8 @@ let later = 0;
 /** Says something to screen readers, in place of what would be said later.
  * @param {string} text */
 export function announce(text) {
-    clearTimeout(later);
-    part("status").textContent = text;
+  clearTimeout(later);
+  part("status").textContent = text;
 }
 
 /**
@@ -54,8 +54,8 @@ export function announce(text) {
  * @param {string} text
  */
 export function announceLater(text) {
-    clearTimeout(later);
-    if (text !== "") later = setTimeout(announce, QUIET, text);
+  clearTimeout(later);
+  if (text !== "") later = setTimeout(announce, QUIET, text);
 }
 
 const LONG_WAIT = 500;
@@ -66,15 +66,15 @@ const waiting = new Map();
  * @param {string} id @param {boolean} isBusy @param {string} [text] what is said
  */
 export function setBusy(id, isBusy, text = "") {
-    part(id).setAttribute("aria-busy", String(isBusy));
-    clearTimeout(waiting.get(id));
-    if (isBusy && text !== "") waiting.set(id, setTimeout(announce, LONG_WAIT, text));
+  part(id).setAttribute("aria-busy", String(isBusy));
+  clearTimeout(waiting.get(id));
+  if (isBusy && text !== "") waiting.set(id, setTimeout(announce, LONG_WAIT, text));
 }
 
 /** A number with its word: `1 move`, `1,200 moves`.
  * @param {number} count @param {string} word */
 export function counted(count, word) {
-    return `${count.toLocaleString("en")} ${word}${count === 1 ? "" : "s"}`;
+  return `${count.toLocaleString("en")} ${word}${count === 1 ? "" : "s"}`;
 }
 
 /** Moves as they are said, since an apostrophe isn't read as solvers read it.

@@ -32,8 +32,8 @@ export const byCase = (one, other) => farness(one) - farness(other);
 /** A row with what it reaches in the page's words.
  * @param {import("../module/best-rows.js").Row} row @returns {Row} */
 function rowInWords(row) {
-    const next = row.next && { ...row.next, marks: stateOf(stepNamed(row.next.step)), case: row.case };
-    return { ...row, state: stateOf(stepNamed(row.step)), next };
+  const next = row.next && { ...row.next, marks: stateOf(stepNamed(row.next.step)), case: row.case };
+  return { ...row, state: stateOf(stepNamed(row.step)), next };
 }
 
 /**
@@ -41,107 +41,107 @@ function rowInWords(row) {
  * @param {import("./finder.js").Finder[]} finders one an axis @param {Question} question @param {(progress: Progress) => void} tellProgress
  */
 export async function findContinuations(finders, question, tellProgress) {
-    const held = ORIENTATIONS.filter(({ name }) => question.reached.includes(name));
-    const asked = held.length > 0 ? held : ORIENTATIONS;
-    const counts = asked.map(() => ({ done: 0, all: null }));
-    /** @type {Row[][]} */
-    const lists = asked.map(() => []);
-    let isCut = false;
-    const tell = () => {
-        const rows = bestOf(lists.flat(), Infinity);
-        isCut ||= rows.length > MOST_KEPT;
-        rows.length = Math.min(rows.length, MOST_KEPT);
-        const done = counts.reduce((sum, each) => sum + each.done, 0);
-        const all = counts.some((each) => each.all === null) ? null : counts.reduce((sum, each) => sum + each.all, 0);
-        tellProgress({ done, all, rows, isCut });
-    };
-    await Promise.all(asked.map((step, at) => finders[ORIENTATIONS.indexOf(step)].find(step.name, question, (found) => {
-        counts[at] = found;
-        lists[at] = bestOf([...lists[at], ...found.rows], MOST_KEPT);
-        isCut ||= found.isCut;
-        tell();
-    })));
+  const held = ORIENTATIONS.filter(({ name }) => question.reached.includes(name));
+  const asked = held.length > 0 ? held : ORIENTATIONS;
+  const counts = asked.map(() => ({ done: 0, all: null }));
+  /** @type {Row[][]} */
+  const lists = asked.map(() => []);
+  let isCut = false;
+  const tell = () => {
+    const rows = bestOf(lists.flat(), Infinity);
+    isCut ||= rows.length > MOST_KEPT;
+    rows.length = Math.min(rows.length, MOST_KEPT);
+    const done = counts.reduce((sum, each) => sum + each.done, 0);
+    const all = counts.some((each) => each.all === null) ? null : counts.reduce((sum, each) => sum + each.all, 0);
+    tellProgress({ done, all, rows, isCut });
+  };
+  await Promise.all(asked.map((step, at) => finders[ORIENTATIONS.indexOf(step)].find(step.name, question, (found) => {
+    counts[at] = found;
+    lists[at] = bestOf([...lists[at], ...found.rows], MOST_KEPT);
+    isCut ||= found.isCut;
+    tell();
+  })));
 }
 
 /** @typedef {{id: number, told: (progress: Progress) => void, ended: () => void, refused: (fault: Error) => void}} Running */
 
 export class Finder {
-    #newWorker;
-    #module;
-    /** @type {import("../module/worker-calls.js").Sent | null} */
-    #worker = null;
-    /** @type {Running | null} */
-    #running = null;
-    #next = 0;
+  #newWorker;
+  #module;
+  /** @type {import("../module/worker-calls.js").Sent | null} */
+  #worker = null;
+  /** @type {Running | null} */
+  #running = null;
+  #next = 0;
 
-    /** @param {(name: string) => Worker} newWorker @param {import("../module/worker-calls.js").SentModule} module */
-    constructor(newWorker, module) {
-        this.#newWorker = watched(() => newWorker("finder"));
-        this.#module = module;
-    }
+  /** @param {(name: string) => Worker} newWorker @param {import("../module/worker-calls.js").SentModule} module */
+  constructor(newWorker, module) {
+    this.#newWorker = watched(() => newWorker("finder"));
+    this.#module = module;
+  }
 
-    /**
-     * Finds the best of an axis, and tells of some after the other.
-     * @param {string} orientation @param {Question} question @param {(progress: Progress) => void} told @returns {Promise<void>}
-     */
-    find(orientation, question, told) {
-        this.stop();
-        return new Promise((resolve, reject) => {
-            const id = this.#next++;
-            this.#running = { id, told, ended: () => resolve(), refused: reject };
-            this.#send({ id, orientation, question });
-        });
-    }
+  /**
+   * Finds the best of an axis, and tells of some after the other.
+   * @param {string} orientation @param {Question} question @param {(progress: Progress) => void} told @returns {Promise<void>}
+   */
+  find(orientation, question, told) {
+    this.stop();
+    return new Promise((resolve, reject) => {
+      const id = this.#next++;
+      this.#running = { id, told, ended: () => resolve(), refused: reject };
+      this.#send({ id, orientation, question });
+    });
+  }
 
-    /** Has the tables of some steps built before they are needed.
-     * @param {string[]} steps */
-    ready(steps) {
-        if (this.#running === null) this.#send({ id: this.#next++, steps });
-    }
+  /** Has the tables of some steps built before they are needed.
+   * @param {string[]} steps */
+  ready(steps) {
+    if (this.#running === null) this.#send({ id: this.#next++, steps });
+  }
 
-    /** Gives a search up. */
-    stop() {
-        if (this.#running !== null) this.#end(new Stopped());
-    }
+  /** Gives a search up. */
+  stop() {
+    if (this.#running !== null) this.#end(new Stopped());
+  }
 
-    /** Ends the worker, also one that has nothing to do. */
-    end() {
-        this.#end(new Stopped());
-    }
+  /** Ends the worker, also one that has nothing to do. */
+  end() {
+    this.#end(new Stopped());
+  }
 
-    #send(message) {
-        try {
-            this.#worker ??= this.#started();
-            this.#worker.postMessage(message);
-        } catch (error) {
-            this.#end(new EngineMissing(error.message, error));
-        }
+  #send(message) {
+    try {
+      this.#worker ??= this.#started();
+      this.#worker.postMessage(message);
+    } catch (error) {
+      this.#end(new EngineMissing(error.message, error));
     }
+  }
 
-    #started() {
-        const isThisOne = () => worker === this.#worker;
-        const took = (data) => isThisOne() && this.#take(data);
-        const worker = this.#newWorker(took, (message) => isThisOne() && this.#end(new EngineMissing(message)));
-        worker.postMessage({ module: this.#module });
-        return worker;
-    }
+  #started() {
+    const isThisOne = () => worker === this.#worker;
+    const took = (data) => isThisOne() && this.#take(data);
+    const worker = this.#newWorker(took, (message) => isThisOne() && this.#end(new EngineMissing(message)));
+    worker.postMessage({ module: this.#module });
+    return worker;
+  }
 
-    #take(data) {
-        const running = this.#running;
-        if (running?.id !== data.id) return;
-        if (data.found) return running.told({ ...data.found, rows: data.found.rows.map(rowInWords) });
-        this.#running = null;
-        if ("error" in data) running.refused(new EngineMissing(data.error.message));
-        else running.ended();
-    }
+  #take(data) {
+    const running = this.#running;
+    if (running?.id !== data.id) return;
+    if (data.found) return running.told({ ...data.found, rows: data.found.rows.map(rowInWords) });
+    this.#running = null;
+    if ("error" in data) running.refused(new EngineMissing(data.error.message));
+    else running.ended();
+  }
 
-    /** Ends the worker, and gives up what it looks for.
-     * @param {Error} reason */
-    #end(reason) {
-        const running = this.#running;
-        this.#worker?.terminate();
-        this.#worker = null;
-        this.#running = null;
-        running?.refused(reason);
-    }
+  /** Ends the worker, and gives up what it looks for.
+   * @param {Error} reason */
+  #end(reason) {
+    const running = this.#running;
+    this.#worker?.terminate();
+    this.#worker = null;
+    this.#running = null;
+    running?.refused(reason);
+  }
 }

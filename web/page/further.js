@@ -20,116 +20,116 @@ const NOT_YET = { done: 0, all: null };
 const mostTogether = () => Math.max(1, Math.min(ORIENTATIONS.length, Math.floor((navigator.hardwareConcurrency || 2) / 2)));
 
 export class FurtherSearch {
-    #finders;
-    #acts;
-    #timer = 0;
-    /** @type {Search | null} */
-    #search = null;
+  #finders;
+  #acts;
+  #timer = 0;
+  /** @type {Search | null} */
+  #search = null;
 
-    /**
-     * @param {import("./finder.js").Finder[]} finders one an axis
-     * @param {{isBusy: () => boolean, turned: () => void, found: (progress: Further) => void, ended: (fault: Error | null) => void}} acts
-     * `turned`: once it goes on, or no more
-     */
-    constructor(finders, acts) {
-        this.#finders = finders;
-        this.#acts = acts;
-        document.addEventListener("visibilitychange", () => (document.hidden ? this.#pause() : this.#wait()));
-    }
+  /**
+   * @param {import("./finder.js").Finder[]} finders one an axis
+   * @param {{isBusy: () => boolean, turned: () => void, found: (progress: Further) => void, ended: (fault: Error | null) => void}} acts
+   * `turned`: once it goes on, or no more
+   */
+  constructor(finders, acts) {
+    this.#finders = finders;
+    this.#acts = acts;
+    document.addEventListener("visibilitychange", () => (document.hidden ? this.#pause() : this.#wait()));
+  }
 
-    /** Whether it goes on, or waits for a moment in which it may. */
-    isOn() {
-        return this.#search !== null && !document.hidden;
-    }
+  /** Whether it goes on, or waits for a moment in which it may. */
+  isOn() {
+    return this.#search !== null && !document.hidden;
+  }
 
-    /**
-     * Goes on from what was found.
-     * @param {Question} question @param {{rows: Row[], isCut: boolean}} found the best that are up to the question's moves longer
-     */
-    begin(question, { rows, isCut }) {
-        this.stop();
-        if (question.reached.length > 0 || question.slack >= FURTHEST) return;
-        this.#search = {
-            question: { ...question, slack: question.slack + 1 }, isCut, rows: new Map(rows.map((row) => [row.key, row])),
-            left: ORIENTATIONS.map((_, at) => at), running: new Set(), counts: ORIENTATIONS.map(() => NOT_YET),
-        };
-        this.#wait();
-    }
+  /**
+   * Goes on from what was found.
+   * @param {Question} question @param {{rows: Row[], isCut: boolean}} found the best that are up to the question's moves longer
+   */
+  begin(question, { rows, isCut }) {
+    this.stop();
+    if (question.reached.length > 0 || question.slack >= FURTHEST) return;
+    this.#search = {
+      question: { ...question, slack: question.slack + 1 }, isCut, rows: new Map(rows.map((row) => [row.key, row])),
+      left: ORIENTATIONS.map((_, at) => at), running: new Set(), counts: ORIENTATIONS.map(() => NOT_YET),
+    };
+    this.#wait();
+  }
 
-    /** Gives it up; the workers are ended by whoever has them. */
-    stop() {
-        clearTimeout(this.#timer);
-        this.#search = null;
-    }
+  /** Gives it up; the workers are ended by whoever has them. */
+  stop() {
+    clearTimeout(this.#timer);
+    this.#search = null;
+  }
 
-    /** Gives up what is looked at until the page is seen again. */
-    #pause() {
-        clearTimeout(this.#timer);
-        for (const at of this.#search?.running ?? []) this.#finders[at].stop();
-        this.#acts.turned();
-    }
+  /** Gives up what is looked at until the page is seen again. */
+  #pause() {
+    clearTimeout(this.#timer);
+    for (const at of this.#search?.running ?? []) this.#finders[at].stop();
+    this.#acts.turned();
+  }
 
-    #wait() {
-        clearTimeout(this.#timer);
-        if (this.#search === null) return;
-        this.#timer = setTimeout(() => this.#goOn(), IDLE_FOR);
-        this.#acts.turned();
-    }
+  #wait() {
+    clearTimeout(this.#timer);
+    if (this.#search === null) return;
+    this.#timer = setTimeout(() => this.#goOn(), IDLE_FOR);
+    this.#acts.turned();
+  }
 
-    #goOn() {
-        // once it is seen it waits anew
-        if (document.hidden) return;
-        if (this.#acts.isBusy()) return this.#wait();
-        const { left, running } = this.#search;
-        while (left.length > 0 && running.size < mostTogether()) this.#look(this.#search, left.shift());
-    }
+  #goOn() {
+    // once it is seen it waits anew
+    if (document.hidden) return;
+    if (this.#acts.isBusy()) return this.#wait();
+    const { left, running } = this.#search;
+    while (left.length > 0 && running.size < mostTogether()) this.#look(this.#search, left.shift());
+  }
 
-    /** @param {Search} search @param {number} at the place of its axis */
-    async #look(search, at) {
-        search.running.add(at);
-        const isStill = () => search === this.#search;
-        try {
-            await this.#finders[at].find(ORIENTATIONS[at].name, search.question, (found) => isStill() && this.#take(search, at, found));
-            search.running.delete(at);
-        } catch (fault) {
-            search.running.delete(at);
-            if (!isStill()) return;
-            // it was given up until the page is seen again
-            if (document.hidden) return this.#giveBack(search, at);
-            this.stop();
-            return this.#acts.ended(fault);
-        }
-        if (isStill()) this.#endOf(search);
+  /** @param {Search} search @param {number} at the place of its axis */
+  async #look(search, at) {
+    search.running.add(at);
+    const isStill = () => search === this.#search;
+    try {
+      await this.#finders[at].find(ORIENTATIONS[at].name, search.question, (found) => isStill() && this.#take(search, at, found));
+      search.running.delete(at);
+    } catch (fault) {
+      search.running.delete(at);
+      if (!isStill()) return;
+      // it was given up until the page is seen again
+      if (document.hidden) return this.#giveBack(search, at);
+      this.stop();
+      return this.#acts.ended(fault);
     }
+    if (isStill()) this.#endOf(search);
+  }
 
-    /** @param {Search} search @param {number} at the place of an axis that is to be looked at anew */
-    #giveBack(search, at) {
-        search.left.unshift(at);
-        search.counts[at] = NOT_YET;
-    }
+  /** @param {Search} search @param {number} at the place of an axis that is to be looked at anew */
+  #giveBack(search, at) {
+    search.left.unshift(at);
+    search.counts[at] = NOT_YET;
+  }
 
-    /** @param {Search} search @param {number} at @param {import("./finder.js").Progress} found */
-    #take(search, at, found) {
-        search.counts[at] = found;
-        search.isCut ||= found.isCut;
-        for (const row of found.rows) search.rows.set(row.key, row);
-        this.#acts.found(this.#progressOf(search));
-    }
+  /** @param {Search} search @param {number} at @param {import("./finder.js").Progress} found */
+  #take(search, at, found) {
+    search.counts[at] = found;
+    search.isCut ||= found.isCut;
+    for (const row of found.rows) search.rows.set(row.key, row);
+    this.#acts.found(this.#progressOf(search));
+  }
 
-    /** @param {Search} search @returns {Further} */
-    #progressOf({ question: { slack }, rows, isCut, counts }) {
-        const sorted = [...rows.values()].sort(byTotal);
-        const done = counts.reduce((sum, each) => sum + each.done, 0);
-        const all = counts.some((each) => each.all === null) ? null : counts.reduce((sum, each) => sum + each.all, 0);
-        return { done, all, rows: sorted.slice(0, MOST_KEPT), isCut: isCut || sorted.length > MOST_KEPT, slack };
-    }
+  /** @param {Search} search @returns {Further} */
+  #progressOf({ question: { slack }, rows, isCut, counts }) {
+    const sorted = [...rows.values()].sort(byTotal);
+    const done = counts.reduce((sum, each) => sum + each.done, 0);
+    const all = counts.some((each) => each.all === null) ? null : counts.reduce((sum, each) => sum + each.all, 0);
+    return { done, all, rows: sorted.slice(0, MOST_KEPT), isCut: isCut || sorted.length > MOST_KEPT, slack };
+  }
 
-    /** Goes on with the next axis, or with one more move, or ends.
-     * @param {Search} search one of whose axes is looked through */
-    #endOf(search) {
-        if (search.left.length > 0 || search.running.size > 0) return this.#goOn();
-        const progress = this.#progressOf(search);
-        this.begin(search.question, progress);
-        if (this.#search === null) this.#acts.ended(null);
-    }
+  /** Goes on with the next axis, or with one more move, or ends.
+   * @param {Search} search one of whose axes is looked through */
+  #endOf(search) {
+    if (search.left.length > 0 || search.running.size > 0) return this.#goOn();
+    const progress = this.#progressOf(search);
+    this.begin(search.question, progress);
+    if (this.#search === null) this.#acts.ended(null);
+  }
 }

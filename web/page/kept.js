@@ -29,16 +29,16 @@ const saidOf = ({ parts, next }) => spoken(bracketed(parts)) + (next === "" ? ""
  * @param {Candidate[]} candidates @param {Part[]} parts @param {string} next @returns {{kept: Candidate[], isKept: boolean}}
  */
 function withStar(candidates, parts, next) {
-    const others = candidates.filter((each) => nameOfCandidate(each) !== nameOf(parts, next));
-    const isKept = others.length === candidates.length;
-    return { kept: isKept ? [...others, { parts, note: "", next }] : others, isKept };
+  const others = candidates.filter((each) => nameOfCandidate(each) !== nameOf(parts, next));
+  const isKept = others.length === candidates.length;
+  return { kept: isKept ? [...others, { parts, note: "", next }] : others, isKept };
 }
 
 /** How far a candidate has come: 2 with a reduction, also one that is still to be made, 1 with an orientation.
  * @param {KeptWalk} walk */
 function stageOf({ reached, next }) {
-    const last = reached.at(-1);
-    return next !== null || isReduced(last) ? 2 : Math.min(1, last.length);
+  const last = reached.at(-1);
+  return next !== null || isReduced(last) ? 2 : Math.min(1, last.length);
 }
 
 /** How many moves a candidate has, with the reduction that it was kept with.
@@ -48,10 +48,10 @@ const totalOf = ({ totals, next }) => next?.total ?? totals.at(-1);
 /** The reduction that a candidate was kept with, as its row says it: `DR F/B 6c4e: N 4 I 7, 9 in all`; or "".
  * @param {KeptWalk} walk */
 function wordsOfNext({ next }) {
-    if (next === null) return "";
-    const [normal, inverse] = next.lengths.map((length) => length ?? "–");
-    const total = Number.isFinite(next.total) ? next.total : "–";
-    return `${next.state} ${next.case}: N ${normal} I ${inverse}, ${total} in all`;
+  if (next === null) return "";
+  const [normal, inverse] = next.lengths.map((length) => length ?? "–");
+  const total = Number.isFinite(next.total) ? next.total : "–";
+  return `${next.state} ${next.case}: N ${normal} I ${inverse}, ${total} in all`;
 }
 
 /** @typedef {{parts: Part[], states: string[], cases: string[]}} Stage some steps of a candidate, what they reach, and cases after them */
@@ -63,8 +63,8 @@ const heldFrom = ({ reached }, name) => reached.findLastIndex((each) => !each.in
 /** On which sides some steps are.
  * @param {Part[]} parts */
 function sidesOf(parts) {
-    const sides = SIDES.filter((side) => parts.some((each) => each.side === side));
-    return sides.length === 1 ? sides[0] : "both sides";
+  const sides = SIDES.filter((side) => parts.some((each) => each.side === side));
+  return sides.length === 1 ? sides[0] : "both sides";
 }
 
 /**
@@ -73,231 +73,231 @@ function sidesOf(parts) {
  * @param {KeptWalk} walk @returns {Stage[]}
  */
 function stagesOfReduced(walk) {
-    const { parts, facts } = walk;
-    const reductions = REDUCTIONS.filter(({ name }) => walk.reached.at(-1).includes(name));
-    const ways = reductions.map((step) => ({ step, from: heldFrom(walk, step.needs), to: heldFrom(walk, step.name) }));
-    const [{ from, to }] = ways.sort((one, other) => one.to - other.to || one.from - other.from);
-    const first = ways.filter((way) => way.from === from && way.to === to).map(({ step }) => step);
-    // one that is reached together with its orientation has no case
-    const begin = from < to ? from : 0;
-    const before = parts.slice(0, begin);
-    const oriented = statesOf(first.map(({ needs }) => needs)).map((state) => `${state}, ${sidesOf(before)}`);
-    const reduced = first.map((step) => (from < to ? `${stateOf(step)} ${facts[from].cases[step.axis]}` : stateOf(step)));
-    const later = to === 0 ? reductions : reductions.filter((step) => !first.some((other) => stateOf(other) === stateOf(step)));
-    const stages = [
-        { parts: before, states: oriented, cases: [] },
-        { parts: parts.slice(begin, to), states: [...new Set(reduced)], cases: [] },
-        { parts: parts.slice(to), states: statesOf(later.map(({ name }) => name)), cases: [] },
-    ];
-    return stages.filter((stage) => stage.parts.length > 0);
+  const { parts, facts } = walk;
+  const reductions = REDUCTIONS.filter(({ name }) => walk.reached.at(-1).includes(name));
+  const ways = reductions.map((step) => ({ step, from: heldFrom(walk, step.needs), to: heldFrom(walk, step.name) }));
+  const [{ from, to }] = ways.sort((one, other) => one.to - other.to || one.from - other.from);
+  const first = ways.filter((way) => way.from === from && way.to === to).map(({ step }) => step);
+  // one that is reached together with its orientation has no case
+  const begin = from < to ? from : 0;
+  const before = parts.slice(0, begin);
+  const oriented = statesOf(first.map(({ needs }) => needs)).map((state) => `${state}, ${sidesOf(before)}`);
+  const reduced = first.map((step) => (from < to ? `${stateOf(step)} ${facts[from].cases[step.axis]}` : stateOf(step)));
+  const later = to === 0 ? reductions : reductions.filter((step) => !first.some((other) => stateOf(other) === stateOf(step)));
+  const stages = [
+    { parts: before, states: oriented, cases: [] },
+    { parts: parts.slice(begin, to), states: [...new Set(reduced)], cases: [] },
+    { parts: parts.slice(to), states: statesOf(later.map(({ name }) => name)), cases: [] },
+  ];
+  return stages.filter((stage) => stage.parts.length > 0);
 }
 
 /** The stages of a candidate; before a reduction one, with the cases that may follow.
  * @param {KeptWalk} walk @returns {Stage[]} */
 function stagesOf(walk) {
-    const { parts, facts, next } = walk;
-    const reached = walk.reached.at(-1);
-    if (isReduced(reached)) return stagesOfReduced(walk);
-    const steps = ORIENTATIONS.filter(({ name }) => reached.includes(name)).flatMap(({ name }) => reductionsAfter(name));
-    const cases = [...new Set(steps.map(({ axis }) => `${axisName(axis)} ${facts.at(-1).cases[axis]}`))];
-    return [{ parts, states: statesOf(reached), cases: next === null ? cases : [wordsOfNext(walk)] }];
+  const { parts, facts, next } = walk;
+  const reached = walk.reached.at(-1);
+  if (isReduced(reached)) return stagesOfReduced(walk);
+  const steps = ORIENTATIONS.filter(({ name }) => reached.includes(name)).flatMap(({ name }) => reductionsAfter(name));
+  const cases = [...new Set(steps.map(({ axis }) => `${axisName(axis)} ${facts.at(-1).cases[axis]}`))];
+  return [{ parts, states: statesOf(reached), cases: next === null ? cases : [wordsOfNext(walk)] }];
 }
 
 /** What is seen of a candidate: its stages, each together, and the moves in all.
  * @param {Part[]} parts @param {KeptWalk | null} walk */
 function stepOf(parts, walk) {
-    const stages = walk === null ? [{ parts, states: [], cases: [] }] : stagesOf(walk);
-    const total = walk?.totals.at(-1);
-    const count = stages.length > 1 ? `${total} in all` : counted(total ?? 0, "move");
-    return element("span", { class: "step" }, ...stages.map((stage, at) => element("span", { class: "step" },
-        element("span", { class: "moves" }, bracketed(stage.parts)),
-        ...(at === stages.length - 1 ? [element("span", { class: "total" }, walk === null ? "" : count)] : []),
-        ...stage.states.map((state) => element("span", { class: "chip" }, state)),
-        ...stage.cases.map((each) => element("span", { class: "case" }, each)))));
+  const stages = walk === null ? [{ parts, states: [], cases: [] }] : stagesOf(walk);
+  const total = walk?.totals.at(-1);
+  const count = stages.length > 1 ? `${total} in all` : counted(total ?? 0, "move");
+  return element("span", { class: "step" }, ...stages.map((stage, at) => element("span", { class: "step" },
+    element("span", { class: "moves" }, bracketed(stage.parts)),
+    ...(at === stages.length - 1 ? [element("span", { class: "total" }, walk === null ? "" : count)] : []),
+    ...stage.states.map((state) => element("span", { class: "chip" }, state)),
+    ...stage.cases.map((each) => element("span", { class: "case" }, each)))));
 }
 
 export class KeptCandidates {
-    #calls;
-    #acts;
-    #candidates = [];
-    #walks = [];
-    /** @type {Candidate[] | null} what was kept before some were taken away, as long as nothing else changed */
-    #before = null;
-    /** the field of each candidate's note */
-    #notes = [];
-    #scramble = "";
-    #list = part("kept-list");
-    #way = new WayTo(part("bar-kept"), part("kept"), part("kept-heading"));
+  #calls;
+  #acts;
+  #candidates = [];
+  #walks = [];
+  /** @type {Candidate[] | null} what was kept before some were taken away, as long as nothing else changed */
+  #before = null;
+  /** the field of each candidate's note */
+  #notes = [];
+  #scramble = "";
+  #list = part("kept-list");
+  #way = new WayTo(part("bar-kept"), part("kept"), part("kept-heading"));
 
-    /**
-     * @param {import("./calls.js").Calls} calls of its own
-     * @param {{goOn: (parts: Part[], next: {step: string, side: import("./steps.js").Side} | null) => void,
-     *     change: (kept: Candidate[]) => void}} acts
-     */
-    constructor(calls, acts) {
-        this.#calls = calls;
-        this.#acts = acts;
-        part("copy-kept").addEventListener("click", (event) => copy(this.#text(), event.currentTarget));
-        part("kept-clear").addEventListener("click", () => this.#clear());
-        part("kept-back").addEventListener("click", () => this.#undo());
-        part("kept-sort").addEventListener("change", () => this.#draw());
-    }
+  /**
+   * @param {import("./calls.js").Calls} calls of its own
+   * @param {{goOn: (parts: Part[], next: {step: string, side: import("./steps.js").Side} | null) => void,
+   *     change: (kept: Candidate[]) => void}} acts
+   */
+  constructor(calls, acts) {
+    this.#calls = calls;
+    this.#acts = acts;
+    part("copy-kept").addEventListener("click", (event) => copy(this.#text(), event.currentTarget));
+    part("kept-clear").addEventListener("click", () => this.#clear());
+    part("kept-back").addEventListener("click", () => this.#undo());
+    part("kept-sort").addEventListener("change", () => this.#draw());
+  }
 
-    /** Shows candidates; what the engine says of them comes by `describe`.
-     * @param {Candidate[]} candidates */
-    show(candidates) {
-        if (candidates === this.#candidates) return;
-        const names = this.#names();
-        this.#candidates = candidates;
-        // rows stay where they are, since the press that ends a note may be on a button of one
-        if (names === this.#names()) {
-            for (const [at, { note }] of candidates.entries()) {
-                if (this.#notes[at].value !== note) this.#notes[at].value = note;
-            }
-            return;
-        }
-        this.#walks = [];
-        this.#offerBack(null);
-        this.#way.show(candidates.length === 0 ? "" : `★ ${candidates.length}`, `Kept: ${counted(candidates.length, "line")}`);
-        this.#draw();
+  /** Shows candidates; what the engine says of them comes by `describe`.
+   * @param {Candidate[]} candidates */
+  show(candidates) {
+    if (candidates === this.#candidates) return;
+    const names = this.#names();
+    this.#candidates = candidates;
+    // rows stay where they are, since the press that ends a note may be on a button of one
+    if (names === this.#names()) {
+      for (const [at, { note }] of candidates.entries()) {
+        if (this.#notes[at].value !== note) this.#notes[at].value = note;
+      }
+      return;
     }
+    this.#walks = [];
+    this.#offerBack(null);
+    this.#way.show(candidates.length === 0 ? "" : `★ ${candidates.length}`, `Kept: ${counted(candidates.length, "line")}`);
+    this.#draw();
+  }
 
-    /**
-     * Keeps a line, or takes it away if it is kept.
-     * @param {import("./address.js").State} state @param {HTMLElement} button under which is said why it isn't kept @param {Part[]} parts
-     * @param {string} [next] the reduction that it is kept with
-     */
-    star(state, button, parts, next = "") {
-        const { kept, isKept } = withStar(state.kept, parts, next);
-        if (kept.length > MOST_CANDIDATES) return tellAt(button, MOST_ARE_KEPT);
-        if (!fitsAddress({ ...state, kept })) return tellAt(button, NO_ROOM);
-        withoutMoving(part("results"), () => (isKept ? this.#acts.change(kept) : this.leave(kept)));
-        announce(`${spoken(bracketed(parts))}: ${isKept ? "kept" : "no longer kept"}.`);
-    }
+  /**
+   * Keeps a line, or takes it away if it is kept.
+   * @param {import("./address.js").State} state @param {HTMLElement} button under which is said why it isn't kept @param {Part[]} parts
+   * @param {string} [next] the reduction that it is kept with
+   */
+  star(state, button, parts, next = "") {
+    const { kept, isKept } = withStar(state.kept, parts, next);
+    if (kept.length > MOST_CANDIDATES) return tellAt(button, MOST_ARE_KEPT);
+    if (!fitsAddress({ ...state, kept })) return tellAt(button, NO_ROOM);
+    withoutMoving(part("results"), () => (isKept ? this.#acts.change(kept) : this.leave(kept)));
+    announce(`${spoken(bracketed(parts))}: ${isKept ? "kept" : "no longer kept"}.`);
+  }
 
-    /**
-     * Leaves fewer candidates, which can be undone until something else changes.
-     * @param {Candidate[]} left
-     */
-    leave(left) {
-        const before = this.#candidates;
-        this.#acts.change(left);
-        this.#offerBack(before);
-        announce(`${part("kept-left-words").textContent} A button below the list undoes that.`);
-    }
+  /**
+   * Leaves fewer candidates, which can be undone until something else changes.
+   * @param {Candidate[]} left
+   */
+  leave(left) {
+    const before = this.#candidates;
+    this.#acts.change(left);
+    this.#offerBack(before);
+    announce(`${part("kept-left-words").textContent} A button below the list undoes that.`);
+  }
 
-    /** Offers what was kept before, or nothing.
-     * @param {Candidate[] | null} before */
-    #offerBack(before) {
-        const isFocused = document.activeElement === part("kept-back");
-        this.#before = before;
-        const count = before === null ? 0 : before.length - this.#candidates.length;
-        part("kept-left").hidden = count === 0;
-        part("kept-left-words").textContent = count === 0 ? "" : `${counted(count, "line")} ${count === 1 ? "was" : "were"} removed.`;
-        part("kept").classList.toggle("empty", this.#candidates.length === 0 && count === 0);
-        part("kept-clear").hidden = this.#candidates.length === 0;
-        // what is hidden can't keep the focus
-        if (isFocused && count === 0) part("kept-heading").focus({ preventScroll: true });
-    }
+  /** Offers what was kept before, or nothing.
+   * @param {Candidate[] | null} before */
+  #offerBack(before) {
+    const isFocused = document.activeElement === part("kept-back");
+    this.#before = before;
+    const count = before === null ? 0 : before.length - this.#candidates.length;
+    part("kept-left").hidden = count === 0;
+    part("kept-left-words").textContent = count === 0 ? "" : `${counted(count, "line")} ${count === 1 ? "was" : "were"} removed.`;
+    part("kept").classList.toggle("empty", this.#candidates.length === 0 && count === 0);
+    part("kept-clear").hidden = this.#candidates.length === 0;
+    // what is hidden can't keep the focus
+    if (isFocused && count === 0) part("kept-heading").focus({ preventScroll: true });
+  }
 
-    #clear() {
-        this.leave([]);
-        part("kept-back").focus({ preventScroll: true });
-    }
+  #clear() {
+    this.leave([]);
+    part("kept-back").focus({ preventScroll: true });
+  }
 
-    #undo() {
-        const { length } = this.#before;
-        this.#acts.change(this.#before);
-        announce(`${counted(length, "line")} ${length === 1 ? "is" : "are"} kept again.`);
-    }
+  #undo() {
+    const { length } = this.#before;
+    this.#acts.change(this.#before);
+    announce(`${counted(length, "line")} ${length === 1 ? "is" : "are"} kept again.`);
+  }
 
-    #names() {
-        return this.#candidates.map(nameOfCandidate).join("\n");
-    }
+  #names() {
+    return this.#candidates.map(nameOfCandidate).join("\n");
+  }
 
-    /** Shows what the engine says of the candidates after a scramble, unless it is shown already.
-     * @param {string} scramble by its face turns @param {string} written as it is copied */
-    async describe(scramble, written) {
-        const candidates = this.#candidates;
-        if (this.#scramble === written && this.#walks.length === candidates.length) return;
-        try {
-            const walks = await walkKept(this.#calls, scramble, candidates);
-            if (candidates !== this.#candidates) return;
-            this.#walks = walks;
-            this.#scramble = written;
-            this.#draw();
-        } catch (fault) {
-            if (candidates !== this.#candidates || fault instanceof Stopped) return;
-            tell(part("alert"), `The lines that are kept can't be read: ${fault.text ?? fault.message}.`);
-        }
+  /** Shows what the engine says of the candidates after a scramble, unless it is shown already.
+   * @param {string} scramble by its face turns @param {string} written as it is copied */
+  async describe(scramble, written) {
+    const candidates = this.#candidates;
+    if (this.#scramble === written && this.#walks.length === candidates.length) return;
+    try {
+      const walks = await walkKept(this.#calls, scramble, candidates);
+      if (candidates !== this.#candidates) return;
+      this.#walks = walks;
+      this.#scramble = written;
+      this.#draw();
+    } catch (fault) {
+      if (candidates !== this.#candidates || fault instanceof Stopped) return;
+      tell(part("alert"), `The lines that are kept can't be read: ${fault.text ?? fault.message}.`);
     }
+  }
 
-    /** Whether a line is kept, by itself or with a reduction.
-     * @param {Part[]} parts @param {string} [next] */
-    has(parts, next = "") {
-        return this.#candidates.some((each) => nameOfCandidate(each) === nameOf(parts, next));
-    }
+  /** Whether a line is kept, by itself or with a reduction.
+   * @param {Part[]} parts @param {string} [next] */
+  has(parts, next = "") {
+    return this.#candidates.some((each) => nameOfCandidate(each) === nameOf(parts, next));
+  }
 
-    /** The candidates with their walks, in the order that is chosen. */
-    #sorted() {
-        const all = this.#candidates.map((candidate, at) => ({ candidate, walk: this.#walks[at] ?? null, at }));
-        if (all.some(({ walk }) => walk === null) || part("kept-sort").value === "kept") return all;
-        return all.sort((one, other) => stageOf(other.walk) - stageOf(one.walk) || totalOf(one.walk) - totalOf(other.walk));
-    }
+  /** The candidates with their walks, in the order that is chosen. */
+  #sorted() {
+    const all = this.#candidates.map((candidate, at) => ({ candidate, walk: this.#walks[at] ?? null, at }));
+    if (all.some(({ walk }) => walk === null) || part("kept-sort").value === "kept") return all;
+    return all.sort((one, other) => stageOf(other.walk) - stageOf(one.walk) || totalOf(one.walk) - totalOf(other.walk));
+  }
 
-    #text() {
-        if (this.#walks.length !== this.#candidates.length) return "";
-        const notesOf = ({ candidate, walk }) => [wordsOfNext(walk), candidate.note].filter((note) => note !== "");
-        return fmcOfAll(this.#scramble, this.#sorted().map((each) => ({ walk: each.walk, notes: notesOf(each) })));
-    }
+  #text() {
+    if (this.#walks.length !== this.#candidates.length) return "";
+    const notesOf = ({ candidate, walk }) => [wordsOfNext(walk), candidate.note].filter((note) => note !== "");
+    return fmcOfAll(this.#scramble, this.#sorted().map((each) => ({ walk: each.walk, notes: notesOf(each) })));
+  }
 
-    #draw() {
-        const focused = this.#list.contains(document.activeElement) ? document.activeElement.dataset.control : null;
-        this.#list.replaceChildren(...this.#sorted().map((each) => this.#item(each)));
-        if (focused) this.#control(focused)?.focus({ preventScroll: true });
-        tell(part("kept-count"), this.#candidates.length === 0 ? "" : counted(this.#candidates.length, "line"));
-    }
+  #draw() {
+    const focused = this.#list.contains(document.activeElement) ? document.activeElement.dataset.control : null;
+    this.#list.replaceChildren(...this.#sorted().map((each) => this.#item(each)));
+    if (focused) this.#control(focused)?.focus({ preventScroll: true });
+    tell(part("kept-count"), this.#candidates.length === 0 ? "" : counted(this.#candidates.length, "line"));
+  }
 
-    /** What is pressed or typed in, by its name.
-     * @param {string} name */
-    #control(name) {
-        return [...this.#list.querySelectorAll("[data-control]")].find(({ dataset }) => dataset.control === name);
-    }
+  /** What is pressed or typed in, by its name.
+   * @param {string} name */
+  #control(name) {
+    return [...this.#list.querySelectorAll("[data-control]")].find(({ dataset }) => dataset.control === name);
+  }
 
-    #item({ candidate, walk, at }) {
-        const { parts, note } = candidate;
-        const [name, said] = [nameOfCandidate(candidate), saidOf(candidate)];
-        const field = element("input", {
-            class: "note-field", value: note, maxlength: LONGEST_NOTE, placeholder: "Note", autocomplete: "off",
-            "data-control": `note ${name}`,
-            "aria-label": `Note: ${said}`,
-            change: (event) => {
-                const text = event.target.value.trim();
-                this.#acts.change(this.#candidates.map((each, place) => (place === at ? { ...each, note: text } : each)));
-            },
-        });
-        this.#notes[at] = field;
-        return element("li", {},
-            stepOf(parts, walk),
-            element("span", { class: "row" },
-                field,
-                element("button", {
-                    type: "button", class: "quiet", "data-control": `on ${name}`, "aria-label": `Go on: ${said}`,
-                    click: () => this.#acts.goOn(parts, walk?.next ? { step: candidate.next, side: walk.next.side } : null),
-                }, "Go on"),
-                element("button", {
-                    type: "button", class: "quiet", "data-control": `away ${name}`, "aria-label": `Remove: ${said}`,
-                    click: () => this.#remove(at),
-                }, "Remove")));
-    }
+  #item({ candidate, walk, at }) {
+    const { parts, note } = candidate;
+    const [name, said] = [nameOfCandidate(candidate), saidOf(candidate)];
+    const field = element("input", {
+      class: "note-field", value: note, maxlength: LONGEST_NOTE, placeholder: "Note", autocomplete: "off",
+      "data-control": `note ${name}`,
+      "aria-label": `Note: ${said}`,
+      change: (event) => {
+        const text = event.target.value.trim();
+        this.#acts.change(this.#candidates.map((each, place) => (place === at ? { ...each, note: text } : each)));
+      },
+    });
+    this.#notes[at] = field;
+    return element("li", {},
+      stepOf(parts, walk),
+      element("span", { class: "row" },
+        field,
+        element("button", {
+          type: "button", class: "quiet", "data-control": `on ${name}`, "aria-label": `Go on: ${said}`,
+          click: () => this.#acts.goOn(parts, walk?.next ? { step: candidate.next, side: walk.next.side } : null),
+        }, "Go on"),
+        element("button", {
+          type: "button", class: "quiet", "data-control": `away ${name}`, "aria-label": `Remove: ${said}`,
+          click: () => this.#remove(at),
+        }, "Remove")));
+  }
 
-    /** Takes a candidate away; the focus, if it was in its row, goes to the next one.
-     * @param {number} at its place among the candidates */
-    #remove(at) {
-        const row = [...this.#list.children].find((each) => each.contains(document.activeElement));
-        const next = row?.nextElementSibling ?? row?.previousElementSibling;
-        const control = next?.querySelector("[data-control^=away]").dataset.control;
-        this.leave(this.#candidates.filter((_, place) => place !== at));
-        if (row) (this.#control(control) ?? part("kept-back")).focus({ preventScroll: true });
-    }
+  /** Takes a candidate away; the focus, if it was in its row, goes to the next one.
+   * @param {number} at its place among the candidates */
+  #remove(at) {
+    const row = [...this.#list.children].find((each) => each.contains(document.activeElement));
+    const next = row?.nextElementSibling ?? row?.previousElementSibling;
+    const control = next?.querySelector("[data-control^=away]").dataset.control;
+    this.leave(this.#candidates.filter((_, place) => place !== at));
+    if (row) (this.#control(control) ?? part("kept-back")).focus({ preventScroll: true });
+  }
 }

@@ -8,39 +8,39 @@ const LAST = "nissy-last";
 /** What an address says that can be gone on with: a state with a scramble, or null.
  * @param {string} address */
 function readLast(address) {
-    const { state, fault } = readAddress(address);
-    return fault === "" && state.scramble.trim() !== "" ? state : null;
+  const { state, fault } = readAddress(address);
+  return fault === "" && state.scramble.trim() !== "" ? state : null;
 }
 
 /** Keeps an address, if it can be gone on with: nothing else takes the place of what was done before.
  * @param {string} address */
 export function keepLast(address) {
-    try {
-        if (readLast(address) !== null) localStorage.setItem(LAST, address);
-    } catch {
-        // then nothing is offered
-    }
+  try {
+    if (readLast(address) !== null) localStorage.setItem(LAST, address);
+  } catch {
+    // then nothing is offered
+  }
 }
 
 function last() {
-    try {
-        return localStorage.getItem(LAST) ?? "";
-    } catch {
-        return "";
-    }
+  try {
+    return localStorage.getItem(LAST) ?? "";
+  } catch {
+    return "";
+  }
 }
 
 /** Offers what was done last, if it can be read. */
 export function offerLast() {
-    const address = last();
-    const state = readLast(address);
-    part("last").hidden = state === null;
-    if (state === null) return;
-    const { scramble, parts, kept } = state;
-    part("last-line").textContent = [scramble, bracketed(parts)].filter((each) => each !== "").join(" · ");
-    part("last-kept").textContent = kept.length === 0 ? "" : `${counted(kept.length, "line")} kept`;
-    // in place of what was offered before
-    part("last-back").onclick = () => {
-        location.hash = address;
-    };
+  const address = last();
+  const state = readLast(address);
+  part("last").hidden = state === null;
+  if (state === null) return;
+  const { scramble, parts, kept } = state;
+  part("last-line").textContent = [scramble, bracketed(parts)].filter((each) => each !== "").join(" · ");
+  part("last-kept").textContent = kept.length === 0 ? "" : `${counted(kept.length, "line")} kept`;
+  // in place of what was offered before
+  part("last-back").onclick = () => {
+    location.hash = address;
+  };
 }

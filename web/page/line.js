@@ -20,9 +20,9 @@ const NO_MOVES = "No moves yet";
 /** The parts without their last move.
  * @param {Part[]} parts @returns {Part[]} */
 export function withoutLastMove(parts) {
-    const { side, moves } = parts.at(-1);
-    const left = moves.split(" ").slice(0, -1).join(" ");
-    return left === "" ? parts.slice(0, -1) : [...parts.slice(0, -1), { side, moves: left }];
+  const { side, moves } = parts.at(-1);
+  const left = moves.split(" ").slice(0, -1).join(" ");
+  return left === "" ? parts.slice(0, -1) : [...parts.slice(0, -1), { side, moves: left }];
 }
 
 /** Words in a row: `one`, `one and another`, `one, another and a third`.
@@ -32,12 +32,12 @@ const listed = (words) => [words.slice(0, -1).join(", "), ...words.slice(-1)].fi
 /** What is said of a line that ends, or "".
  * @param {Walk} walk */
 function endOf({ parts, facts, reached, totals }) {
-    const total = counted(totals.at(-1), "move");
-    if (parts.length === 0) return "";
-    if (facts.at(-1).solved) return `Solved: ${total}.`;
-    if (!isReduced(reached.at(-1))) return "";
-    const states = statesOf(reached.at(-1)).filter((state) => state.startsWith("DR"));
-    return `${listed(states)} ${states.length === 1 ? "is" : "are"} reached: ${total}. nissy has no step after a DR: go on by hand.`;
+  const total = counted(totals.at(-1), "move");
+  if (parts.length === 0) return "";
+  if (facts.at(-1).solved) return `Solved: ${total}.`;
+  if (!isReduced(reached.at(-1))) return "";
+  const states = statesOf(reached.at(-1)).filter((state) => state.startsWith("DR"));
+  return `${listed(states)} ${states.length === 1 ? "is" : "are"} reached: ${total}. nissy has no step after a DR: go on by hand.`;
 }
 
 /**
@@ -45,8 +45,8 @@ function endOf({ parts, facts, reached, totals }) {
  * @template Known @param {Known[]} known of each of `parts` @param {Part[]} parts @param {Part[]} others
  */
 function keptOf(known, parts, others) {
-    const end = parts.findIndex(({ side, moves }, at) => side !== others[at]?.side || moves !== others[at].moves);
-    return end < 0 ? known : known.slice(0, end);
+  const end = parts.findIndex(({ side, moves }, at) => side !== others[at]?.side || moves !== others[at].moves);
+  return end < 0 ? known : known.slice(0, end);
 }
 
 /** A list with others in place of one of its members.
@@ -57,8 +57,8 @@ const withOthers = (list, index, others) => [...list.slice(0, index), ...others,
 /** What is to be known of a line without brackets before the cube is solved, or "".
  * @param {Walk} walk */
 function noteOfJoined({ parts, facts }) {
-    if (facts.at(-1).solved || !parts.some(({ side }) => side === "inverse")) return "";
-    return "Not finished: the inverse moves stand at the end as premoves, and what follows goes before them.";
+  if (facts.at(-1).solved || !parts.some(({ side }) => side === "inverse")) return "";
+  return "Not finished: the inverse moves stand at the end as premoves, and what follows goes before them.";
 }
 
 /**
@@ -66,240 +66,240 @@ function noteOfJoined({ parts, facts }) {
  * @param {import("./element.js").PageElement} field
  */
 function takeLines(field) {
-    field.addEventListener("paste", (event) => {
-        const text = event.clipboardData.getData("text/plain").trim().replace(/\r\n?/g, "\n");
-        if (!text.includes("\n") || text.length > LONGEST_PASTED) return;
-        event.preventDefault();
-        const { line, leftOut } = plainLine(text);
-        document.execCommand("insertText", false, line);
-        tell(part("own-read"), wordsOfLeftOut(leftOut));
-    });
+  field.addEventListener("paste", (event) => {
+    const text = event.clipboardData.getData("text/plain").trim().replace(/\r\n?/g, "\n");
+    if (!text.includes("\n") || text.length > LONGEST_PASTED) return;
+    event.preventDefault();
+    const { line, leftOut } = plainLine(text);
+    document.execCommand("insertText", false, line);
+    tell(part("own-read"), wordsOfLeftOut(leftOut));
+  });
 }
 
 export class LineSoFar {
-    #calls;
-    #acts;
-    #parts = [];
-    /** what each step reached as long as nothing took it away
-     * @type {string[][]} */
-    #reached = [];
-    /** the same of steps that are about to be shown, one of which was edited or removed
-     * @type {string[][] | null} */
-    #wanted = null;
-    /** the elements that say of each step what it reaches and how long it is, also while a field stands in place of them */
-    #words = [];
-    /** @type {Side} */
-    #side = "normal";
+  #calls;
+  #acts;
+  #parts = [];
+  /** what each step reached as long as nothing took it away
+   * @type {string[][]} */
+  #reached = [];
+  /** the same of steps that are about to be shown, one of which was edited or removed
+   * @type {string[][] | null} */
+  #wanted = null;
+  /** the elements that say of each step what it reaches and how long it is, also while a field stands in place of them */
+  #words = [];
+  /** @type {Side} */
+  #side = "normal";
 
-    /**
-     * @param {import("./calls.js").Calls} calls
-     * @param {{change: (change: {parts?: Part[], side?: Side}) => boolean, star: () => void}} acts `change` says whether it leads back to
-     * a row
-     */
-    constructor(calls, acts) {
-        this.#calls = calls;
-        this.#acts = acts;
-        part("own-form").addEventListener("submit", (event) => {
-            event.preventDefault();
-            this.#add();
-        });
-        takeLines(part("own"));
-        part("switch").addEventListener("click", () => this.turn(otherSide(this.#side)));
-        for (const name of ["undo-step", "bar-undo"]) part(name).addEventListener("click", () => this.undoStep());
-        part("undo-move").addEventListener("click", () => this.#undo(withoutLastMove(this.#parts)));
-        part("clear").addEventListener("click", () => this.#undo([]));
-        part("keep-line").addEventListener("click", () => acts.star());
-        for (const name of ["bracketed", "joined"]) {
-            const button = part(`copy-${name}`);
-            button.addEventListener("click", () => copy(part(name).textContent, button, part(name)));
-        }
-        part("copy-fmc").addEventListener("click", (event) => copy(part("fmc").textContent, event.currentTarget, part("fmc")));
+  /**
+   * @param {import("./calls.js").Calls} calls
+   * @param {{change: (change: {parts?: Part[], side?: Side}) => boolean, star: () => void}} acts `change` says whether it leads back to
+   * a row
+   */
+  constructor(calls, acts) {
+    this.#calls = calls;
+    this.#acts = acts;
+    part("own-form").addEventListener("submit", (event) => {
+      event.preventDefault();
+      this.#add();
+    });
+    takeLines(part("own"));
+    part("switch").addEventListener("click", () => this.turn(otherSide(this.#side)));
+    for (const name of ["undo-step", "bar-undo"]) part(name).addEventListener("click", () => this.undoStep());
+    part("undo-move").addEventListener("click", () => this.#undo(withoutLastMove(this.#parts)));
+    part("clear").addEventListener("click", () => this.#undo([]));
+    part("keep-line").addEventListener("click", () => acts.star());
+    for (const name of ["bracketed", "joined"]) {
+      const button = part(`copy-${name}`);
+      button.addEventListener("click", () => copy(part(name).textContent, button, part(name)));
     }
+    part("copy-fmc").addEventListener("click", (event) => copy(part("fmc").textContent, event.currentTarget, part("fmc")));
+  }
 
-    /** Shows on which side moves by hand go.
-     * @param {Side} side */
-    turnTo(side) {
-        this.#side = side;
-        part("side").textContent = `${side} side`;
-        part("switch").textContent = `Switch to the ${otherSide(side)} side`;
-    }
+  /** Shows on which side moves by hand go.
+   * @param {Side} side */
+  turnTo(side) {
+    this.#side = side;
+    part("side").textContent = `${side} side`;
+    part("switch").textContent = `Switch to the ${otherSide(side)} side`;
+  }
 
-    /** Shows whether the line is kept.
-     * @param {boolean} isKept */
-    markKept(isKept) {
-        part("keep-line").textContent = isKept ? "★ Kept" : "☆ Keep";
-        part("keep-line").setAttribute("aria-pressed", String(isKept));
-    }
+  /** Shows whether the line is kept.
+   * @param {boolean} isKept */
+  markKept(isKept) {
+    part("keep-line").textContent = isKept ? "★ Kept" : "☆ Keep";
+    part("keep-line").setAttribute("aria-pressed", String(isKept));
+  }
 
-    /** Has moves by hand go on another side.
-     * @param {Side} side */
-    turn(side) {
-        this.#acts.change({ side });
-        announce(`Moves by hand go on the ${side} side.`);
-    }
+  /** Has moves by hand go on another side.
+   * @param {Side} side */
+  turn(side) {
+    this.#acts.change({ side });
+    announce(`Moves by hand go on the ${side} side.`);
+  }
 
-    /** Takes the last step away, if there is one. */
-    undoStep() {
-        if (this.#parts.length > 0) this.#undo(this.#parts.slice(0, -1));
-    }
+  /** Takes the last step away, if there is one. */
+  undoStep() {
+    if (this.#parts.length > 0) this.#undo(this.#parts.slice(0, -1));
+  }
 
-    /** Shows the parts at once; what the engine says of them comes by `describe`.
-     * @param {Part[]} parts */
-    show(parts) {
-        this.#reached = this.#wanted ?? keptOf(this.#reached, this.#parts, parts);
-        this.#wanted = null;
-        this.#parts = parts;
-        this.#words = parts.map(() => ({
-            reaches: element("span", { class: "reaches", hidden: true }),
-            lost: element("span", { class: "lost", "aria-live": "polite", hidden: true }),
-            count: element("span", { class: "count" }),
-        }));
-        for (const name of ["finished", "own-read"]) tell(part(name), "");
-        part("line-list").replaceChildren(...parts.map((each, index) => this.#item(each, index)));
-        part("line-empty").hidden = parts.length > 0;
-        // where the engine can't read them, no line of other parts stays to be copied
-        if (bracketed(parts) !== part("bracketed").textContent) this.#showWhole({ line: bracketed(parts), joined: "", total: UNKNOWN });
-        for (const name of ["line-list", "whole", "undo", "bar-total", "bar-undo", "keep-line"]) part(name).hidden = parts.length === 0;
-    }
+  /** Shows the parts at once; what the engine says of them comes by `describe`.
+   * @param {Part[]} parts */
+  show(parts) {
+    this.#reached = this.#wanted ?? keptOf(this.#reached, this.#parts, parts);
+    this.#wanted = null;
+    this.#parts = parts;
+    this.#words = parts.map(() => ({
+      reaches: element("span", { class: "reaches", hidden: true }),
+      lost: element("span", { class: "lost", "aria-live": "polite", hidden: true }),
+      count: element("span", { class: "count" }),
+    }));
+    for (const name of ["finished", "own-read"]) tell(part(name), "");
+    part("line-list").replaceChildren(...parts.map((each, index) => this.#item(each, index)));
+    part("line-empty").hidden = parts.length > 0;
+    // where the engine can't read them, no line of other parts stays to be copied
+    if (bracketed(parts) !== part("bracketed").textContent) this.#showWhole({ line: bracketed(parts), joined: "", total: UNKNOWN });
+    for (const name of ["line-list", "whole", "undo", "bar-total", "bar-undo", "keep-line"]) part(name).hidden = parts.length === 0;
+  }
 
-    /**
-     * Shows what each step reaches, how long it is, and the whole.
-     * @param {Walk} walk @param {string} whole without brackets @param {string} scramble
-     */
-    describe(walk, whole, scramble) {
-        this.#showWhole({
-            line: bracketed(walk.parts), joined: whole, total: counted(walk.totals.at(-1), "move"), note: noteOfJoined(walk),
-            fmc: fmcOf(scramble, walk),
-        });
-        this.#words.forEach(({ reaches, lost, count }, index) => {
-            const inAll = index === 0 ? "" : `, ${walk.totals[index + 1]} in all`;
-            count.textContent = `${counted(walk.turns[index], "move")}${inAll}`;
-            const [fresh, missed] = [newlyReached(walk, index), this.#lost(walk, index)];
-            tell(reaches, fresh.join(", "));
-            tell(lost, missed.length === 0 ? "" : `no longer ${listed(missed)}`);
-            if (missed.length === 0 || fresh.length > 0) this.#reached[index] = fresh;
-        });
-        tell(part("finished"), endOf(walk));
-    }
+  /**
+   * Shows what each step reaches, how long it is, and the whole.
+   * @param {Walk} walk @param {string} whole without brackets @param {string} scramble
+   */
+  describe(walk, whole, scramble) {
+    this.#showWhole({
+      line: bracketed(walk.parts), joined: whole, total: counted(walk.totals.at(-1), "move"), note: noteOfJoined(walk),
+      fmc: fmcOf(scramble, walk),
+    });
+    this.#words.forEach(({ reaches, lost, count }, index) => {
+      const inAll = index === 0 ? "" : `, ${walk.totals[index + 1]} in all`;
+      count.textContent = `${counted(walk.turns[index], "move")}${inAll}`;
+      const [fresh, missed] = [newlyReached(walk, index), this.#lost(walk, index)];
+      tell(reaches, fresh.join(", "));
+      tell(lost, missed.length === 0 ? "" : `no longer ${listed(missed)}`);
+      if (missed.length === 0 || fresh.length > 0) this.#reached[index] = fresh;
+    });
+    tell(part("finished"), endOf(walk));
+  }
 
-    /** What a step reached before it or an earlier one was changed, and what doesn't hold then, nor in the end.
-     * @param {Walk} walk */
-    #lost({ reached }, index) {
-        const holds = statesOf([...reached[index + 1], ...reached.at(-1)]);
-        return (this.#reached[index] ?? []).filter((state) => !holds.includes(state));
-    }
+  /** What a step reached before it or an earlier one was changed, and what doesn't hold then, nor in the end.
+   * @param {Walk} walk */
+  #lost({ reached }, index) {
+    const holds = statesOf([...reached[index + 1], ...reached.at(-1)]);
+    return (this.#reached[index] ?? []).filter((state) => !holds.includes(state));
+  }
 
-    /** @param {{line: string, joined: string, total: string, note?: string, fmc?: string}} texts `note`: on what is joined */
-    #showWhole({ line, joined, total, note = "", fmc = "" }) {
-        const texts = { bracketed: line, joined, total, fmc, "bar-line": line || NO_MOVES, "bar-total": total };
-        for (const [name, text] of Object.entries(texts)) part(name).textContent = text;
-        tell(part("joined-note"), note);
-        // without inverse moves it is the same
-        part("whole").classList.toggle("alike", joined === line);
-    }
+  /** @param {{line: string, joined: string, total: string, note?: string, fmc?: string}} texts `note`: on what is joined */
+  #showWhole({ line, joined, total, note = "", fmc = "" }) {
+    const texts = { bracketed: line, joined, total, fmc, "bar-line": line || NO_MOVES, "bar-total": total };
+    for (const [name, text] of Object.entries(texts)) part(name).textContent = text;
+    tell(part("joined-note"), note);
+    // without inverse moves it is the same
+    part("whole").classList.toggle("alike", joined === line);
+  }
 
-    #item(each, index) {
-        const text = bracketed([each]);
-        const edit = element("button", {
-            type: "button",
-            class: "quiet",
-            "aria-label": `Edit ${spoken(text)}`,
-            click: () => this.#edit(index),
-        }, "Edit");
-        const remove = element("button", {
-            type: "button",
-            class: "quiet",
-            "aria-label": `Remove ${spoken(text)}`,
-            click: () => this.#replace(index, [], 1),
-        }, "Remove");
-        const { reaches, lost, count } = this.#words[index];
-        return element("li", {},
-            element("span", { class: "step" },
-                element("span", { class: "moves" }, text), reaches, lost, element("span", { class: "note" }, count)),
-            element("span", { class: "acts" }, edit, remove));
-    }
+  #item(each, index) {
+    const text = bracketed([each]);
+    const edit = element("button", {
+      type: "button",
+      class: "quiet",
+      "aria-label": `Edit ${spoken(text)}`,
+      click: () => this.#edit(index),
+    }, "Edit");
+    const remove = element("button", {
+      type: "button",
+      class: "quiet",
+      "aria-label": `Remove ${spoken(text)}`,
+      click: () => this.#replace(index, [], 1),
+    }, "Remove");
+    const { reaches, lost, count } = this.#words[index];
+    return element("li", {},
+      element("span", { class: "step" },
+        element("span", { class: "moves" }, text), reaches, lost, element("span", { class: "note" }, count)),
+      element("span", { class: "acts" }, edit, remove));
+  }
 
-    /** Puts a field in place of a step.
-     * @param {number} index */
-    #edit(index) {
-        const item = part("line-list").children[index];
-        const text = bracketed([this.#parts[index]]);
-        const shown = [...item.childNodes];
-        const field = element("input", {
-            class: "moves wide", value: text, spellcheck: "false", autocapitalize: "off", autocomplete: "off", maxlength: 4096,
-            "aria-label": `Step ${index + 1}`,
-        });
-        takeLines(field);
-        const fault = element("div", { class: "fault", hidden: true });
-        const leave = () => {
-            item.replaceChildren(...shown);
-            item.querySelector("button").focus();
-        };
-        const form = element("form", {
-            class: "row",
-            submit: (event) => {
-                event.preventDefault();
-                // the step is seen as it is written down, so what has no brackets goes on the normal side
-                this.#read(field, fault, "normal", (added) => this.#replace(index, added, 0));
-            },
-            keydown: (event) => {
-                if (event.key === "Escape") leave();
-            },
-        }, field, element("button", { type: "submit" }, "Change"), element("button", { type: "button", click: leave }, "Leave"));
-        item.replaceChildren(form, fault);
-        field.focus();
-        field.setSelectionRange(text.length, text.length);
-    }
+  /** Puts a field in place of a step.
+   * @param {number} index */
+  #edit(index) {
+    const item = part("line-list").children[index];
+    const text = bracketed([this.#parts[index]]);
+    const shown = [...item.childNodes];
+    const field = element("input", {
+      class: "moves wide", value: text, spellcheck: "false", autocapitalize: "off", autocomplete: "off", maxlength: 4096,
+      "aria-label": `Step ${index + 1}`,
+    });
+    takeLines(field);
+    const fault = element("div", { class: "fault", hidden: true });
+    const leave = () => {
+      item.replaceChildren(...shown);
+      item.querySelector("button").focus();
+    };
+    const form = element("form", {
+      class: "row",
+      submit: (event) => {
+        event.preventDefault();
+        // the step is seen as it is written down, so what has no brackets goes on the normal side
+        this.#read(field, fault, "normal", (added) => this.#replace(index, added, 0));
+      },
+      keydown: (event) => {
+        if (event.key === "Escape") leave();
+      },
+    }, field, element("button", { type: "submit" }, "Change"), element("button", { type: "button", click: leave }, "Leave"));
+    item.replaceChildren(form, fault);
+    field.focus();
+    field.setSelectionRange(text.length, text.length);
+  }
 
-    /**
-     * Puts parts in place of a step: the last of them is to reach what that one reached. The focus, if it was in the step's row, goes to the
-     * last row that is there then.
-     * @param {number} index @param {Part[]} added @param {number} button the place among its buttons of the one that has the focus then
-     */
-    #replace(index, added, button) {
-        const isWithin = part("line-list").children[index].contains(document.activeElement);
-        const reached = added.map((_, at) => (at === added.length - 1 ? this.#reached[index] : []));
-        this.#wanted = withOthers(this.#reached, index, reached);
-        this.#undo(withOthers(this.#parts, index, added));
-        const place = index + Math.max(added.length, 1) - 1;
-        const row = part("line-list").children[Math.min(place, this.#parts.length - 1)];
-        if (isWithin) row?.querySelectorAll("button")[button].focus({ preventScroll: true });
-    }
+  /**
+   * Puts parts in place of a step: the last of them is to reach what that one reached. The focus, if it was in the step's row, goes to the
+   * last row that is there then.
+   * @param {number} index @param {Part[]} added @param {number} button the place among its buttons of the one that has the focus then
+   */
+  #replace(index, added, button) {
+    const isWithin = part("line-list").children[index].contains(document.activeElement);
+    const reached = added.map((_, at) => (at === added.length - 1 ? this.#reached[index] : []));
+    this.#wanted = withOthers(this.#reached, index, reached);
+    this.#undo(withOthers(this.#parts, index, added));
+    const place = index + Math.max(added.length, 1) - 1;
+    const row = part("line-list").children[Math.min(place, this.#parts.length - 1)];
+    if (isWithin) row?.querySelectorAll("button")[button].focus({ preventScroll: true });
+  }
 
-    #undo(parts) {
-        const isOneLess = parts.length === this.#parts.length - 1;
-        const isBack = this.#acts.change(isOneLess && this.#parts.length > 0 ? { parts, side: this.#parts.at(-1).side } : { parts });
-        announce(parts.length === 0 ? "The line is empty." : `The line is ${spoken(bracketed(parts))}.`);
-        // a field that is typed in would bring the keyboard of a phone up, beside the row
-        if (parts.length === 0) part(isBack ? "line-heading" : "own").focus({ preventScroll: true });
-    }
+  #undo(parts) {
+    const isOneLess = parts.length === this.#parts.length - 1;
+    const isBack = this.#acts.change(isOneLess && this.#parts.length > 0 ? { parts, side: this.#parts.at(-1).side } : { parts });
+    announce(parts.length === 0 ? "The line is empty." : `The line is ${spoken(bracketed(parts))}.`);
+    // a field that is typed in would bring the keyboard of a phone up, beside the row
+    if (parts.length === 0) part(isBack ? "line-heading" : "own").focus({ preventScroll: true });
+  }
 
-    #add() {
-        const parts = this.#parts;
-        const field = part("own");
-        this.#read(field, part("own-fault"), this.#side, (added) => {
-            field.value = "";
-            if (added.length > 0) this.#acts.change({ parts: [...parts, ...added] });
-        });
-    }
+  #add() {
+    const parts = this.#parts;
+    const field = part("own");
+    this.#read(field, part("own-fault"), this.#side, (added) => {
+      field.value = "";
+      if (added.length > 0) this.#acts.change({ parts: [...parts, ...added] });
+    });
+  }
 
-    /**
-     * Reads what a field has as steps.
-     * @param {import("./element.js").PageElement} field @param {HTMLElement} where for a fault @param {Side} side @param {(added: Part[]) => void} use
-     */
-    async #read(field, where, side, use) {
-        const [text, parts] = [field.value, this.#parts];
-        // what was sent twice, or changed since, isn't added; nor is it to another line
-        const isStill = () => field.value === text && this.#parts === parts && field.isConnected;
-        const plain = plainLine(text);
-        try {
-            const added = await readByHand(this.#calls, plain.line, side);
-            if (!isStill()) return;
-            showFault(where, field, plain, null, text);
-            use(added);
-            tell(part("own-read"), wordsOfLeftOut(plain.leftOut));
-        } catch (fault) {
-            if (isStill() && !(fault instanceof Stopped)) showFault(where, field, plain, fault, text);
-        }
+  /**
+   * Reads what a field has as steps.
+   * @param {import("./element.js").PageElement} field @param {HTMLElement} where for a fault @param {Side} side @param {(added: Part[]) => void} use
+   */
+  async #read(field, where, side, use) {
+    const [text, parts] = [field.value, this.#parts];
+    // what was sent twice, or changed since, isn't added; nor is it to another line
+    const isStill = () => field.value === text && this.#parts === parts && field.isConnected;
+    const plain = plainLine(text);
+    try {
+      const added = await readByHand(this.#calls, plain.line, side);
+      if (!isStill()) return;
+      showFault(where, field, plain, null, text);
+      use(added);
+      tell(part("own-read"), wordsOfLeftOut(plain.leftOut));
+    } catch (fault) {
+      if (isStill() && !(fault instanceof Stopped)) showFault(where, field, plain, fault, text);
     }
+  }
 }

@@ -16,9 +16,9 @@ const FACE_TURNS = /^[UDRLFB2' ]*$/;
 /** A cleaned line without turns of the whole cube.
  * @param {string} cleaned */
 function withoutTurns(cleaned) {
-    const line = cleaned.replace(/[xyz][2']?/g, "").replace(/ +/g, " ").replace(/\( /g, "(").replace(/ \)/g, ")");
-    if ((line.match(/[UDRLFB]/g)?.length ?? 0) > MOST_MOVES) throw new NissyFault(`more than ${MOST_MOVES} moves, as face turns`, {});
-    return line.replace(/\(\)/g, "").trim();
+  const line = cleaned.replace(/[xyz][2']?/g, "").replace(/ +/g, " ").replace(/\( /g, "(").replace(/ \)/g, ")");
+  if ((line.match(/[UDRLFB]/g)?.length ?? 0) > MOST_MOVES) throw new NissyFault(`more than ${MOST_MOVES} moves, as face turns`, {});
+  return line.replace(/\(\)/g, "").trim();
 }
 
 /**
@@ -26,10 +26,10 @@ function withoutTurns(cleaned) {
  * @param {string} text @param {Side} side where moves without brackets go in a line that has none @returns {Part[]}
  */
 function runsOf(text, side) {
-    if (!text.includes("(")) return [{ side, moves: text }];
-    return [...text.matchAll(/\(([^()]*)\)|[^()]+/g)].map(([whole, inside]) =>
-        inside === undefined ? { side: "normal", moves: whole } : { side: "inverse", moves: inside },
-    );
+  if (!text.includes("(")) return [{ side, moves: text }];
+  return [...text.matchAll(/\(([^()]*)\)|[^()]+/g)].map(([whole, inside]) =>
+    inside === undefined ? { side: "normal", moves: whole } : { side: "inverse", moves: inside },
+  );
 }
 
 /** What the last scramble was read as: each step asks for it again.
@@ -39,12 +39,12 @@ let lastRead = null;
 /** A scramble by its face turns, and whether turns of the whole cube were left out.
  * @param {Calls} calls @param {string} text */
 export async function readScramble(calls, text) {
-    if (lastRead?.text !== text) {
-        const cleaned = await calls.cleanup(await calls.unniss(text));
-        const line = withoutTurns(cleaned);
-        lastRead = { text, line, isTurned: line !== cleaned };
-    }
-    return lastRead;
+  if (lastRead?.text !== text) {
+    const cleaned = await calls.cleanup(await calls.unniss(text));
+    const line = withoutTurns(cleaned);
+    lastRead = { text, line, isTurned: line !== cleaned };
+  }
+  return lastRead;
 }
 
 /**
@@ -52,11 +52,11 @@ export async function readScramble(calls, text) {
  * @param {Calls} calls @param {string} text @param {Side} side where moves go in a line without brackets @returns {Promise<Part[]>}
  */
 export async function readByHand(calls, text, side) {
-    const read = await calls.unniss(text);
-    const line = FACE_TURNS.test(read) ? text : withoutTurns(await calls.cleanup(text));
-    const runs = runsOf(line, text.includes("(") ? "normal" : side);
-    const moves = await joinAll(calls, runs.map((run) => run.moves));
-    return runs.map((run, index) => ({ side: run.side, moves: moves[index] })).filter((run) => run.moves !== "");
+  const read = await calls.unniss(text);
+  const line = FACE_TURNS.test(read) ? text : withoutTurns(await calls.cleanup(text));
+  const runs = runsOf(line, text.includes("(") ? "normal" : side);
+  const moves = await joinAll(calls, runs.map((run) => run.moves));
+  return runs.map((run, index) => ({ side: run.side, moves: moves[index] })).filter((run) => run.moves !== "");
 }
 
 /** @typedef {{line: string, fault: NissyFault}} Unread a line of a text that can't be read, and why */
@@ -66,17 +66,17 @@ export async function readByHand(calls, text, side) {
  * @param {Calls} calls @param {string[]} texts @returns {Promise<{parts: Part[], unread: Unread | null}>}
  */
 async function readAllByHand(calls, texts) {
-    const parts = [];
-    for (const text of texts) {
-        const line = plainLine(text).line.trim();
-        try {
-            parts.push(...(await readByHand(calls, line, "normal")));
-        } catch (fault) {
-            if (!(fault instanceof NissyFault)) throw fault;
-            return { parts, unread: { line, fault } };
-        }
+  const parts = [];
+  for (const text of texts) {
+    const line = plainLine(text).line.trim();
+    try {
+      parts.push(...(await readByHand(calls, line, "normal")));
+    } catch (fault) {
+      if (!(fault instanceof NissyFault)) throw fault;
+      return { parts, unread: { line, fault } };
     }
-    return { parts, unread: null };
+  }
+  return { parts, unread: null };
 }
 
 /**
@@ -85,27 +85,27 @@ async function readAllByHand(calls, texts) {
  * @returns {Promise<{parts: Part[], kept: import("./address.js").Candidate[], unread: Unread | null}>}
  */
 export async function readWritten(calls, { steps, candidates }) {
-    const { parts, unread } = await readAllByHand(calls, steps);
-    const kept = [];
-    const notRead = [unread];
-    for (const each of candidates.slice(0, MOST_CANDIDATES)) {
-        const read = await readAllByHand(calls, each.steps);
-        kept.push({ parts: read.parts, note: each.note.slice(0, LONGEST_NOTE), next: "" });
-        notRead.push(read.unread);
-    }
-    // an address has no candidate without moves
-    return { parts, kept: kept.filter((each) => each.parts.length > 0), unread: notRead.find((each) => each !== null) ?? null };
+  const { parts, unread } = await readAllByHand(calls, steps);
+  const kept = [];
+  const notRead = [unread];
+  for (const each of candidates.slice(0, MOST_CANDIDATES)) {
+    const read = await readAllByHand(calls, each.steps);
+    kept.push({ parts: read.parts, note: each.note.slice(0, LONGEST_NOTE), next: "" });
+    notRead.push(read.unread);
+  }
+  // an address has no candidate without moves
+  return { parts, kept: kept.filter((each) => each.parts.length > 0), unread: notRead.find((each) => each !== null) ?? null };
 }
 
 /** The steps of an address, each read as moves by hand are.
  * @param {Calls} calls @param {Part[]} parts @returns {Promise<Part[]>} */
 export async function readSteps(calls, parts) {
-    await calls.unniss(bracketed(parts));
-    const lines = parts.map(({ moves }) => moves);
-    const read = await joinAll(calls, lines);
-    const cleaned = await cleanAll(calls, lines);
-    const moves = read.map((line, index) => (FACE_TURNS.test(line) ? line : withoutTurns(cleaned[index])));
-    return parts.map(({ side }, index) => ({ side, moves: moves[index] })).filter((part) => part.moves !== "");
+  await calls.unniss(bracketed(parts));
+  const lines = parts.map(({ moves }) => moves);
+  const read = await joinAll(calls, lines);
+  const cleaned = await cleanAll(calls, lines);
+  const moves = read.map((line, index) => (FACE_TURNS.test(line) ? line : withoutTurns(cleaned[index])));
+  return parts.map(({ side }, index) => ({ side, moves: moves[index] })).filter((part) => part.moves !== "");
 }
 
 /**
@@ -113,14 +113,14 @@ export async function readSteps(calls, parts) {
  * @param {Calls} calls @param {import("./address.js").Candidate[]} kept @returns {Promise<import("./address.js").Candidate[]>}
  */
 export async function readKept(calls, kept) {
-    const read = await Promise.all(kept.map(async (each) => {
-        if (each.parts.every(({ moves }) => FACE_TURNS.test(moves))) return each;
-        try {
-            return { ...each, parts: await readSteps(calls, each.parts) };
-        } catch (fault) {
-            if (fault instanceof NissyFault) return each;
-            throw fault;
-        }
-    }));
-    return read.filter(({ parts }) => parts.length > 0);
+  const read = await Promise.all(kept.map(async (each) => {
+    if (each.parts.every(({ moves }) => FACE_TURNS.test(moves))) return each;
+    try {
+      return { ...each, parts: await readSteps(calls, each.parts) };
+    } catch (fault) {
+      if (fault instanceof NissyFault) return each;
+      throw fault;
+    }
+  }));
+  return read.filter(({ parts }) => parts.length > 0);
 }

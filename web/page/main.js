@@ -15,16 +15,16 @@ const packed = Uint8Array.from(atob(part("engine-module").textContent.trim()), (
 
 /** The bytes of the module. */
 async function unpacked() {
-    const bytes = new Blob([packed]).stream().pipeThrough(new DecompressionStream("gzip"));
-    return new Uint8Array(await new Response(bytes).arrayBuffer());
+  const bytes = new Blob([packed]).stream().pipeThrough(new DecompressionStream("gzip"));
+  return new Uint8Array(await new Response(bytes).arrayBuffer());
 }
 
 /** @param {import("../module/worker-calls.js").SentModule} module */
 function start(module) {
-    const page = new Page({ calls: () => new Calls(newWorker, module), finder: () => new Finder(newWorker, module) });
-    addEventListener("popstate", ({ state }) => page.returnTo(state));
-    addEventListener("hashchange", () => page.begin(location.hash));
-    page.begin(location.hash);
+  const page = new Page({ calls: () => new Calls(newWorker, module), finder: () => new Finder(newWorker, module) });
+  addEventListener("popstate", ({ state }) => page.returnTo(state));
+  addEventListener("hashchange", () => page.begin(location.hash));
+  page.begin(location.hash);
 }
 
 part("unstarted").remove();
@@ -35,5 +35,5 @@ offerLast();
 part("copy-link").addEventListener("click", ({ currentTarget }) => copyLink(currentTarget));
 // if it can't be compiled each worker says why, once it is asked
 unpacked()
-    .then((bytes) => compiled(bytes).catch(() => bytes))
-    .then(start);
+  .then((bytes) => compiled(bytes).catch(() => bytes))
+  .then(start);

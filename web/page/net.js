@@ -7,40 +7,40 @@ const GAP = 2;
 
 /** The faces in the order of the engine's letters, with their place in the net. */
 const FACES = [
-    { name: "U", column: 1, row: 0 },
-    { name: "R", column: 2, row: 1 },
-    { name: "F", column: 1, row: 1 },
-    { name: "D", column: 1, row: 2 },
-    { name: "L", column: 0, row: 1 },
-    { name: "B", column: 3, row: 1 },
+  { name: "U", column: 1, row: 0 },
+  { name: "R", column: 2, row: 1 },
+  { name: "F", column: 1, row: 1 },
+  { name: "D", column: 1, row: 2 },
+  { name: "L", column: 0, row: 1 },
+  { name: "B", column: 3, row: 1 },
 ];
 
 /** @param {string} name @param {Record<string, string | number>} attributes */
 function shape(name, attributes) {
-    const made = document.createElementNS(SVG, name);
-    for (const [key, value] of Object.entries(attributes)) made.setAttribute(key, String(value));
-    return made;
+  const made = document.createElementNS(SVG, name);
+  for (const [key, value] of Object.entries(attributes)) made.setAttribute(key, String(value));
+  return made;
 }
 
 function stickerAt(x, y) {
-    // the label of the net has all letters, by faces
-    const group = shape("g", { class: "sticker", transform: `translate(${x} ${y})`, "aria-hidden": "true" });
-    group.append(shape("rect", { x: 0.6, y: 0.6, width: PITCH - 1.2, height: PITCH - 1.2, rx: 1.4 }));
-    group.append(shape("text", { x: PITCH / 2, y: PITCH / 2 + 2, "text-anchor": "middle" }));
-    group.append(shape("circle", { class: "dot", cx: PITCH - 2.4, cy: 2.4, r: 1.3 }));
-    return group;
+  // the label of the net has all letters, by faces
+  const group = shape("g", { class: "sticker", transform: `translate(${x} ${y})`, "aria-hidden": "true" });
+  group.append(shape("rect", { x: 0.6, y: 0.6, width: PITCH - 1.2, height: PITCH - 1.2, rx: 1.4 }));
+  group.append(shape("text", { x: PITCH / 2, y: PITCH / 2 + 2, "text-anchor": "middle" }));
+  group.append(shape("circle", { class: "dot", cx: PITCH - 2.4, cy: 2.4, r: 1.3 }));
+  return group;
 }
 
 /** An empty net, with its 54 stickers in the order of the engine's letters. */
 export function emptyNet() {
-    const side = 3 * PITCH + GAP;
-    const net = shape("svg", { viewBox: `-1 -1 ${4 * side} ${3 * side}`, role: "img", class: "net" });
-    for (const { column, row } of FACES) {
-        for (let place = 0; place < 9; place++) {
-            net.append(stickerAt(column * side + (place % 3) * PITCH, row * side + Math.floor(place / 3) * PITCH));
-        }
+  const side = 3 * PITCH + GAP;
+  const net = shape("svg", { viewBox: `-1 -1 ${4 * side} ${3 * side}`, role: "img", class: "net" });
+  for (const { column, row } of FACES) {
+    for (let place = 0; place < 9; place++) {
+      net.append(stickerAt(column * side + (place % 3) * PITCH, row * side + Math.floor(place / 3) * PITCH));
     }
-    return net;
+  }
+  return net;
 }
 
 /** Which of the stickers of a net an element is in, by their order; -1 if none.
@@ -50,10 +50,10 @@ export const stickerOf = (net, target) => [...net.querySelectorAll(".sticker")].
 /** The letters in words: each face with its three rows.
  * @param {string} letters */
 function inWords(letters) {
-    return FACES.map(({ name }, face) => {
-        const rows = [0, 3, 6].map((row) => [...letters.slice(9 * face + row, 9 * face + row + 3)].join(" "));
-        return `face ${name}: ${rows.join(", ")}`;
-    }).join("; ");
+  return FACES.map(({ name }, face) => {
+    const rows = [0, 3, 6].map((row) => [...letters.slice(9 * face + row, 9 * face + row + 3)].join(" "));
+    return `face ${name}: ${rows.join(", ")}`;
+  }).join("; ");
 }
 
 /**
@@ -63,16 +63,16 @@ function inWords(letters) {
  * net
  */
 export function showCube(net, letters, title, { places, view }) {
-    const seen = view.map((place) => letters[place]).join("");
-    net.setAttribute("aria-label", `${title}; ${inWords(seen)}`);
-    net.classList.toggle("marked", places !== null);
-    net.querySelectorAll(".sticker").forEach((sticker, at) => {
-        sticker.classList.toggle("bad", places !== null && places.has(view[at]));
-        // a text that is put in again is laid out again
-        if (sticker.dataset.colour === seen[at]) return;
-        sticker.dataset.colour = seen[at];
-        sticker.querySelector("text").textContent = seen[at];
-    });
+  const seen = view.map((place) => letters[place]).join("");
+  net.setAttribute("aria-label", `${title}; ${inWords(seen)}`);
+  net.classList.toggle("marked", places !== null);
+  net.querySelectorAll(".sticker").forEach((sticker, at) => {
+    sticker.classList.toggle("bad", places !== null && places.has(view[at]));
+    // a text that is put in again is laid out again
+    if (sticker.dataset.colour === seen[at]) return;
+    sticker.dataset.colour = seen[at];
+    sticker.querySelector("text").textContent = seen[at];
+  });
 }
 
 const PLACES = Array.from({ length: 54 }, (_, place) => place);
@@ -80,31 +80,31 @@ const PLACES = Array.from({ length: 54 }, (_, place) => place);
 /** Where the sticker of a place is, in space: U is up, R is right, F is towards the eye.
  * @param {number} place @returns {number[]} */
 function pointOf(place) {
-    const [row, column] = [Math.floor((place % 9) / 3), place % 3];
-    const points = [
-        [column - 1, 2, row - 1],
-        [2, 1 - row, 1 - column],
-        [column - 1, 1 - row, 2],
-        [column - 1, -2, 1 - row],
-        [-2, 1 - row, column - 1],
-        [1 - column, 1 - row, -2],
-    ];
-    return points[Math.floor(place / 9)];
+  const [row, column] = [Math.floor((place % 9) / 3), place % 3];
+  const points = [
+    [column - 1, 2, row - 1],
+    [2, 1 - row, 1 - column],
+    [column - 1, 1 - row, 2],
+    [column - 1, -2, 1 - row],
+    [-2, 1 - row, column - 1],
+    [1 - column, 1 - row, -2],
+  ];
+  return points[Math.floor(place / 9)];
 }
 
 /** The places of all stickers of the piece that one is on, in their order.
  * @param {number} place */
 export function pieceAt(place) {
-    const nameOfCubie = (each) => pointOf(each).map((at) => Math.sign(at)).join();
-    const wanted = nameOfCubie(place);
-    return PLACES.filter((each) => nameOfCubie(each) === wanted);
+  const nameOfCubie = (each) => pointOf(each).map((at) => Math.sign(at)).join();
+  const wanted = nameOfCubie(place);
+  return PLACES.filter((each) => nameOfCubie(each) === wanted);
 }
 
 /** Where each turn of the whole cube takes a point.
  * @type {Record<"x" | "y", (point: number[]) => number[]>} */
 const TURNS_OF_VIEW = {
-    y: ([across, up, near]) => [-near, up, across],
-    x: ([across, up, near]) => [across, near, -up],
+  y: ([across, up, near]) => [-near, up, across],
+  x: ([across, up, near]) => [across, near, -up],
 };
 
 /** Which place is seen at each of the net, where nothing is turned. */
@@ -112,9 +112,9 @@ export const plainView = () => [...PLACES];
 
 /** @param {number[]} view @param {"x" | "y"} turn */
 export function turnedView(view, turn) {
-    const nameOfPoint = (point) => point.join();
-    const places = new Map(PLACES.map((place) => [nameOfPoint(pointOf(place)), place]));
-    const turned = [];
-    for (const place of PLACES) turned[places.get(nameOfPoint(TURNS_OF_VIEW[turn](pointOf(place))))] = view[place];
-    return turned;
+  const nameOfPoint = (point) => point.join();
+  const places = new Map(PLACES.map((place) => [nameOfPoint(pointOf(place)), place]));
+  const turned = [];
+  for (const place of PLACES) turned[places.get(nameOfPoint(TURNS_OF_VIEW[turn](pointOf(place))))] = view[place];
+  return turned;
 }

@@ -25,371 +25,371 @@ import { titleOfPage, unanswered, whyNotListed, whyUnread } from "./words.js";
 /** @typedef {import("./steps.js").Part} Part */
 
 export class Page {
-    /** @type {State} */
-    #state = emptyState();
-    #turn = 0;
-    #cube = null;
-    #openList;
-    #isReading = false;
-    #nextFocus = new NextFocus();
-    #wayBack = new WayBack();
-    #calls;
-    #keptCalls;
-    #byHand;
-    #readiness;
-    #seen = new Seen();
-    #nets = new Cube();
-    #scramble;
-    #line;
-    #table;
-    #list;
-    #best;
-    #kept;
+  /** @type {State} */
+  #state = emptyState();
+  #turn = 0;
+  #cube = null;
+  #openList;
+  #isReading = false;
+  #nextFocus = new NextFocus();
+  #wayBack = new WayBack();
+  #calls;
+  #keptCalls;
+  #byHand;
+  #readiness;
+  #seen = new Seen();
+  #nets = new Cube();
+  #scramble;
+  #line;
+  #table;
+  #list;
+  #best;
+  #kept;
 
-    /** @param {{calls: () => import("./calls.js").Calls, finder: () => import("./finder.js").Finder}} made each has a worker of its own */
-    constructor({ calls: newCalls, finder }) {
-        this.#calls = newCalls();
-        this.#keptCalls = newCalls();
-        // what is asked for by hand is never given up for another cube
-        this.#byHand = newCalls();
-        this.#scramble = new ScrambleField(this.#byHand, (scramble, change) => this.#setScramble(scramble, change));
-        this.#line = new LineSoFar(this.#byHand, { change: (change) => this.#changeLine(change), star: () => this.#starLine() });
-        this.#table = new StepTable((step, side) => this.#open(step, side));
-        const stars = {
-            star: (button, added, next) => this.#kept.star(this.#state, button, [...this.#state.parts, ...added], next),
-            isStarred: (added, next) => this.#kept.has([...this.#state.parts, ...added], next),
-            isSeen: (added, next) => this.#seen.has(this.#state.scramble, [...this.#state.parts, ...added], next),
-        };
-        this.#kept = new KeptCandidates(this.#keptCalls, {
-            goOn: (parts, next) => this.#goOnKept(parts, next && { ...next, slack: 0, isAll: false }),
-            change: (kept) => this.#change({ kept }),
-        });
-        this.#list = new SolutionList({
-            ...stars,
-            take: (taken, key) => this.#take(taken, key),
-            change: (change) => this.#changeList(change),
-            copy,
-        });
-        const [list, finders] = [newCalls(), ORIENTATIONS.map(finder)];
-        this.#openList = new OpenList(list, this.#list);
-        this.#readiness = new Readiness({ calls: this.#calls, byHand: this.#byHand, list, finders });
-        this.#best = new BestContinuations(finders, this.#keptCalls, {
-            ...stars, goOn: (row) => this.#goOn(row), shown: () => this.#goBack(), isBusy: waitsForAnswers,
-        });
-        keepInView(part("side-column"));
-        part("skip").addEventListener("click", () => this.#table.focus());
-        part("again").addEventListener("click", () => this.#tryAgain());
-        this.#listenToKeys();
-    }
+  /** @param {{calls: () => import("./calls.js").Calls, finder: () => import("./finder.js").Finder}} made each has a worker of its own */
+  constructor({ calls: newCalls, finder }) {
+    this.#calls = newCalls();
+    this.#keptCalls = newCalls();
+    // what is asked for by hand is never given up for another cube
+    this.#byHand = newCalls();
+    this.#scramble = new ScrambleField(this.#byHand, (scramble, change) => this.#setScramble(scramble, change));
+    this.#line = new LineSoFar(this.#byHand, { change: (change) => this.#changeLine(change), star: () => this.#starLine() });
+    this.#table = new StepTable((step, side) => this.#open(step, side));
+    const stars = {
+      star: (button, added, next) => this.#kept.star(this.#state, button, [...this.#state.parts, ...added], next),
+      isStarred: (added, next) => this.#kept.has([...this.#state.parts, ...added], next),
+      isSeen: (added, next) => this.#seen.has(this.#state.scramble, [...this.#state.parts, ...added], next),
+    };
+    this.#kept = new KeptCandidates(this.#keptCalls, {
+      goOn: (parts, next) => this.#goOnKept(parts, next && { ...next, slack: 0, isAll: false }),
+      change: (kept) => this.#change({ kept }),
+    });
+    this.#list = new SolutionList({
+      ...stars,
+      take: (taken, key) => this.#take(taken, key),
+      change: (change) => this.#changeList(change),
+      copy,
+    });
+    const [list, finders] = [newCalls(), ORIENTATIONS.map(finder)];
+    this.#openList = new OpenList(list, this.#list);
+    this.#readiness = new Readiness({ calls: this.#calls, byHand: this.#byHand, list, finders });
+    this.#best = new BestContinuations(finders, this.#keptCalls, {
+      ...stars, goOn: (row) => this.#goOn(row), shown: () => this.#goBack(), isBusy: waitsForAnswers,
+    });
+    keepInView(part("side-column"));
+    part("skip").addEventListener("click", () => this.#table.focus());
+    part("again").addEventListener("click", () => this.#tryAgain());
+    this.#listenToKeys();
+  }
 
-    #listenToKeys() {
-        // what is dimmed is no more used by keys than by the mouse
-        const onLine = (act) => () => part("line").inert || act();
-        listenToKeys({
-            ...Object.fromEntries([1, 2, 3, 4, 5, 6].map((number) => [String(number), () => this.#table.press(number - 1)])),
-            n: onLine(() => this.#line.turn("normal")),
-            i: onLine(() => this.#line.turn("inverse")),
-            u: onLine(() => this.#line.undoStep()),
-            s: onLine(() => star(() => this.#starLine())),
-            "/": () => (this.#state.list && !part("results").inert ? this.#list.focusFilter() : this.#scramble.focus()),
-            Escape: () => this.#state.list && this.#changeList(null),
-        });
-    }
+  #listenToKeys() {
+    // what is dimmed is no more used by keys than by the mouse
+    const onLine = (act) => () => part("line").inert || act();
+    listenToKeys({
+      ...Object.fromEntries([1, 2, 3, 4, 5, 6].map((number) => [String(number), () => this.#table.press(number - 1)])),
+      n: onLine(() => this.#line.turn("normal")),
+      i: onLine(() => this.#line.turn("inverse")),
+      u: onLine(() => this.#line.undoStep()),
+      s: onLine(() => star(() => this.#starLine())),
+      "/": () => (this.#state.list && !part("results").inert ? this.#list.focusFilter() : this.#scramble.focus()),
+      Escape: () => this.#state.list && this.#changeList(null),
+    });
+  }
 
-    /** @param {unknown} state of the history, to which the browser's Back or Forward leads */
-    returnTo(state) {
-        this.#wayBack.set(placeIn(state));
-    }
+  /** @param {unknown} state of the history, to which the browser's Back or Forward leads */
+  returnTo(state) {
+    this.#wayBack.set(placeIn(state));
+  }
 
-    /** @param {string} hash of the address, with which the page begins */
-    async begin(hash) {
-        const turn = ++this.#turn;
-        const { state, fault } = readAddress(hash);
-        this.#isReading = true;
-        this.#nextFocus.set(document.activeElement?.matches("#last-back, #again") ? "table" : undefined);
-        dropAddress();
-        setBusy("results", true);
-        tell(part("alert"), fault);
-        tellFailed("");
-        showBeginning(state);
-        awaitAnswer(state);
-        try {
-            state.parts = await readSteps(this.#calls, state.parts);
-            state.kept = await readKept(this.#calls, state.kept);
-        } catch (stop) {
-            if (turn !== this.#turn) return;
-            if (!(stop instanceof NissyFault)) return this.#showUnread(state, stop);
-            tell(part("alert"), `The steps of this address can't be read: ${stop.text}.`);
-            Object.assign(state, { parts: [], list: null });
-        }
-        if (turn !== this.#turn) return;
-        this.#state = state;
-        this.#scramble.show(state.scramble);
-        await this.#refresh();
+  /** @param {string} hash of the address, with which the page begins */
+  async begin(hash) {
+    const turn = ++this.#turn;
+    const { state, fault } = readAddress(hash);
+    this.#isReading = true;
+    this.#nextFocus.set(document.activeElement?.matches("#last-back, #again") ? "table" : undefined);
+    dropAddress();
+    setBusy("results", true);
+    tell(part("alert"), fault);
+    tellFailed("");
+    showBeginning(state);
+    awaitAnswer(state);
+    try {
+      state.parts = await readSteps(this.#calls, state.parts);
+      state.kept = await readKept(this.#calls, state.kept);
+    } catch (stop) {
+      if (turn !== this.#turn) return;
+      if (!(stop instanceof NissyFault)) return this.#showUnread(state, stop);
+      tell(part("alert"), `The steps of this address can't be read: ${stop.text}.`);
+      Object.assign(state, { parts: [], list: null });
     }
+    if (turn !== this.#turn) return;
+    this.#state = state;
+    this.#scramble.show(state.scramble);
+    await this.#refresh();
+  }
 
-    /** Shows what an address says as it stands there, where no engine reads it.
-     * @param {State} state @param {Error} fault */
-    #showUnread({ scramble, parts }, fault) {
-        this.#scramble.show(scramble);
-        this.#line.show(parts);
-        awaitAnswer(null);
-        setUsable(false);
-        this.#refuse(fault);
-    }
+  /** Shows what an address says as it stands there, where no engine reads it.
+   * @param {State} state @param {Error} fault */
+  #showUnread({ scramble, parts }, fault) {
+    this.#scramble.show(scramble);
+    this.#line.show(parts);
+    awaitAnswer(null);
+    setUsable(false);
+    this.#refuse(fault);
+  }
 
-    /** Takes another state, or parts of it. While an address is still read, what is done on the page that is seen overtakes it.
-     * A list doesn't outlast a change of the steps, since it belongs to the cube before it.
-     * @param {Partial<State>} change @param {{focusNext?: import("./focus.js").Where, isStep?: boolean}} how where the focus is to go with the
-     * answers, and whether the browser's Back leads to what was before */
-    #change(change, { focusNext, isStep = "parts" in change } = {}) {
-        this.#scramble.tellLeft(0);
-        this.#nextFocus.set(focusNext);
-        this.#wayBack.set(null);
-        if ("parts" in change) keepPlace();
-        this.#state = { ...this.#state, ...("parts" in change ? { list: null } : {}), ...change };
-        const isOther = "scramble" in change || "parts" in change || this.#isReading;
-        if (isOther) tell(part("alert"), "");
-        writeState(this.#state, isStep);
-        if (isOther) return void this.#refresh();
-        this.#line.turnTo(this.#state.side);
-        this.#table.mark(this.#state.list);
-        this.#showList();
-        if ("kept" in change) this.#showKept();
-    }
+  /** Takes another state, or parts of it. While an address is still read, what is done on the page that is seen overtakes it.
+   * A list doesn't outlast a change of the steps, since it belongs to the cube before it.
+   * @param {Partial<State>} change @param {{focusNext?: import("./focus.js").Where, isStep?: boolean}} how where the focus is to go with the
+   * answers, and whether the browser's Back leads to what was before */
+  #change(change, { focusNext, isStep = "parts" in change } = {}) {
+    this.#scramble.tellLeft(0);
+    this.#nextFocus.set(focusNext);
+    this.#wayBack.set(null);
+    if ("parts" in change) keepPlace();
+    this.#state = { ...this.#state, ...("parts" in change ? { list: null } : {}), ...change };
+    const isOther = "scramble" in change || "parts" in change || this.#isReading;
+    if (isOther) tell(part("alert"), "");
+    writeState(this.#state, isStep);
+    if (isOther) return void this.#refresh();
+    this.#line.turnTo(this.#state.side);
+    this.#table.mark(this.#state.list);
+    this.#showList();
+    if ("kept" in change) this.#showKept();
+  }
 
-    /** @param {string} scramble @param {import("./scramble.js").ScrambleChange} change */
-    async #setScramble(scramble, { isNew, fmc, isStep }) {
-        const left = isNew ? this.#state.kept.length : 0;
-        this.#change(isNew ? { ...emptyState(), scramble } : { scramble }, { isStep });
-        this.#scramble.tellLeft(left);
-        if (!fmc) return;
-        const turn = this.#turn;
-        try {
-            const { unread, ...read } = await readWritten(this.#byHand, fmc);
-            if (turn !== this.#turn) return;
-            this.#change(read, { isStep: false });
-            this.#scramble.tellLeft(left);
-            tell(part("alert"), whyUnread(unread));
-        } catch (fault) {
-            if (turn === this.#turn && !(fault instanceof Stopped)) tell(part("alert"), unanswered(fault));
-        }
+  /** @param {string} scramble @param {import("./scramble.js").ScrambleChange} change */
+  async #setScramble(scramble, { isNew, fmc, isStep }) {
+    const left = isNew ? this.#state.kept.length : 0;
+    this.#change(isNew ? { ...emptyState(), scramble } : { scramble }, { isStep });
+    this.#scramble.tellLeft(left);
+    if (!fmc) return;
+    const turn = this.#turn;
+    try {
+      const { unread, ...read } = await readWritten(this.#byHand, fmc);
+      if (turn !== this.#turn) return;
+      this.#change(read, { isStep: false });
+      this.#scramble.tellLeft(left);
+      tell(part("alert"), whyUnread(unread));
+    } catch (fault) {
+      if (turn === this.#turn && !(fault instanceof Stopped)) tell(part("alert"), unanswered(fault));
     }
+  }
 
-    /** Shows all of the state anew. A later call overtakes an earlier one. */
-    async #refresh() {
-        const turn = ++this.#turn;
-        this.#isReading = false;
-        this.#cube = null;
-        document.title = titleOfPage(this.#state);
-        this.#readiness.stop();
-        this.#calls.drop();
-        this.#nets.stop();
-        this.#line.show(this.#state.parts);
-        this.#line.turnTo(this.#state.side);
-        this.#kept.show(this.#state.kept);
-        this.#table.hold();
-        if (!this.#state.list) this.#openList.show("", null, null);
-        this.#best.reset(null);
-        announceLater("");
-        tellFailed("");
-        setBusy("results", true);
-        try {
-            await this.#answer(turn);
-        } catch (fault) {
-            if (turn === this.#turn) this.#refuse(fault);
-        }
-        if (turn !== this.#turn) return;
-        awaitAnswer(null);
-        setBusy("results", false);
+  /** Shows all of the state anew. A later call overtakes an earlier one. */
+  async #refresh() {
+    const turn = ++this.#turn;
+    this.#isReading = false;
+    this.#cube = null;
+    document.title = titleOfPage(this.#state);
+    this.#readiness.stop();
+    this.#calls.drop();
+    this.#nets.stop();
+    this.#line.show(this.#state.parts);
+    this.#line.turnTo(this.#state.side);
+    this.#kept.show(this.#state.kept);
+    this.#table.hold();
+    if (!this.#state.list) this.#openList.show("", null, null);
+    this.#best.reset(null);
+    announceLater("");
+    tellFailed("");
+    setBusy("results", true);
+    try {
+      await this.#answer(turn);
+    } catch (fault) {
+      if (turn === this.#turn) this.#refuse(fault);
     }
+    if (turn !== this.#turn) return;
+    awaitAnswer(null);
+    setBusy("results", false);
+  }
 
-    /** @param {number} turn of which the engine's answers are shown as they come */
-    async #answer(turn) {
-        const read = await this.#readScramble(turn);
-        if (read === null) return;
-        const cube = await examine(this.#calls, read.line, this.#state.parts);
-        if (turn !== this.#turn) return;
-        const offers = await inPortions(offersOf(this.#calls, cube.walk.reached.at(-1), cube.now, cube.made));
-        if (turn !== this.#turn) return;
-        this.#showCube(read, cube);
-        await this.#showOffers(turn, offers);
-        if (turn !== this.#turn) return;
-        this.#showAnswered();
-        this.#readiness.begin(this.#cube.reached, part("choices").hidden, () => this.#best.isWorking());
-    }
+  /** @param {number} turn of which the engine's answers are shown as they come */
+  async #answer(turn) {
+    const read = await this.#readScramble(turn);
+    if (read === null) return;
+    const cube = await examine(this.#calls, read.line, this.#state.parts);
+    if (turn !== this.#turn) return;
+    const offers = await inPortions(offersOf(this.#calls, cube.walk.reached.at(-1), cube.now, cube.made));
+    if (turn !== this.#turn) return;
+    this.#showCube(read, cube);
+    await this.#showOffers(turn, offers);
+    if (turn !== this.#turn) return;
+    this.#showAnswered();
+    this.#readiness.begin(this.#cube.reached, part("choices").hidden, () => this.#best.isWorking());
+  }
 
-    /** @param {number} turn @returns the scramble as it is read, or null if it is at fault or overtaken */
-    async #readScramble(turn) {
-        let read = null;
-        let fault = null;
-        try {
-            read = await readScramble(this.#calls, plainLine(this.#state.scramble).line);
-        } catch (stop) {
-            if (!(stop instanceof NissyFault)) throw stop;
-            fault = stop;
-        }
-        if (turn !== this.#turn) return null;
-        this.#scramble.judge(fault, read);
-        showBeginning(this.#state);
-        if (fault) setUsable(false);
-        return read;
+  /** @param {number} turn @returns the scramble as it is read, or null if it is at fault or overtaken */
+  async #readScramble(turn) {
+    let read = null;
+    let fault = null;
+    try {
+      read = await readScramble(this.#calls, plainLine(this.#state.scramble).line);
+    } catch (stop) {
+      if (!(stop instanceof NissyFault)) throw stop;
+      fault = stop;
     }
+    if (turn !== this.#turn) return null;
+    this.#scramble.judge(fault, read);
+    showBeginning(this.#state);
+    if (fault) setUsable(false);
+    return read;
+  }
 
-    #showCube({ line: scramble, isTurned }, { walk, now, views, whole }) {
-        const { parts } = this.#state;
-        const reached = walk.reached.at(-1);
-        // as it was typed, if what follows names the faces so
-        const written = isTurned ? scramble : plainLine(this.#state.scramble).line.trim().replace(/ +/g, " ");
-        this.#cube = { scramble, written, now, reached, facts: views.normal.facts, made: walk.totals.at(-1) };
-        const count = parts.reduce((sum, { moves }) => sum + moves.split(" ").length, 0);
-        this.#nets.show(views, count, () => framesOf(this.#byHand, scramble, parts));
-        this.#line.describe(walk, whole, written);
-        setUsable(true);
-        part("choices").hidden = isBare(this.#state);
-        this.#best.expect(reached, isBare(this.#state));
-        this.#checkList(reached);
-        this.#table.begin(this.#cube);
-        this.#showKept();
-    }
+  #showCube({ line: scramble, isTurned }, { walk, now, views, whole }) {
+    const { parts } = this.#state;
+    const reached = walk.reached.at(-1);
+    // as it was typed, if what follows names the faces so
+    const written = isTurned ? scramble : plainLine(this.#state.scramble).line.trim().replace(/ +/g, " ");
+    this.#cube = { scramble, written, now, reached, facts: views.normal.facts, made: walk.totals.at(-1) };
+    const count = parts.reduce((sum, { moves }) => sum + moves.split(" ").length, 0);
+    this.#nets.show(views, count, () => framesOf(this.#byHand, scramble, parts));
+    this.#line.describe(walk, whole, written);
+    setUsable(true);
+    part("choices").hidden = isBare(this.#state);
+    this.#best.expect(reached, isBare(this.#state));
+    this.#checkList(reached);
+    this.#table.begin(this.#cube);
+    this.#showKept();
+  }
 
-    /** Closes a list whose step may not start, and says why.
-     * @param {string[]} reached */
-    #checkList(reached) {
-        const { list } = this.#state;
-        const why = list ? whyNotListed(list.step, reached) : "";
-        if (why === "") return;
-        tell(part("alert"), why);
-        this.#state = { ...this.#state, list: null };
-        writeState(this.#state, false);
-    }
+  /** Closes a list whose step may not start, and says why.
+   * @param {string[]} reached */
+  #checkList(reached) {
+    const { list } = this.#state;
+    const why = list ? whyNotListed(list.step, reached) : "";
+    if (why === "") return;
+    tell(part("alert"), why);
+    this.#state = { ...this.#state, list: null };
+    writeState(this.#state, false);
+  }
 
-    /** Shows the steps that may follow as soon as they are known, and has the best looked for.
-     * @param {number} turn */
-    async #showOffers(turn, portions) {
-        const { now, reached } = this.#cube;
-        if (portions.length > 1) this.#table.expect(this.#cube);
-        for (const [at, portion] of portions.entries()) {
-            const groups = await portion;
-            if (turn !== this.#turn) return;
-            this.#table.add(groups, this.#cube, this.#state.list);
-            awaitAnswer(null);
-            if (at === 0) this.#best.reset(part("choices").hidden ? null : { now, parts: this.#state.parts, reached });
-        }
+  /** Shows the steps that may follow as soon as they are known, and has the best looked for.
+   * @param {number} turn */
+  async #showOffers(turn, portions) {
+    const { now, reached } = this.#cube;
+    if (portions.length > 1) this.#table.expect(this.#cube);
+    for (const [at, portion] of portions.entries()) {
+      const groups = await portion;
+      if (turn !== this.#turn) return;
+      this.#table.add(groups, this.#cube, this.#state.list);
+      awaitAnswer(null);
+      if (at === 0) this.#best.reset(part("choices").hidden ? null : { now, parts: this.#state.parts, reached });
     }
+  }
 
-    #showAnswered() {
-        this.#showList();
-        const isFinished = isReduced(this.#cube.reached) && this.#state.parts.length > 0;
-        // a list that is looked for takes the focus itself, and says what it has
-        if (this.#nextFocus.waitsFor("list")) return;
-        if (this.#nextFocus.take("table")) this.#showTaken(isFinished);
-        else if (!isBare(this.#state)) announceLater(this.#table.summary());
-        this.#table.giveBack();
-        this.#goBack();
-    }
+  #showAnswered() {
+    this.#showList();
+    const isFinished = isReduced(this.#cube.reached) && this.#state.parts.length > 0;
+    // a list that is looked for takes the focus itself, and says what it has
+    if (this.#nextFocus.waitsFor("list")) return;
+    if (this.#nextFocus.take("table")) this.#showTaken(isFinished);
+    else if (!isBare(this.#state)) announceLater(this.#table.summary());
+    this.#table.giveBack();
+    this.#goBack();
+  }
 
-    /** @param {boolean} isFinished whether no step follows: what does comes into view and has the focus */
-    #showTaken(isFinished) {
-        // first, since the page is laid out for it, and the focus changes the marks
-        showStart(isFinished);
-        if (isFinished) part("copy-fmc").focus({ preventScroll: true });
-        else this.#table.focus();
-    }
+  /** @param {boolean} isFinished whether no step follows: what does comes into view and has the focus */
+  #showTaken(isFinished) {
+    // first, since the page is laid out for it, and the focus changes the marks
+    showStart(isFinished);
+    if (isFinished) part("copy-fmc").focus({ preventScroll: true });
+    else this.#table.focus();
+  }
 
-    /** Goes back to where one was, once what had the focus there is shown. */
-    #goBack() {
-        this.#wayBack.go((key) => this.#best.reveal(key) ?? this.#list.reveal(key) ?? this.#table.cell(key));
-    }
+  /** Goes back to where one was, once what had the focus there is shown. */
+  #goBack() {
+    this.#wayBack.go((key) => this.#best.reveal(key) ?? this.#list.reveal(key) ?? this.#table.cell(key));
+  }
 
-    /** Shows the open list, if it isn't shown yet; once the cube is known. */
-    async #showList() {
-        const { list } = this.#state;
-        if (list && !this.#cube) return;
-        this.#nets.follow(list ? stateOf(stepNamed(list.step)) : "");
-        const name = list ? [this.#turn, list.step, list.side, list.slack, list.isAll, list.split ?? 0].join(" ") : "";
-        const isShown = await this.#openList.show(name, list, list && this.#cube.now);
-        if (!isShown) return;
-        if (this.#nextFocus.take("list")) this.#list.focus();
-        this.#goBack();
-    }
+  /** Shows the open list, if it isn't shown yet; once the cube is known. */
+  async #showList() {
+    const { list } = this.#state;
+    if (list && !this.#cube) return;
+    this.#nets.follow(list ? stateOf(stepNamed(list.step)) : "");
+    const name = list ? [this.#turn, list.step, list.side, list.slack, list.isAll, list.split ?? 0].join(" ") : "";
+    const isShown = await this.#openList.show(name, list, list && this.#cube.now);
+    if (!isShown) return;
+    if (this.#nextFocus.take("list")) this.#list.focus();
+    this.#goBack();
+  }
 
-    /** Shows what the engine says of the lines that are kept. */
-    #showKept() {
-        const { kept, parts } = this.#state;
-        this.#kept.show(kept);
-        this.#best.mark();
-        this.#list.mark();
-        this.#line.markKept(this.#kept.has(parts));
-        if (kept.length > 0 && this.#cube) this.#kept.describe(this.#cube.scramble, this.#cube.written);
-    }
+  /** Shows what the engine says of the lines that are kept. */
+  #showKept() {
+    const { kept, parts } = this.#state;
+    this.#kept.show(kept);
+    this.#best.mark();
+    this.#list.mark();
+    this.#line.markKept(this.#kept.has(parts));
+    if (kept.length > 0 && this.#cube) this.#kept.describe(this.#cube.scramble, this.#cube.written);
+  }
 
-    /** Keeps the line so far, or takes it away. */
-    #starLine() {
-        if (this.#state.parts.length > 0) this.#kept.star(this.#state, part("keep-line"), this.#state.parts);
-    }
+  /** Keeps the line so far, or takes it away. */
+  #starLine() {
+    if (this.#state.parts.length > 0) this.#kept.star(this.#state, part("keep-line"), this.#state.parts);
+  }
 
-    /** @param {string} step @param {import("./steps.js").Side} side of the list, which is opened, or closed if it is open */
-    #open(step, side) {
-        const { list } = this.#state;
-        if (list?.step === step && list.side === side) return this.#changeList(null);
-        this.#change({ list: { step, side, slack: list?.slack ?? 0, isAll: list?.isAll ?? false } }, { focusNext: "list" });
-    }
+  /** @param {string} step @param {import("./steps.js").Side} side of the list, which is opened, or closed if it is open */
+  #open(step, side) {
+    const { list } = this.#state;
+    if (list?.step === step && list.side === side) return this.#changeList(null);
+    this.#change({ list: { step, side, slack: list?.slack ?? 0, isAll: list?.isAll ?? false } }, { focusNext: "list" });
+  }
 
-    /** @param {Partial<import("./address.js").List> | null} change of what the open list shows; null closes it */
-    #changeList(change) {
-        const { list } = this.#state;
-        if (!list) return;
-        const isWithin = part("solutions").contains(document.activeElement);
-        this.#change({ list: change === null ? null : { ...list, ...change } });
-        if (change === null && isWithin) (this.#table.cell(`${list.step}.${list.side}`) ?? part("steps-heading")).focus();
-    }
+  /** @param {Partial<import("./address.js").List> | null} change of what the open list shows; null closes it */
+  #changeList(change) {
+    const { list } = this.#state;
+    if (!list) return;
+    const isWithin = part("solutions").contains(document.activeElement);
+    this.#change({ list: change === null ? null : { ...list, ...change } });
+    if (change === null && isWithin) (this.#table.cell(`${list.step}.${list.side}`) ?? part("steps-heading")).focus();
+  }
 
-    /** Changes the line, and says whether a step is undone that was taken from a row, which then comes back into view.
-     * @param {Partial<State>} change */
-    #changeLine(change) {
-        const from = this.#seen.rowBefore(this.#state, change.parts);
-        this.#change({ ...change, ...(from && { list: from.list }) });
-        this.#wayBack.set(from && { key: from.key, scroll: null });
-        return from !== null;
-    }
+  /** Changes the line, and says whether a step is undone that was taken from a row, which then comes back into view.
+   * @param {Partial<State>} change */
+  #changeLine(change) {
+    const from = this.#seen.rowBefore(this.#state, change.parts);
+    this.#change({ ...change, ...(from && { list: from.list }) });
+    this.#wayBack.set(from && { key: from.key, scroll: null });
+    return from !== null;
+  }
 
-    /** @param {Part[]} taken @param {string} key of its row */
-    #take(taken, key) {
-        this.#seen.add(this.#state, taken, key);
-        this.#change({ parts: [...this.#state.parts, ...taken], side: taken.at(-1).side }, { focusNext: "table" });
-        announce(`${spoken(bracketed(taken))} is taken.`);
-    }
+  /** @param {Part[]} taken @param {string} key of its row */
+  #take(taken, key) {
+    this.#seen.add(this.#state, taken, key);
+    this.#change({ parts: [...this.#state.parts, ...taken], side: taken.at(-1).side }, { focusNext: "table" });
+    announce(`${spoken(bracketed(taken))} is taken.`);
+  }
 
-    /** @param {import("./finder.js").Row} row of the best, which is taken; the list of its reduction opens */
-    #goOn({ part: taken, next, key }) {
-        if (!next) return this.#take([taken], key);
-        const { parts } = this.#state;
-        this.#seen.add(this.#state, [taken], key, next.step);
-        const list = { step: next.step, side: next.side, slack: 0, isAll: false };
-        this.#change({ parts: taken.moves === "" ? parts : [...parts, taken], side: next.side, list }, { focusNext: "list" });
-    }
+  /** @param {import("./finder.js").Row} row of the best, which is taken; the list of its reduction opens */
+  #goOn({ part: taken, next, key }) {
+    if (!next) return this.#take([taken], key);
+    const { parts } = this.#state;
+    this.#seen.add(this.#state, [taken], key, next.step);
+    const list = { step: next.step, side: next.side, slack: 0, isAll: false };
+    this.#change({ parts: taken.moves === "" ? parts : [...parts, taken], side: next.side, list }, { focusNext: "list" });
+  }
 
-    /** @param {Part[]} parts a line that was kept @param {import("./address.js").List | null} list of its reduction */
-    #goOnKept(parts, list) {
-        this.#change({ parts, list }, { focusNext: list ? "list" : "table" });
-    }
+  /** @param {Part[]} parts a line that was kept @param {import("./address.js").List | null} list of its reduction */
+  #goOnKept(parts, list) {
+    this.#change({ parts, list }, { focusNext: list ? "list" : "table" });
+  }
 
-    /** @param {Error} fault why there is no answer */
-    #refuse(fault) {
-        if (fault instanceof Stopped) return;
-        setBusy("results", false);
-        part("results").inert = true;
-        if (fault instanceof NissyFault) tell(part("alert"), unanswered(fault));
-        else tellFailed(unanswered(fault));
-    }
+  /** @param {Error} fault why there is no answer */
+  #refuse(fault) {
+    if (fault instanceof Stopped) return;
+    setBusy("results", false);
+    part("results").inert = true;
+    if (fault instanceof NissyFault) tell(part("alert"), unanswered(fault));
+    else tellFailed(unanswered(fault));
+  }
 
-    /** Asks again for all that is seen, by other workers. */
-    #tryAgain() {
-        for (const calls of [this.#calls, this.#keptCalls, this.#byHand, this.#openList, this.#best]) calls.end();
-        // what the address says may not have been read yet
-        if (this.#isReading) return void this.begin(location.hash);
-        this.#nextFocus.set(this.#state.list ? "list" : "table");
-        this.#refresh();
-    }
+  /** Asks again for all that is seen, by other workers. */
+  #tryAgain() {
+    for (const calls of [this.#calls, this.#keptCalls, this.#byHand, this.#openList, this.#best]) calls.end();
+    // what the address says may not have been read yet
+    if (this.#isReading) return void this.begin(location.hash);
+    this.#nextFocus.set(this.#state.list ? "list" : "table");
+    this.#refresh();
+  }
 }

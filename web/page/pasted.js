@@ -12,47 +12,47 @@ const LABEL = /^[^\S\n]*\p{L}[\p{L}\p{N}]+(?: \p{L}+){0,2}[^\S\n]*:(?=\s|$)/gmu;
 
 /** What is left out as a whole, and what it is called; the last name counts. */
 const LEFT_OUT = [
-    { form: LABEL, name: "labels" },
-    { form: /\/\/[^\n]*/g, name: "comments" },
-    { form: /^[^\S\n]*\d+[.)]/gm, name: "line numbers" },
-    { form: /^[^\S\n]*scramble[^\S\n]*:/gim, name: "the word Scramble" },
+  { form: LABEL, name: "labels" },
+  { form: /\/\/[^\n]*/g, name: "comments" },
+  { form: /^[^\S\n]*\d+[.)]/gm, name: "line numbers" },
+  { form: /^[^\S\n]*scramble[^\S\n]*:/gim, name: "the word Scramble" },
 ];
 
 /** The places in a text that are left out, each with the name of what stands there.
  * @param {string} text @returns {Map<number, string>} */
 function omitted(text) {
-    const places = new Map();
-    for (const { form, name } of LEFT_OUT) {
-        for (const { 0: found, index } of text.matchAll(form)) {
-            for (let at = index; at < index + found.length; at++) places.set(at, name);
-        }
+  const places = new Map();
+  for (const { form, name } of LEFT_OUT) {
+    for (const { 0: found, index } of text.matchAll(form)) {
+      for (let at = index; at < index + found.length; at++) places.set(at, name);
     }
-    return places;
+  }
+  return places;
 }
 
 /** What a sign is read as, and what of it is left out, if anything is.
  * @param {string} sign @returns {[string, string]} */
 function readAs(sign) {
-    if (UNSEEN.test(sign)) return ["", "signs that aren't seen"];
-    if (COMMAS.test(sign)) return [" ", "commas"];
-    if (APOSTROPHES.test(sign)) return ["'", ""];
-    return [/\s/.test(sign) ? " " : sign, ""];
+  if (UNSEEN.test(sign)) return ["", "signs that aren't seen"];
+  if (COMMAS.test(sign)) return [" ", "commas"];
+  if (APOSTROPHES.test(sign)) return ["'", ""];
+  return [/\s/.test(sign) ? " " : sign, ""];
 }
 
 /** @param {string} text @returns {PlainLine} */
 export function plainLine(text) {
-    const gone = omitted(text);
-    const leftOut = new Set(gone.values());
-    const places = [];
-    let line = "";
-    for (let at = 0; at < text.length; at++) {
-        if (gone.has(at)) continue;
-        const [sign, name] = readAs(text[at]);
-        if (name !== "") leftOut.add(name);
-        if (sign !== "") places.push(at);
-        line += sign;
-    }
-    return { line, places, leftOut: [...leftOut] };
+  const gone = omitted(text);
+  const leftOut = new Set(gone.values());
+  const places = [];
+  let line = "";
+  for (let at = 0; at < text.length; at++) {
+    if (gone.has(at)) continue;
+    const [sign, name] = readAs(text[at]);
+    if (name !== "") leftOut.add(name);
+    if (sign !== "") places.push(at);
+    line += sign;
+  }
+  return { line, places, leftOut: [...leftOut] };
 }
 
 /** What is said of what was left out, or "".
@@ -62,8 +62,8 @@ export const wordsOfLeftOut = (leftOut) => (leftOut.length === 0 ? "" : `Left ou
 /** Whether a line says something else than moves: it has none, or a word.
  * @param {string} line */
 function isProse(line) {
-    const moves = plainLine(line).line;
-    return moves.trim() === "" || /[\p{Ll}\p{Lo}]{3}/u.test(moves);
+  const moves = plainLine(line).line;
+  return moves.trim() === "" || /[\p{Ll}\p{Lo}]{3}/u.test(moves);
 }
 
 /** @typedef {{scramble: string, steps: string[], candidates: {steps: string[], note: string}[], before: number}} Fmc
@@ -76,19 +76,19 @@ function isProse(line) {
  * @param {string} text @returns {Fmc | null}
  */
 export function readFmc(text) {
-    const linesOf = (block) => block.split("\n").filter((line) => line.trim() !== "");
-    const all = text.split("\n");
-    const begin = Math.max(all.findIndex((line) => !isProse(line)), 0);
-    const blocks = all.slice(begin).join("\n").split(/\n[^\S\n]*\n/).map(linesOf).filter((block) => block.length > 0);
-    const lines = blocks.flat();
-    if (!lines.slice(1).some((line) => line.includes("//") || line.search(LABEL) >= 0)) return null;
-    const isMoves = (line) => plainLine(line).line.trim() !== "";
-    const [[scramble, ...first], ...others] = blocks;
-    const candidates = others.map((block) => ({
-        steps: block.filter(isMoves),
-        note: block.filter((line) => !isMoves(line)).map((line) => line.replace(/^[^/]*\/\/\s*/, "").trim()).join(" "),
-    })).filter((each) => each.steps.length > 0);
-    const steps = first.filter(isMoves);
-    const before = linesOf(all.slice(0, begin).join("\n")).length;
-    return { scramble, steps: steps.length === 0 && candidates.length === 1 ? candidates[0].steps : steps, candidates, before };
+  const linesOf = (block) => block.split("\n").filter((line) => line.trim() !== "");
+  const all = text.split("\n");
+  const begin = Math.max(all.findIndex((line) => !isProse(line)), 0);
+  const blocks = all.slice(begin).join("\n").split(/\n[^\S\n]*\n/).map(linesOf).filter((block) => block.length > 0);
+  const lines = blocks.flat();
+  if (!lines.slice(1).some((line) => line.includes("//") || line.search(LABEL) >= 0)) return null;
+  const isMoves = (line) => plainLine(line).line.trim() !== "";
+  const [[scramble, ...first], ...others] = blocks;
+  const candidates = others.map((block) => ({
+    steps: block.filter(isMoves),
+    note: block.filter((line) => !isMoves(line)).map((line) => line.replace(/^[^/]*\/\/\s*/, "").trim()).join(" "),
+  })).filter((each) => each.steps.length > 0);
+  const steps = first.filter(isMoves);
+  const before = linesOf(all.slice(0, begin).join("\n")).length;
+  return { scramble, steps: steps.length === 0 && candidates.length === 1 ? candidates[0].steps : steps, candidates, before };
 }

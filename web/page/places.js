@@ -13,19 +13,19 @@ import { NOT_IN_ADDRESS, titleOfPage } from "./words.js";
 /** A place that came out of the history, or null.
  * @param {unknown} state @returns {Place | null} */
 export function placeIn(state) {
-    if (state === null || typeof state !== "object") return null;
-    const { key, scroll } = /** @type {Record<string, unknown>} */ (state);
-    return typeof key === "string" && typeof scroll === "number" ? { key, scroll } : null;
+  if (state === null || typeof state !== "object") return null;
+  const { key, scroll } = /** @type {Record<string, unknown>} */ (state);
+  return typeof key === "string" && typeof scroll === "number" ? { key, scroll } : null;
 }
 
 /** Keeps in the entry that is shown where one is. */
 export function keepPlace() {
-    const key = document.activeElement?.dataset.key ?? document.activeElement?.dataset.cell ?? "";
-    try {
-        history.replaceState({ key, scroll: scrollY }, "", location.href);
-    } catch {
-        // some browsers refuse it where it is done too often; then Back leads to the top
-    }
+  const key = document.activeElement?.dataset.key ?? document.activeElement?.dataset.cell ?? "";
+  try {
+    history.replaceState({ key, scroll: scrollY }, "", location.href);
+  } catch {
+    // some browsers refuse it where it is done too often; then Back leads to the top
+  }
 }
 
 const AGAIN_AFTER = 1000;
@@ -39,17 +39,17 @@ export const dropAddress = () => clearTimeout(writing);
  * @param {string} address @param {boolean} isStep
  */
 function writeAddress(address, isStep) {
-    dropAddress();
-    keepLast(address);
-    const isWritten = () => address === (location.hash || "#");
-    try {
-        // what may be missed later can be had back by the browser
-        if (isStep && !isWritten()) history.pushState(null, "", address);
-        else history.replaceState(null, "", address);
-    } catch {
-        // some browsers throw where it is done too often, others do nothing
-    }
-    if (!isWritten()) writing = setTimeout(writeAddress, AGAIN_AFTER, address, isStep);
+  dropAddress();
+  keepLast(address);
+  const isWritten = () => address === (location.hash || "#");
+  try {
+    // what may be missed later can be had back by the browser
+    if (isStep && !isWritten()) history.pushState(null, "", address);
+    else history.replaceState(null, "", address);
+  } catch {
+    // some browsers throw where it is done too often, others do nothing
+  }
+  if (!isWritten()) writing = setTimeout(writeAddress, AGAIN_AFTER, address, isStep);
 }
 
 /**
@@ -57,108 +57,108 @@ function writeAddress(address, isStep) {
  * @param {import("./address.js").State} state @param {boolean} isStep whether the browser's Back leads to what the address said before
  */
 export function writeState(state, isStep) {
-    document.title = titleOfPage(state);
-    const isLong = !fitsAddress(state);
-    if (isLong || part("alert").textContent === NOT_IN_ADDRESS) tell(part("alert"), isLong ? NOT_IN_ADDRESS : "");
-    if (!isLong) writeAddress(addressOf(state), isStep);
+  document.title = titleOfPage(state);
+  const isLong = !fitsAddress(state);
+  if (isLong || part("alert").textContent === NOT_IN_ADDRESS) tell(part("alert"), isLong ? NOT_IN_ADDRESS : "");
+  if (!isLong) writeAddress(addressOf(state), isStep);
 }
 
 /** The way back to where one was, as soon as that is shown. */
 export class WayBack {
-    /** @type {{key: string, scroll: number | null} | null} */
-    #place = null;
+  /** @type {{key: string, scroll: number | null} | null} */
+  #place = null;
 
-    /** @param {{key: string, scroll: number | null} | null} place without `scroll` it only comes into view */
-    set(place) {
-        this.#place = place;
-    }
+  /** @param {{key: string, scroll: number | null} | null} place without `scroll` it only comes into view */
+  set(place) {
+    this.#place = place;
+  }
 
-    /** Goes back, once what had the focus there is shown.
-     * @param {(key: string) => HTMLElement | null} find */
-    go(find) {
-        if (this.#place === null || part("choices").inert) return;
-        const { key, scroll } = this.#place;
-        const found = key === "" ? null : find(key);
-        if (key !== "" && !found) return;
-        this.#place = null;
-        // whoever undoes by keys may undo more
-        const stays = scroll === null && document.activeElement.matches("button:focus-visible");
-        if (!stays) found?.focus({ preventScroll: true });
-        if (scroll === null) found?.scrollIntoView({ block: "nearest", behavior: "instant" });
-        else scrollTo({ top: scroll, behavior: "instant" });
-    }
+  /** Goes back, once what had the focus there is shown.
+   * @param {(key: string) => HTMLElement | null} find */
+  go(find) {
+    if (this.#place === null || part("choices").inert) return;
+    const { key, scroll } = this.#place;
+    const found = key === "" ? null : find(key);
+    if (key !== "" && !found) return;
+    this.#place = null;
+    // whoever undoes by keys may undo more
+    const stays = scroll === null && document.activeElement.matches("button:focus-visible");
+    if (!stays) found?.focus({ preventScroll: true });
+    if (scroll === null) found?.scrollIntoView({ block: "nearest", behavior: "instant" });
+    else scrollTo({ top: scroll, behavior: "instant" });
+  }
 }
 
 const BACK = "Back";
 
 /** A button that leads to a card, and from there back to where one was, as long as the card is in view. */
 export class WayTo {
-    #button;
-    #words = "";
-    #name = "";
-    /** @type {number | null} how far the page was scrolled, where the button leads back */
-    #scroll = null;
+  #button;
+  #words = "";
+  #name = "";
+  /** @type {number | null} how far the page was scrolled, where the button leads back */
+  #scroll = null;
 
-    /** @param {HTMLElement} button @param {HTMLElement} card @param {HTMLElement} heading of the card, which takes the focus */
-    constructor(button, card, heading) {
-        this.#button = button;
-        button.addEventListener("click", () => {
-            const scroll = this.#scroll;
-            this.#setScroll(scroll === null ? scrollY : null);
-            if (scroll !== null) return scrollTo({ top: scroll, behavior: "instant" });
-            heading.focus({ preventScroll: true });
-            card.scrollIntoView({ block: "start", behavior: "instant" });
-        });
-        new IntersectionObserver(([{ isIntersecting }]) => isIntersecting || this.#setScroll(null)).observe(card);
-    }
+  /** @param {HTMLElement} button @param {HTMLElement} card @param {HTMLElement} heading of the card, which takes the focus */
+  constructor(button, card, heading) {
+    this.#button = button;
+    button.addEventListener("click", () => {
+      const scroll = this.#scroll;
+      this.#setScroll(scroll === null ? scrollY : null);
+      if (scroll !== null) return scrollTo({ top: scroll, behavior: "instant" });
+      heading.focus({ preventScroll: true });
+      card.scrollIntoView({ block: "start", behavior: "instant" });
+    });
+    new IntersectionObserver(([{ isIntersecting }]) => isIntersecting || this.#setScroll(null)).observe(card);
+  }
 
-    /** Says what the button leads to; where that is nothing there is no button.
-     * @param {string} words @param {string} name as it is said */
-    show(words, name) {
-        [this.#words, this.#name] = [words, name];
-        this.#button.hidden = words === "";
-        this.#setScroll(this.#scroll);
-    }
+  /** Says what the button leads to; where that is nothing there is no button.
+   * @param {string} words @param {string} name as it is said */
+  show(words, name) {
+    [this.#words, this.#name] = [words, name];
+    this.#button.hidden = words === "";
+    this.#setScroll(this.#scroll);
+  }
 
-    /** @param {number | null} scroll */
-    #setScroll(scroll) {
-        this.#scroll = scroll;
-        this.#button.textContent = scroll === null ? this.#words : BACK;
-        this.#button.setAttribute("aria-label", scroll === null ? this.#name : BACK);
-    }
+  /** @param {number | null} scroll */
+  #setScroll(scroll) {
+    this.#scroll = scroll;
+    this.#button.textContent = scroll === null ? this.#words : BACK;
+    this.#button.setAttribute("aria-label", scroll === null ? this.#name : BACK);
+  }
 }
 
 /** @param {string} scramble @param {Part[]} parts @param {string} next the step that was gone on to, or "" */
 const nameOfSeen = (scramble, parts, next) => JSON.stringify([scramble, bracketed(parts), next]);
 
 export class Seen {
-    #names = new Set();
-    /** @type {Map<string, {key: string, list: import("./address.js").List | null}>} */
-    #rows = new Map();
+  #names = new Set();
+  /** @type {Map<string, {key: string, list: import("./address.js").List | null}>} */
+  #rows = new Map();
 
-    /**
-     * Keeps that a line was taken, from which row and beside which list, and with which step after it.
-     * @param {import("./address.js").State} state @param {Part[]} taken @param {string} key of the row @param {string} [next]
-     */
-    add({ scramble, parts, list }, taken, key, next = "") {
-        const all = [...parts, ...taken];
-        for (const step of new Set(["", next])) this.#names.add(nameOfSeen(scramble, all, step));
-        // of a step that is split an undo leaves the half
-        if (taken.length === 1) this.#rows.set(nameOfSeen(scramble, all, ""), { key, list });
-    }
+  /**
+   * Keeps that a line was taken, from which row and beside which list, and with which step after it.
+   * @param {import("./address.js").State} state @param {Part[]} taken @param {string} key of the row @param {string} [next]
+   */
+  add({ scramble, parts, list }, taken, key, next = "") {
+    const all = [...parts, ...taken];
+    for (const step of new Set(["", next])) this.#names.add(nameOfSeen(scramble, all, step));
+    // of a step that is split an undo leaves the half
+    if (taken.length === 1) this.#rows.set(nameOfSeen(scramble, all, ""), { key, list });
+  }
 
-    /**
-     * From which row the last step was taken, and beside which list, if it alone is undone; or null.
-     * @param {import("./address.js").State} state @param {Part[]} [left] what is left of the line
-     */
-    rowBefore({ scramble, parts }, left) {
-        const before = parts.slice(0, -1);
-        const isUndone = parts.length > 0 && left?.length === before.length && bracketed(left) === bracketed(before);
-        return (isUndone && this.#rows.get(nameOfSeen(scramble, parts, ""))) || null;
-    }
+  /**
+   * From which row the last step was taken, and beside which list, if it alone is undone; or null.
+   * @param {import("./address.js").State} state @param {Part[]} [left] what is left of the line
+   */
+  rowBefore({ scramble, parts }, left) {
+    const before = parts.slice(0, -1);
+    const isUndone = parts.length > 0 && left?.length === before.length && bracketed(left) === bracketed(before);
+    return (isUndone && this.#rows.get(nameOfSeen(scramble, parts, ""))) || null;
+  }
 
-    /** @param {string} scramble @param {Part[]} parts @param {string} [next] */
-    has(scramble, parts, next = "") {
-        return this.#names.has(nameOfSeen(scramble, parts, next));
-    }
+  /** @param {string} scramble @param {Part[]} parts @param {string} [next] */
+  has(scramble, parts, next = "") {
+    return this.#names.has(nameOfSeen(scramble, parts, next));
+  }
 }

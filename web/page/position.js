@@ -29,12 +29,12 @@ const beginningsOfParts = (parts) => Array.from({ length: parts.length + 1 }, (_
  * @param {import("./calls.js").Calls} calls @param {string} scramble @param {Part[][]} all @returns {Promise<Lines[]>}
  */
 async function linesAfter(calls, scramble, all) {
-    const inverseOf = await invertAll(calls, [scramble, ...all.flat().map(({ moves }) => moves)]);
-    const undone = (parts, side) => joined(...parts.filter((part) => part.side === side).map(({ moves }) => inverseOf(moves)).reverse());
-    return all.map((parts) => ({
-        normal: joined(undone(parts, "inverse"), scramble, movesOn(parts, "normal")),
-        inverse: joined(undone(parts, "normal"), inverseOf(scramble), movesOn(parts, "inverse")),
-    }));
+  const inverseOf = await invertAll(calls, [scramble, ...all.flat().map(({ moves }) => moves)]);
+  const undone = (parts, side) => joined(...parts.filter((part) => part.side === side).map(({ moves }) => inverseOf(moves)).reverse());
+  return all.map((parts) => ({
+    normal: joined(undone(parts, "inverse"), scramble, movesOn(parts, "normal")),
+    inverse: joined(undone(parts, "normal"), inverseOf(scramble), movesOn(parts, "inverse")),
+  }));
 }
 
 /**
@@ -43,28 +43,28 @@ async function linesAfter(calls, scramble, all) {
  * @returns {Promise<Walk[]>}
  */
 export async function walkAll(calls, scramble, candidates) {
-    const walks = candidates.map((parts) => ({ parts, beginnings: beginningsOfParts(parts) }));
-    const lines = await linesAfter(calls, scramble, walks.flatMap(({ beginnings }) => beginnings));
-    const alone = candidates.flat().map(({ moves }) => moves);
-    const made = walks.flatMap(({ beginnings }) => beginnings).flatMap((parts) => SIDES.map((side) => movesOn(parts, side)));
-    const cubes = lines.flatMap(({ normal, inverse }) => [normal, inverse]);
-    const asked = [...new Set([...cubes, ...made, ...alone])];
-    const told = await calls.factsAll(asked);
-    const known = new Map(asked.map((line, at) => [line, told[at]]));
-    const turnsOf = (line) => known.get(line).cleanMoves;
-    return walks.map(({ parts, beginnings }) => {
-        const own = lines.splice(0, beginnings.length);
-        const facts = own.map(({ normal }) => known.get(normal));
-        return {
-            parts,
-            lines: own,
-            facts,
-            inverse: known.get(own.at(-1).inverse),
-            reached: facts.map(({ holds }) => offeredAmong(holds)),
-            totals: beginnings.map((each) => SIDES.reduce((sum, side) => sum + turnsOf(movesOn(each, side)), 0)),
-            turns: parts.map(({ moves }) => turnsOf(moves)),
-        };
-    });
+  const walks = candidates.map((parts) => ({ parts, beginnings: beginningsOfParts(parts) }));
+  const lines = await linesAfter(calls, scramble, walks.flatMap(({ beginnings }) => beginnings));
+  const alone = candidates.flat().map(({ moves }) => moves);
+  const made = walks.flatMap(({ beginnings }) => beginnings).flatMap((parts) => SIDES.map((side) => movesOn(parts, side)));
+  const cubes = lines.flatMap(({ normal, inverse }) => [normal, inverse]);
+  const asked = [...new Set([...cubes, ...made, ...alone])];
+  const told = await calls.factsAll(asked);
+  const known = new Map(asked.map((line, at) => [line, told[at]]));
+  const turnsOf = (line) => known.get(line).cleanMoves;
+  return walks.map(({ parts, beginnings }) => {
+    const own = lines.splice(0, beginnings.length);
+    const facts = own.map(({ normal }) => known.get(normal));
+    return {
+      parts,
+      lines: own,
+      facts,
+      inverse: known.get(own.at(-1).inverse),
+      reached: facts.map(({ holds }) => offeredAmong(holds)),
+      totals: beginnings.map((each) => SIDES.reduce((sum, side) => sum + turnsOf(movesOn(each, side)), 0)),
+      turns: parts.map(({ moves }) => turnsOf(moves)),
+    };
+  });
 }
 
 /** @typedef {{state: string, case: string, lengths: (number | null)[], total: number, side: Side}} Next
@@ -75,17 +75,17 @@ export async function walkAll(calls, scramble, candidates) {
 /** What is said of a reduction that follows a line.
  * @param {Walk} walk @param {Offer} offer @returns {Next} */
 function nextOf({ facts }, offer) {
-    const lengths = SIDES.map((side) => offer[side].length);
-    const total = Math.min(...SIDES.map((side) => offer[side].total));
-    const side = SIDES.find((each) => offer[each].total === total);
-    return { state: stateOf(offer.step), case: caseOfStep(facts.at(-1), offer.step), lengths, total, side };
+  const lengths = SIDES.map((side) => offer[side].length);
+  const total = Math.min(...SIDES.map((side) => offer[side].total));
+  const side = SIDES.find((each) => offer[each].total === total);
+  return { state: stateOf(offer.step), case: caseOfStep(facts.at(-1), offer.step), lengths, total, side };
 }
 
 /** What is made on each side, clean.
  * @param {import("./calls.js").Calls} calls @param {Part[]} parts @returns {Promise<Made>} */
 async function madeBy(calls, parts) {
-    const [normal, inverse] = await cleanAll(calls, SIDES.map((side) => movesOn(parts, side)));
-    return { normal: movesIn(normal), inverse: movesIn(inverse) };
+  const [normal, inverse] = await cleanAll(calls, SIDES.map((side) => movesOn(parts, side)));
+  return { normal: movesIn(normal), inverse: movesIn(inverse) };
 }
 
 /**
@@ -94,13 +94,13 @@ async function madeBy(calls, parts) {
  * @param {import("./address.js").Candidate[]} candidates @returns {Promise<KeptWalk[]>}
  */
 export async function walkKept(calls, scramble, candidates) {
-    const walks = await walkAll(calls, scramble, candidates.map(({ parts }) => parts));
-    const offers = await Promise.all(walks.map(async ({ reached, lines, parts }, at) => {
-        const last = reached.at(-1);
-        const step = isReduced(last) ? null : openSteps(last).find(({ name }) => name === candidates[at].next);
-        return step ? offerOf(calls, step, lines.at(-1), await madeBy(calls, parts)) : null;
-    }));
-    return walks.map((walk, at) => ({ ...walk, next: offers[at] && nextOf(walk, offers[at]) }));
+  const walks = await walkAll(calls, scramble, candidates.map(({ parts }) => parts));
+  const offers = await Promise.all(walks.map(async ({ reached, lines, parts }, at) => {
+    const last = reached.at(-1);
+    const step = isReduced(last) ? null : openSteps(last).find(({ name }) => name === candidates[at].next);
+    return step ? offerOf(calls, step, lines.at(-1), await madeBy(calls, parts)) : null;
+  }));
+  return walks.map((walk, at) => ({ ...walk, next: offers[at] && nextOf(walk, offers[at]) }));
 }
 
 /**
@@ -108,13 +108,13 @@ export async function walkKept(calls, scramble, candidates) {
  * @param {import("./calls.js").Calls} calls @param {string} scramble by its face turns @param {Part[]} parts
  */
 export async function examine(calls, scramble, parts) {
-    const [[walk], whole, made] = await Promise.all([
-        walkAll(calls, scramble, [parts]), calls.unniss(bracketed(parts)), madeBy(calls, parts),
-    ]);
-    const now = walk.lines.at(-1);
-    const [normal, inverse] = await printAll(calls, SIDES.map((side) => now[side]));
-    const views = { normal: { letters: normal, facts: walk.facts.at(-1) }, inverse: { letters: inverse, facts: walk.inverse } };
-    return { walk, made, now, views, whole };
+  const [[walk], whole, made] = await Promise.all([
+    walkAll(calls, scramble, [parts]), calls.unniss(bracketed(parts)), madeBy(calls, parts),
+  ]);
+  const now = walk.lines.at(-1);
+  const [normal, inverse] = await printAll(calls, SIDES.map((side) => now[side]));
+  const views = { normal: { letters: normal, facts: walk.facts.at(-1) }, inverse: { letters: inverse, facts: walk.inverse } };
+  return { walk, made, now, views, whole };
 }
 
 /** @typedef {{letters: string, facts: Facts}} View what is drawn of a cube, and marked */
@@ -125,15 +125,15 @@ export async function examine(calls, scramble, parts) {
  * @returns {Promise<{move: string, views: Record<Side, View>}[]>}
  */
 export async function framesOf(calls, scramble, parts) {
-    const moves = parts.flatMap(({ side, moves: text }) => text.split(" ").map((move) => ({ side, moves: move })));
-    const lines = await linesAfter(calls, scramble, beginningsOfParts(moves));
-    const cubes = lines.flatMap(({ normal, inverse }) => [normal, inverse]);
-    const [letters, facts] = await Promise.all([printAll(calls, cubes), calls.factsAll(cubes)]);
-    const viewAt = (at) => ({ letters: letters[at], facts: facts[at] });
-    return lines.map((_, at) => ({
-        move: at === 0 ? "" : bracketed([moves[at - 1]]),
-        views: { normal: viewAt(2 * at), inverse: viewAt(2 * at + 1) },
-    }));
+  const moves = parts.flatMap(({ side, moves: text }) => text.split(" ").map((move) => ({ side, moves: move })));
+  const lines = await linesAfter(calls, scramble, beginningsOfParts(moves));
+  const cubes = lines.flatMap(({ normal, inverse }) => [normal, inverse]);
+  const [letters, facts] = await Promise.all([printAll(calls, cubes), calls.factsAll(cubes)]);
+  const viewAt = (at) => ({ letters: letters[at], facts: facts[at] });
+  return lines.map((_, at) => ({
+    move: at === 0 ? "" : bracketed([moves[at - 1]]),
+    views: { normal: viewAt(2 * at), inverse: viewAt(2 * at + 1) },
+  }));
 }
 
 /**
@@ -142,13 +142,13 @@ export async function framesOf(calls, scramble, parts) {
  * @returns {Promise<number>}
  */
 async function mostSaved(calls, step, line, made, length) {
-    const mergers = mergersOf(made, step, line).filter(({ count }) => count <= length);
-    if (mergers.length === 0) return 0;
-    const after = mergers.map(({ moves }) => `${line} ${moves}`);
-    const found = await firstAll(calls, step, after, length - 1);
-    const saved = mergers.map(async ({ count, saved: own, before }, at) =>
-        (found[at] === length - count ? own + await mostSaved(calls, step, after[at], before, length - count) : 0));
-    return Math.max(0, ...await Promise.all(saved));
+  const mergers = mergersOf(made, step, line).filter(({ count }) => count <= length);
+  if (mergers.length === 0) return 0;
+  const after = mergers.map(({ moves }) => `${line} ${moves}`);
+  const found = await firstAll(calls, step, after, length - 1);
+  const saved = mergers.map(async ({ count, saved: own, before }, at) =>
+    (found[at] === length - count ? own + await mostSaved(calls, step, after[at], before, length - count) : 0));
+  return Math.max(0, ...await Promise.all(saved));
 }
 
 /**
@@ -157,14 +157,14 @@ async function mostSaved(calls, step, line, made, length) {
  * @returns {Promise<Offer>}
  */
 async function offerOf(calls, step, now, made) {
-    const counts = await calls.countAll(step.name, [now.normal, now.inverse]);
-    const [normal, inverse] = await Promise.all(SIDES.map(async (side, at) => {
-        const { length } = counts[at];
-        if (length === null) return { ...counts[at], total: Infinity };
-        const saved = await mostSaved(calls, step.name, now[side], made[side], length);
-        return { ...counts[at], total: made.normal.length + made.inverse.length + length - saved };
-    }));
-    return { step, normal, inverse };
+  const counts = await calls.countAll(step.name, [now.normal, now.inverse]);
+  const [normal, inverse] = await Promise.all(SIDES.map(async (side, at) => {
+    const { length } = counts[at];
+    if (length === null) return { ...counts[at], total: Infinity };
+    const saved = await mostSaved(calls, step.name, now[side], made[side], length);
+    return { ...counts[at], total: made.normal.length + made.inverse.length + length - saved };
+  }));
+  return { step, normal, inverse };
 }
 
 /**
@@ -172,14 +172,14 @@ async function offerOf(calls, step, now, made) {
  * @param {import("./calls.js").Calls} calls @param {string[]} reached @param {Lines} now @param {Made} made @returns {Promise<Offer[]>[]}
  */
 export function offersOf(calls, reached, now, made) {
-    const steps = openSteps(reached);
-    const groups = [false, true].map((isReduction) => steps.filter(({ needs }) => (needs !== null) === isReduction));
-    return groups.filter((group) => group.length > 0).map((group) => {
-        const offers = Promise.all(group.map((step) => offerOf(calls, step, now, made)));
-        // what is wrong is said where they are waited for
-        offers.catch(() => {});
-        return offers;
-    });
+  const steps = openSteps(reached);
+  const groups = [false, true].map((isReduction) => steps.filter(({ needs }) => (needs !== null) === isReduction));
+  return groups.filter((group) => group.length > 0).map((group) => {
+    const offers = Promise.all(group.map((step) => offerOf(calls, step, now, made)));
+    // what is wrong is said where they are waited for
+    offers.catch(() => {});
+    return offers;
+  });
 }
 
 /** How long the page waits for all offers, to show them together with the cube. */
@@ -191,20 +191,20 @@ const SOON = 50;
  * @param {Promise<Offer[]>[]} groups @returns {Promise<Promise<Offer[][]>[]>}
  */
 export async function inPortions(groups) {
-    const all = Promise.all(groups);
-    const isSoon = await Promise.race([all.then(() => true, () => false), new Promise((later) => setTimeout(later, SOON, false))]);
-    if (isSoon) return [all];
-    const portions = groups.map((group) => group.then((offers) => [offers]));
-    // what is wrong is said where they are waited for
-    for (const portion of portions) portion.catch(() => {});
-    return portions;
+  const all = Promise.all(groups);
+  const isSoon = await Promise.race([all.then(() => true, () => false), new Promise((later) => setTimeout(later, SOON, false))]);
+  if (isSoon) return [all];
+  const portions = groups.map((group) => group.then((offers) => [offers]));
+  // what is wrong is said where they are waited for
+  for (const portion of portions) portion.catch(() => {});
+  return portions;
 }
 
 /** What a step of a line newly reaches; a reduction says the orientations that hold with it.
  * @param {Walk} walk @param {number} index */
 export function newlyReached({ reached }, index) {
-    const before = statesOf(reached[index]);
-    const fresh = statesOf(reached[index + 1]).filter((state) => !before.includes(state));
-    const reductions = fresh.filter((state) => state.startsWith("DR"));
-    return reductions.length > 0 ? reductions : fresh;
+  const before = statesOf(reached[index]);
+  const fresh = statesOf(reached[index + 1]).filter((state) => !before.includes(state));
+  const reductions = fresh.filter((state) => state.startsWith("DR"));
+  return reductions.length > 0 ? reductions : fresh;
 }

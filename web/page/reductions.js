@@ -22,14 +22,14 @@ const MOST_TRIED = 300;
  * @param {import("./calls.js").Calls} calls @param {Cube} cube @param {Row[]} rows @returns {Promise<Asked[]>}
  */
 async function cubesAfter(calls, { now }, rows) {
-    const twinsOfRow = ({ part: { moves }, others }) => withTwins(moves, others);
-    const inverseOf = await invertAll(calls, rows.flatMap(twinsOfRow));
-    return rows.map((row) => {
-        const { side } = row.part;
-        const other = otherSide(side);
-        const linesOf = (moves) => ({ ...now, [side]: joined(now[side], moves), [other]: joined(inverseOf(moves), now[other]) });
-        return { row, twins: twinsOfRow(row).map(linesOf) };
-    });
+  const twinsOfRow = ({ part: { moves }, others }) => withTwins(moves, others);
+  const inverseOf = await invertAll(calls, rows.flatMap(twinsOfRow));
+  return rows.map((row) => {
+    const { side } = row.part;
+    const other = otherSide(side);
+    const linesOf = (moves) => ({ ...now, [side]: joined(now[side], moves), [other]: joined(inverseOf(moves), now[other]) });
+    return { row, twins: twinsOfRow(row).map(linesOf) };
+  });
 }
 
 /**
@@ -38,22 +38,22 @@ async function cubesAfter(calls, { now }, rows) {
  * @returns {Promise<Part | null>}
  */
 async function firstOf(calls, before, reductions, total) {
-    const totalsOf = async (some) => {
-        const facts = await calls.factsAll(some.flatMap((each) => SIDES.map((side) => movesOn([...before, each], side))));
-        return some.map((_, at) => facts[2 * at].cleanMoves + facts[2 * at + 1].cleanMoves);
-    };
-    // mostly it is the first of all: only where moves merge may it be another one
-    const [own] = await totalsOf(reductions.slice(0, 1));
-    if (own === undefined || own === total) return reductions[0] ?? null;
-    const totals = await totalsOf(reductions);
-    return reductions[totals.indexOf(total)] ?? null;
+  const totalsOf = async (some) => {
+    const facts = await calls.factsAll(some.flatMap((each) => SIDES.map((side) => movesOn([...before, each], side))));
+    return some.map((_, at) => facts[2 * at].cleanMoves + facts[2 * at + 1].cleanMoves);
+  };
+  // mostly it is the first of all: only where moves merge may it be another one
+  const [own] = await totalsOf(reductions.slice(0, 1));
+  if (own === undefined || own === total) return reductions[0] ?? null;
+  const totals = await totalsOf(reductions);
+  return reductions[totals.indexOf(total)] ?? null;
 }
 
 /** How many of a row's reductions have the length that it shows for a side: those after the first of its twins that has some.
  * @param {import("./calls.js").Calls} calls @param {Asked} asked @param {Side} side */
 async function solutionsOn(calls, { row: { next }, twins }, side) {
-    const counts = await calls.countAll(next.step, twins.map((lines) => lines[side]));
-    return counts.find(({ length }) => length === next.lengths[side])?.solutions ?? null;
+  const counts = await calls.countAll(next.step, twins.map((lines) => lines[side]));
+  return counts.find(({ length }) => length === next.lengths[side])?.solutions ?? null;
 }
 
 /**
@@ -61,15 +61,15 @@ async function solutionsOn(calls, { row: { next }, twins }, side) {
  * @param {import("./calls.js").Calls} calls @param {Cube} cube @param {Asked} asked @returns {Promise<Reductions>}
  */
 async function reductionsBy(calls, { parts }, asked) {
-    const { row: { next, part, total }, twins: [lines] } = asked;
-    const sides = [next.side, otherSide(next.side)];
-    const [normal, inverse, solutions] = await Promise.all([
-        solutionsOn(calls, asked, "normal"),
-        solutionsOn(calls, asked, "inverse"),
-        calls.solveAll(next.step, sides.map((side) => lines[side]), { most: MOST_TRIED }),
-    ]);
-    const all = sides.flatMap((side, at) => solutions[at].map(({ moves }) => ({ side, moves })));
-    return { counts: { normal, inverse }, first: await firstOf(calls, [...parts, part], all, total) };
+  const { row: { next, part, total }, twins: [lines] } = asked;
+  const sides = [next.side, otherSide(next.side)];
+  const [normal, inverse, solutions] = await Promise.all([
+    solutionsOn(calls, asked, "normal"),
+    solutionsOn(calls, asked, "inverse"),
+    calls.solveAll(next.step, sides.map((side) => lines[side]), { most: MOST_TRIED }),
+  ]);
+  const all = sides.flatMap((side, at) => solutions[at].map(({ moves }) => ({ side, moves })));
+  return { counts: { normal, inverse }, first: await firstOf(calls, [...parts, part], all, total) };
 }
 
 /**
@@ -78,50 +78,50 @@ async function reductionsBy(calls, { parts }, asked) {
  * @returns {Promise<Map<string, Reductions>>}
  */
 async function reductionsOf(calls, cube, rows) {
-    const asked = await cubesAfter(calls, cube, rows);
-    const found = await Promise.all(asked.map((each) => reductionsBy(calls, cube, each)));
-    return new Map(rows.map(({ key }, at) => [key, found[at]]));
+  const asked = await cubesAfter(calls, cube, rows);
+  const found = await Promise.all(asked.map((each) => reductionsBy(calls, cube, each)));
+  return new Map(rows.map(({ key }, at) => [key, found[at]]));
 }
 
 /** Tells of the rows that are shown what follows them. */
 export class ShownReductions {
-    #calls;
-    #body;
-    /** @type {Map<string, Reductions | null>} by the keys of rows; null while it is asked for */
-    #known = new Map();
+  #calls;
+  #body;
+  /** @type {Map<string, Reductions | null>} by the keys of rows; null while it is asked for */
+  #known = new Map();
 
-    /** @param {import("./calls.js").Calls} calls @param {HTMLElement} body of the table */
-    constructor(calls, body) {
-        this.#calls = calls;
-        this.#body = body;
-    }
+  /** @param {import("./calls.js").Calls} calls @param {HTMLElement} body of the table */
+  constructor(calls, body) {
+    this.#calls = calls;
+    this.#body = body;
+  }
 
-    /** Forgets what is known, since another cube is shown. */
-    clear() {
-        this.#known = new Map();
-        setBusy(this.#body.id, false);
-    }
+  /** Forgets what is known, since another cube is shown. */
+  clear() {
+    this.#known = new Map();
+    setBusy(this.#body.id, false);
+  }
 
-    /** @param {Cube} cube @param {Row[]} shown */
-    async tell(cube, shown) {
-        const known = this.#known;
-        for (const { key } of shown) this.#show(key, known.get(key));
-        const unknown = shown.filter(({ key, next }) => next !== null && !known.has(key));
-        if (unknown.length === 0) return;
-        for (const { key } of unknown) known.set(key, null);
-        setBusy(this.#body.id, true);
-        // what the rows are chosen by is there without it
-        const found = await reductionsOf(this.#calls, cube, unknown).catch(() => new Map());
-        for (const [key, each] of found) known.set(key, each);
-        if (known !== this.#known) return;
-        for (const [key, each] of found) this.#show(key, each);
-        setBusy(this.#body.id, [...known.values()].includes(null) && found.size > 0);
-    }
+  /** @param {Cube} cube @param {Row[]} shown */
+  async tell(cube, shown) {
+    const known = this.#known;
+    for (const { key } of shown) this.#show(key, known.get(key));
+    const unknown = shown.filter(({ key, next }) => next !== null && !known.has(key));
+    if (unknown.length === 0) return;
+    for (const { key } of unknown) known.set(key, null);
+    setBusy(this.#body.id, true);
+    // what the rows are chosen by is there without it
+    const found = await reductionsOf(this.#calls, cube, unknown).catch(() => new Map());
+    for (const [key, each] of found) known.set(key, each);
+    if (known !== this.#known) return;
+    for (const [key, each] of found) this.#show(key, each);
+    setBusy(this.#body.id, [...known.values()].includes(null) && found.size > 0);
+  }
 
-    /** @param {string} key of a row @param {Reductions | null | undefined} reductions */
-    #show(key, reductions) {
-        const take = [...this.#body.querySelectorAll(".take")].find(({ dataset }) => dataset.key === key);
-        const row = take?.closest("tr");
-        if (row && reductions) tellReductions(row, reductions);
-    }
+  /** @param {string} key of a row @param {Reductions | null | undefined} reductions */
+  #show(key, reductions) {
+    const take = [...this.#body.querySelectorAll(".take")].find(({ dataset }) => dataset.key === key);
+    const row = take?.closest("tr");
+    if (row && reductions) tellReductions(row, reductions);
+  }
 }

@@ -22,225 +22,225 @@ const PLAIN_SEED = { line: "", places: [], leftOut: [] };
 
 /** A seed that nobody chose. */
 function freshSeed() {
-    const [seed] = crypto.getRandomValues(new Uint32Array(1));
-    return String(seed);
+  const [seed] = crypto.getRandomValues(new Uint32Array(1));
+  return String(seed);
 }
 
 export class ScrambleField {
-    #calls;
-    #changed;
-    #field = part("scramble");
-    #backdrop = part("scramble-marks");
-    #seed = part("seed");
-    #timer = 0;
-    #draws = 0;
-    #leftOut = [];
-    #isRead = false;
-    /** the scramble that was read last, and whether what is pasted, or typed, takes the place of all of it */
-    #last = "";
-    #isReplaced = false;
-    /** whether it was deleted, and whether the browser's history has an entry of its own for what is typed since */
-    #isEmptied = false;
-    #isDraft = false;
-    /** whether the field has no room for the end of what is pasted */
-    #isCut = false;
+  #calls;
+  #changed;
+  #field = part("scramble");
+  #backdrop = part("scramble-marks");
+  #seed = part("seed");
+  #timer = 0;
+  #draws = 0;
+  #leftOut = [];
+  #isRead = false;
+  /** the scramble that was read last, and whether what is pasted, or typed, takes the place of all of it */
+  #last = "";
+  #isReplaced = false;
+  /** whether it was deleted, and whether the browser's history has an entry of its own for what is typed since */
+  #isEmptied = false;
+  #isDraft = false;
+  /** whether the field has no room for the end of what is pasted */
+  #isCut = false;
 
-    /**
-     * @param {import("./calls.js").Calls} calls
-     * @param {(scramble: string, change: ScrambleChange) => void} changed
-     */
-    constructor(calls, changed) {
-        this.#calls = calls;
-        this.#changed = changed;
-        this.#field.maxLength = LONGEST_SCRAMBLE;
-        this.#field.addEventListener("input", (event) => this.#typed(event));
-        this.#field.addEventListener("paste", ({ clipboardData }) => {
-            const { value, selectionStart, selectionEnd } = this.#field;
-            this.#isReplaced = selectionStart === 0 && selectionEnd === value.length;
-            // the browser takes as much of it as the field has room for, without a word
-            const pasted = clipboardData?.getData("text").replace(/\r\n/g, "\n").length ?? 0;
-            this.#isCut = value.length - (selectionEnd - selectionStart) + pasted > LONGEST_SCRAMBLE;
-        });
-        this.#field.addEventListener("beforeinput", ({ inputType }) => {
-            const { value, selectionStart, selectionEnd } = this.#field;
-            const isAll = value.trim() !== "" && selectionStart === 0 && selectionEnd === value.length;
-            if (isAll && inputType.startsWith("insert") && inputType !== "insertFromPaste") this.#isEmptied = true;
-        });
-        this.#field.addEventListener("scroll", () => {
-            this.#backdrop.scrollTop = this.#field.scrollTop;
-        });
-        part("random").addEventListener("click", () => this.#draw(freshSeed()));
-        part("seed-form").addEventListener("submit", (event) => {
-            event.preventDefault();
-            this.#draw(this.#seed.value.trim() || freshSeed());
-        });
-        for (const example of document.querySelectorAll("[data-example]")) {
-            example.addEventListener("click", () => this.#put(example.dataset.example));
-        }
-        part("scramble-edit").addEventListener("click", () => this.focus());
-        part("left-back").addEventListener("click", () => history.back());
-        // not as soon as the focus goes: what is pressed would move away under the finger
-        addEventListener("click", ({ target }) => this.#leave(target));
-        addEventListener("keyup", () => this.#leave(document.activeElement));
+  /**
+   * @param {import("./calls.js").Calls} calls
+   * @param {(scramble: string, change: ScrambleChange) => void} changed
+   */
+  constructor(calls, changed) {
+    this.#calls = calls;
+    this.#changed = changed;
+    this.#field.maxLength = LONGEST_SCRAMBLE;
+    this.#field.addEventListener("input", (event) => this.#typed(event));
+    this.#field.addEventListener("paste", ({ clipboardData }) => {
+      const { value, selectionStart, selectionEnd } = this.#field;
+      this.#isReplaced = selectionStart === 0 && selectionEnd === value.length;
+      // the browser takes as much of it as the field has room for, without a word
+      const pasted = clipboardData?.getData("text").replace(/\r\n/g, "\n").length ?? 0;
+      this.#isCut = value.length - (selectionEnd - selectionStart) + pasted > LONGEST_SCRAMBLE;
+    });
+    this.#field.addEventListener("beforeinput", ({ inputType }) => {
+      const { value, selectionStart, selectionEnd } = this.#field;
+      const isAll = value.trim() !== "" && selectionStart === 0 && selectionEnd === value.length;
+      if (isAll && inputType.startsWith("insert") && inputType !== "insertFromPaste") this.#isEmptied = true;
+    });
+    this.#field.addEventListener("scroll", () => {
+      this.#backdrop.scrollTop = this.#field.scrollTop;
+    });
+    part("random").addEventListener("click", () => this.#draw(freshSeed()));
+    part("seed-form").addEventListener("submit", (event) => {
+      event.preventDefault();
+      this.#draw(this.#seed.value.trim() || freshSeed());
+    });
+    for (const example of document.querySelectorAll("[data-example]")) {
+      example.addEventListener("click", () => this.#put(example.dataset.example));
     }
+    part("scramble-edit").addEventListener("click", () => this.focus());
+    part("left-back").addEventListener("click", () => history.back());
+    // not as soon as the focus goes: what is pressed would move away under the finger
+    addEventListener("click", ({ target }) => this.#leave(target));
+    addEventListener("keyup", () => this.#leave(document.activeElement));
+  }
 
-    /** Puts the focus on the field, also where the card is folded. */
-    focus() {
-        this.#fold(false);
-        this.#field.focus();
-    }
+  /** Puts the focus on the field, also where the card is folded. */
+  focus() {
+    this.#fold(false);
+    this.#field.focus();
+  }
 
-    /** Shows a scramble that did not come from the field.
-     * @param {string} scramble */
-    show(scramble) {
-        clearTimeout(this.#timer);
-        this.tellLeft(0);
-        if (plainLine(this.#field.value).line !== scramble || readFmc(this.#field.value)) {
-            this.#field.value = scramble;
-            this.#leftOut = [];
-        }
-        this.#last = scramble || this.#last;
-        this.#isEmptied = false;
-        this.#isDraft = false;
+  /** Shows a scramble that did not come from the field.
+   * @param {string} scramble */
+  show(scramble) {
+    clearTimeout(this.#timer);
+    this.tellLeft(0);
+    if (plainLine(this.#field.value).line !== scramble || readFmc(this.#field.value)) {
+      this.#field.value = scramble;
+      this.#leftOut = [];
     }
+    this.#last = scramble || this.#last;
+    this.#isEmptied = false;
+    this.#isDraft = false;
+  }
 
-    /**
-     * Shows what is wrong with the scramble, or that nothing is; and how it is read, where anything is left out.
-     * @param {Error | null} fault @param {{line: string, isTurned: boolean} | null} read
-     */
-    judge(fault, read) {
-        const text = this.#field.value;
-        const plain = plainLine(text);
-        showFault(part("scramble-fault"), this.#field, plain, fault, text);
-        // of what is typed not after each sign
-        if (fault) announceLater(part("scramble-fault").firstChild.textContent);
-        this.#markPlace(text, placeOfFault(plain, fault, text));
-        const sentences = [wordsOfLeftOut(this.#leftOut)].filter(Boolean);
-        if (read?.isTurned) sentences.push(`Read as ${read.line || "no moves"}: ${TURNS_LEFT_OUT}`);
-        else if (read && plain.line.includes("(")) sentences.push("Moves in brackets count as inverse moves.");
-        const words = sentences.join(" ");
-        // what stays as it was isn't said again
-        if (words !== part("scramble-read").textContent) tell(part("scramble-read"), words);
-        part("scramble-folded").textContent = text;
-        this.#isRead = read !== null && read.line !== "";
-        const isTyped = document.activeElement === this.#field;
-        if (!isTyped || !this.#isRead) this.#fold(this.#isRead);
-    }
+  /**
+   * Shows what is wrong with the scramble, or that nothing is; and how it is read, where anything is left out.
+   * @param {Error | null} fault @param {{line: string, isTurned: boolean} | null} read
+   */
+  judge(fault, read) {
+    const text = this.#field.value;
+    const plain = plainLine(text);
+    showFault(part("scramble-fault"), this.#field, plain, fault, text);
+    // of what is typed not after each sign
+    if (fault) announceLater(part("scramble-fault").firstChild.textContent);
+    this.#markPlace(text, placeOfFault(plain, fault, text));
+    const sentences = [wordsOfLeftOut(this.#leftOut)].filter(Boolean);
+    if (read?.isTurned) sentences.push(`Read as ${read.line || "no moves"}: ${TURNS_LEFT_OUT}`);
+    else if (read && plain.line.includes("(")) sentences.push("Moves in brackets count as inverse moves.");
+    const words = sentences.join(" ");
+    // what stays as it was isn't said again
+    if (words !== part("scramble-read").textContent) tell(part("scramble-read"), words);
+    part("scramble-folded").textContent = text;
+    this.#isRead = read !== null && read.line !== "";
+    const isTyped = document.activeElement === this.#field;
+    if (!isTyped || !this.#isRead) this.#fold(this.#isRead);
+  }
 
-    /** Says how many kept lines a new scramble leaves, beside a way back to them; nothing of none.
-     * @param {number} count */
-    tellLeft(count) {
-        const button = part("left-back");
-        const isFocused = document.activeElement === button;
-        part("left").hidden = count === 0;
-        const words = `${counted(count, "kept line")} ${count === 1 ? "was" : "were"} left.`;
-        part("left-words").textContent = count === 0 ? "" : words;
-        // what is hidden can't keep the focus
-        if (isFocused && count === 0) [part("random"), part("scramble-edit")].find((each) => each.checkVisibility())?.focus();
-    }
+  /** Says how many kept lines a new scramble leaves, beside a way back to them; nothing of none.
+   * @param {number} count */
+  tellLeft(count) {
+    const button = part("left-back");
+    const isFocused = document.activeElement === button;
+    part("left").hidden = count === 0;
+    const words = `${counted(count, "kept line")} ${count === 1 ? "was" : "were"} left.`;
+    part("left-words").textContent = count === 0 ? "" : words;
+    // what is hidden can't keep the focus
+    if (isFocused && count === 0) [part("random"), part("scramble-edit")].find((each) => each.checkVisibility())?.focus();
+  }
 
-    /**
-     * Folds the card once something was done elsewhere, if the page is scrolled far enough for nothing to move by it.
-     * @param {Element} where
-     */
-    #leave(where) {
-        const card = part("scramble-card");
-        if (!this.#isRead || card.contains(where) || card.matches(".folded")) return;
-        const height = card.offsetHeight;
-        withoutMoving(part("results"), () => {
-            this.#fold(true);
-            if (height - card.offsetHeight > scrollY) this.#fold(false);
-        });
-    }
+  /**
+   * Folds the card once something was done elsewhere, if the page is scrolled far enough for nothing to move by it.
+   * @param {Element} where
+   */
+  #leave(where) {
+    const card = part("scramble-card");
+    if (!this.#isRead || card.contains(where) || card.matches(".folded")) return;
+    const height = card.offsetHeight;
+    withoutMoving(part("results"), () => {
+      this.#fold(true);
+      if (height - card.offsetHeight > scrollY) this.#fold(false);
+    });
+  }
 
-    /** Folds the card where the page is narrow, or opens it; the focus isn't lost with what is folded.
-     * @param {boolean} isFolded */
-    #fold(isFolded) {
-        const focused = document.activeElement;
-        part("scramble-card").classList.toggle("folded", isFolded);
-        const isWithin = part("scramble-open").contains(focused);
-        if (isFolded && matchMedia(NARROW).matches && isWithin) part("scramble-edit").focus({ preventScroll: true });
-    }
+  /** Folds the card where the page is narrow, or opens it; the focus isn't lost with what is folded.
+   * @param {boolean} isFolded */
+  #fold(isFolded) {
+    const focused = document.activeElement;
+    part("scramble-card").classList.toggle("folded", isFolded);
+    const isWithin = part("scramble-open").contains(focused);
+    if (isFolded && matchMedia(NARROW).matches && isWithin) part("scramble-edit").focus({ preventScroll: true });
+  }
 
-    /** Marks a place in the field, by a text behind it.
-     * @param {string} text @param {number | null} place */
-    #markPlace(text, place) {
-        if (place === null) return this.#backdrop.replaceChildren();
-        const sign = String.fromCodePoint(text.codePointAt(place) ?? 32);
-        const word = /^[^\s()]+/.exec(text.slice(place))?.[0] ?? sign;
-        this.#backdrop.replaceChildren(text.slice(0, place), element("mark", {}, word), text.slice(place + word.length));
-        this.#backdrop.scrollTop = this.#field.scrollTop;
-    }
+  /** Marks a place in the field, by a text behind it.
+   * @param {string} text @param {number | null} place */
+  #markPlace(text, place) {
+    if (place === null) return this.#backdrop.replaceChildren();
+    const sign = String.fromCodePoint(text.codePointAt(place) ?? 32);
+    const word = /^[^\s()]+/.exec(text.slice(place))?.[0] ?? sign;
+    this.#backdrop.replaceChildren(text.slice(0, place), element("mark", {}, word), text.slice(place + word.length));
+    this.#backdrop.scrollTop = this.#field.scrollTop;
+  }
 
-    #typed(event) {
-        clearTimeout(this.#timer);
-        this.#markPlace("", null);
-        const isReplaced = this.#isReplaced;
-        this.#isReplaced = false;
-        // what is pasted is whole
-        if (event.inputType === "insertFromPaste") return this.#read(isReplaced);
-        this.#isCut = false;
-        this.#timer = setTimeout(() => this.#read(false), PAUSE);
-    }
+  #typed(event) {
+    clearTimeout(this.#timer);
+    this.#markPlace("", null);
+    const isReplaced = this.#isReplaced;
+    this.#isReplaced = false;
+    // what is pasted is whole
+    if (event.inputType === "insertFromPaste") return this.#read(isReplaced);
+    this.#isCut = false;
+    this.#timer = setTimeout(() => this.#read(false), PAUSE);
+  }
 
-    /** @param {boolean} isReplaced by a text that was pasted: by another scramble, if it isn't the same again */
-    #read(isReplaced) {
-        const text = this.#field.value;
-        const fmc = readFmc(text);
-        const plain = plainLine(fmc ? fmc.scramble : text);
-        this.#leftOut = [
-            ...(fmc?.before ? [`${counted(fmc.before, "line")} before the scramble`] : []),
-            ...plain.leftOut,
-            ...(this.#isCut ? [`what is beyond ${LONGEST_SCRAMBLE.toLocaleString("en")} signs`] : []),
-        ];
-        this.#isCut = false;
-        if (fmc) this.#field.value = plain.line.trim();
-        const isNew = this.#isOther(plain.line.trim(), isReplaced) || fmc !== null;
-        // Back leads to the scramble that was deleted and its lines, also once another one is typed
-        const isStep = (isNew || this.#isEmptied) && !this.#isDraft;
-        this.#isDraft = this.#isEmptied;
-        this.#changed(fmc ? plain.line.trim() : plain.line, { isNew, fmc, isStep });
-    }
+  /** @param {boolean} isReplaced by a text that was pasted: by another scramble, if it isn't the same again */
+  #read(isReplaced) {
+    const text = this.#field.value;
+    const fmc = readFmc(text);
+    const plain = plainLine(fmc ? fmc.scramble : text);
+    this.#leftOut = [
+      ...(fmc?.before ? [`${counted(fmc.before, "line")} before the scramble`] : []),
+      ...plain.leftOut,
+      ...(this.#isCut ? [`what is beyond ${LONGEST_SCRAMBLE.toLocaleString("en")} signs`] : []),
+    ];
+    this.#isCut = false;
+    if (fmc) this.#field.value = plain.line.trim();
+    const isNew = this.#isOther(plain.line.trim(), isReplaced) || fmc !== null;
+    // Back leads to the scramble that was deleted and its lines, also once another one is typed
+    const isStep = (isNew || this.#isEmptied) && !this.#isDraft;
+    this.#isDraft = this.#isEmptied;
+    this.#changed(fmc ? plain.line.trim() : plain.line, { isNew, fmc, isStep });
+  }
 
-    /**
-     * Whether a scramble is another one than the last: it was pasted in its place, or typed after it was deleted. The beginning of the same
-     * one may be typed again.
-     * @param {string} line @param {boolean} isPasted in its place
-     */
-    #isOther(line, isPasted) {
-        const last = this.#last.trim();
-        if (line === "") {
-            this.#isEmptied = last !== "";
-            return false;
-        }
-        const isAgain = this.#isEmptied && !isPasted && last.startsWith(line);
-        const isOther = last !== "" && last !== line && (isPasted || this.#isEmptied) && !isAgain;
-        if (isAgain && last !== line) return false;
-        this.#isEmptied = false;
-        this.#last = line;
-        return isOther;
+  /**
+   * Whether a scramble is another one than the last: it was pasted in its place, or typed after it was deleted. The beginning of the same
+   * one may be typed again.
+   * @param {string} line @param {boolean} isPasted in its place
+   */
+  #isOther(line, isPasted) {
+    const last = this.#last.trim();
+    if (line === "") {
+      this.#isEmptied = last !== "";
+      return false;
     }
+    const isAgain = this.#isEmptied && !isPasted && last.startsWith(line);
+    const isOther = last !== "" && last !== line && (isPasted || this.#isEmptied) && !isAgain;
+    if (isAgain && last !== line) return false;
+    this.#isEmptied = false;
+    this.#last = line;
+    return isOther;
+  }
 
-    #put(scramble) {
-        const isStep = !this.#isDraft;
-        this.show(scramble);
-        this.#changed(scramble, { isNew: true, fmc: null, isStep });
-    }
+  #put(scramble) {
+    const isStep = !this.#isDraft;
+    this.show(scramble);
+    this.#changed(scramble, { isNew: true, fmc: null, isStep });
+  }
 
-    async #draw(seed) {
-        this.#seed.value = seed;
-        // of several that are asked for at once the last one counts, whose seed is shown
-        const draw = ++this.#draws;
-        const show = (fault) => showFault(part("seed-fault"), this.#seed, PLAIN_SEED, fault, seed);
-        try {
-            const scramble = await scrambleOf(this.#calls, seed);
-            if (draw !== this.#draws) return;
-            show(null);
-            this.#put(scramble);
-            announce(`Scramble from seed ${seed}: ${scramble}`);
-        } catch (fault) {
-            if (draw !== this.#draws || fault instanceof Stopped) return;
-            show(fault instanceof NoSeed ? new Error(SEEDS) : fault);
-        }
+  async #draw(seed) {
+    this.#seed.value = seed;
+    // of several that are asked for at once the last one counts, whose seed is shown
+    const draw = ++this.#draws;
+    const show = (fault) => showFault(part("seed-fault"), this.#seed, PLAIN_SEED, fault, seed);
+    try {
+      const scramble = await scrambleOf(this.#calls, seed);
+      if (draw !== this.#draws) return;
+      show(null);
+      this.#put(scramble);
+      announce(`Scramble from seed ${seed}: ${scramble}`);
+    } catch (fault) {
+      if (draw !== this.#draws || fault instanceof Stopped) return;
+      show(fault instanceof NoSeed ? new Error(SEEDS) : fault);
     }
+  }
 }

@@ -21,26 +21,26 @@ const OPPOSITES = ["UD", "RL", "FB"];
 /** The turns of a step: a reduction keeps its orientation, so the two faces of that have half turns alone.
  * @param {string} step its name */
 function turnsOfStep(step) {
-    const { needs } = stepNamed(step);
-    const halves = needs === null ? "" : stepNamed(needs).axis.toUpperCase();
-    return TURNED_FACES.flatMap((face) => (halves.includes(face) ? ["2"] : ["", "2", "'"]).map((power) => face + power));
+  const { needs } = stepNamed(step);
+  const halves = needs === null ? "" : stepNamed(needs).axis.toUpperCase();
+  return TURNED_FACES.flatMap((face) => (halves.includes(face) ? ["2"] : ["", "2", "'"]).map((power) => face + power));
 }
 
 /** Whether a turn may follow another one: not of the same face, and of opposite faces in one order alone.
  * @param {string | undefined} last @param {string} turn */
 function mayFollow(last, turn) {
-    if (last === undefined) return true;
-    const axis = OPPOSITES.find((each) => each.includes(last[0]));
-    return !axis.includes(turn[0]) || axis.indexOf(last[0]) < axis.indexOf(turn[0]);
+  if (last === undefined) return true;
+  const axis = OPPOSITES.find((each) => each.includes(last[0]));
+  return !axis.includes(turn[0]) || axis.indexOf(last[0]) < axis.indexOf(turn[0]);
 }
 
 /** The beginnings of a step with so many moves.
  * @param {string} step @param {number} count @returns {string[][]} */
 function beginningsWith(step, count) {
-    if (count === 0) return [[]];
-    const turns = turnsOfStep(step);
-    return beginningsWith(step, count - 1).flatMap((before) =>
-        turns.filter((turn) => mayFollow(before.at(-1), turn)).map((turn) => [...before, turn]));
+  if (count === 0) return [[]];
+  const turns = turnsOfStep(step);
+  return beginningsWith(step, count - 1).flatMap((before) =>
+    turns.filter((turn) => mayFollow(before.at(-1), turn)).map((turn) => [...before, turn]));
 }
 
 /**
@@ -48,12 +48,12 @@ function beginningsWith(step, count) {
  * @param {import("./calls.js").Calls} calls @param {string} step @param {Beginning[]} beginnings
  */
 async function leastAfter(calls, step, beginnings) {
-    const lines = beginnings.map(({ line }) => line);
-    for (let limit = 0; limit <= LONGEST_AFTER; limit++) {
-        const lengths = await firstAll(calls, step, lines, limit);
-        if (lengths.some((length) => length !== null)) return limit;
-    }
-    return null;
+  const lines = beginnings.map(({ line }) => line);
+  for (let limit = 0; limit <= LONGEST_AFTER; limit++) {
+    const lengths = await firstAll(calls, step, lines, limit);
+    if (lengths.some((length) => length !== null)) return limit;
+  }
+  return null;
 }
 
 /**
@@ -62,18 +62,18 @@ async function leastAfter(calls, step, beginnings) {
  * @returns {Promise<{solutions: SplitSolution[], whole: boolean}>}
  */
 export async function splitSolutions(calls, { step, side, slack, split }, now) {
-    const other = otherSide(side);
-    const all = beginningsWith(step, split).map((turns) => turns.join(" "));
-    const inverseOf = await invertAll(calls, all);
-    const beginnings = all.map((moves) => ({ begin: { side: other, moves }, line: joined(inverseOf(moves), now[side]) }));
-    const least = await leastAfter(calls, step, beginnings);
-    if (least === null) return { solutions: [], whole: true };
-    const limit = Math.min(LONGEST_AFTER, least + slack);
-    const found = await calls.solveAll(step, beginnings.map(({ line }) => line), { limit, slack, most: MOST_OF_ONE });
-    const solutions = beginnings.flatMap((each, at) =>
-        found[at].map(({ moves, length }) => ({ ...each, moves, length: length + split, others: [] })));
-    // no moves on this side are no split
-    const wanted = solutions.filter(({ moves }) => moves !== "").sort((one, two) => one.length - two.length);
-    const whole = wanted.length <= MOST_OF_ALL && found.every((each) => each.length < MOST_OF_ONE);
-    return { solutions: wanted.slice(0, MOST_OF_ALL), whole };
+  const other = otherSide(side);
+  const all = beginningsWith(step, split).map((turns) => turns.join(" "));
+  const inverseOf = await invertAll(calls, all);
+  const beginnings = all.map((moves) => ({ begin: { side: other, moves }, line: joined(inverseOf(moves), now[side]) }));
+  const least = await leastAfter(calls, step, beginnings);
+  if (least === null) return { solutions: [], whole: true };
+  const limit = Math.min(LONGEST_AFTER, least + slack);
+  const found = await calls.solveAll(step, beginnings.map(({ line }) => line), { limit, slack, most: MOST_OF_ONE });
+  const solutions = beginnings.flatMap((each, at) =>
+    found[at].map(({ moves, length }) => ({ ...each, moves, length: length + split, others: [] })));
+  // no moves on this side are no split
+  const wanted = solutions.filter(({ moves }) => moves !== "").sort((one, two) => one.length - two.length);
+  const whole = wanted.length <= MOST_OF_ALL && found.every((each) => each.length < MOST_OF_ONE);
+  return { solutions: wanted.slice(0, MOST_OF_ALL), whole };
 }

@@ -26,7 +26,7 @@ export const stateOf = (step) => `${step.needs === null ? "EO" : "DR"} ${axisNam
 /** What may be reached by a reduction where some orientations hold.
  * @param {string[]} orientations by the names of their steps */
 export const reducedAfter = (orientations) =>
-    [...new Set(orientations.flatMap(reductionsAfter).map(stateOf))];
+  [...new Set(orientations.flatMap(reductionsAfter).map(stateOf))];
 
 /** What a step is called on the page.
  * @param {OfferedStep} step */
@@ -35,7 +35,7 @@ export const titleOf = (step) => (step.needs === null ? stateOf(step) : `${state
 /** The steps that may start where others are reached, and aren't reached themselves.
  * @param {string[]} reached */
 export const openSteps = (reached) =>
-    [...ORIENTATIONS, ...REDUCTIONS].filter(({ name, needs }) => !reached.includes(name) && (needs === null || reached.includes(needs)));
+  [...ORIENTATIONS, ...REDUCTIONS].filter(({ name, needs }) => !reached.includes(name) && (needs === null || reached.includes(needs)));
 
 /** The steps that the page offers among those that hold.
  * @param {readonly import("../module/steps.js").Step[]} held */

@@ -13,8 +13,8 @@ import { SIDES, isReduced, openSteps, stateOf, statesOf, titleOf } from "./steps
  * @param {import("./position.js").Counted} count @param {number} made moves before it @returns {[string, string, string]}
  */
 function wordsOf({ length, total, solutions }, made) {
-    if (length === null) return ["–", "", "none within 20 moves"];
-    return [counted(length, "move"), made > 0 ? `${total} in all, ` : "", counted(solutions, "solution")];
+  if (length === null) return ["–", "", "none within 20 moves"];
+  return [counted(length, "move"), made > 0 ? `${total} in all, ` : "", counted(solutions, "solution")];
 }
 
 /** A step that is still to be counted. */
@@ -32,163 +32,163 @@ const keepsReached = (offers, reached) => reached.length === 0 || (areReductions
 const leastOf = (offers) => Math.min(...offers.flatMap((offer) => SIDES.map((side) => offer[side].length ?? Infinity)));
 
 export class StepTable {
-    #chosen;
-    #focused = null;
-    #groups = [];
-    #body = part("steps-body");
-    #looks = part("looks-body");
+  #chosen;
+  #focused = null;
+  #groups = [];
+  #body = part("steps-body");
+  #looks = part("looks-body");
 
-    /** @param {(step: string, side: Side) => void} chosen */
-    constructor(chosen) {
-        this.#chosen = chosen;
-    }
+  /** @param {(step: string, side: Side) => void} chosen */
+  constructor(chosen) {
+    this.#chosen = chosen;
+  }
 
-    /** Dims the offers of the last cube, with all that rests on them, until those of the next one are there. */
-    hold() {
-        const { activeElement } = document;
-        if (part("choices").contains(activeElement)) this.#focused = activeElement;
-        else if (activeElement !== document.body) this.#focused = null;
-        part("choices").inert = true;
-    }
+  /** Dims the offers of the last cube, with all that rests on them, until those of the next one are there. */
+  hold() {
+    const { activeElement } = document;
+    if (part("choices").contains(activeElement)) this.#focused = activeElement;
+    else if (activeElement !== document.body) this.#focused = null;
+    part("choices").inert = true;
+  }
 
-    /** Begins with another cube, of which no step is known.
-     * @param {Cube} cube */
-    begin({ reached }) {
-        this.#groups = [];
-        const states = statesOf(reached);
-        part("reached").hidden = states.length === 0;
-        part("reached").replaceChildren(...(states.length === 0 ? [] : ["Reached: "]), ...states.flatMap((state) =>
-            [element("span", { class: "chip", "data-marks": state }, state), " "]));
-    }
+  /** Begins with another cube, of which no step is known.
+   * @param {Cube} cube */
+  begin({ reached }) {
+    this.#groups = [];
+    const states = statesOf(reached);
+    part("reached").hidden = states.length === 0;
+    part("reached").replaceChildren(...(states.length === 0 ? [] : ["Reached: "]), ...states.flatMap((state) =>
+      [element("span", { class: "chip", "data-marks": state }, state), " "]));
+  }
 
-    /**
-     * Adds groups of offers; of all that are shown a reduction comes before an orientation.
-     * @param {Offer[][]} added @param {Cube} cube @param {import("./address.js").List | null} list
-     */
-    add(added, cube, list) {
-        this.#groups.push(...added);
-        this.#draw(cube, list);
-        part("choices").inert = false;
-    }
+  /**
+   * Adds groups of offers; of all that are shown a reduction comes before an orientation.
+   * @param {Offer[][]} added @param {Cube} cube @param {import("./address.js").List | null} list
+   */
+  add(added, cube, list) {
+    this.#groups.push(...added);
+    this.#draw(cube, list);
+    part("choices").inert = false;
+  }
 
-    /** Shows the steps before they are counted, so that no row moves once it can be pressed.
-     * @param {Cube} cube */
-    expect(cube) {
-        this.#draw(cube, null);
-    }
+  /** Shows the steps before they are counted, so that no row moves once it can be pressed.
+   * @param {Cube} cube */
+  expect(cube) {
+    this.#draw(cube, null);
+  }
 
-    /** The groups of offers, a reduction before an orientation; one that is still to be counted stands in its place.
-     * @param {Cube} cube @returns {Offer[][]} */
-    #inOrder({ reached }) {
-        return [true, false].map((isReduction) => {
-            const known = this.#groups.find((group) => areReductions(group) === isReduction);
-            const steps = openSteps(reached).filter(({ needs }) => (needs !== null) === isReduction);
-            return known ?? steps.map((step) => ({ step, normal: UNCOUNTED, inverse: UNCOUNTED }));
-        }).filter((group) => group.length > 0);
-    }
+  /** The groups of offers, a reduction before an orientation; one that is still to be counted stands in its place.
+   * @param {Cube} cube @returns {Offer[][]} */
+  #inOrder({ reached }) {
+    return [true, false].map((isReduction) => {
+      const known = this.#groups.find((group) => areReductions(group) === isReduction);
+      const steps = openSteps(reached).filter(({ needs }) => (needs !== null) === isReduction);
+      return known ?? steps.map((step) => ({ step, normal: UNCOUNTED, inverse: UNCOUNTED }));
+    }).filter((group) => group.length > 0);
+  }
 
-    /** @param {Cube} cube @param {import("./address.js").List | null} list */
-    #draw(cube, list) {
-        const groups = this.#inOrder(cube);
-        const focused = this.#body.contains(document.activeElement) ? document.activeElement.dataset.cell : null;
-        const anew = groups.find((group) => !keepsReached(group, cube.reached));
-        this.#body.replaceChildren(...groups.flatMap((group) =>
-            [...(group === anew ? [this.#anew(cube)] : []), ...this.#rows(group, cube, list)]));
-        this.#looks.replaceChildren(...groups.flat().map((offer) => element("tr", {},
-            element("th", { scope: "row" }, titleOf(offer.step)),
-            ...SIDES.map((side) => element("td", { class: "number" }, offer[side].nodes.toLocaleString("en"))))));
-        const all = groups.flat();
-        part("no-reduction").hidden = cube.reached.length > 0;
-        part("steps-table").hidden = all.length === 0;
-        part("looks").hidden = all.length === 0;
-        if (focused) this.cell(focused)?.focus({ preventScroll: true });
-    }
+  /** @param {Cube} cube @param {import("./address.js").List | null} list */
+  #draw(cube, list) {
+    const groups = this.#inOrder(cube);
+    const focused = this.#body.contains(document.activeElement) ? document.activeElement.dataset.cell : null;
+    const anew = groups.find((group) => !keepsReached(group, cube.reached));
+    this.#body.replaceChildren(...groups.flatMap((group) =>
+      [...(group === anew ? [this.#anew(cube)] : []), ...this.#rows(group, cube, list)]));
+    this.#looks.replaceChildren(...groups.flat().map((offer) => element("tr", {},
+      element("th", { scope: "row" }, titleOf(offer.step)),
+      ...SIDES.map((side) => element("td", { class: "number" }, offer[side].nodes.toLocaleString("en"))))));
+    const all = groups.flat();
+    part("no-reduction").hidden = cube.reached.length > 0;
+    part("steps-table").hidden = all.length === 0;
+    part("looks").hidden = all.length === 0;
+    if (focused) this.cell(focused)?.focus({ preventScroll: true });
+  }
 
-    /** The cell of this name, or null.
-     * @param {string} name */
-    cell(name) {
-        return [...this.#body.querySelectorAll("[data-cell]")].find(({ dataset }) => dataset.cell === name) ?? null;
-    }
+  /** The cell of this name, or null.
+   * @param {string} name */
+  cell(name) {
+    return [...this.#body.querySelectorAll("[data-cell]")].find(({ dataset }) => dataset.cell === name) ?? null;
+  }
 
-    /** The cell of the first of the shortest steps that are left, or null. */
-    #least() {
-        return this.#body.querySelector(".least");
-    }
+  /** The cell of the first of the shortest steps that are left, or null. */
+  #least() {
+    return this.#body.querySelector(".least");
+  }
 
-    /** What is said of the offers: the first of the shortest steps that are left, if there is one. */
-    summary() {
-        const least = this.#least();
-        return least ? `Shortest next step: ${least.getAttribute("aria-label").replace(", shortest", "")}.` : "";
-    }
+  /** What is said of the offers: the first of the shortest steps that are left, if there is one. */
+  summary() {
+    const least = this.#least();
+    return least ? `Shortest next step: ${least.getAttribute("aria-label").replace(", shortest", "")}.` : "";
+  }
 
-    /** Gives the focus back that `hold` took: to the same cell or control, or to the heading where that is gone. */
-    giveBack() {
-        const held = this.#focused;
-        this.#focused = null;
-        // it stays where it went meanwhile; what is hidden may have it for a moment longer
-        if (!held || ![held, document.body].includes(document.activeElement)) return;
-        const same = held.dataset.cell ? this.cell(held.dataset.cell) : held;
-        const places = [same, part("steps-heading"), part("line-heading")];
-        places.find((place) => place?.isConnected && place.checkVisibility() && !place.disabled)?.focus({ preventScroll: true });
-    }
+  /** Gives the focus back that `hold` took: to the same cell or control, or to the heading where that is gone. */
+  giveBack() {
+    const held = this.#focused;
+    this.#focused = null;
+    // it stays where it went meanwhile; what is hidden may have it for a moment longer
+    if (!held || ![held, document.body].includes(document.activeElement)) return;
+    const same = held.dataset.cell ? this.cell(held.dataset.cell) : held;
+    const places = [same, part("steps-heading"), part("line-heading")];
+    places.find((place) => place?.isConnected && place.checkVisibility() && !place.disabled)?.focus({ preventScroll: true });
+  }
 
-    /** Shows which list is open.
-     * @param {import("./address.js").List | null} list */
-    mark(list) {
-        const open = list && `${list.step}.${list.side}`;
-        for (const cell of this.#body.querySelectorAll("[data-cell]")) {
-            cell.setAttribute("aria-pressed", String(cell.dataset.cell === open));
-        }
+  /** Shows which list is open.
+   * @param {import("./address.js").List | null} list */
+  mark(list) {
+    const open = list && `${list.step}.${list.side}`;
+    for (const cell of this.#body.querySelectorAll("[data-cell]")) {
+      cell.setAttribute("aria-pressed", String(cell.dataset.cell === open));
     }
+  }
 
-    /** Puts the focus on the first of the shortest steps that are left. */
-    focus() {
-        (this.#least() ?? part("steps-heading")).focus({ preventScroll: true });
-    }
+  /** Puts the focus on the first of the shortest steps that are left. */
+  focus() {
+    (this.#least() ?? part("steps-heading")).focus({ preventScroll: true });
+  }
 
-    /** Presses a cell, if there is one that isn't dimmed.
-     * @param {number} at its place among the cells */
-    press(at) {
-        const cell = this.#body.querySelectorAll("[data-cell]")[at];
-        if (!cell?.closest("[inert]")) cell?.click();
-    }
+  /** Presses a cell, if there is one that isn't dimmed.
+   * @param {number} at its place among the cells */
+  press(at) {
+    const cell = this.#body.querySelectorAll("[data-cell]")[at];
+    if (!cell?.closest("[inert]")) cell?.click();
+  }
 
-    /** What stands above the offers that begin anew.
-     * @param {Cube} cube */
-    #anew({ reached }) {
-        const words = isReduced(reached) ? "Another EO or DR in place of this DR" : "Another EO in place of this one";
-        return element("tr", { class: "anew" }, element("td", { colspan: 3, class: "note" }, words));
-    }
+  /** What stands above the offers that begin anew.
+   * @param {Cube} cube */
+  #anew({ reached }) {
+    const words = isReduced(reached) ? "Another EO or DR in place of this DR" : "Another EO in place of this one";
+    return element("tr", { class: "anew" }, element("td", { colspan: 3, class: "note" }, words));
+  }
 
-    #rows(group, cube, list) {
-        const least = keepsReached(group, cube.reached) ? leastOf(group) : null;
-        // where two orientations hold, each has a way of its own to the same reduction
-        const isOneOf = new Set(group.map(({ step }) => step.needs)).size > 1;
-        return group.map((offer) => element("tr", { "data-marks": stateOf(offer.step) },
-            element("th", { scope: "row" },
-                element("span", { class: "axis" }, isOneOf ? titleOf(offer.step) : stateOf(offer.step)),
-                element("small", {}, ` ${caseOfStep(cube.facts, offer.step)}`)),
-            ...SIDES.map((side) => this.#cell(offer, side, { least, made: cube.made, list }))));
-    }
+  #rows(group, cube, list) {
+    const least = keepsReached(group, cube.reached) ? leastOf(group) : null;
+    // where two orientations hold, each has a way of its own to the same reduction
+    const isOneOf = new Set(group.map(({ step }) => step.needs)).size > 1;
+    return group.map((offer) => element("tr", { "data-marks": stateOf(offer.step) },
+      element("th", { scope: "row" },
+        element("span", { class: "axis" }, isOneOf ? titleOf(offer.step) : stateOf(offer.step)),
+        element("small", {}, ` ${caseOfStep(cube.facts, offer.step)}`)),
+      ...SIDES.map((side) => this.#cell(offer, side, { least, made: cube.made, list }))));
+  }
 
-    #cell({ step, ...counts }, side, { least, made, list }) {
-        const count = counts[side];
-        const [length, all, solutions] = wordsOf(count, made);
-        const name = `${step.name}.${side}`;
-        const isLeast = least !== null && count.length === least;
-        const about = { "data-side": side === "normal" ? "Normal" : "Inverse" };
-        // as high as one that is counted
-        const inAll = made > 0 ? "10 in all, " : "";
-        const room = element("small", { class: "room" }, inAll, element("span", { class: "together" }, "10 solutions"));
-        const blank = [element("strong", {}, "…"), room];
-        if (count === UNCOUNTED) return element("td", about, element("span", { class: "cell" }, ...blank));
-        return element("td", about, element("button", {
-            type: "button",
-            class: isLeast ? "cell least" : "cell",
-            "data-cell": name,
-            "aria-pressed": String(list !== null && name === `${list.step}.${list.side}`),
-            "aria-label": `${titleOf(step)}, ${side} side: ${length}, ${all}${solutions}${isLeast ? ", shortest" : ""}`,
-            click: () => this.#chosen(step.name, side),
-        }, element("strong", {}, length), element("small", {}, all, element("span", { class: "together" }, solutions))));
-    }
+  #cell({ step, ...counts }, side, { least, made, list }) {
+    const count = counts[side];
+    const [length, all, solutions] = wordsOf(count, made);
+    const name = `${step.name}.${side}`;
+    const isLeast = least !== null && count.length === least;
+    const about = { "data-side": side === "normal" ? "Normal" : "Inverse" };
+    // as high as one that is counted
+    const inAll = made > 0 ? "10 in all, " : "";
+    const room = element("small", { class: "room" }, inAll, element("span", { class: "together" }, "10 solutions"));
+    const blank = [element("strong", {}, "…"), room];
+    if (count === UNCOUNTED) return element("td", about, element("span", { class: "cell" }, ...blank));
+    return element("td", about, element("button", {
+      type: "button",
+      class: isLeast ? "cell least" : "cell",
+      "data-cell": name,
+      "aria-pressed": String(list !== null && name === `${list.step}.${list.side}`),
+      "aria-label": `${titleOf(step)}, ${side} side: ${length}, ${all}${solutions}${isLeast ? ", shortest" : ""}`,
+      click: () => this.#chosen(step.name, side),
+    }, element("strong", {}, length), element("small", {}, all, element("span", { class: "together" }, solutions))));
+  }
 }

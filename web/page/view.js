@@ -16,12 +16,12 @@ export const isBare = ({ scramble, parts }) => scramble.trim() === "" && parts.l
 /** Shows the beginning, and what was done last, where nothing was done yet.
  * @param {import("./address.js").State} state */
 export function showBeginning(state) {
-    const isShown = isBare(state);
-    // it may have been done since the page was opened
-    if (isShown && part("welcome").hidden) offerLast();
-    part("welcome").hidden = !isShown;
-    document.body.classList.toggle("bare", isShown);
-    part("kept").hidden = isShown && state.kept.length === 0;
+  const isShown = isBare(state);
+  // it may have been done since the page was opened
+  if (isShown && part("welcome").hidden) offerLast();
+  part("welcome").hidden = !isShown;
+  document.body.classList.toggle("bare", isShown);
+  part("kept").hidden = isShown && state.kept.length === 0;
 }
 
 /** Whether a part of the page waits for answers. */
@@ -30,10 +30,10 @@ export const waitsForAnswers = () => document.querySelector('[aria-busy="true"]:
 /** Hides what an address shows until it is known, so that nothing is seen to move; what takes long is seen before.
  * @param {import("./address.js").State | null} state that is awaited, or null if it is there */
 export function awaitAnswer(state) {
-    // what was seen once stays seen, and keeps the focus
-    if (state !== null && !document.body.matches(".awaited, .begun")) return;
-    document.body.classList.toggle("awaited", state !== null && !isBare(state));
-    document.body.classList.toggle("begun", state !== null && isBare(state));
+  // what was seen once stays seen, and keeps the focus
+  if (state !== null && !document.body.matches(".awaited, .begun")) return;
+  document.body.classList.toggle("awaited", state !== null && !isBare(state));
+  document.body.classList.toggle("begun", state !== null && isBare(state));
 }
 
 /**
@@ -41,11 +41,11 @@ export function awaitAnswer(state) {
  * @param {HTMLElement} column @param {Element} focused
  */
 function showFocused(column, focused) {
-    // a button that is clicked stays under the mouse
-    if (focused.getBoundingClientRect().top >= 0 || !focused.matches(":focus-visible")) return;
-    const start = column.parentElement.getBoundingClientRect().top + scrollY;
-    const within = focused.getBoundingClientRect().top - column.getBoundingClientRect().top;
-    scrollTo({ top: start + within - EDGE });
+  // a button that is clicked stays under the mouse
+  if (focused.getBoundingClientRect().top >= 0 || !focused.matches(":focus-visible")) return;
+  const start = column.parentElement.getBoundingClientRect().top + scrollY;
+  const within = focused.getBoundingClientRect().top - column.getBoundingClientRect().top;
+  scrollTo({ top: start + within - EDGE });
 }
 
 /**
@@ -53,14 +53,14 @@ function showFocused(column, focused) {
  * @param {HTMLElement} column
  */
 export function keepInView(column) {
-    const place = () => {
-        // where nothing stays the browser keeps still what is read, but not beside a change of this
-        if (matchMedia(BESIDE).matches) column.style.top = `${Math.min(EDGE, innerHeight - column.offsetHeight - EDGE)}px`;
-    };
-    new ResizeObserver(place).observe(column);
-    addEventListener("resize", place);
-    // the browser scrolls after the event, and would undo what is done in it
-    column.addEventListener("focusin", ({ target }) => requestAnimationFrame(() => showFocused(column, target)));
+  const place = () => {
+    // where nothing stays the browser keeps still what is read, but not beside a change of this
+    if (matchMedia(BESIDE).matches) column.style.top = `${Math.min(EDGE, innerHeight - column.offsetHeight - EDGE)}px`;
+  };
+  new ResizeObserver(place).observe(column);
+  addEventListener("resize", place);
+  // the browser scrolls after the event, and would undo what is done in it
+  column.addEventListener("focusin", ({ target }) => requestAnimationFrame(() => showFocused(column, target)));
 }
 
 /**
@@ -68,15 +68,15 @@ export function keepInView(column) {
  * @param {HTMLElement} still @param {() => void} change
  */
 export function withoutMoving(still, change) {
-    const { top } = still.getBoundingClientRect();
-    change();
-    scrollBy({ top: still.getBoundingClientRect().top - top, behavior: "instant" });
+  const { top } = still.getBoundingClientRect();
+  change();
+  scrollBy({ top: still.getBoundingClientRect().top - top, behavior: "instant" });
 }
 
 /** Makes what rests on a readable scramble usable or not.
  * @param {boolean} usable */
 export function setUsable(usable) {
-    for (const name of ["line", "results", "kept", "cube"]) part(name).inert = !usable;
+  for (const name of ["line", "results", "kept", "cube"]) part(name).inert = !usable;
 }
 
 /**
@@ -84,80 +84,80 @@ export function setUsable(usable) {
  * @param {boolean} isFinished
  */
 export function showStart(isFinished) {
-    if (!matchMedia(BESIDE).matches) return part(isFinished ? "line" : "results").scrollIntoView({ block: "start" });
-    scrollTo({ top: 0, behavior: "instant" });
-    // no further than to its end, so that what is beside it stays in view
-    if (isFinished) part("whole").scrollIntoView({ block: "nearest" });
+  if (!matchMedia(BESIDE).matches) return part(isFinished ? "line" : "results").scrollIntoView({ block: "start" });
+  scrollTo({ top: 0, behavior: "instant" });
+  // no further than to its end, so that what is beside it stays in view
+  if (isFinished) part("whole").scrollIntoView({ block: "nearest" });
 }
 
 const KEY = "nissy-theme";
 const THEMES = ["light", "dark"];
 
 function kept() {
-    try {
-        return localStorage.getItem(KEY) ?? "";
-    } catch {
-        return "";
-    }
+  try {
+    return localStorage.getItem(KEY) ?? "";
+  } catch {
+    return "";
+  }
 }
 
 /** @param {string} theme */
 function keep(theme) {
-    try {
-        localStorage.setItem(KEY, theme);
-    } catch {
-        // then it holds until the page is closed
-    }
+  try {
+    localStorage.setItem(KEY, theme);
+  } catch {
+    // then it holds until the page is closed
+  }
 }
 
 /** @param {string} theme "" for the system's */
 function use(theme) {
-    if (THEMES.includes(theme)) document.documentElement.dataset.theme = theme;
-    else delete document.documentElement.dataset.theme;
+  if (THEMES.includes(theme)) document.documentElement.dataset.theme = theme;
+  else delete document.documentElement.dataset.theme;
 }
 
 export function offerThemes() {
-    const field = part("theme");
-    const theme = THEMES.includes(kept()) ? kept() : "";
-    field.value = theme;
-    use(theme);
-    field.addEventListener("change", () => {
-        use(field.value);
-        keep(field.value);
-    });
+  const field = part("theme");
+  const theme = THEMES.includes(kept()) ? kept() : "";
+  field.value = theme;
+  use(theme);
+  field.addEventListener("change", () => {
+    use(field.value);
+    keep(field.value);
+  });
 }
 
 const MARGIN = 6;
 
 /** @param {HTMLElement} text @param {HTMLElement} button */
 function placeUnder(text, button) {
-    const { left, bottom } = button.getBoundingClientRect();
-    const furthest = document.documentElement.clientWidth - text.offsetWidth - MARGIN;
-    text.style.left = `${Math.max(MARGIN, Math.min(left, furthest)) + scrollX}px`;
-    text.style.top = `${bottom + MARGIN + scrollY}px`;
+  const { left, bottom } = button.getBoundingClientRect();
+  const furthest = document.documentElement.clientWidth - text.offsetWidth - MARGIN;
+  text.style.left = `${Math.max(MARGIN, Math.min(left, furthest)) + scrollX}px`;
+  text.style.top = `${bottom + MARGIN + scrollY}px`;
 }
 
 /** Says something under a button, until something else is pressed.
  * @param {HTMLElement} button @param {string} text */
 export function tellAt(button, text) {
-    const said = part("said");
-    said.textContent = text;
-    if (!said.matches(":popover-open")) said.showPopover();
-    placeUnder(said, button);
-    announce(text);
+  const said = part("said");
+  said.textContent = text;
+  if (!said.matches(":popover-open")) said.showPopover();
+  placeUnder(said, button);
+  announce(text);
 }
 
 /** Makes every help of the page stand under the button that opens it. */
 export function placeHelp() {
-    for (const button of document.querySelectorAll("[popovertarget]")) {
-        const text = document.getElementById(button.getAttribute("popovertarget"));
-        text.addEventListener("toggle", (event) => {
-            button.setAttribute("aria-expanded", String(event.newState === "open"));
-            if (event.newState !== "open") return;
-            placeUnder(text, button);
-            announce(text.textContent.replace(/\s+/g, " ").trim());
-        });
-    }
+  for (const button of document.querySelectorAll("[popovertarget]")) {
+    const text = document.getElementById(button.getAttribute("popovertarget"));
+    text.addEventListener("toggle", (event) => {
+      button.setAttribute("aria-expanded", String(event.newState === "open"));
+      if (event.newState !== "open") return;
+      placeUnder(text, button);
+      announce(text.textContent.replace(/\s+/g, " ").trim());
+    });
+  }
 }
 
 const FIELDS_TO_TYPE = "input, textarea, select, [contenteditable]";
@@ -167,22 +167,22 @@ const starOfRow = () => document.activeElement?.closest("li, tr")?.querySelector
 
 /** @param {Record<string, () => void>} acts by their keys */
 export function listenToKeys(acts) {
-    addEventListener("keydown", (event) => {
-        if (event.ctrlKey || event.altKey || event.metaKey || event.defaultPrevented || !part("keys-on").checked) return;
-        const isField = event.target instanceof Element && event.target.closest(FIELDS_TO_TYPE) !== null;
-        // a field has its keys for itself, but for the one that closes its list
-        if (isField && (event.key !== "Escape" || !part("solutions").contains(event.target))) return;
-        // Escape closes help before it closes anything else
-        if (!Object.hasOwn(acts, event.key) || document.querySelector(":popover-open")) return;
-        event.preventDefault();
-        acts[event.key]();
-    });
+  addEventListener("keydown", (event) => {
+    if (event.ctrlKey || event.altKey || event.metaKey || event.defaultPrevented || !part("keys-on").checked) return;
+    const isField = event.target instanceof Element && event.target.closest(FIELDS_TO_TYPE) !== null;
+    // a field has its keys for itself, but for the one that closes its list
+    if (isField && (event.key !== "Escape" || !part("solutions").contains(event.target))) return;
+    // Escape closes help before it closes anything else
+    if (!Object.hasOwn(acts, event.key) || document.querySelector(":popover-open")) return;
+    event.preventDefault();
+    acts[event.key]();
+  });
 }
 
 /** Keeps the row that has the focus, or what is given where none has it.
  * @param {() => void} otherwise */
 export function star(otherwise) {
-    const button = starOfRow();
-    if (button) button.click();
-    else otherwise();
+  const button = starOfRow();
+  if (button) button.click();
+  else otherwise();
 }

@@ -10,9 +10,9 @@ const SILENT = `The engine has given no answer for ${PATIENCE / 1000} seconds. I
 /** Says what failed, beside a button that tries it again, if that may help; no words take both away.
  * @param {string} words */
 export function tellFailed(words) {
-    part("failed").hidden = words === "";
-    part("failed-words").textContent = words;
-    part("again").hidden = !globalThis.WebAssembly;
+  part("failed").hidden = words === "";
+  part("failed-words").textContent = words;
+  part("again").hidden = !globalThis.WebAssembly;
 }
 
 /** @type {Set<Silence>} of the workers that are silent for too long */
@@ -20,21 +20,21 @@ const silent = new Set();
 
 /** How long a worker has been silent. */
 class Silence {
-    #timer = 0;
+  #timer = 0;
 
-    begin() {
-        this.end();
-        this.#timer = setTimeout(() => {
-            silent.add(this);
-            tellFailed(SILENT);
-        }, PATIENCE);
-    }
+  begin() {
+    this.end();
+    this.#timer = setTimeout(() => {
+      silent.add(this);
+      tellFailed(SILENT);
+    }, PATIENCE);
+  }
 
-    end() {
-        clearTimeout(this.#timer);
-        // what it said late is an answer too
-        if (silent.delete(this) && silent.size === 0) tellFailed("");
-    }
+  end() {
+    clearTimeout(this.#timer);
+    // what it said late is an answer too
+    if (silent.delete(this) && silent.size === 0) tellFailed("");
+  }
 }
 
 /** Whether a message to a worker asks for an answer: one that brings the module or has tables built doesn't.
@@ -50,27 +50,27 @@ const goesOn = (data) => Boolean(data.found);
  * @param {() => Worker} made @returns {import("../module/worker-calls.js").NewWorker}
  */
 export function watched(made) {
-    const start = listenedTo(made);
-    return (took, failed) => {
-        const silence = new Silence();
-        const worker = start((data) => {
-            if (goesOn(data)) silence.begin();
-            else silence.end();
-            took(data);
-        }, (message) => {
-            silence.end();
-            tellFailed(engineFails(message));
-            failed(message);
-        });
-        return {
-            postMessage: (message) => {
-                worker.postMessage(message);
-                if (asks(message)) silence.begin();
-            },
-            terminate: () => {
-                silence.end();
-                worker.terminate();
-            },
-        };
+  const start = listenedTo(made);
+  return (took, failed) => {
+    const silence = new Silence();
+    const worker = start((data) => {
+      if (goesOn(data)) silence.begin();
+      else silence.end();
+      took(data);
+    }, (message) => {
+      silence.end();
+      tellFailed(engineFails(message));
+      failed(message);
+    });
+    return {
+      postMessage: (message) => {
+        worker.postMessage(message);
+        if (asks(message)) silence.begin();
+      },
+      terminate: () => {
+        silence.end();
+        worker.terminate();
+      },
     };
+  };
 }

@@ -21,10 +21,10 @@ export const nameOfPiece = (place) => placesOf(place).map(faceAt).join("");
 
 /** One place of each edge, and then of each corner. */
 export const PIECES = [2, 3].flatMap((count) =>
-    Array.from({ length: 54 }, (_, place) => place).filter((place) => {
-        const places = placesOf(place);
-        return places.length === count && places[0] === place;
-    }));
+  Array.from({ length: 54 }, (_, place) => place).filter((place) => {
+    const places = placesOf(place);
+    return places.length === count && places[0] === place;
+  }));
 
 /** The two faces of an axis in words.
  * @param {string} axis */
@@ -37,28 +37,28 @@ const whichTells = (faces, axes) => axes.map((axis) => faces.findIndex((face) =>
 /** Whether an edge is oriented on an axis.
  * @param {string[]} faces where it is @param {string[]} colours that it has there @param {string} axis */
 function edgeOriented(faces, colours, axis) {
-    const [first, last] = TELLING_AXES.filter((each) => each !== axis);
-    const axes = [first, axis, last];
-    const [told, telling] = [whichTells(colours, axes), whichTells(faces, axes)];
-    const rule = `${eitherOf(first)} tells, else ${eitherOf(axis)}`;
-    if (told === telling) return `good for EO ${axis}: its ${colours[told]} is on ${faces[told]} (${rule})`;
-    return `bad for EO ${axis}: its ${colours[told]} belongs on ${faces[telling]}, and is on ${faces[told]} (${rule})`;
+  const [first, last] = TELLING_AXES.filter((each) => each !== axis);
+  const axes = [first, axis, last];
+  const [told, telling] = [whichTells(colours, axes), whichTells(faces, axes)];
+  const rule = `${eitherOf(first)} tells, else ${eitherOf(axis)}`;
+  if (told === telling) return `good for EO ${axis}: its ${colours[told]} is on ${faces[told]} (${rule})`;
+  return `bad for EO ${axis}: its ${colours[told]} belongs on ${faces[telling]}, and is on ${faces[told]} (${rule})`;
 }
 
 /** Whether an edge is on its side of a slice.
  * @param {string[]} faces @param {string[]} colours @param {string} axis of the reduction */
 function edgePlaced(faces, colours, axis) {
-    const isIn = (letters) => !letters.some((each) => axis.includes(each));
-    const belongs = isIn(colours) ? `in the slice, since it has no ${eitherOf(axis)}` : `outside the slice, since it has ${eitherOf(axis)}`;
-    return isIn(colours) === isIn(faces) ? `good for DR ${axis}: it is ${belongs}` : `bad for DR ${axis}: it belongs ${belongs}`;
+  const isIn = (letters) => !letters.some((each) => axis.includes(each));
+  const belongs = isIn(colours) ? `in the slice, since it has no ${eitherOf(axis)}` : `outside the slice, since it has ${eitherOf(axis)}`;
+  return isIn(colours) === isIn(faces) ? `good for DR ${axis}: it is ${belongs}` : `bad for DR ${axis}: it belongs ${belongs}`;
 }
 
 /** Whether a corner is oriented on an axis.
  * @param {string[]} faces @param {string[]} colours @param {string} axis */
 function cornerOriented(faces, colours, axis) {
-    const at = colours.findIndex((colour) => axis.includes(colour));
-    if (axis.includes(faces[at])) return `good for DR ${axis}: its ${colours[at]} is on ${faces[at]}`;
-    return `bad for DR ${axis}: its ${colours[at]} belongs on ${eitherOf(axis)}, and is on ${faces[at]}`;
+  const at = colours.findIndex((colour) => axis.includes(colour));
+  if (axis.includes(faces[at])) return `good for DR ${axis}: its ${colours[at]} is on ${faces[at]}`;
+  return `bad for DR ${axis}: its ${colours[at]} belongs on ${eitherOf(axis)}, and is on ${faces[at]}`;
 }
 
 /**
@@ -67,11 +67,11 @@ function cornerOriented(faces, colours, axis) {
  * or "" for each axis
  */
 export function whyOf(letters, place, choice) {
-    const places = placesOf(place);
-    const [faces, colours] = [places.map(faceAt), places.map((each) => letters[each])];
-    const [kind, wanted] = choice.split(" ");
-    const told = { 2: kind === "DR" ? edgePlaced : edgeOriented, 3: cornerOriented }[places.length];
-    if (told === undefined) return "";
-    const axes = wanted === undefined ? TELLING_AXES : [wanted];
-    return `${faces.join("")} is ${axes.map((axis) => told(faces, colours, axis)).join("; ")}.`;
+  const places = placesOf(place);
+  const [faces, colours] = [places.map(faceAt), places.map((each) => letters[each])];
+  const [kind, wanted] = choice.split(" ");
+  const told = { 2: kind === "DR" ? edgePlaced : edgeOriented, 3: cornerOriented }[places.length];
+  if (told === undefined) return "";
+  const axes = wanted === undefined ? TELLING_AXES : [wanted];
+  return `${faces.join("")} is ${axes.map((axis) => told(faces, colours, axis)).join("; ")}.`;
 }

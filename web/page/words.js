@@ -19,29 +19,29 @@ export const engineFails = (message) => `The engine doesn't work here. ${message
 /** Why there is no answer.
  * @param {Error & {text?: string}} fault */
 export function unanswered(fault) {
-    if (fault instanceof EngineMissing) return engineFails(fault.message);
-    const words = fault.text ?? fault.message;
-    if (words !== TOO_MANY) return `There is no answer: ${words}.`;
-    return `The scramble and the moves after it can't be read together: they have ${TOO_MANY}.`;
+  if (fault instanceof EngineMissing) return engineFails(fault.message);
+  const words = fault.text ?? fault.message;
+  if (words !== TOO_MANY) return `There is no answer: ${words}.`;
+  return `The scramble and the moves after it can't be read together: they have ${TOO_MANY}.`;
 }
 
 /** What tells the tabs of pages apart.
  * @param {import("./address.js").State} state */
 export function titleOfPage({ scramble, parts }) {
-    // no sign that turns the direction of a text, or that isn't seen
-    const plain = scramble.replace(/[\p{Cc}\p{Cf}\u2028\u2029]/gu, " ").trim();
-    const words = [bracketed(parts), plain].filter(Boolean).join(" · ");
-    if (words === "") return `${PAGE_NAME}: edge orientation and domino reduction`;
-    return `${words.slice(0, MOST_SIGNS)}${words.length > MOST_SIGNS ? "…" : ""} – ${PAGE_NAME}`;
+  // no sign that turns the direction of a text, or that isn't seen
+  const plain = scramble.replace(/[\p{Cc}\p{Cf}\u2028\u2029]/gu, " ").trim();
+  const words = [bracketed(parts), plain].filter(Boolean).join(" · ");
+  if (words === "") return `${PAGE_NAME}: edge orientation and domino reduction`;
+  return `${words.slice(0, MOST_SIGNS)}${words.length > MOST_SIGNS ? "…" : ""} – ${PAGE_NAME}`;
 }
 
 /** Why a step can't be listed, or "".
  * @param {string} name of the step @param {string[]} reached */
 export function whyNotListed(name, reached) {
-    if (openSteps(reached).some((step) => step.name === name)) return "";
-    const step = stepNamed(name);
-    const why = reached.includes(name) ? "it is reached" : `${stateOf(stepNamed(step.needs))} isn't reached`;
-    return `${titleOf(step)} can't be listed here: ${why}.`;
+  if (openSteps(reached).some((step) => step.name === name)) return "";
+  const step = stepNamed(name);
+  const why = reached.includes(name) ? "it is reached" : `${stateOf(stepNamed(step.needs))} isn't reached`;
+  return `${titleOf(step)} can't be listed here: ${why}.`;
 }
 
 const AROUND = 24;
@@ -54,8 +54,8 @@ const visible = (text) => text.replace(/\s/g, " ").replace(/[\p{Cc}\p{Cf}]/gu, "
 /** The word that stands at a place, up to a blank or a bracket.
  * @param {string} line @param {number} place */
 function wordAt(line, place) {
-    const word = [.../^[^\s()]*/.exec(line.slice(place))[0]];
-    return visible(word.slice(0, LONGEST_WORD).join("")) + (word.length > LONGEST_WORD ? "…" : "");
+  const word = [.../^[^\s()]*/.exec(line.slice(place))[0]];
+  return visible(word.slice(0, LONGEST_WORD).join("")) + (word.length > LONGEST_WORD ? "…" : "");
 }
 
 /**
@@ -63,53 +63,53 @@ function wordAt(line, place) {
  * @param {string} line @param {number} place of the first sign that can't be read @returns {{word: string, letters: string} | null}
  */
 function oddMove(line, place) {
-    const begin = /([UDRLFB]w?|[MESudrlfbxyz])['2]?$/.exec(line.slice(0, place));
-    const isOdd = /^(?:[-+*^'0-9]|i(?!\p{L}))/u.test(line.slice(place));
-    return begin && isOdd ? { word: begin[0] + wordAt(line, place), letters: begin[1] } : null;
+  const begin = /([UDRLFB]w?|[MESudrlfbxyz])['2]?$/.exec(line.slice(0, place));
+  const isOdd = /^(?:[-+*^'0-9]|i(?!\p{L}))/u.test(line.slice(place));
+  return begin && isOdd ? { word: begin[0] + wordAt(line, place), letters: begin[1] } : null;
 }
 
 /** Why a line is no line of moves from a place on.
  * @param {string} line @param {number} place */
 function sentenceOfMove(line, place) {
-    const odd = oddMove(line, place);
-    if (odd === null) return `“${wordAt(line, place)}” is no move.`;
-    return `“${odd.word}” is no move: write ${odd.letters}, ${odd.letters}2 or ${odd.letters}'.`;
+  const odd = oddMove(line, place);
+  if (odd === null) return `“${wordAt(line, place)}” is no move.`;
+  return `“${odd.word}” is no move: write ${odd.letters}, ${odd.letters}2 or ${odd.letters}'.`;
 }
 
 /** The engine's words as a solver reads them.
  * @param {NissyFault} fault @param {string} line what the engine read */
 function sentenceOf(fault, line) {
-    const place = (fault.character ?? 1) - 1;
-    const sentences = {
-        "not a move": () => sentenceOfMove(line, place),
-        "bracket inside a bracket": () => "A bracket stands inside a bracket.",
-        "bracket closed that was not opened": () => "A bracket is closed that was not opened.",
-        "bracket not closed": () => "A bracket isn't closed.",
-    };
-    const sentence = Object.hasOwn(sentences, fault.text) ? sentences[fault.text] : null;
-    return sentence === null ? `${fault.text[0].toUpperCase()}${fault.text.slice(1)}.` : sentence();
+  const place = (fault.character ?? 1) - 1;
+  const sentences = {
+    "not a move": () => sentenceOfMove(line, place),
+    "bracket inside a bracket": () => "A bracket stands inside a bracket.",
+    "bracket closed that was not opened": () => "A bracket is closed that was not opened.",
+    "bracket not closed": () => "A bracket isn't closed.",
+  };
+  const sentence = Object.hasOwn(sentences, fault.text) ? sentences[fault.text] : null;
+  return sentence === null ? `${fault.text[0].toUpperCase()}${fault.text.slice(1)}.` : sentence();
 }
 
 /** What is said of a text with a line that can't be read, or "".
  * @param {import("./lines.js").Unread | null} unread */
 export function whyUnread(unread) {
-    if (unread === null) return "";
-    const { line, fault } = unread;
-    const shown = visible(line.slice(0, MOST_SIGNS)) + (line.length > MOST_SIGNS ? "…" : "");
-    return `The steps of this text are read up to the line “${shown}”: ${sentenceOf(fault, line)}`;
+  if (unread === null) return "";
+  const { line, fault } = unread;
+  const shown = visible(line.slice(0, MOST_SIGNS)) + (line.length > MOST_SIGNS ? "…" : "");
+  return `The steps of this text are read up to the line “${shown}”: ${sentenceOf(fault, line)}`;
 }
 
 /** The text around a place, with a mark at it and a sign under it.
  * @param {string} text @param {number} place */
 function marked(text, place) {
-    const from = Math.max(0, place - AROUND);
-    const sign = String.fromCodePoint(text.codePointAt(place) ?? 32);
-    const before = (from > 0 ? "…" : "") + text.slice(from, place);
-    const after = text.slice(place + sign.length, place + AROUND);
-    const cut = place + AROUND < text.length ? "…" : "";
-    const line = element("span", {}, visible(before), element("mark", {}, visible(sign)), visible(after + cut));
-    // it may be scrolled, and is no stop of the Tab key for that
-    return element("pre", { "aria-hidden": "true", tabindex: -1 }, line, `\n${" ".repeat([...before].length)}^`);
+  const from = Math.max(0, place - AROUND);
+  const sign = String.fromCodePoint(text.codePointAt(place) ?? 32);
+  const before = (from > 0 ? "…" : "") + text.slice(from, place);
+  const after = text.slice(place + sign.length, place + AROUND);
+  const cut = place + AROUND < text.length ? "…" : "";
+  const line = element("span", {}, visible(before), element("mark", {}, visible(sign)), visible(after + cut));
+  // it may be scrolled, and is no stop of the Tab key for that
+  return element("pre", { "aria-hidden": "true", tabindex: -1 }, line, `\n${" ".repeat([...before].length)}^`);
 }
 
 /**
@@ -117,8 +117,8 @@ function marked(text, place) {
  * @param {import("./pasted.js").PlainLine} plain @param {Error | null} fault @param {string} text @returns {number | null}
  */
 export function placeOfFault({ places }, fault, text) {
-    if (!(fault instanceof NissyFault) || fault.character === null) return null;
-    return places[fault.character - 1] ?? text.length;
+  if (!(fault instanceof NissyFault) || fault.character === null) return null;
+  return places[fault.character - 1] ?? text.length;
 }
 
 /**
@@ -127,11 +127,11 @@ export function placeOfFault({ places }, fault, text) {
  * @param {Error | null} fault @param {string} text what was typed
  */
 export function showFault(where, field, plain, fault, text) {
-    where.hidden = fault === null;
-    where.replaceChildren();
-    field.setAttribute("aria-invalid", String(fault !== null));
-    if (fault === null) return;
-    where.append(element("p", {}, fault instanceof NissyFault ? sentenceOf(fault, plain.line) : fault.message));
-    const place = placeOfFault(plain, fault, text);
-    if (place !== null) where.append(marked(text.replace(/[\r\n]/g, " "), place));
+  where.hidden = fault === null;
+  where.replaceChildren();
+  field.setAttribute("aria-invalid", String(fault !== null));
+  if (fault === null) return;
+  where.append(element("p", {}, fault instanceof NissyFault ? sentenceOf(fault, plain.line) : fault.message));
+  const place = placeOfFault(plain, fault, text);
+  if (place !== null) where.append(marked(text.replace(/[\r\n]/g, " "), place));
 }

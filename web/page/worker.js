@@ -13,24 +13,24 @@ const MOST_TOLD_OF_AXIS = 10_000;
 
 /** @param {import("../module/serve.js").Port} port the worker itself */
 function serveFinder(port) {
-    serveBy(port, (module) => Nissy.load(module), (nissy, /** @type {Search | TablesWanted} */ message) => {
-        if ("steps" in message) {
-            for (const step of message.steps) nissy.count(step, "");
-            return;
-        }
-        const { id, orientation, question: { now, parts, reached, slack, isAll } } = message;
-        const position = { lines: now, made: madeBy(nissy, parts) };
-        const wish = { slack, isAll, most: MOST_TOLD_OF_AXIS };
-        for (const each of continuations(nissy, position, reached, [orientation], wish)) port.postMessage({ id, found: each });
-        port.postMessage({ id, found: null });
-    });
+  serveBy(port, (module) => Nissy.load(module), (nissy, /** @type {Search | TablesWanted} */ message) => {
+    if ("steps" in message) {
+      for (const step of message.steps) nissy.count(step, "");
+      return;
+    }
+    const { id, orientation, question: { now, parts, reached, slack, isAll } } = message;
+    const position = { lines: now, made: madeBy(nissy, parts) };
+    const wish = { slack, isAll, most: MOST_TOLD_OF_AXIS };
+    for (const each of continuations(nissy, position, reached, [orientation], wish)) port.postMessage({ id, found: each });
+    port.postMessage({ id, found: null });
+  });
 }
 
 /** @type {any} a worker, and no window */
 const worker = self;
 // what nobody caught becomes a failure of the worker, of which the page is told
 worker.addEventListener("unhandledrejection", ({ reason }) => {
-    throw reason;
+  throw reason;
 });
 if (worker.name === "finder") serveFinder(worker);
 else serve(worker);
