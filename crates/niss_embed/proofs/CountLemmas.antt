@@ -44,15 +44,15 @@ went [] a b h = subst (λ k. Tallied [] (tally_of a) (tally_of k)) h (tallied_no
 went (p ∷ ps) a b h = tallied_more p ps (tally_of a) (tally_of h.0) (tally_of b) h.1.0 (went ps h.0 b h.1.1)
 
 -- Some of the first were counted, and the next one wasn't, since there are as many as there may be.
-record Filled (ps : List (List Turn)) (old new : CountState) : Type 0 where
-  count : ℕ
-  within : count < length ps
-  counted : new.solutions ≡ old.solutions + count
-  full : new.solutions ≡ new.most
-  same_most : new.most ≡ old.most
-  first : new.first ≡ first_of old.first ps
+pub record Filled (ps : List (List Turn)) (old new : CountState) : Type 0 where
+  pub count : ℕ
+  pub within : count < length ps
+  pub counted : new.solutions ≡ old.solutions + count
+  pub full : new.solutions ≡ new.most
+  pub same_most : new.most ≡ old.most
+  pub first : new.first ≡ first_of old.first ps
 
-stop : (ps : List (List Turn)) (a b : CountedSolutions) → StoppedIn CountsPath RefusesMore a ps b → Filled ps (tally_of a) (tally_of b)
+pub stop : (ps : List (List Turn)) (a b : CountedSolutions) → StoppedIn CountsPath RefusesMore a ps b → Filled ps (tally_of a) (tally_of b)
 stop [] a b h = absurd h
 stop (p ∷ ps) a b (inl h) = record {
   count = 0;

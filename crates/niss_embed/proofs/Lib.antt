@@ -6,3 +6,4 @@ pub mod SolveLemmas
 pub mod TextLemmas
 pub mod ManyLemmas
 pub mod CountLemmas
+pub mod AfterLemmas

@@ -37,18 +37,18 @@ first_of-more None p (q ∷ qs) = refl
 first_of-more (Some k) p (q ∷ qs) = refl
 
 -- Some solutions were written one after another.
-record Took (ps : List (List Turn)) (old new : LinesState) : Type 0 where
-  same_reference : new.reference ≡ old.reference
-  held : new.held ≡ old.held ++ flat_map solution_line ps
-  free : new.free ≡ drop (length (flat_map solution_line ps)) old.free
-  fits : length (flat_map solution_line ps) ≤ length old.free
-  short : length (flat_map solution_line ps) ≤ length ps * most_of_line
-  counted : new.solutions ≡ old.solutions + length ps
-  same_most : new.most ≡ old.most
-  first : new.first ≡ first_of old.first ps
-  same_room : new.too_small ≡ old.too_small
+pub record Took (ps : List (List Turn)) (old new : LinesState) : Type 0 where
+  pub same_reference : new.reference ≡ old.reference
+  pub held : new.held ≡ old.held ++ flat_map solution_line ps
+  pub free : new.free ≡ drop (length (flat_map solution_line ps)) old.free
+  pub fits : length (flat_map solution_line ps) ≤ length old.free
+  pub short : length (flat_map solution_line ps) ≤ length ps * most_of_line
+  pub counted : new.solutions ≡ old.solutions + length ps
+  pub same_most : new.most ≡ old.most
+  pub first : new.first ≡ first_of old.first ps
+  pub same_room : new.too_small ≡ old.too_small
 
-took_none : (a : LinesState) → Took [] a a
+pub took_none : (a : LinesState) → Took [] a a
 took_none a = record {
   same_reference = refl;
   held = sym (append-nil a.held);
@@ -87,20 +87,20 @@ TakesPath old turns new = Takes turns (state_of old) (state_of new)
 abbrev pub RefusesPath : SolutionLines → List Turn → SolutionLines → Type 0
 RefusesPath old turns new = Refuses turns (state_of old) (state_of new)
 
-went : (ps : List (List Turn)) (a b : SolutionLines) → WentThrough TakesPath a ps b → Took ps (state_of a) (state_of b)
+pub went : (ps : List (List Turn)) (a b : SolutionLines) → WentThrough TakesPath a ps b → Took ps (state_of a) (state_of b)
 went [] a b h = subst (λ k. Took [] (state_of a) (state_of k)) h (took_none (state_of a))
 went (p ∷ ps) a b h = took_more p ps (state_of a) (state_of h.0) (state_of b) h.1.0 (went ps h.0 b h.1.1)
 
 -- Some of the first solutions were written, and the next one was refused.
-record Stopped (ps : List (List Turn)) (old new : LinesState) : Type 0 where
-  count : ℕ
-  next : List Turn
-  within : count < length ps
-  line : first_lines (suc count) ps ≡ first_lines count ps ++ solution_line next
-  between : LinesState
-  took : Took (take count ps) old between
-  refused : Refuses next between new
-  first : new.first ≡ first_of old.first ps
+pub record Stopped (ps : List (List Turn)) (old new : LinesState) : Type 0 where
+  pub count : ℕ
+  pub next : List Turn
+  pub within : count < length ps
+  pub line : first_lines (suc count) ps ≡ first_lines count ps ++ solution_line next
+  pub between : LinesState
+  pub took : Took (take count ps) old between
+  pub refused : Refuses next between new
+  pub first : new.first ≡ first_of old.first ps
 
 stopped_here : (p : List Turn) (ps : List (List Turn)) (a b : LinesState) → Refuses p a b → Stopped (p ∷ ps) a b
 stopped_here p ps a b r = record {
@@ -129,18 +129,18 @@ stopped_later p ps a m b t s = record {
   first = s.first ∙ ap (λ o. first_of o ps) t.first ∙ first_of-more a.first p ps;
 }
 
-stop : (ps : List (List Turn)) (a b : SolutionLines) → StoppedIn TakesPath RefusesPath a ps b → Stopped ps (state_of a) (state_of b)
+pub stop : (ps : List (List Turn)) (a b : SolutionLines) → StoppedIn TakesPath RefusesPath a ps b → Stopped ps (state_of a) (state_of b)
 stop [] a b h = absurd h
 stop (p ∷ ps) a b (inl h) = stopped_here p ps (state_of a) (state_of b) h
 stop (p ∷ ps) a b (inr h) = stopped_later p ps (state_of a) (state_of h.0) (state_of b) h.1.0 (stop ps h.0 b h.1.1)
 
 -- Some of the first solutions were written, and no other came.
-record Into (ps : List (List Turn)) (old new : LinesState) : Type 0 where
-  count : ℕ
-  within : count ≤ length ps
-  took : Took (take count ps) old new
+pub record Into (ps : List (List Turn)) (old new : LinesState) : Type 0 where
+  pub count : ℕ
+  pub within : count ≤ length ps
+  pub took : Took (take count ps) old new
 
-into : (ps : List (List Turn)) (a b : SolutionLines) → WentInto TakesPath a ps b → Into ps (state_of a) (state_of b)
+pub into : (ps : List (List Turn)) (a b : SolutionLines) → WentInto TakesPath a ps b → Into ps (state_of a) (state_of b)
 into [] a b h = record { count = 0; within = omega arith; took = subst (λ k. Took [] (state_of a) (state_of k)) h (took_none (state_of a)) }
 into (p ∷ ps) a b (inl h) = record { count = 0; within = omega arith; took = subst (λ k. Took [] (state_of a) (state_of k)) h (took_none (state_of a)) }
 into (p ∷ ps) a b (inr h) =
@@ -205,7 +205,7 @@ is_less a b h = grind (arith, common_steps)
 pub is_not_less : (a b : ℕ) → b ≤ a → false ≡ nat_lt a b
 is_not_less a b h = grind (arith, common_steps)
 
-no_cut : (b : Bool) → cond {A = ℕ} b 4 0 ≡ 5 → ⊥
+pub no_cut : (b : Bool) → cond {A = ℕ} b 4 0 ≡ 5 → ⊥
 no_cut true h = absurd (omega arith)
 no_cut false h = absurd (omega arith)
 
@@ -218,7 +218,7 @@ module _ (l : Lines) where
       puts_whole l.before l.after text l.written (held ∙ ap (λ v. v ++ text) (no_front l.before))
       (free ∙ ap (λ v. drop (length text) v) (all_left l.before)) (omega (arith, fits, ap (length {A = ℕ}) (all_left l.before))) l.within
 
-  hands_all : (all : List (List Turn)) (nodes : ℕ) → Took all (begun l) (ended l)
+  pub hands_all : (all : List (List Turn)) (nodes : ℕ) → Took all (begun l) (ended l)
       → Hands all l.most (memory l.before l.after) (solve_answer l false false nodes)
   hands_all all nodes w =
       let count : l.solutions ≡ length all = omega (arith, w.counted) in
@@ -231,7 +231,7 @@ module _ (l : Lines) where
         ended = inl (done, count ∙ min_is_right l.most (length all) (omega (arith, count, l.few, w.same_most)));
       }
 
-  hands_some : (all : List (List Turn)) (nodes : ℕ) → Stopped all (begun l) (ended l)
+  pub hands_some : (all : List (List Turn)) (nodes : ℕ) → Stopped all (begun l) (ended l)
       → Hands all l.most (memory l.before l.after) (solve_answer l false true nodes)
   hands_some all nodes s =
       let taken : length (take s.count all) ≡ s.count = length-take-le s.count all (omega (arith, s.within)) in
@@ -278,7 +278,7 @@ module _ (l : Lines) where
             subst (λ n. length l.before < length (first_lines n all)) next (omega (arith, long, free, room, h.1, s.took.fits)),
           ))
 
-  hands_cut : (all : List (List Turn)) (nodes : ℕ) → Into all (begun l) (ended l)
+  pub hands_cut : (all : List (List Turn)) (nodes : ℕ) → Into all (begun l) (ended l)
       → Hands all l.most (memory l.before l.after) (solve_answer l true true nodes)
   hands_cut all nodes w =
       let taken : length (take w.count all) ≡ w.count = length-take-le w.count all w.within in
@@ -291,7 +291,7 @@ module _ (l : Lines) where
       }
 
 -- the least length is that of the first solution that came
-first_is : (ps : List (List Turn)) → first_of None ps ≡ option_map (length {A = Turn}) (slice_get ps 0)
+pub first_is : (ps : List (List Turn)) → first_of None ps ≡ option_map (length {A = Turn}) (slice_get ps 0)
 first_is [] = refl
 first_is (p ∷ ps) = refl
 

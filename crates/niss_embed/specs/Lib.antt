@@ -5,3 +5,4 @@ pub mod LineCalls
 pub mod LineSearch
 pub mod LineFacts
 pub mod ManyLines
+pub mod SolveAfter

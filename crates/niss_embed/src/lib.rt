@@ -18,6 +18,7 @@
 //! ```
 //! let wanted = Wanted { limit: 20, slack: 0, most: 10, most_nodes: 1_000_000 };
 //! let answer = solve_line(&tables, b"R U' F2", wanted, &mut out);
+//! let next = solve_after(&tables, b"R U' F2", last, wanted, &mut out);     // `last` has the moves of the last one written
 //! ```
 #![tactic(auto)]
 
@@ -35,7 +36,7 @@ pub use answer::{Answer, LineAnswer, Status};
 pub use call::run_bytes;
 pub use fact_answers::{AxisFacts, CheckAnswer, FactsAnswer, LinesAnswer};
 pub use line_facts::{check_line, facts_of_line};
-pub use line_search::{Wanted, count_line, solve_line};
+pub use line_search::{Wanted, count_line, solve_after, solve_line};
 pub use line_texts::{fault_text, rewrite_line, scramble, start_name, step_names};
 pub use many_lines::{count_lines, facts_of_lines};
 pub use search_answer::SearchAnswer;

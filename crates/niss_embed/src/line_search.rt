@@ -14,10 +14,13 @@ ghost use Rattle.niss_embed.specs.LineSearch.{most_of_line, lines_state, Takes, 
 ghost use Rattle.niss_embed.specs.LineSearch.{SolvesLine, CountsCube, CountsLine, count_state, Counts, CountsNoMore};
 ghost use Rattle.niss_embed.specs.declared.answer.Status.TheVariants.{Done, NoRoom, Cut};
 
+mod after;
+
 use crate::answer::Status;
 use crate::line_texts::feed_line;
 use crate::memory::put;
 use crate::search_answer::SearchAnswer;
+pub use after::solve_after;
 use niss_moves::{LineReader, LineText, Turn};
 use niss_search::laws::first_is_least;
 use niss_search::{
@@ -221,7 +224,7 @@ fn status_of(cut: bool, too_small: bool) -> u8
 }
 
 /// Whether a search was cut.
-fn was_cut<F>(found: &Result<Outcome, Stopped<F>>) -> bool
+fn was_cut<T, F>(found: &Result<T, Stopped<F>>) -> bool
     ensures { result ≡ is_cut found.now }
 {
     matches!(found, Err(Stopped::Cut))

@@ -1,0 +1,247 @@
+-- From what a search behind a sequence did to its lines in memory to what it answers.
+use Rattle.std.proofs.Common.{◌≡◌, ◌⊎◌, inl, inr, ℕ, ◌+◌, ◌<◌, ◌≤◌, true, false, Option, None, Result, Ok, Err, List, [], ◌∷◌, map}
+use Rattle.std.proofs.Common.{take, length, refl, sym, ap, ◌∙◌, subst, arith, unwrap_or}
+use Rattle.std.proofs.Common.{ap₂, get_or, ◌++◌}
+use Rattle.std.specs.Prelude.{filter}
+use Rattle.std.proofs.lemmas.List.{length-take-le, take_more, length-map, map-append, get_or_default, get_or-map}
+use Rattle.niss_search.specs.Names.{no_turn}
+use Rattle.std.specs.Prelude.{is_err, OnOk, IfErr}
+use Rattle.niss_moves.specs.Line.{Moves}
+use Rattle.niss_moves.specs.Places.{Place}
+use Rattle.niss_moves.specs.declared.token.Token.{Token}
+use Rattle.niss_moves.specs.declared.token.Token.TheVariants as token
+use Rattle.niss_search.specs.Budgets.{is_cut_in}
+use Rattle.niss_search.specs.Cubes.{least_length_of, near_solutions_of, cubes}
+use Rattle.niss_search.specs.Delivery.{WentThrough, StoppedIn, EndedIn}
+use Rattle.niss_search.specs.Laws.{FirstIsLeast, SolutionsAreSequences}
+use Rattle.niss_search.specs.Later.{comes_after, later_of, deepening_looks_of}
+use Rattle.niss_search.specs.Solutions.{last_length}
+use Rattle.niss_search.specs.declared.budget.Stopped.{Stopped as Ending}
+use Rattle.niss_search.specs.declared.budget.Stopped.TheVariants as ending
+use Rattle.niss_shell.specs.Names.{Turn, Step}
+use Rattle.niss_moves.specs.Reader.{read_line}
+use Rattle.niss_moves.specs.declared.fault.ReadFault.{ReadFault}
+use Rattle.niss_shell.specs.Output.{start_cube}
+use Rattle.niss_shell.specs.Words.{most_bytes, most_limit}
+use Rattle.niss_embed.specs.Memory.{Memory, memory}
+use Rattle.niss_embed.specs.LineSearch.{Hands, Only, unsolved, capped, is_cut, looks_for_all}
+use Rattle.niss_embed.specs.SolveAfter.{all_behind, looks_for_behind, SolvesBehind, SolvesBehindAt, SolvesAfter, Spells, cut_before, line_of_turns}
+use Rattle.niss_embed.specs.declared.line_search.CountedSolutions.{CountedSolutions}
+use Rattle.niss_embed.specs.declared.line_search.Refused.{Refused}
+use Rattle.niss_embed.specs.declared.line_search.SolutionLines.{SolutionLines}
+use Rattle.niss_embed.specs.declared.answer.Status.TheVariants as status
+use Rattle.niss_embed.specs.declared.line_search.Wanted.{Wanted}
+use Rattle.niss_embed.specs.declared.search_answer.SearchAnswer.{SearchAnswer}
+use Rattle.niss_embed.proofs.CountLemmas.{CountsPath, RefusesMore, stop as stop_counting}
+use Rattle.niss_embed.proofs.SolveLemmas.{Took, Stopped, Into, TakesPath, RefusesPath, Lines, begun, ended, state_of, told_of, solve_answer, took_none}
+use Rattle.niss_embed.proofs.SolveLemmas.{went, stop, into, hands_all, hands_some, hands_cut, first_of, first_is, no_cut, is_less, is_not_less, capped_le}
+
+-- the first solution, which was refused, tells the least length
+pub least_is_first : FirstIsLeast → (step : Step) (e : Place → Place) (n : ℕ) (a b : CountedSolutions) → a.first ≡ None
+    → StoppedIn CountsPath RefusesMore a (near_solutions_of step e n 0) b → b.first ≡ least_length_of step e n
+least_is_first least step e n a b none h =
+    let all = near_solutions_of step e n 0 in
+    (stop_counting all a b h).first ∙ ap (λ o. first_of o all) none ∙ first_is all ∙ sym (least.0 _ (cubes step) e n 0)
+
+abbrev pub Handed : Type 0
+Handed = Result ℕ (Ending Refused)
+
+module _ (step : Step) (w : Wanted) (p : List Turn) (e : Place → Place) where
+  abbrev all : List (List Turn)
+  all = all_behind step w p e
+
+  -- a search that was cut before it knew the least length
+  pub cut_early : (out : List ℕ) (looks : ℕ) → looks ≤ looks_for_behind step w e → capped looks ≤ w.most_nodes → w.most_nodes < looks_for_behind step w e
+      → SolvesBehind step w p e (memory out out) (cut_before looks)
+  cut_early out looks at_most within cut =
+      let l : Lines = record {
+        before = out;
+        after = out;
+        reference = 0;
+        reference_now = 0;
+        written = 0;
+        solutions = 0;
+        most = w.most;
+        most_now = w.most;
+        first = None;
+        too_small = false;
+        within = omega arith;
+        few = omega arith;
+      } in
+      let none : Into all (begun l) (ended l) = record { count = 0; within = omega arith; took = subst (λ ps. Took ps (begun l) (ended l)) (sym (nothing all)) (took_none (begun l)) } in
+      let hands = hands_cut l all (capped looks) none in
+      record {
+        hands = record { text = hands.text; room = hands.room; ended = hands.ended };
+        finds = record {
+          more = λ n. absurd (n refl);
+          maybe_more = λ c. refl;
+          least = inr (refl, refl, refl);
+          looks_at_most = capped_le looks (looks_for_behind step w e) at_most;
+          within = within;
+          cut = λ c. cut;
+          no_fault = refl;
+          no_column = refl;
+        };
+      }
+    where
+      nothing : (ps : List (List Turn)) → take 0 ps ≡ []
+      nothing [] = refl
+      nothing (q ∷ qs) = refl
+
+  -- a search from a cube, by what it did to its lines
+  module _ (a b : SolutionLines) (r : Handed)
+      (ok : OnOk r (WentThrough TakesPath a all b))
+      (err : IfErr r (λ stop. EndedIn TakesPath RefusesPath (is_cut_in stop) a all b)) where
+    pub same_memory_behind : b.bytes.ghost_name ≡ a.bytes.ghost_name
+    same_memory_behind = by_result r ok err where
+      by_result : (r : Handed) → OnOk r (WentThrough TakesPath a all b)
+          → IfErr r (λ stop. EndedIn TakesPath RefusesPath (is_cut_in stop) a all b) → b.bytes.ghost_name ≡ a.bytes.ghost_name
+      by_result (Ok o) h k = (went all a b h).same_reference
+      by_result (Err (ending.Refused x)) h k =
+          let s = stop all a b k in
+          s.refused.same_reference ∙ s.took.same_reference
+      by_result (Err ending.Cut) h k = (into all a b k).took.same_reference
+
+    pub solves_behind : (l : Lines) (least : Option ℕ) (looks : ℕ) → l.most ≡ w.most → state_of a ≡ begun l → state_of b ≡ ended l
+        → least ≡ least_length_of step e w.limit → looks ≤ looks_for_behind step w e → capped looks ≤ w.most_nodes
+        → IfErr r (λ stop. is_cut_in stop ≡ true → w.most_nodes < looks_for_behind step w e)
+        → SolvesBehind step w p e (memory l.before l.after) (told_of (is_cut r) l.too_small (is_err r) least l.written l.solutions (capped looks))
+    solves_behind l least looks most begins ends least_is at_most within cut = by_result r ok err cut where
+      known : unwrap_or least 0 ≡ unwrap_or (least_length_of step e w.limit) 0
+      known = ap (λ o. unwrap_or o 0) least_is
+
+      few : capped looks ≤ capped (looks_for_behind step w e)
+      few = capped_le looks (looks_for_behind step w e) at_most
+
+      by_result : (r : Handed) → OnOk r (WentThrough TakesPath a all b) → IfErr r (λ stop. EndedIn TakesPath RefusesPath (is_cut_in stop) a all b)
+          → IfErr r (λ stop. is_cut_in stop ≡ true → w.most_nodes < looks_for_behind step w e)
+          → SolvesBehind step w p e (memory l.before l.after) (told_of (is_cut r) l.too_small (is_err r) least l.written l.solutions (capped looks))
+      by_result (Ok o) h k cut =
+          let t : Took all (begun l) (ended l) = subst (λ s. Took all s (ended l)) begins (subst (λ s. Took all (state_of a) s) ends (went all a b h)) in
+          let hands = subst (λ m. Hands all m (memory l.before l.after) (solve_answer l false false (capped looks))) most (hands_all l all (capped looks) t) in
+          record {
+            hands = record { text = hands.text; room = hands.room; ended = hands.ended };
+            finds = record {
+              more = λ n. is_not_less l.solutions (length all) (omega (arith, t.counted));
+              maybe_more = λ c. absurd (no_cut l.too_small c);
+              least = inl known;
+              looks_at_most = few;
+              within = within;
+              cut = λ c. absurd (no_cut l.too_small c);
+              no_fault = refl;
+              no_column = refl;
+            };
+          }
+      by_result (Err (ending.Refused x)) h k cut =
+          let s : Stopped all (begun l) (ended l) = subst (λ s. Stopped all s (ended l)) begins (subst (λ s. Stopped all (state_of a) s) ends (stop all a b k)) in
+          let taken : length (take s.count all) ≡ s.count = length-take-le s.count all (omega (arith, s.within)) in
+          let hands = subst (λ m. Hands all m (memory l.before l.after) (solve_answer l false true (capped looks))) most (hands_some l all (capped looks) s) in
+          record {
+            hands = record { text = hands.text; room = hands.room; ended = hands.ended };
+            finds = record {
+              more = λ n. is_less l.solutions (length all) (omega (arith, taken, s.took.counted, s.refused.same_count, s.within));
+              maybe_more = λ c. absurd (no_cut l.too_small c);
+              least = inl known;
+              looks_at_most = few;
+              within = within;
+              cut = λ c. absurd (no_cut l.too_small c);
+              no_fault = refl;
+              no_column = refl;
+            };
+          }
+      by_result (Err ending.Cut) h k cut =
+          let t : Into all (begun l) (ended l) = subst (λ s. Into all s (ended l)) begins (subst (λ s. Into all (state_of a) s) ends (into all a b k)) in
+          let hands = subst (λ m. Hands all m (memory l.before l.after) (solve_answer l true true (capped looks))) most (hands_cut l all (capped looks) t) in
+          record {
+            hands = record { text = hands.text; room = hands.room; ended = hands.ended };
+            finds = record {
+              more = λ n. absurd (n refl);
+              maybe_more = λ c. refl;
+              least = inl known;
+              looks_at_most = few;
+              within = within;
+              cut = λ c. cut refl;
+              no_fault = refl;
+              no_column = refl;
+            };
+          }
+
+-- A line of turns has one list of them.
+abbrev face_turn : Turn → Token → Turn
+face_turn d (token.Face t) = t
+face_turn d _ = d
+
+pub one_list : (a b : List Turn) → line_of_turns a ≡ line_of_turns b → a ≡ b
+one_list a b h = back a ∙ ap (λ (m : Moves). map (face_turn no_turn) m.normal) h ∙ sym (back b) where
+  back : (ts : List Turn) → ts ≡ map (face_turn no_turn) (map token.Face ts)
+  back [] = refl
+  back (t ∷ ts) = ap (λ (l : List Turn). t ∷ l) (back ts)
+
+-- one turn more was read
+pub push_turn : (turns : List Turn) (moves : List Token) (i : ℕ) (d : Token) (t : Turn) → i < length moves → map token.Face turns ≡ take i moves
+    → get_or moves i d ≡ token.Face t → map token.Face (turns ++ t ∷ []) ≡ take (i + 1) moves
+push_turn turns moves i d t inside read is =
+    map-append token.Face turns (t ∷ []) ∙ ap₂ (λ (a b : List Token). a ++ b) read (ap (λ (m : Token). m ∷ []) (sym is)) ∙ sym (take_more moves i d inside)
+
+-- a move that is no turn of a face stands in no such line
+pub another_move : (line : Moves) (i : ℕ) (d : Token) → i < length line.normal → ((t : Turn) → get_or line.normal i d ≡ token.Face t → ⊥)
+    → (turns : List Turn) → line ≡ line_of_turns turns → ⊥
+another_move line i d inside other turns h =
+    let same : line.normal ≡ map token.Face turns = ap (λ (m : Moves). m.normal) h in
+    let within : i < length turns = omega (arith, inside, ap (length {A = Token}) same, length-map turns token.Face) in
+    other (get_or turns i no_turn)
+    (ap (λ (ms : List Token). get_or ms i d) same
+    ∙ get_or_default (map token.Face turns) i d (token.Face no_turn) (omega (arith, within, length-map turns token.Face))
+    ∙ get_or-map token.Face turns i no_turn (token.Face no_turn) within)
+
+-- The solutions behind a sequence, up to the last length of the list, and the looks for them.
+module _ (law : SolutionsAreSequences) (step : Step) (w : Wanted) (p : List Turn) (e : Place → Place) (least : Option ℕ) (n slack last : ℕ)
+    (n_is : n ≡ w.limit) (slack_is : slack ≡ w.slack) (least_is : least ≡ least_length_of step e n) (last_is : last ≡ last_length least n slack) where
+  pub least_known : least ≡ least_length_of step e w.limit
+  least_known = least_is ∙ ap (least_length_of step e) n_is
+
+  last_known : last ≡ last_length (least_length_of step e w.limit) w.limit w.slack
+  last_known = last_is ∙ (λ i. last_length (least_known i) (n_is i) (slack_is i))
+
+  pub behind_is : later_of step e last p ≡ all_behind step w p e
+  behind_is = ap (λ l. later_of step e l p) last_known ∙ sym (ap (filter (comes_after p)) (law.listed step e w.limit w.slack))
+
+  pub looks_are : deepening_looks_of step e last ≡ looks_for_all step w e
+  looks_are = ap (deepening_looks_of step e) last_known ∙ sym (law.looked step e w.limit w.slack)
+
+-- Bytes spell one list of turns.
+abbrev moves_or : Moves → Result Moves ReadFault → Moves
+moves_or d (Ok line) = line
+moves_or d (Err fault) = d
+
+one_spelling : (bytes : List ℕ) (p q : List Turn) → Spells bytes p → Spells bytes q → p ≡ q
+one_spelling bytes p q h k = one_list p q (ap (moves_or (line_of_turns p)) (sym h.1 ∙ k.1))
+
+module _ (step : Step) (w : Wanted) (line after : List ℕ) (out : Memory) (told : SearchAnswer) (p : List Turn) (spells : Spells after p)
+    (limit : w.limit ≤ most_limit) (slack : w.slack ≤ most_limit) where
+  not_beyond : (most_limit < w.limit) ⊎ (most_limit < w.slack) → ⊥
+  not_beyond (inl h) = absurd (omega (arith, h, limit))
+  not_beyond (inr h) = absurd (omega (arith, h, slack))
+
+  -- what a search tells of the line
+  pub after_solves : length line ≤ most_bytes → SolvesBehindAt (start_cube step (read_line line)) step w p out told → SolvesAfter step w line after out told
+  after_solves short solved = record {
+    beyond = λ b. absurd (not_beyond b);
+    no_turns = λ none. absurd (none p spells);
+    too_long = λ q s l k long. absurd (omega (arith, short, long));
+    solves = λ q s l k m. subst (λ r. SolvesBehindAt (start_cube step (read_line line)) step w r out told) (one_spelling after p q spells s) solved;
+  }
+
+  pub after_too_long : most_bytes < length line → Only (unsolved status.Stopped 0 0) out told → SolvesAfter step w line after out told
+  after_too_long long only = record {
+    beyond = λ b. absurd (not_beyond b);
+    no_turns = λ none. absurd (none p spells);
+    too_long = λ q s l k m. only;
+    solves = λ q s l k short. absurd (omega (arith, short, long));
+  }
+
+-- What passes the bound of one search passes that of both.
+pub over_both : (r : Handed) (left all most whole : ℕ) → (left < all → most < whole) → IfErr r (λ stop. is_cut_in stop ≡ true → left < all)
+    → IfErr r (λ stop. is_cut_in stop ≡ true → most < whole)
+over_both (Ok count) left all most whole passes h = tt
+over_both (Err stop) left all most whole passes h = λ t. passes (h t)

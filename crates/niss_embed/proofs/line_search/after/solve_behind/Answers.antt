@@ -1,0 +1,91 @@
+use Rattle.std.proofs.Common.{◌≡◌, ◌≤◌, refl, cond, sym, ap, ◌∙◌, subst, Bool, ℕ, arith, ◌-◌}
+use Rattle.std.specs.Prelude.{OnOk, IfErr, is_err}
+use Rattle.niss_search.specs.Budgets.{is_cut_in}
+use Rattle.niss_search.specs.Cubes.{least_length_of, near_looks_of}
+use Rattle.niss_search.specs.Delivery.{Path, WentThrough, EndedIn}
+use Rattle.niss_search.specs.Later.{deepening_looks_of}
+use Rattle.niss_search.specs.Solutions.{last_length}
+use Rattle.niss_embed.specs.Memory.{memory}
+use Rattle.niss_embed.specs.LineSearch.{lines_state, capped, is_cut}
+use Rattle.niss_embed.specs.SolveAfter.{all_behind, looks_for_behind, SolvesBehind}
+use Rattle.niss_embed.specs.declared.line_search.Wanted.{Wanted}
+use Rattle.niss_embed.specs.declared.search_answer.SearchAnswer.{SearchAnswer}
+use Rattle.niss_embed.proofs.SolveLemmas.{Lines, TakesPath, RefusesPath, told_of}
+use Rattle.niss_embed.proofs.AfterLemmas.{behind_is, looks_are, least_known, over_both, same_memory_behind, solves_behind}
+use Rattle.niss_embed.proofs.line_search.after.solve_behind.Goals as goal
+
+pub returns : goal.returns
+returns g c = λ e at.
+    let step = c.args.tables.now in
+    let w : Wanted = c.args.wanted in
+    let p = c.args.after.now in
+    let a = c.new-lines.result in
+    let new = c.new-lines.ensures in
+    let b = c.search_after-handed.new.sink in
+    let found = c.search_after-handed.result in
+    let by = c.search_after-handed.ensures in
+    let law = c.later_is_rest.ensures.sequences in
+    let least = c.in-Ok.least in
+    let n = c.args.bounds.limit in
+    let slack = c.args.bounds.slack in
+    let last = c.new-path.result.limit in
+    let n_is = c.requires.limit in
+    let slack_is = c.requires.slack in
+    let least_is : least ≡ least_length_of step e n = c.in-Ok.ensures.least e at in
+    let last_is : last ≡ last_length least n slack = ap (λ (q : Path). q.limit) c.new-path.ensures ∙ c.last_limit.ensures in
+    let same = behind_is law step w p e least n slack last n_is slack_is least_is last_is in
+    let looks_same = looks_are law step w p e least n slack last n_is slack_is least_is last_is in
+    let ok : OnOk found (WentThrough TakesPath a (all_behind step w p e) b) =
+    subst (λ ps. OnOk found (WentThrough TakesPath a ps b)) same (by.ok e at) in
+    let err : IfErr found (λ stop. EndedIn TakesPath RefusesPath (is_cut_in stop) a (all_behind step w p e) b) =
+    subst (λ ps. IfErr found (λ stop. EndedIn TakesPath RefusesPath (is_cut_in stop) a ps b)) same (by.err e at) in
+    let before = c.least_length-found.new.looks in
+    let looks = c.search_after-handed.new.meter in
+    let first : before ≤ near_looks_of step e w.limit 0 = subst (λ k. before ≤ near_looks_of step e k 0) n_is (c.in-Ok.ensures.looks_at_most e at) in
+    let all = deepening_looks_of step e last in
+    let at_most : looks ≤ looks_for_behind step w e = omega (arith, by.looks_at_most e at, looks_same, first) in
+    let within : capped looks ≤ w.most_nodes = omega (arith, by.within, c.in-Ok.ensures.within, c.from.ensures, c.count.ensures) in
+    let cut = over_both found (c.from.result - c.count.result) all w.most_nodes (looks_for_behind step w e)
+    (λ over. omega (arith, over, looks_same, first, c.in-Ok.ensures.within, c.from.ensures, c.count.ensures)) (by.cut e at) in
+    let back : c.out-1.given.0 ≡ b.bytes.now =
+    c.out-1.given.1.1 (sym (same_memory_behind step w p e a b found ok err ∙ new.same_reference)) in
+    let l : Lines = record {
+      before = c.args.out.now;
+      after = b.bytes.now;
+      reference = a.bytes.ghost_name;
+      reference_now = b.bytes.ghost_name;
+      written = b.written;
+      solutions = b.solutions;
+      most = w.most;
+      most_now = b.most;
+      first = b.first;
+      too_small = b.too_small;
+      within = b.within;
+      few = b.few;
+    } in
+    let told : SearchAnswer = record {
+      status = c.status_of.result;
+      fault = 0;
+      least = c.unwrap_or.result;
+      more = c.is_err.result;
+      column = 0;
+      length = b.written;
+      solutions = b.solutions;
+      nodes = c.capped.result;
+    } in
+    let told_is : told ≡ told_of (is_cut found) b.too_small (is_err found) least b.written b.solutions (capped looks) = λ i. record {
+      status = (c.status_of.ensures ∙ ap (λ (cut : Bool). cond {A = ℕ} cut 5 (cond b.too_small 4 0)) c.was_cut.ensures) i;
+      fault = 0;
+      least = c.unwrap_or.ensures i;
+      more = c.is_err.ensures.value i;
+      column = 0;
+      length = b.written;
+      solutions = b.solutions;
+      nodes = (c.capped.ensures ∙ ap capped c.count-2.ensures) i;
+    } in
+    subst (λ v. SolvesBehind step w p e (memory c.args.out.now v) told) (sym back)
+    (subst (λ t. SolvesBehind step w p e (memory c.args.out.now b.bytes.now) t) (sym told_is)
+    (solves_behind step w p e a b found ok err l least looks refl
+    (λ i. lines_state (new.unchanged i) a.bytes.ghost_name (new.empty i) (new.none i) (new.most i) (new.first i) (new.works i))
+    (λ i. lines_state b.bytes.now b.bytes.ghost_name b.written b.solutions b.most b.first b.too_small)
+    (least_known law step w p e least n slack last n_is slack_is least_is last_is) at_most within cut))
