@@ -157,10 +157,10 @@ nissy_run_answer nissy_run(const uint8_t *words, size_t words_length, const uint
                            size_t out_room, uint8_t *err, size_t err_room);
 
 /* The tables of a step, or none. Its fields are the library's: begin with NISSY_NO_TABLES (all bytes 0 is the same), let nissy_build alone
- * write to it, and copy it as you like: a copy has the same tables. Any threads may ask it and its copies (nissy_solve, nissy_count,
- * nissy_count_lines) at the same time. While nissy_build runs on a struct, no other call and no copy may read or write that struct; its
- * copies may be asked. What no call can see is undefined: fields that something else wrote, and a struct into which another thread builds
- * meanwhile. Such a call may find no tables, use those of either step, or end the program by a signal.
+ * write to it, and copy it as you like: a copy has the same tables. Any threads may ask it and its copies (nissy_solve, nissy_solve_after,
+ * nissy_count, nissy_count_lines) at the same time. While nissy_build runs on a struct, no other call and no copy may read or write that
+ * struct; its copies may be asked. What no call can see is undefined: fields that something else wrote, and a struct into which another
+ * thread builds meanwhile. Such a call may find no tables, use those of either step, or end the program by a signal.
  *
  * Tables stay for as long as the process runs: there is no release, and so no use after one. So build those of a step once, and keep
  * them: a nissy_build into a struct without them takes their memory anew, 0.1 million bytes for an edge orientation, 1.2 million for a
@@ -185,8 +185,8 @@ uint8_t nissy_build(nissy_tables *tables, const uint8_t *step, size_t step_lengt
 
 /* What a search on a line returns. A number of 2^64 or more is told as 2^64 - 1. */
 typedef struct nissy_search_answer {
-    uint8_t status;     /* NISSY_DONE, NISSY_FAULT, NISSY_USAGE, NISSY_STOPPED, NISSY_CUT; nissy_solve also NISSY_ROOM: the next solution
-                           doesn't fit into `out` */
+    uint8_t status;     /* NISSY_DONE, NISSY_FAULT, NISSY_USAGE, NISSY_STOPPED, NISSY_CUT; of a call that writes solutions also NISSY_ROOM:
+                           the next one doesn't fit into `out` */
     uint8_t fault;      /* after NISSY_FAULT one of nissy_fault */
     uint8_t least;      /* after NISSY_DONE, NISSY_ROOM and NISSY_CUT the turns of the shortest solution, 0 if none is known */
     uint8_t more;       /* after NISSY_DONE and NISSY_ROOM: there are solutions beyond those that are told; 1 after NISSY_CUT, when there
@@ -211,6 +211,22 @@ typedef struct nissy_search_answer {
  * bytes. NISSY_FAULT: the line has a fault, or NISSY_START. The first of these that holds is told, in this order. */
 nissy_search_answer nissy_solve(const nissy_tables *tables, const uint8_t *line, size_t line_length, uint8_t limit, uint8_t slack,
                                 uint64_t most, uint64_t most_nodes, uint8_t *out, size_t out_room);
+
+/* Goes on behind a solution: writes of the list of nissy_solve those alone that come after `after`, by length and then in turn order, and
+ * no more than `most` of them. `after` is the moves of a solution as they stand in its line before the count: "F B'" of "F B' (2)", nothing
+ * of the solution "(0)". So a caller goes through any list in pieces, and keeps the last line of each alone: a first nissy_solve, and then,
+ * while `more` is 1 and a solution was written, this with the same line, `limit` and `slack`. The pieces make the whole list, each solution
+ * once. It takes no memory.
+ *
+ * `least` is the turns of the shortest solution of the whole list, 0 if there is none or NISSY_CUT came before it was known; `solutions`,
+ * `more` and `length` tell of those behind `after`. For `least` it searches anew for a first solution; `nodes` and
+ * `most_nodes` are of both.
+ *
+ * `after` may be any sequence of turns of one face each, also one that is no solution, or is longer than `limit`. NISSY_USAGE, as from
+ * nissy_solve, also if it isn't one: it can't be read, or has moves in brackets, a wide turn, a slice turn or a rotation. */
+nissy_search_answer nissy_solve_after(const nissy_tables *tables, const uint8_t *line, size_t line_length, const uint8_t *after,
+                                      size_t after_length, uint8_t limit, uint8_t slack, uint64_t most, uint64_t most_nodes, uint8_t *out,
+                                      size_t out_room);
 
 /* Does what nissy_solve does with room enough, but writes nothing: it counts the solutions, and no more than `most` of them. With `most`
  * 1 it ends at the first one, and so tells the least length soonest. With NISSY_ALL twice and the slack 0 these are the numbers of the

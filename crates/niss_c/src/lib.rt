@@ -11,7 +11,9 @@ pub use check_calls::{nissy_check, nissy_facts, nissy_facts_lines};
 pub use niss_embed::{AxisFacts, CheckAnswer, FactsAnswer, LineAnswer, LinesAnswer, SearchAnswer};
 pub use niss_kept::Held;
 pub use run_call::{RunAnswer, nissy_run};
-pub use table_calls::{nissy_build, nissy_count, nissy_count_lines, nissy_solve};
+pub use table_calls::{
+    nissy_build, nissy_count, nissy_count_lines, nissy_solve, nissy_solve_after,
+};
 pub use text_calls::{
     nissy_cleanup, nissy_facelets, nissy_fault_text, nissy_invert, nissy_scramble, nissy_start,
     nissy_steps, nissy_unniss,

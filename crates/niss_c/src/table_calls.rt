@@ -4,10 +4,13 @@ ghost use Rattle.niss_cube.specs.Steps.{name_of};
 ghost use Rattle.niss_embed.specs.Memory.{memory};
 ghost use Rattle.niss_embed.specs.LineSearch.{Builds, SolvesWith, CountsWith, wanted};
 ghost use Rattle.niss_embed.specs.ManyLines.{CountsLinesWith};
+ghost use Rattle.niss_embed.specs.SolveAfter.{SolvesAfterWith};
 
 use niss_cube::Step;
 use niss_cube::laws::names_differ;
-use niss_embed::{LinesAnswer, SearchAnswer, Status, Wanted, count_line, count_lines, solve_line};
+use niss_embed::{
+    LinesAnswer, SearchAnswer, Status, Wanted, count_line, count_lines, solve_after, solve_line,
+};
 use niss_kept::Held;
 use std::alloc::Global;
 
@@ -54,6 +57,33 @@ pub extern "C" fn nissy_solve(
     };
     match tables.tables() {
         Some(tables) => solve_line(tables, line, wanted, out),
+        None => SearchAnswer::misused(),
+    }
+}
+
+/// Writes the solutions for a line that come after one of them, by the tables, as `solve_after` of `niss_embed`.
+#[unsafe(no_mangle)]
+pub extern "C" fn nissy_solve_after(
+    tables: &Held,
+    line: &[u8],
+    after: &[u8],
+    limit: u8,
+    slack: u8,
+    most: u64,
+    most_nodes: u64,
+    out: &mut [u8],
+) -> SearchAnswer
+    ensures { SolvesAfterWith tables.now.built tables.now.kept.step (wanted limit slack most most_nodes) line.now after.now
+        (memory out.old out.new) result }
+{
+    let wanted = Wanted {
+        limit,
+        slack,
+        most,
+        most_nodes,
+    };
+    match tables.tables() {
+        Some(tables) => solve_after(tables, line, after, wanted, out),
         None => SearchAnswer::misused(),
     }
 }
