@@ -8,8 +8,8 @@
 #if defined(__cplusplus)
 #error "nissy.c is C: compile it by a C compiler; nissy.h can be included in C++"
 #elif !defined(__STDC_VERSION__) || __STDC_VERSION__ < 201112L
-#error "nissy.c needs a compiler for C11 or later: gcc and clang take -std=c11, cl takes /std:c11"
-#endif
+#error "nissy.c needs a compiler for C11 or later: gcc, clang and tcc take -std=c11, cl takes /std:c11"
+#else
 #include "nissy.h"
 
 #include <stdbool.h>

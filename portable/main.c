@@ -4,6 +4,9 @@
  *     cc -O2 main.c nissy.c -o nissy
  *
  * What it takes of the system beside ISO C11 is `read` and `write`, since C's streams don't say which bytes have come. */
+#if defined(__cplusplus) || !defined(__STDC_VERSION__) || __STDC_VERSION__ < 199901L
+#error "main.c is C, from C99 on: compile it by a C compiler"
+#else
 #include "nissy.h"
 
 #include <inttypes.h>
@@ -378,4 +381,5 @@ int main(int count, char **words) {
     signal(SIGPIPE, SIG_IGN);
     return ended(count > 0 ? count - 1 : 0, words + 1);
 }
+#endif
 #endif

@@ -12,6 +12,11 @@ cd "$(dirname "$0")/.." || exit 2
 top=$PWD version=$(tools/version)
 if [ ! -e build/libnissy.a ]; then skips_all "the packages, since there is no library that make lib built"; fi
 
+made_by() { make -n "$1" 2> /dev/null | grep -q "^tools/$2 build"; } # TARGET TOOL
+for names in wheel:wheel npm:npm-package deb:deb c:c-archive sdist:sdist windows:windows dist:dist; do
+    holds "make ${names%:*} packs by tools/${names#*:}" made_by "${names%:*}" "${names#*:}"
+done
+
 # what a user's own make would do, in a copy in which nothing is proved
 copied() {
     mkdir -p "$room/source/build" && cp -R Makefile CHANGELOG.md README.md completions docs examples include packaging portable python tools web "$room/source" &&
@@ -22,10 +27,6 @@ copied() {
 }
 holds "the files are there" copied
 cd "$room/source" || exit 2
-made_by() { make -n "$1" 2> /dev/null | grep -q "^tools/$2 build"; } # TARGET TOOL
-for names in wheel:wheel npm:npm-package deb:deb c:c-archive sdist:sdist windows:windows dist:dist; do
-    holds "make ${names%:*} packs by tools/${names#*:}" made_by "${names%:*}" "${names#*:}"
-done
 tools/dist "$room/dist" > "$room/said" || fails "the packages are made"
 while read -r line; do skips "$line"; done < <(grep 'left out' "$room/said")
 made=$room/dist

@@ -26,12 +26,18 @@ again() { tools/c-file "$folder/niss_page.a" "$room/again.c" && cmp "$folder/nis
 if missing rt || [ ! -e "$folder/niss_page.a" ]; then skips "writing the file again, since there is no kit or no archive"; else holds "the file has the same bytes again" again; fi
 
 # compilers that refuse it, in a sentence, or have nothing to say
-said_by() { # SENTENCE COMMAND..: it fails with this sentence
+says_alone() { # SENTENCE FILE COMMAND..: it fails with this sentence and no other
     local said
-    ! said=$("${@:2}" -Iinclude -fsyntax-only "$folder/nissy.c" 2>&1) && grep -q "$1" <<< "$said"
+    ! said=$("${@:3}" -Iinclude -fsyntax-only "$2" 2>&1) && [ "$(grep -c ' error: ' <<< "$said")" -eq 1 ] && grep -q " error: .*$1" <<< "$said"
 }
-holds "it tells a compiler for C90 what it needs" said_by 'error.*nissy.c needs a compiler for C11 or later' gcc -std=c90
-holds "and one for C++" said_by 'error.*nissy.c is C: compile it by a C compiler' gcc -x c++
+holds "it tells a compiler for C90 what it needs" says_alone 'nissy.c needs a compiler for C11 or later' "$folder/nissy.c" gcc -std=c90
+holds "and one for C++" says_alone 'nissy.c is C: compile it by a C compiler' "$folder/nissy.c" gcc -x c++
+for words in -std=c90 "-x c++"; do
+    # shellcheck disable=SC2086 # one word or two
+    holds "so does its program with $words" says_alone 'main.c is C, from C99 on: compile it by a C compiler' portable/main.c gcc $words
+done
+cut() { sed '/the calls of nissy.h/,$d' "$folder/nissy.c" > "$room/cut.c" && says_alone 'unterminated #else' "$room/cut.c" gcc; }
+holds "a file that was cut between two functions isn't compiled" cut
 strict=(-std=c11 -O1 -Wall -Wextra -Wpedantic -Wconversion -Wsign-conversion -Wshadow -Wundef -Wcast-qual -Wstrict-prototypes -Werror)
 made() { # NAME COMPILER WORD..: compiles file and program
     "${@:2}" -Iinclude -c "$folder/nissy.c" -o "$room/$1.o" && "${@:2}" -Iinclude portable/main.c "$room/$1.o" -o "$room/$1"

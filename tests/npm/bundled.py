@@ -5,7 +5,7 @@ another server:
     tests/npm/bundled.py FOLDER
 
 FOLDER has the package in node_modules. What needs a tool that isn't here is skipped, and named. The last line is `N passed, M failed`, and the
-status is 1 where M isn't 0. Run it by Debian's Python, which has Debian's selenium.
+status is 1 where M isn't 0. Run it by Debian's Python, which has Debian's selenium, and with a display, which WebKit needs.
 """
 import re
 import shlex
@@ -24,8 +24,6 @@ from served import served
 from tally import Tally
 from windows import BROWSERS, is_here
 
-# WebKit's driver needs a display
-TRIED = ("chromium", "firefox")
 OF_TESTS = TOP / "tests/npm/bundled"
 
 
@@ -135,7 +133,10 @@ def main() -> None:
         user = Path(made)
         solving = {**bundle(tally, package, user), "without a bundler": plain(package, user)}
         trial = Trial(solving, bundle_without(tally, package, user), elsewhere(user), package)
-        for browser in filter(is_here, TRIED):
+        for browser in BROWSERS:
+            if not is_here(browser):
+                print(f"skipped: the bundles in {browser}, which isn't installed")
+                continue
             with tempfile.TemporaryDirectory(ignore_cleanup_errors=True) as room:
                 window = BROWSERS[browser](room)
                 try:
