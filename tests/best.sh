@@ -26,7 +26,7 @@ fi
 if missing node || [ ! -e "$folder/nissy.wasm" ]; then skips "JavaScript, since there is no node, or no module that make page built"; else
     module=$folder/nissy.wasm
 fi
-part python3 tests/best/alike.py 1 50 "$caller" "$module"
+part python3 tests/best/alike.py 1 24 "$caller" "$module"
 part python3 tests/best/counted.py "$program" 1 12
 parts_end
 ended

@@ -204,7 +204,9 @@ def main() -> None:
     draw, counted = Drawing(seed), 0
     # a slack takes half a minute
     slow = [Question(draw.scramble(), so_far, 1) for so_far in ("", draw.both_sides())] if count > MOST_QUICK else []
-    for question in [*slow, *(it for it in drawn(seed, 2 * count) if it.slack == 0 or "(" in it.so_far and it.most == 5)]:
+    for question in [*slow, *(it for it in drawn(seed, 4 * count) if it.slack == 0 or "(" in it.so_far and it.most == 5)]:
+        if counted == count:
+            break
         try:
             rows = nissy.best(question.scramble, question.so_far, slack=question.slack, most=None)
         except nissy.Fault:
@@ -212,11 +214,17 @@ def main() -> None:
         tally.holds(f"{question}: rows go on so", all(goes_on(question, row) for row in rows[:MOST_GONE_ON]))
         some = nissy.best(question.scramble, question.so_far, slack=question.slack, most=question.most)
         tally.holds(f"{question}: the first rows", some == rows[:question.most])
-        if counted < count and not set(question.scramble + question.so_far) & set("udrlfbwMESxyz"):
+        if is_plain(question):
             counted += 1
             count_rows(tally, program, question, rows)
     tally.holds(f"{counted} questions are counted", counted == count)
     tally.end()
+
+
+def is_plain(question: Question) -> bool:
+    """Whether a question has face turns alone, and room in a line for all that is counted."""
+    text = f"{question.scramble} {question.so_far}"
+    return not set(text) & set("udrlfbwMESxyz") and len(text.split()) < 200
 
 
 def count_rows(tally: Tally, program: Program, question: Question, rows: List[nissy.Continuation]) -> None:
