@@ -153,6 +153,42 @@ const groupsOf = (nissy, position, orientations, wish) => orientations
 /** @param {{group: Sided[]}[]} groups how many orientations are in these */
 const sizeOf = (groups) => groups.reduce((sum, { group }) => sum + group.length, 0);
 
+/** @typedef {{orientation: StepOnAxis, key: string, group: Sided[]}} Untried orientations that are twins, before they are tried */
+/** @typedef {{bound: Bound, done: number}} Going how far a search is */
+
+/**
+ * The rows of some groups.
+ * @param {Nissy} nissy
+ * @param {Position} position
+ * @param {Untried[]} batch
+ * @param {number} bound
+ */
+const rowsOfBatch = (nissy, position, batch, bound) => batch.flatMap(({ orientation, key, group }) => {
+  const twins = group.map((part) => ({ part, after: afterPart(nissy, position, part) }));
+  return rowsOf(nissy, { orientation, key, twins }, bound);
+});
+
+/**
+ * Tries groups, and tells of their rows batch by batch.
+ * @param {Nissy} nissy
+ * @param {Position} position
+ * @param {Untried[]} groups
+ * @param {Going} going
+ * @param {boolean} isLast whether no other groups follow
+ * @returns {Generator<Found>}
+ */
+function* groupsFound(nissy, position, groups, going, isLast) {
+  const all = isLast ? going.done + sizeOf(groups) : null;
+  yield { done: going.done, all, rows: [], isCut: false };
+  for (const batch of batchesOf(groups)) {
+    const rows = rowsOfBatch(nissy, position, batch, going.bound.get());
+    const kept = rows.filter(isRow);
+    going.bound.add(kept);
+    going.done += sizeOf(batch);
+    yield { done: going.done, all, rows: kept, isCut: kept.length < rows.length };
+  }
+}
+
 /**
  * Finds the orientations on some axes with their reductions: the shortest first, since these are there at once, and then the longer ones.
  * @param {Nissy} nissy
@@ -162,23 +198,10 @@ const sizeOf = (groups) => groups.reduce((sum, { group }) => sum + group.length,
  * @returns {Generator<Found>}
  */
 function* orientationsFound(nissy, position, orientations, { slack: wanted, isAll, most }) {
-  const bound = new Bound(most);
-  let done = 0;
+  const going = { bound: new Bound(most), done: 0 };
   for (const slack of wanted === 0 ? [0] : [0, wanted]) {
     const groups = groupsOf(nissy, position, orientations, { slack, isAll });
-    const all = slack === wanted ? done + sizeOf(groups) : null;
-    yield { done, all, rows: [], isCut: false };
-    for (const batch of batchesOf(groups)) {
-      const before = bound.get();
-      const rows = batch.flatMap(({ orientation, key, group }) => {
-        const twins = group.map((part) => ({ part, after: afterPart(nissy, position, part) }));
-        return rowsOf(nissy, { orientation, key, twins }, before);
-      });
-      const kept = rows.filter(isRow);
-      bound.add(kept);
-      done += sizeOf(batch);
-      yield { done, all, rows: kept, isCut: kept.length < rows.length };
-    }
+    yield* groupsFound(nissy, position, groups, going, slack === wanted);
   }
 }
 

@@ -55,6 +55,21 @@ const sumOf = (each) => ({
   all: each.reduce((/** @type {number | null} */ sum, { all }) => (sum === null || all === null ? null : sum + all), 0),
 });
 
+/**
+ * Asks a worker of the next piece that none has, until there is none.
+ * @param {WorkerQueue} queue
+ * @param {Pieces} pieces
+ * @param {{signal: AbortSignal, tell: TellProgress, whole: (replies: OneReply[]) => void}} ways `whole` is told all replies once they are there:
+ * those behind a fault aren't waited for
+ */
+async function workOn(queue, pieces, { signal, tell, whole }) {
+  for (let at = pieces.next(); at !== null; at = pieces.next()) {
+    pieces.take(at, await queue.answer(pieces.requestOf(at), { signal }));
+    tell(pieces.progress());
+    if (pieces.areWhole()) whole(pieces.replies());
+  }
+}
+
 /** Engines in several workers. What `Nissy` throws, the promises of their calls are rejected with; so is each whose worker ends. */
 export class WorkerPool {
   /** @type {WorkerQueue[]} */ #queues;
@@ -159,15 +174,8 @@ export class WorkerPool {
     const tell = progressOf(options);
     const pieces = new Pieces(request, this.size);
     return this.#together(options, (signal) => new Promise((resolve, reject) => {
-      const work = async (/** @type {WorkerQueue} */ queue) => {
-        for (let at = pieces.next(); at !== null; at = pieces.next()) {
-          pieces.take(at, await queue.answer(pieces.requestOf(at), { signal }));
-          tell(pieces.progress());
-          // those behind a fault aren't waited for
-          if (pieces.areWhole()) resolve(pieces.replies());
-        }
-      };
-      for (const queue of this.#queues) work(queue).catch(reject);
+      const ways = { signal, tell, whole: resolve };
+      for (const queue of this.#queues) workOn(queue, pieces, ways).catch(reject);
     }));
   }
 
