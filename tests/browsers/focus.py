@@ -6,7 +6,7 @@ from browser import Browser
 from selenium.webdriver.common.keys import Keys
 from steps import ADDRESS, SCRAMBLE, back
 from tally import Tally
-from wanted import SIDES, Position
+from wanted import SIDES, Position, counted
 
 # here every edge is flipped: a list with longer ones takes a while
 FLIPPED = "#scramble=U_R2_F_B_R_B2_R_U2_L_B2_R_U-_D-_R2_F_R-_L_B2_U2_F2"
@@ -151,7 +151,7 @@ def one_stop(tally: Tally, browser: Browser) -> None:
     browser.open(ADDRESS)
     browser.wait_best()
     moves = browser.texts("#best-body .take")
-    tally.holds("there are some", len(moves) == 8)
+    tally.equal("there are some", len(moves), 6)
     tally.holds("the Tab key leads to the first", browser.tab_to(moves[0]))
     browser.press(Keys.ARROW_DOWN, Keys.ARROW_DOWN)
     tally.equal(
@@ -203,8 +203,9 @@ def words(tally: Tally, browser: Browser) -> None:
     """What the tables and the fields are called."""
     browser.open(ADDRESS)
     ground = "return getComputedStyle(document.querySelector(arguments[0])).backgroundColor"
+    swatch = "return getComputedStyle(document.querySelector('.head .least'), '::before').backgroundColor"
     tally.equal("the word for the shortest cells", browser.texts("#steps .head .least"), ["shortest"])
-    tally.equal("it has their colour", browser.script(ground, ".head .least"), browser.script(ground, "td .least"))
+    tally.equal("it has their colour", browser.script(swatch), browser.script(ground, "td .least"))
     tally.equal(
         "the columns of the best",
         browser.texts("#best-table thead th")[:6],
@@ -212,11 +213,11 @@ def words(tally: Tally, browser: Browser) -> None:
     )
     sides = "return [...document.querySelectorAll('#best-body tr:first-child .number')].map((each) => [each.title, each.ariaLabel])"
     browser.wait_best()
-    lengths = browser.texts("#best-body tr:first-child .number")
+    lengths, times = zip(*(text.split("×") for text in browser.texts("#best-body tr:first-child .number")))
     said = browser.script(sides)
     totals = re.findall(r"side, (\d+) in all$", "\n".join(title for title, _ in said), re.MULTILINE)
-    wanted = [[f"{side} side, {total} in all", f"DR in {count} moves on the {side} side, {total} in all"]
-        for side, count, total in zip(SIDES, lengths, totals)]
+    wanted = [[f"{side} side, {total} in all", f"DR in {count} moves on the {side} side, {total} in all, {counted(int(number), 'solution')}"]
+        for side, count, total, number in zip(SIDES, lengths, totals, times)]
     tally.equal("what the lengths of a row are", said, wanted)
     tally.equal("the row's number is the less of both", str(min(map(int, totals))), browser.texts("#best-body tr:first-child th")[0])
     looks = [f"{Position(SCRAMBLE).count(step, side)[2]:,}" for step in ("eofb", "eorl", "eoud") for side in SIDES]

@@ -8,6 +8,7 @@ TARGET = 44
 # a star beside a row that is pressed as a whole is at least so high and wide
 LEAST_TARGET = 24
 # how high a row of the best may be there, and how small its signs
+LINE_OF_FIRST = 15.5
 MOST_OF_ROW = 56
 LEAST_SIGN = 10
 # how wide and high what a selector finds is for a finger, each: the points around its middle that reach it
@@ -100,7 +101,9 @@ def has_two_lines(tally: Tally, browser: Browser) -> None:
         rows = browser.script(ROWS_OF_BEST)
         longest = max(len(row["moves"]) for row in rows)
         tally.holds(f"{after}: there are long rows and twins: {longest}", longest > 15 and any(row["hasTwins"] for row in rows))
-        tally.equal(f"{after}: rows of more than two lines", [row for row in rows if row["lines"] > 1 or row["height"] > MOST_OF_ROW], [])
+        # before an orientation the first reduction has a line of its own
+        most = MOST_OF_ROW + (0 if after else LINE_OF_FIRST)
+        tally.equal(f"{after}: rows of more lines", [row for row in rows if row["lines"] > 1 or row["height"] > most], [])
         tally.equal(f"{after}: parts of a row on each other", [row for row in rows if row["on"]], [])
         tally.equal(f"{after}: signs that are too small", [row for row in rows if row["size"] < LEAST_SIGN], [])
         tally.equal(f"{after}: stars that are too small", [row for row in rows if min(row["star"]) < LEAST_TARGET], [])

@@ -53,7 +53,7 @@ function lengthCell({ lengths, totals, side: best }, side) {
 
 /**
  * Shows in a row how many of the shortest reductions there are on each side, and the first of them.
- * @param {HTMLElement} shown the row @param {import("./reductions.js").Reductions} reductions
+ * @param {Element} shown the row @param {import("./reductions.js").Reductions} reductions
  */
 export function tellReductions(shown, { counts, first }) {
   shown.querySelectorAll(".number").forEach((each, at) => {

@@ -93,12 +93,14 @@ export async function copy(text, button, shownIn = null) {
   return isDone;
 }
 
-const LINK_OF_FILE = "The link is copied. This page is a file, so the link leads to it on this computer alone. Whoever else has the file can put what "
+const LINK_OF_FILE = "This page is a file, so the link leads to it on this computer alone. Whoever else has the file can put what "
   + "stands after the # behind its address.";
 
 /** Copies the address of the page, and says of a file's that it is one.
  * @param {HTMLElement} button */
 export async function copyLink(button) {
   const isCopied = await copy(location.href, button);
-  if (isCopied && location.protocol === "file:") tellAt(button, LINK_OF_FILE);
+  if (!isCopied || location.protocol !== "file:") return;
+  tellAt(button, `The link is copied. ${LINK_OF_FILE}`);
+  announce(`Copied: ${location.href}. ${LINK_OF_FILE}`);
 }

@@ -83,45 +83,86 @@ async function reductionsOf(calls, cube, rows) {
   return new Map(rows.map(({ key }, at) => [key, found[at]]));
 }
 
-/** Tells of the rows that are shown what follows them. */
+/** How many rows are asked for together: what else the worker is asked doesn't wait for more. */
+const ASKED_TOGETHER = 6;
+
+/** Tells of the rows that are seen what follows them: of those that nobody scrolls to nothing is asked. */
 export class ShownReductions {
   #calls;
   #body;
+  /** @type {Cube | null} */
+  #cube = null;
   /** @type {Map<string, Reductions | null>} by the keys of rows; null while it is asked for */
   #known = new Map();
+  /** @type {Map<Element, Row>} the rows that may come into view, by their elements */
+  #unseen = new Map();
+  /** @type {Row[]} */
+  #wanted = [];
+  #isAsking = false;
+  #observer;
 
   /** @param {import("./calls.js").Calls} calls @param {HTMLElement} body of the table */
   constructor(calls, body) {
     this.#calls = calls;
     this.#body = body;
+    this.#observer = new IntersectionObserver((entries) => this.#look(entries));
   }
 
   /** Forgets what is known, since another cube is shown. */
   clear() {
     this.#known = new Map();
+    this.#wanted = [];
+    this.#observer.disconnect();
     setBusy(this.#body.id, false);
   }
 
-  /** @param {Cube} cube @param {Row[]} shown */
-  async tell(cube, shown) {
-    const known = this.#known;
-    for (const { key } of shown) this.#show(key, known.get(key));
-    const unknown = shown.filter(({ key, next }) => next !== null && !known.has(key));
-    if (unknown.length === 0) return;
-    for (const { key } of unknown) known.set(key, null);
-    setBusy(this.#body.id, true);
-    // what the rows are chosen by is there without it
-    const found = await reductionsOf(this.#calls, cube, unknown).catch(() => new Map());
-    for (const [key, each] of found) known.set(key, each);
-    if (known !== this.#known) return;
-    for (const [key, each] of found) this.#show(key, each);
-    setBusy(this.#body.id, [...known.values()].includes(null) && found.size > 0);
+  /** @param {Cube} cube @param {Row[]} shown the rows of the table, in their order */
+  tell(cube, shown) {
+    this.#cube = cube;
+    this.#observer.disconnect();
+    this.#unseen.clear();
+    for (const [at, row] of shown.entries()) {
+      const element = this.#body.children[at];
+      const reductions = this.#known.get(row.key);
+      if (reductions) tellReductions(element, reductions);
+      if (row.next === null || this.#known.has(row.key)) continue;
+      this.#unseen.set(element, row);
+      this.#observer.observe(element);
+    }
+    if (this.#unseen.size > 0) setBusy(this.#body.id, true);
   }
 
-  /** @param {string} key of a row @param {Reductions | null | undefined} reductions */
-  #show(key, reductions) {
-    const take = [...this.#body.querySelectorAll(".take")].find(({ dataset }) => dataset.key === key);
-    const row = take?.closest("tr");
-    if (row && reductions) tellReductions(row, reductions);
+  /** Asks for the rows that came into view.
+   * @param {IntersectionObserverEntry[]} entries */
+  #look(entries) {
+    const seen = entries.filter(({ isIntersecting, target }) => isIntersecting && this.#unseen.has(target));
+    for (const { target } of seen) {
+      this.#observer.unobserve(target);
+      const row = this.#unseen.get(target);
+      this.#known.set(row.key, null);
+      this.#wanted.push(row);
+    }
+    if (!this.#isAsking) this.#askAll();
+  }
+
+  async #askAll() {
+    this.#isAsking = true;
+    while (this.#wanted.length > 0) await this.#ask(this.#wanted.splice(0, ASKED_TOGETHER));
+    this.#isAsking = false;
+    setBusy(this.#body.id, false);
+  }
+
+  /** @param {Row[]} rows */
+  async #ask(rows) {
+    const known = this.#known;
+    // what the rows are chosen by is there without it
+    const found = await reductionsOf(this.#calls, this.#cube, rows).catch(() => new Map());
+    if (known !== this.#known) return;
+    const takes = new Map([...this.#body.querySelectorAll(".take")].map((take) => [take.dataset.key, take]));
+    for (const [key, each] of found) {
+      known.set(key, each);
+      const row = takes.get(key)?.closest("tr");
+      if (row) tellReductions(row, each);
+    }
   }
 }
