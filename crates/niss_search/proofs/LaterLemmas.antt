@@ -1,20 +1,15 @@
 -- The sequences that come after one: what is done of them is what a filter leaves of all that is done, by no more looks.
 use Rattle.niss_search.proofs.Words.{◌≡◌, arith, length, ◌+◌, ◌<◌, ℕ, ap, ◌∙◌, sym, ◌≤◌, [], List, refl, true, false, ◌-◌, ◌∷◌, Bool, Turn}
 use Rattle.niss_search.proofs.Words.{cond, suc, zero, range_with_len, ◌++◌, flat_map, filter, drop, take, get_or, append_assoc, append-nil, subst}
-use Rattle.niss_search.proofs.Words.{All, All-cons, All-nil, All-map, All-weaker, drop_at, may_follow, last_turn, nat_le, nat_lt, ◌==◌, no_turn}
-use Rattle.niss_search.proofs.Words.{Space, Part, only_looks, then_part, for_each, beyond, later, later_at, below_at, beyond_at, by_place}
+use Rattle.niss_search.proofs.Words.{All, All-cons, All-nil, All-map, All-weaker, drop_at, may_follow, last_turn, nat_le, nat_lt, ◌==◌}
+use Rattle.niss_search.proofs.Words.{Space, Part, only_looks, then_part, for_each, beyond, later, later_at, beyond_at, by_place}
 use Rattle.niss_search.proofs.Words.{later_turn_at, all_later, turn_place, comes_after, is_later, reaching, looks, deepening, positions}
 use Rattle.niss_search.proofs.Words.{distance_at, Step, GoalCoordinates, turns_of, up_to, all_canonical, canonical_extensions, length-append}
-use Rattle.niss_search.proofs.Words.{sum_by, sum_by-cons, sum_by-append, sum_by-le-sum_by, position_after, ap₂, le-leb, lt-leb, leb-true}
+use Rattle.niss_search.proofs.Words.{sum_by, sum_by-cons, sum_by-append, sum_by-le-sum_by, ap₂}
 use Rattle.niss_search.proofs.Words.{◌||◌, ◌&&◌, le-ltb, lt-ltb, ne_eqb, eq-eqb, All-filter, flat_map-append, leb_tells, inl, inr}
-use Rattle.niss_search.proofs.Words.{add-zero, take_all, take-append-drop, ◌*◌, ◌^◌}
-use Rattle.std.proofs.lemmas.List.{take_more}
-use Rattle.niss_search.proofs.ListLemmas.{filter-flat_map, range-split, range_with_len-append}
-use Rattle.niss_search.proofs.LookLemmas.{filter-each, All-flat_map, reaching-same, looks-same, distance-cube}
-use Rattle.niss_search.proofs.Words.{GoesThrough, StopsIn, progress_at, Ok, Err, Path, Place, at_limit, Result, IfOk, OnOk, IfErr, WentThrough}
-use Rattle.niss_search.proofs.Words.{EndedIn, Delivers, PositionsFollowCubes, HasPosition, later_of, deepening_looks_of, distance_of, cubes}
-use Rattle.niss_search.proofs.DepthFirst.{below_at-start, for_each-cons, for_each-append, Descends-then, StopsIn-before}
-use Rattle.niss_search.proofs.Bounds.{looks-sum-small, turns_of-length}
+use Rattle.niss_search.proofs.ListLemmas.{filter-flat_map, range-split}
+use Rattle.niss_search.proofs.LookLemmas.{filter-each, All-flat_map}
+use Rattle.niss_search.proofs.DepthFirst.{below_at-start}
 
 -- a sequence that begins with p
 abbrev BeginsWith : List Turn → List Turn → Type 0

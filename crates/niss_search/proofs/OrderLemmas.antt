@@ -1,11 +1,11 @@
 -- The order in which solutions are handed out: each comes after those before it. So those that come after one of them are
 -- those that stand behind it.
-use Rattle.niss_search.proofs.Words.{◌≡◌, arith, length, ◌+◌, ◌<◌, ℕ, ap, ◌∙◌, sym, ◌≤◌, [], List, refl, true, false, ◌∷◌, Bool, Turn, cond}
+use Rattle.niss_search.proofs.Words.{◌≡◌, arith, length, ◌+◌, ◌<◌, ℕ, ap, ◌∙◌, sym, ◌≤◌, [], List, refl, true, false, ◌∷◌, Bool, Turn}
 use Rattle.niss_search.proofs.Words.{suc, zero, range_with_len, ◌++◌, flat_map, filter, get_or, subst, All, All-head, All-tail, All-append}
 use Rattle.niss_search.proofs.Words.{All-nil, All-filter, All-weaker, eq-eqb, ne_eqb, lt-ltb, le-ltb, length-append, nat_lt, ◌&&◌, IsTrue}
-use Rattle.niss_search.proofs.Words.{Space, reaching, all_canonical, after_all, up_to, turn_order, turns_of, Step, StepTurnsInOrder, Place}
-use Rattle.niss_search.proofs.Words.{turn_place, is_later, comes_after, sequences_of, later_of, near_solutions_of, near_looks_of, least_length_of}
-use Rattle.niss_search.proofs.Words.{last_length, cubes, all_looks, deepening_looks_of}
+use Rattle.niss_search.proofs.Words.{Space, reaching, all_canonical, turn_order, turns_of, Step, StepTurnsInOrder}
+use Rattle.niss_search.proofs.Words.{turn_place, is_later, comes_after, sequences_of, least_length_of}
+use Rattle.niss_search.proofs.Words.{last_length, cubes, all_looks}
 use Rattle.niss_search.proofs.Words.{ap₂, All-cons}
 use Rattle.std.specs.Prelude.{AllPairs}
 use Rattle.std.proofs.lemmas.Bool.{ltb-true}
@@ -83,9 +83,10 @@ never-later (t ∷ ts) = rw (eq-eqb (turn_place t) (turn_place t) refl) (never-l
 later-differs : (front : List Turn) (t u : Turn) (ts us : List Turn) → turn_place t < turn_place u
     → (is_later (front ++ t ∷ ts) (front ++ u ∷ us) ≡ true) × (is_later (front ++ u ∷ us) (front ++ t ∷ ts) ≡ false)
 unfolding is_later
-later-differs [] t u ts us h =
-    (rw (ne_eqb (turn_place t) (turn_place u) (omega (arith, h)), lt-ltb (turn_place t) (turn_place u) h) refl,
-    rw (ne_eqb (turn_place u) (turn_place t) (omega (arith, h)), le-ltb (turn_place u) (turn_place t) (omega (arith, h))) refl)
+later-differs [] t u ts us h = (
+  rw (ne_eqb (turn_place t) (turn_place u) (omega (arith, h)), lt-ltb (turn_place t) (turn_place u) h) refl,
+  rw (ne_eqb (turn_place u) (turn_place t) (omega (arith, h)), le-ltb (turn_place u) (turn_place t) (omega (arith, h))) refl,
+)
 later-differs (v ∷ front) t u ts us h =
     let same = eq-eqb (turn_place v) (turn_place v) refl in
     let rest = later-differs front t u ts us h in
@@ -96,14 +97,16 @@ before-differs a b d same =
     let lt = ltb-true (turn_place d.left) (turn_place d.right) d.order in
     let differs = later-differs d.front d.left d.right d.after_left d.after_right lt in
     let one : is_later a b ≡ true = ap₂ is_later d.first_is d.second_is ∙ differs.0 in
-    let other : is_later b a ≡ false = ap₂ is_later d.second_is d.first_is ∙ differs.1 in
-    (rw (same, le-ltb (length b) (length b) (omega arith), eq-eqb (length b) (length b) refl) one,
-    rw (same, le-ltb (length b) (length b) (omega arith), eq-eqb (length b) (length b) refl) other)
+    let other : is_later b a ≡ false = ap₂ is_later d.second_is d.first_is ∙ differs.1 in (
+      rw (same, le-ltb (length b) (length b) (omega arith), eq-eqb (length b) (length b) refl) one,
+      rw (same, le-ltb (length b) (length b) (omega arith), eq-eqb (length b) (length b) refl) other,
+    )
 
 before-longer : (a b : List Turn) → length a < length b → Before a b
-before-longer a b h =
-    (rw (lt-ltb (length a) (length b) h) refl,
-    rw (le-ltb (length b) (length a) (omega (arith, h)), ne_eqb (length b) (length a) (omega (arith, h))) refl)
+before-longer a b h = (
+  rw (lt-ltb (length a) (length b) h) refl,
+  rw (le-ltb (length b) (length a) (omega (arith, h)), ne_eqb (length b) (length a) (omega (arith, h))) refl,
+)
 
 never-after : (p : List Turn) → comes_after p p ≡ false
 never-after p = rw (le-ltb (length p) (length p) (omega arith), eq-eqb (length p) (length p) refl) (never-later p)

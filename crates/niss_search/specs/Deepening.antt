@@ -50,9 +50,9 @@ module _ {turns : List Turn} {S : Type 0} (space : Space turns S) (look : S → 
       then_part (only_looks 1)
       (if nat_le (look x) (suc (length ts))
       then for_each (λ u.
-          by_place t u (later (space.after x u) (p ++ u ∷ []) ts)
-          (then_part (only_looks 1) (beyond (space.after x u) (p ++ u ∷ []) (length ts))))
-          (filter (may_follow (last_turn p)) turns)
+      by_place t u (later (space.after x u) (p ++ u ∷ []) ts)
+      (then_part (only_looks 1) (beyond (space.after x u) (p ++ u ∷ []) (length ts))))
+      (filter (may_follow (last_turn p)) turns)
       else only_looks 0)
 
   -- the deepening to length d, and all deepenings
@@ -78,7 +78,7 @@ abbrev pub later_turn_at : Step → List GoalCoordinates → (p ts : List Turn) 
 later_turn_at step x p ts u =
     if may_follow (last_turn p) u
     then by_place (get_or ts 0 no_turn) u (later_at step (position_after x u) (p ++ u ∷ []) (drop 1 ts))
-        (below_at step (position_after x u) (p ++ u ∷ []) (length ts - 1))
+    (below_at step (position_after x u) (p ++ u ∷ []) (length ts - 1))
     else only_looks 0
 
 -- what is done of the sequences of at most n turns that come after ts: of those as long, and then of each greater length
@@ -86,7 +86,7 @@ abbrev pub all_later : Step → List GoalCoordinates → ℕ → List Turn → P
 all_later step x n ts =
     if nat_le (length ts) n
     then then_part (later_at step x [] ts)
-        (for_each (deepening (positions step) (distance_at step) x) (range_with_len (length ts + 1) (n - length ts)))
+    (for_each (deepening (positions step) (distance_at step) x) (range_with_len (length ts + 1) (n - length ts)))
     else only_looks 0
 
 -- What a descent changes beside its path: the meter, the count of what was found, and the sink.

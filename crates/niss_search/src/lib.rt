@@ -17,6 +17,8 @@
 //! The sink is handed every canonical sequence of least length that reaches the step, in turn order, and nothing else.
 //! With a slack those that are at most so many turns longer follow, by length and then in turn order.
 //!
+//! `search_after` hands out those alone that come after a sequence: so a caller goes through a long list in pieces.
+//!
 //! A sink says by `took` and `refused` what a path does to it, and so a caller knows what it was handed. One that
 //! promises nothing writes both of them so (`crates/eo_axes` is the whole program):
 //!

@@ -1,13 +1,11 @@
 //! The solutions that come after a sequence: so a caller goes through a long list in pieces, and keeps the last solution
 //! of each alone.
-ghost use Rattle.std.specs.Prelude.{◌≡◌, ◌+◌, ◌-◌, ◌*◌, ◌≤◌, ◌<◌, ◌^◌, ◌∷◌, ◌++◌, ◌==◌, [], length, IfOk, OnOk, IfErr, true};
-ghost use Rattle.std.specs.Prelude.{Contains, if◌then◌else◌};
+ghost use Rattle.std.specs.Prelude.{◌≡◌, ◌+◌, ◌≤◌, ◌<◌, ◌^◌, [], length, IfOk, OnOk, IfErr, true, Contains};
+ghost use Rattle.std.specs.Prelude.{if◌then◌else◌};
 ghost use Rattle.niss_moves.specs.Places.{Place};
-ghost use Rattle.niss_moves.specs.Canonical.{may_follow, last_turn};
 ghost use Rattle.niss_cube.specs.Steps.{turns_of};
 ghost use Rattle.niss_search.specs.Cubes.{IsPosition, HasPosition};
 ghost use Rattle.niss_search.specs.Later.{turn_place, later_of, deepening_looks_of};
-ghost use Rattle.niss_search.specs.Positions.{position_after};
 ghost use Rattle.niss_search.specs.Delivery.{WentThrough, EndedIn, at_limit};
 ghost use Rattle.niss_search.specs.Budgets.{is_cut_in};
 ghost use Rattle.niss_search.specs.Deepening.{Delivers, Keeps, Makes, turns, below_at, later_at, all_later, later_turn_at};
@@ -181,7 +179,14 @@ impl<K: Sink> Descent<'_, K> {
         }
         let turns = tables.step().turns();
         for index in 0..turns.len() {
-            let (counted, below) = self.pass_turn(tables, position, turns[index], after, meter, budget);
+            let (counted, below) = self.pass_turn(
+                tables,
+                position,
+                turns[index],
+                after,
+                meter,
+                budget,
+            );
             meter = counted;
             if let Err(stop) = below {
                 return (meter, Err(stop));
@@ -224,7 +229,14 @@ impl<K: Sink> Descent<'_, K> {
         }
         let position = tables.after(position, turn);
         self.path.push(turn);
-        let below = self.go_on(tables, &position, place == first, &after[1..], meter, budget);
+        let below = self.go_on(
+            tables,
+            &position,
+            place == first,
+            &after[1..],
+            meter,
+            budget,
+        );
         self.path.pop();
         below
     }

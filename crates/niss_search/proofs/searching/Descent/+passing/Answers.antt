@@ -1,7 +1,6 @@
 use Rattle.niss_search.proofs.Words.{◌≡◌, ◌+◌, ◌<◌, ◌≤◌, ◌^◌, ◌∙◌, sym, arith, length, get_or, drop, subst, Ok, Err, Bool, Contains}
-use Rattle.niss_search.proofs.Words.{Contains-get_or, nat_tests, later_at, turns_of, no_turn, later_turn_at, distance_at, at_limit, progress_of, Path, for_each}
+use Rattle.niss_search.proofs.Words.{Contains-get_or, nat_tests, later_at, turns_of, no_turn, later_turn_at, distance_at, progress_of, Path, for_each}
 use Rattle.niss_search.proofs.DepthFirst.{StopsIn-cut, StopsIn-before, GoesThrough-looks, Descends-then}
-use Rattle.niss_search.proofs.LaterLemmas.{passed}
 use Rattle.niss_search.proofs.LaterParts.{later_at-none, later_at-some, later_at-far, later_at-near, later_at-split, passed-more, passed-room}
 use Rattle.niss_search.proofs.searching.Descent.+passing.Goals as goal
 
@@ -55,8 +54,7 @@ pass-pass_turn-counted-requires g t c κs within =
     let Metered : Path → Type 0 = λ q. c.loop-index.meter + (later_turn_at step x q.turns after turn).looks < 2 ^ 128 in
     let contains : Contains (turns_of step) turn = rw (sym listed) (Contains-get_or c.turns-turns.result.now i no_turn inside) in
     let room = passed-room step x c.args.self.now.path.now.turns after i no_turn (rw (sym listed) inside) some near in
-    let metered = subst Metered same (rw listed (omega (arith, inv.went.looked, room, c.requires.meter))) in
-    (
+    let metered = subst Metered same (rw listed (omega (arith, inv.went.looked, room, c.requires.meter))) in (
       omega arith,
       (
         within.0,

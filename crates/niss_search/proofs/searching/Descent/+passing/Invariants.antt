@@ -1,4 +1,4 @@
-use Rattle.niss_search.proofs.Words.{length, ◌+◌, ◌<◌, ◌≤◌, ◌*◌, take, at_limit, progress_of, Keeps, turns_of, GoesThrough}
+use Rattle.niss_search.proofs.Words.{length, ◌+◌, ◌≤◌, ◌*◌, at_limit, progress_of, Keeps, GoesThrough}
 use Rattle.niss_search.proofs.LaterLemmas.{passed}
 use Rattle.niss_search.proofs.searching.Descent.+passing.Given as goal
 
