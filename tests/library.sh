@@ -89,7 +89,7 @@ for name in calls facts threads fuzz fuzz_facts memory handlers broken_rules; do
 # the headers in C++, by each compiler that is here
 compiled_by() { # COMPILER TEST PROGRAM WORD..: compiles the test of this name in C++, with these words too
     local words=(-pthread)
-    [ "$2" != nissy ] || words+=($wrapped)
+    [ "$2" != nissy ] || words+=("$wrapped")
     "$1" "${strict[@]}" "${@:4}" "${words[@]}" -o "$3" "tests/library/$2.cpp" "$folder/libnissy.a"
 }
 tells_older() { # COMPILER

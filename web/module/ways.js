@@ -23,6 +23,9 @@ import { SIDES, joined, movesOn, otherSide } from "./sides.js";
 /** The most turns of a solution that the engine looks for. */
 const MOST_SEARCHED = 20;
 
+/** Behind a line of more moves there may be no room for those that merge, so each solution is counted. */
+const MOST_ASKED_BEHIND = 216;
+
 /** @param {Position} position */
 export const countOf = ({ made }) => made.normal.length + made.inverse.length;
 
@@ -113,6 +116,10 @@ export function wayTo(nissy, step, position, side) {
   const [line, made] = [position.lines[side], position.made[side]];
   const length = leastOf(nissy, step, line, MOST_SEARCHED);
   if (length === null) return { length, total: Infinity };
+  if (movesIn(line).length > MOST_ASKED_BEHIND) {
+    const totals = nissy.solve(step, line).map(({ moves }) => totalWith(nissy, position, { side, moves }));
+    return { length, total: Math.min(...totals) };
+  }
   return { length, total: countOf(position) + length - mostSaved(nissy, step, line, made, length) };
 }
 
