@@ -23,6 +23,8 @@ mod memory;
 #[cfg(test)]
 mod path_sinks;
 #[cfg(test)]
+mod pieces;
+#[cfg(test)]
 mod reading;
 #[cfg(test)]
 mod rewriting;

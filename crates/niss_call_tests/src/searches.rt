@@ -157,7 +157,7 @@ const TOO_FEW_TURNS: Search = Search {
 };
 
 /// What disorients no edge may follow a turn that orients them all.
-const ORIENTED_AFTER_F: &[&str] = &[
+pub const ORIENTED_AFTER_F: &[&str] = &[
     "F", "F'", "F U", "F U2", "F U'", "F D", "F D2", "F D'", "F R", "F R2", "F R'", "F L", "F L2",
     "F L'", "F B2", "F' U", "F' U2", "F' U'", "F' D", "F' D2", "F' D'", "F' R", "F' R2", "F' R'",
     "F' L", "F' L2", "F' L'", "F' B2",
