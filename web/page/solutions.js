@@ -287,7 +287,7 @@ export class SolutionList {
     const [added, key] = [this.#partsOf(entry), keyOf(entry)];
     const cases = this.#casesOf(entry).map(({ axis, name, state }) =>
       element("span", { class: "case", "data-marks": state }, `${axis} ${name}`));
-    const twins = others.length === 0 ? [] : [element("small", { class: "twins" }, `or … ${others.join(", … ")}`)];
+    const twins = others.length === 0 ? [] : [element("small", { class: "twins" }, `/ ${others.join(" / ")}`)];
     const about = [...this.#casesOf(entry).map(({ axis, name }) => `${axis} ${name}`), ...others.map((other) => `or ${spoken(other)}`)];
     return element("li", {},
       takeButton(text, { key, about, isSeen: this.#acts.isSeen(added) }, () => this.#acts.take(added, key)),
