@@ -23,8 +23,8 @@ def reductions_after(program: str, scramble: str, step: str, made: dict[str, str
 
 
 def counts_reductions(tally: Tally, browser: Browser) -> None:
-    """Each row has the number of its shortest reductions on both sides, after its moves or a twin's, and the first that makes as many moves as
-    the row says."""
+    """Each row has the number of its shortest reductions on both sides, after its moves or a twin's, and the first that makes as many
+    moves as the row says."""
     for scramble in (SCRAMBLE, LONGER):
         browser.open(address_of(scramble))
         browser.wait_best()
@@ -33,14 +33,16 @@ def counts_reductions(tally: Tally, browser: Browser) -> None:
             step, eo, own = STEP_OF[f"{reduction} after {orientation}"], STEP_OF[orientation], moves.strip("()")
             side = "inverse" if moves.startswith("(") else "normal"
             alike = [each for each in Position(scramble).solutions(eo, side) if twin_key(each, eo) == twin_key(own, eo)]
-            found = {each: reductions_after(browser.program, scramble, step, {"normal": "", "inverse": ""} | {side: each}) for each in alike}
+            nothing = {"normal": "", "inverse": ""}
+            found = {each: reductions_after(browser.program, scramble, step, nothing | {side: each}) for each in alike}
             for at, (each, length) in enumerate(zip(SIDES, lengths)):
                 counts = {len(twin[each]) for twin in found.values() if len(twin[each][0].split()) == int(length)}
-                tally.holds(f"{moves}, {reduction}, {each}: how many there are: {times[at]}", int(times[at].strip("×").replace(",", "")) in counts)
+                count = int(times[at].strip("×").replace(",", ""))
+                tally.holds(f"{moves}, {reduction}, {each}: how many there are: {count}", count in counts)
             line = first.removeprefix("then ")
             beside = "inverse" if line.startswith("(") else "normal"
             tally.holds(f"{line} is one of them", line.strip("()") in found[own][beside])
-            made = {"normal": "", "inverse": ""} | {side: own}
+            made = nothing | {side: own}
             rest = merged_count(f"{made[beside]} {line.strip('()')}") + len(made[SIDES[beside == "normal"]].split())
             tally.equal(f"{moves} {line}: all moves", rest, int(total))
 

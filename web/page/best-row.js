@@ -28,9 +28,9 @@ function cell(name, attributes, ...children) {
  * moves there
  */
 function movesCell(take, others, isBeside) {
-  const either = others.length === 1 ? `… ${others[0]}` : `${others.length} twins`;
-  // all but the last turns is the same
-  const twin = others.length === 0 ? "" : ` or ${either}`;
+  // as solvers write it: the last turn may be the one or the other
+  const either = others.length === 1 ? ` / ${others[0]}` : ` or ${others.length} twins`;
+  const twin = others.length === 0 ? "" : either;
   const made = cell("td", {}, take, ...(twin === "" ? [] : [element("small", { class: "twins" }, twin)]));
   const seen = take.classList.contains("seen") ? SEEN_SIGNS : 0;
   const [own, beside] = [take.textContent.length + seen, SIGN_OF_TWIN * twin.length];

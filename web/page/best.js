@@ -1,4 +1,4 @@
-// The card of the best continuations: looked for by themselves, longer ones too, with progress, a way to stop, filters, and rows that go on.
+// The card of the best continuations: looked for by themselves, longer ones too, with progress, a stop, filters, and rows that go on.
 import { bestRow } from "./best-row.js";
 import { Stopped } from "./calls.js";
 import { announce, announceLater, counted, element, part, setBusy, tell } from "./element.js";

@@ -1,5 +1,5 @@
-// The reductions after the rows of the best that are seen: how many of the shortest there are on each side, and the first with which the row
-// has its moves in all. They are asked for once a row is shown, since thousands are never looked at.
+// The reductions after the rows of the best that are seen: how many of the shortest there are on each side, and the first with which the
+// row has its moves in all. They are asked for once a row is seen, since thousands are never looked at.
 import { tellReductions } from "./best-row.js";
 import { setBusy } from "./element.js";
 import { invertAll } from "./engine.js";

@@ -10,8 +10,8 @@ import { placeOfFault, showFault } from "./words.js";
 
 /** @typedef {import("./pasted.js").Fmc} Fmc */
 /**
- * @typedef {{isNew: boolean, fmc: Fmc | null, isStep: boolean}} ScrambleChange a new scramble begins a new line, one that is mended keeps it;
- * `isStep`: whether the browser's Back leads to what was before
+ * @typedef {{isNew: boolean, fmc: Fmc | null, isStep: boolean}} ScrambleChange
+ * a new scramble begins a new line, one that is mended keeps it; `isStep`: whether the browser's Back leads to what was before
  */
 
 const PAUSE = 150;

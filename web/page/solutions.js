@@ -14,8 +14,11 @@ import { isNarrow } from "./view.js";
 /** @typedef {import("./address.js").List} List */
 /** @typedef {import("./steps.js").Part} Part */
 /** @typedef {import("../module/facts.js").Facts} Facts */
-/** @typedef {import("../module/twins.js").Twins & {facts?: Facts, begin?: Part, line?: string}} Entry a solution, the cube after it where that
- * is known, and where it is split what it begins with on the other side, with the cube's line after that */
+/**
+ * @typedef {import("../module/twins.js").Twins & {facts?: Facts, begin?: Part, line?: string}} Entry
+ * a solution, the cube after it where that is known, and where it is split what it begins with on the other side, with the cube's line after
+ * that
+ */
 
 /** From more signs on a line leaves no room for what is pressed beside it on a phone. */
 const LONG_LINE = 18;
@@ -53,7 +56,8 @@ export class SolutionList {
   #groups = part("solutions-groups");
 
   /**
-   * @param {{take: (parts: Part[], key: string) => void, change: (change: Partial<List> | null) => void, star: (button: HTMLElement, parts: Part[]) => void,
+   * @param {{take: (parts: Part[], key: string) => void, change: (change: Partial<List> | null) => void,
+   *     star: (button: HTMLElement, parts: Part[]) => void,
    *     isStarred: (parts: Part[]) => boolean, isSeen: (parts: Part[]) => boolean, copy: (text: string, button: HTMLElement) => void}} acts
    */
   constructor(acts) {
@@ -283,7 +287,7 @@ export class SolutionList {
     const [added, key] = [this.#partsOf(entry), keyOf(entry)];
     const cases = this.#casesOf(entry).map(({ axis, name, state }) =>
       element("span", { class: "case", "data-marks": state }, `${axis} ${name}`));
-    const twins = others.length === 0 ? [] : [element("small", { class: "twins" }, `or … ${others.join(", … ")}`)];
+    const twins = others.length === 0 ? [] : [element("small", { class: "twins" }, `/ ${others.join(" / ")}`)];
     const about = [...this.#casesOf(entry).map(({ axis, name }) => `${axis} ${name}`), ...others.map((other) => `or ${spoken(other)}`)];
     return element("li", {},
       takeButton(text, { key, about, isSeen: this.#acts.isSeen(added) }, () => this.#acts.take(added, key)),
