@@ -28,14 +28,14 @@ from ._given import Step as Step, Text as Text
 from ._library import DONE, FAULT, MOST_INPUT, STOPPED, USAGE
 from ._lines import cleanup, facelets, invert, scramble, steps, unniss, version
 from ._runs import run, scrambles
-from ._searches import Tables, count, count_all, near, solve, solve_all
+from ._searches import Tables, count, count_all, near, solutions, solve, solve_all
 from ._tokens import Token, tokens
 from ._values import Answer, Count, Cut, Fault, LineFault, Solution, Solutions, StartFault, raising
 
 __all__ = ["DONE", "FAULT", "MOST_INPUT", "STOPPED", "USAGE", "Answer", "Case", "Check", "Continuation", "Count", "Cut", "Facts", "Fault",
            "Lengths", "LineFault", "Orientation", "Pieces", "Reduction", "Solution", "Solutions", "StartFault", "Tables", "Token", "best",
            "check", "cleanup", "count", "count_all", "facelets", "facts", "facts_all", "invert", "near", "raising", "run", "scramble",
-           "scrambles", "solve", "solve_all", "steps", "tokens", "unniss"]
+           "scrambles", "solutions", "solve", "solve_all", "steps", "tokens", "unniss"]
 
 __version__ = version()
 del version

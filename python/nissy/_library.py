@@ -175,6 +175,7 @@ nissy_invert, nissy_unniss, nissy_cleanup, nissy_facelets = (
     _call(name, LineAnswer, *_READ, *_WRITTEN) for name in ("nissy_invert", "nissy_unniss", "nissy_cleanup", "nissy_facelets"))
 nissy_build = _call("nissy_build", ctypes.c_uint8, _PLACE, *_READ)
 nissy_solve = _call("nissy_solve", SearchAnswer, _PLACE, *_READ, _BYTE, _BYTE, _LONG, _LONG, *_WRITTEN)
+nissy_solve_after = _call("nissy_solve_after", SearchAnswer, _PLACE, *_READ, *_READ, _BYTE, _BYTE, _LONG, _LONG, *_WRITTEN)
 nissy_count = _call("nissy_count", SearchAnswer, _PLACE, *_READ, _BYTE, _BYTE, _LONG, _LONG)
 nissy_count_lines = _call("nissy_count_lines", LinesAnswer, _PLACE, *_READ, _BYTE, _BYTE, _LONG, _LONG, *_WRITTEN)
 nissy_facts = _call("nissy_facts", FactsAnswer, *_READ)

@@ -2,6 +2,7 @@
 from __future__ import annotations
 
 import ctypes
+from itertools import chain
 from typing import Any, Dict, Iterable, Iterator, List, Optional, Tuple, Union
 
 from . import _library, _rooms
@@ -13,6 +14,9 @@ from ._places import place_of
 from ._values import Count, Cut, Fault, Solution, Solutions, StartFault
 
 _MOST_TURNS = 20
+# A piece of solutions that are asked for one after another has so many at most, and is found by looks at so many positions or fewer, if it has
+# any: that takes some milliseconds, and in between Python hears of signals.
+_MOST_OF_PIECE, _NODES_OF_PIECE = 4096, 1 << 20
 # what stands behind a solution of each length
 _ENDS = ("(0)\n", *(f" ({length})\n" for length in range(1, _MOST_TURNS + 1)))
 
@@ -54,6 +58,13 @@ class Tables:
               partial: bool = False) -> Solutions:
         """The solutions of a line, as the function `solve` returns them."""
         return self._solve(_numbers(limit, slack, most, nodes), partial, bytes_of(line, "the line"))
+
+    def solutions(self, line: Text, limit: int = 20, slack: int = 0) -> Iterator[Solution]:
+        """The solutions of a line one after another, as the function `solutions` returns them."""
+        data = bytes_of(line, "the line")
+        pieces = self._pieces(number_of(limit, "the limit", _MOST_TURNS), number_of(slack, "the slack", _MOST_TURNS), data)
+        # the first piece tells what is wrong with the line
+        return chain.from_iterable(chain((next(pieces),), pieces))
 
     def count(self, line: Text, limit: int = 20, slack: int = 0, most: Optional[int] = None, nodes: Optional[int] = None,
               partial: bool = False) -> Count:
@@ -116,6 +127,34 @@ class Tables:
             found.more, found.cut = True, status == CUT
             if status and not partial:
                 raise Cut(Count(answer.least if found else None, len(found), found.nodes, True), found)
+        return found
+
+    def _pieces(self, limit: int, slack: int, data: bytes) -> Iterator[Solutions]:
+        """Yields the solutions of a line in pieces, each of those behind the last one of the piece before."""
+        nodes, last = _NODES_OF_PIECE, None
+        while True:
+            found = self._behind(last, (limit, slack, _MOST_OF_PIECE, nodes), data)
+            yield found
+            if not found.more:
+                return
+            # nothing was found before the cut
+            nodes = _NODES_OF_PIECE if found else min(2 * nodes, MOST_WORD)
+            last = found[-1] if found else last
+
+    def _behind(self, last: Optional[Solution], numbers: _Numbers, data: bytes) -> Solutions:
+        """Returns the solutions of a line behind one of them, or from the first on: no more than an ordinary room holds."""
+        room = _rooms.take()
+        if last is None:
+            answer = _library.nissy_solve(self._tables, data, len(data), *numbers, room.address, room.size)
+        else:
+            after = last.encode()
+            answer = _library.nissy_solve_after(self._tables, data, len(data), after, len(after), *numbers, room.address, room.size)
+        out = room.memory[:answer.length]
+        _rooms.put_back(room)
+        if answer.status and answer.status != CUT:
+            raise self._fault(answer.status, answer.fault, answer.column, data)
+        found = _solutions(out.decode("ascii"), answer.least)
+        found.more = bool(answer.more)
         return found
 
     def _counts(self, partial: bool, piece: Piece, told: bytes) -> List[Union[Count, Fault, Cut]]:
@@ -192,6 +231,12 @@ def near(step: Step, line: Text, limit: int, slack: int, most: Optional[int] = N
          partial: bool = False) -> Solutions:
     """The solutions of a line up to `slack` turns longer than the shortest: `solve` by another name, which is the program's."""
     return _tables(step).solve(line, limit, slack, most, nodes, partial)
+
+
+def solutions(step: Step, line: Text, *, limit: int = 20, slack: int = 0) -> Iterator[Solution]:
+    """The solutions of a line one after another, those of `solve` in the same order. The library is asked for them in pieces, so millions of
+    them take no memory, and Ctrl-C is heard. Raises LineFault and StartFault as it is called."""
+    return _tables(step).solutions(line, limit, slack)
 
 
 def count(step: Step, line: Text, limit: int = 20, slack: int = 0, most: Optional[int] = None, nodes: Optional[int] = None,

@@ -201,6 +201,25 @@ def bounds(tally: Tally) -> None:
     tally.equal("there are more", (nissy.solve("eofb", "F", most=1).more, nissy.solve("eofb", "F", most=2).more), (True, False))
 
 
+def one_by_one(tally: Tally) -> None:
+    """Solutions one after another, those of a list."""
+    for step, line, limit, slack in (("eofb", "R U F", 20, 0), ("eofb", "R U F", 20, 3), ("eofb", "R U F", 1, 3), ("eofb", "F", 0, 0),
+                                     ("eofb", "", 20, 2), ("eo", "F R U", 20, 2), ("dr-eofb", "R U R' U2 L", 20, 2), ("drud-eofb", "R2 U", 20, 4)):
+        listed = list(untyped.solutions(step, line, limit=limit, slack=slack))
+        tally.holds(f"{step}, {line}, {limit}, {slack}", listed == untyped.solve(step, line, limit=limit, slack=slack))
+        tally.holds("its lengths", all(type(it) is nissy.Solution for it in listed[:10]))
+        tally.holds("by tables", list(untyped.Tables(step).solutions(line, limit, slack)) == listed)
+    first = list(itertools.islice(nissy.solutions("eofb", "R U F", slack=9), 3))
+    tally.equal("the first of very many", first, nissy.solve("eofb", "R U F", slack=9, most=3))
+    tally.holds("millions", sum(1 for _ in itertools.islice(nissy.solutions("eofb", "R U F", slack=5), 200_000)) == 200_000)
+    for line, column, text in FAULTS:
+        tally.equal(f"solutions of {line!r}", told(raised(nissy.LineFault, lambda: untyped.solutions("eofb", line))), (column, text, None))
+    tally.holds("a step that may not start", raised(nissy.StartFault, lambda: nissy.solutions("dr-eofb", "F")))
+    for kind, name, value in ((ValueError, "slack", 21), (ValueError, "limit", -1), (TypeError, "slack", "1")):
+        tally.holds(f"{name} {value}", raised(kind, lambda: untyped.solutions("eofb", "F", **{name: value})))
+    tally.holds("no line", raised(TypeError, lambda: untyped.solutions("eofb", 3)))
+
+
 def many(tally: Tally) -> None:
     """Many lines: an answer beside each, whatever stands between them, by one thread and by several."""
     lines: List[Any] = (["F", "R U F", ""] * 3000 + [line for line, _, _ in FAULTS] + [b"R", bytearray(b"F B")]) * 3
@@ -272,7 +291,7 @@ def main() -> None:
     """All of it."""
     tally = Tally()
     seed, count = map(int, sys.argv[1:3] or ("1", "2000"))
-    for part in (cases, solutions, bounds, many, goes_on):
+    for part in (cases, solutions, bounds, one_by_one, many, goes_on):
         part(tally)
     tokens(tally)
     lines = drawn_lines(seed, count)

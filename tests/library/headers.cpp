@@ -1,5 +1,6 @@
-/* The headers beside nissy.hpp: the moves of a line, and the best continuations. */
+/* The headers beside nissy.hpp: the moves of a line, solutions one after another, and the best continuations. */
 #include "nissy_best.hpp"
+#include "nissy_solutions.hpp"
 #include "nissy_tokens.hpp"
 
 #include "faults.h"
@@ -70,6 +71,26 @@ void rows_are_counted() {
     holds(nissy::best(scramble, "", 1).at(0).total <= all[0].total, "a slack makes it no longer", scramble);
 }
 
+// Solutions one after another are those of a list.
+void solutions_follow() {
+    const nissy::tables tables("eofb"), reduction("dr-eofb");
+    for (const std::int64_t slack : {0, 1, 3}) {
+        const auto listed = tables.solve("R U F", {20, slack});
+        std::vector<nissy::solution> found;
+        for (const nissy::solution &one : nissy::solutions(tables, "R U F", 20, slack)) found.push_back(one);
+        holds(found == listed, "they are those of the list", "R U F");
+    }
+    nissy::solutions none(tables, "F", 0), one(tables, "", 0), many(tables, "R U F", 20, 9);
+    holds(none.begin() == none.end() && std::distance(one.begin(), one.end()) == 1, "none and one", "F");
+    auto at = many.begin();
+    const nissy::solution first = *at++;
+    holds(first.moves == "F" && at->length == 1 && at != many.end(), "the first of very many", "R U F");
+    throws<nissy::fault>([&] { nissy::solutions(tables, "R q"); }, "R q");
+    throws<nissy::fault>([&] { nissy::solutions(reduction, "F"); }, "F");
+    throws<std::out_of_range>([&] { nissy::solutions(tables, "F", 21); }, "a limit of 21");
+    throws<std::out_of_range>([&] { nissy::solutions(tables, "F", 20, -1); }, "a slack below 0");
+}
+
 void faults_are_thrown() {
     has_fault([] { nissy::best("R q", "("); }, NISSY_NOT_A_MOVE, 3, "nissy: scramble, column 3: not a move");
     has_fault([] { nissy::best("R", "(U"); }, NISSY_UNCLOSED, 1, "nissy: moves so far, column 1: bracket not closed");
@@ -87,6 +108,7 @@ int main() {
     moves_are_told();
     continuations_are_told();
     rows_are_counted();
+    solutions_follow();
     faults_are_thrown();
     return ended();
 }
