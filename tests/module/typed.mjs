@@ -7,7 +7,7 @@ import { runInContext } from "node:vm";
 import { readFileSync } from "node:fs";
 import { Nissy, VERSION } from "../../web/module/nissy.js";
 import { tryCutOff, tryDeepCalls } from "./broken_off.mjs";
-import { F_OR_ITS_INVERSE, tryMany, tryOptions, tryReadOptions, tryRows, tryWrongValues } from "./called.mjs";
+import { F_OR_ITS_INVERSE, tryEach, tryMany, tryOptions, tryReadOptions, tryRows, tryWrongValues } from "./called.mjs";
 import { tryBounds, tryChecks, tryFacts, tryMixed } from "./judged.mjs";
 import { elsewhere } from "./values.mjs";
 import { ended, loaded, moduleBytes, same, text, thrown } from "./tally.mjs";
