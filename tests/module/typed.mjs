@@ -133,6 +133,7 @@ await tryWrongValues(nissy, memory);
 await tryOptions(nissy);
 await tryReadOptions(nissy, memory);
 await tryMany(nissy);
+await tryEach(nissy);
 for (const judge of [tryFacts, tryChecks, tryBounds, tryMixed]) await judge(nissy);
 await tryRanges(nissy);
 await tryScrambles(nissy);
