@@ -91,6 +91,30 @@ export async function tryRows(nissy) {
   }
 }
 
+/** Solutions one after another: the whole list, none, the first ones of millions, and what no call takes. */
+export async function tryEach(nissy) {
+  const gone = async (...given) => {
+    const all = [];
+    for await (const solution of nissy.solutions(...given)) all.push(solution);
+    return all;
+  };
+  for (const [step, line, options] of [["eo", "R U F2 L D R B", { slack: 3 }], ["eofb", "F", {}], ["eofb", "R", {}], ["drud-eofb", "R U", { slack: 2 }]]) {
+    const all = await nissy.solve(step, line, options);
+    same(`each of ${all.length} solutions`, await gone(step, line, options), [...all]);
+  }
+  same("none within the limit", await gone("eofb", "F", { limit: 0 }), []);
+  const first = [];
+  for await (const solution of nissy.solutions("eo", "R U F2 L D R B", { slack: 14 })) {
+    first.push(solution);
+    if (first.length === 100) break;
+  }
+  same("the first of millions", first, [...(await nissy.solve("eo", "R U F2 L D R B", { slack: 14, most: 100 }))]);
+  same("a line at fault", await thrown(() => gone("eofb", "R q")), ["NissyFault", "column 3: not a move"]);
+  same("a step that can't begin", await thrown(() => gone("dr-eorl", "R")), ["NissyFault", "eorl does not hold"]);
+  same("a step of another type", await thrown(() => nissy.solutions(3, "F")), ["TypeError", "the step is no string"]);
+  same("a slack out of its range", (await thrown(() => nissy.solutions("eofb", "F", { slack: 21 })))[0], "RangeError");
+}
+
 const BEYOND = " ".repeat(16_777_217);
 
 // calls of many lines, and what they throw: of the call itself, which is judged though there is no line, and of a line, with its number

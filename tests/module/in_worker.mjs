@@ -7,7 +7,7 @@ import { getEventListeners } from "node:events";
 import { performance } from "node:perf_hooks";
 import { Nissy, NissyWorker, loadNissy } from "../../web/module/node.js";
 import { WorkerCalls } from "../../web/module/worker-calls.js";
-import { tryMany as tryManyLines, tryOptions, tryReadOptions, tryRows, tryWrongValues } from "./called.mjs";
+import { tryEach, tryMany as tryManyLines, tryOptions, tryReadOptions, tryRows, tryWrongValues } from "./called.mjs";
 import { tryBounds, tryChecks, tryFacts, tryMixed } from "./judged.mjs";
 import { ended, moduleBytes, same, text, thrown } from "./tally.mjs";
 
@@ -307,6 +307,7 @@ const worker = await NissyWorker.start(WebAssembly.compile(moduleBytes));
 await tryRows(worker);
 await tryWrongValues(worker);
 await tryManyLines(worker);
+await tryEach(worker);
 await tryOptions(worker);
 await tryReadOptions(worker);
 await tryOwnOptions(worker);

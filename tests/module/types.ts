@@ -69,6 +69,12 @@ export async function followed(nissy: Nissy, worker: NissyWorker, bytes: Uint8Ar
   return [rows, total, eo?.moves, lengths, tokens.map(({ layers }) => layers[0]), counts, facts, solutions, best, pools[0].size].join(" ");
 }
 
+export async function oneByOne(nissy: Nissy, worker: NissyWorker, signal: AbortSignal): Promise<string> {
+  for (const { moves } of nissy.solutions("eofb", "R U F", { slack: 1 })) if (moves.length > 3) return moves;
+  for await (const solution of worker.solutions("eofb", "R U F", { slack: 1, signal })) return solution.moves;
+  return "";
+}
+
 export function cutAfter(error: unknown): number | null {
   return error instanceof SearchCut ? error.count.nodes : null;
 }

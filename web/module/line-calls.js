@@ -99,14 +99,22 @@ export function written(instance, write) {
  * @param {number} room
  * @returns {SolveReply}
  */
-function solvedIn(instance, { step, line, limit, slack, most, nodes }, room) {
+function solvedIn(instance, { step, line, limit, slack, most, nodes, after }, room) {
   const tables = instance.tablesOf(step);
   const { memory, answer, free } = instance;
-  const out = aligned(free + roomFor(line));
+  const behind = aligned(free + roomFor(line));
+  const out = aligned(behind + roomFor(after ?? ""));
   memory.reach(out + room);
   const length = memory.putLine(free, line);
-  instance.call(({ nissy_solve: solve }) =>
-    solve(wide(answer), wide(tables), wide(free), wide(length), limit, slack, bound(most), bound(nodes), wide(out), wide(room)));
+  const afterLength = memory.putLine(behind, after ?? "");
+  // not by lists that are gone through, which may be some script's own
+  instance.call(({ nissy_solve: solve, nissy_solve_after: solveAfter }) =>
+    (after === undefined
+      ? solve(wide(answer), wide(tables), wide(free), wide(length), limit, slack, bound(most), bound(nodes), wide(out), wide(room))
+      : solveAfter(
+        wide(answer), wide(tables), wide(free), wide(length), wide(behind), wide(afterLength), limit, slack, bound(most), bound(nodes),
+        wide(out), wide(room),
+      )));
   const head = headAt(memory, answer);
   if (head.status !== STATUS.done && head.status !== STATUS.cut) return refusal(instance, head, line, step);
   return { ...countAt(memory, answer), out: memory.text(out, instance.answered(SEARCH_ANSWER.length)) };

@@ -13,9 +13,10 @@ import { NoWebAssembly } from "./faults.js";
 import { allOf, checkIn, countIn, factsIn, lineIn, linesIn, outputLinesIn, shownIn, solutionsIn, tokensIn } from "./replies.js";
 import {
   allRequest, bestRequest, checkRequest, countRequest, factsRequest, lineRequest, runRequest, scrambleRequest, scramblesRequest,
-  solveRequest, stepsRequest,
+  solutionsRequest, solveRequest, stepsRequest,
 } from "./requests.js";
 import { progressOf } from "./signals.js";
+import { solutionsBy } from "./solutions.js";
 
 export { EngineMissing, NissyFault, NoWebAssembly, SearchCut, Stopped } from "./faults.js";
 export { CORNER_PLACES, EDGE_PLACES } from "./facts.js";
@@ -143,6 +144,16 @@ export class Nissy {
   solve(step, line, options) {
     const request = solveRequest(step, line, options);
     return solutionsIn(this.#answer(request), request);
+  }
+
+  /**
+   * The same one after another, so that there is no list of them.
+   * @template {string} Name
+   * @param {StepName<Name>} step @param {Text} line @param {Pick<Wanted, "limit" | "slack">} [options]
+   * @returns {Generator<Solution, void, undefined>}
+   */
+  solutions(step, line, options) {
+    return solutionsBy(solutionsRequest(step, line, options), (request) => this.#answer(request));
   }
 
   /**

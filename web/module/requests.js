@@ -10,7 +10,7 @@ import { hasOwn } from "./natives.js";
 /** @typedef {"throw" | "value"} Telling whether something is thrown, or told in the place of an answer */
 /** @typedef {{step: string, line: Text, limit: number, slack: number, most: number, nodes: number, cut: Telling}} Search */
 /** @typedef {Search & {call: "count"}} CountRequest */
-/** @typedef {Search & {call: "solve"}} SolveRequest */
+/** @typedef {Search & {call: "solve", after?: string}} SolveRequest `after`: the solution behind which the list begins */
 /** @typedef {{call: "facts", line: Text}} FactsRequest */
 /** @typedef {{call: "check", scramble: Text, solution: Text}} CheckRequest */
 /** @typedef {{call: "best", scramble: Text, soFar: Text, slack: number, most: number, axes: readonly Step[]}} BestRequest */
@@ -123,6 +123,15 @@ export const countRequest = (step, line, options = {}) => ({ call: "count", ...s
 
 /** @param {unknown} step @param {unknown} line @param {unknown} [options] @returns {SolveRequest} */
 export const solveRequest = (step, line, options = {}) => ({ call: "solve", ...searchOf(step, line, options) });
+
+/**
+ * @param {unknown} step
+ * @param {unknown} line
+ * @param {unknown} [options] of which the bounds on the turns count
+ * @returns {SolveRequest}
+ */
+export const solutionsRequest = (step, line, options = {}) =>
+  solveRequest(step, line, { limit: optionOf(options, "limit"), slack: optionOf(options, "slack") });
 
 /** @param {unknown} line @returns {FactsRequest} */
 export const factsRequest = (line) => ({ call: "facts", line: takenLine(line, "the line") });

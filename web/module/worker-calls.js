@@ -2,9 +2,10 @@
 import { allOf, bestIn, checkIn, countIn, factsIn, lineIn, linesIn, outputLinesIn, shownIn, solutionsIn, tokensIn } from "./replies.js";
 import {
   allRequest, bestRequest, checkRequest, countRequest, factsRequest, lineRequest, optionOf, runRequest, scrambleRequest,
-  scramblesRequest, solveRequest, stepsRequest,
+  scramblesRequest, solutionsRequest, solveRequest, stepsRequest,
 } from "./requests.js";
-import { progressOf } from "./signals.js";
+import { progressOf, signalOf } from "./signals.js";
+import { solutionsLaterBy } from "./solutions.js";
 import { compiled } from "./source.js";
 import { WorkerQueue } from "./worker-queue.js";
 
@@ -14,6 +15,7 @@ import { WorkerQueue } from "./worker-queue.js";
 /** @typedef {import("./replies.js").Count} Count */
 /** @typedef {import("./facts.js").Check} Check */
 /** @typedef {import("./facts.js").Facts} Facts */
+/** @typedef {import("./replies.js").Solution} Solution */
 /** @typedef {import("./replies.js").Solutions} Solutions */
 /** @typedef {import("./requests.js").BestWanted} BestWanted */
 /** @typedef {import("./requests.js").Many} Many */
@@ -119,6 +121,16 @@ export class WorkerCalls {
   async solve(step, line, options) {
     const request = solveRequest(step, line, options);
     return solutionsIn(await this.#queue.answer(request, options), request);
+  }
+
+  /**
+   * @template {string} Name
+   * @param {StepName<Name>} step @param {Text} line @param {Pick<Wanted, "limit" | "slack"> & Stoppable} [options]
+   * @returns {AsyncGenerator<Solution, void, undefined>}
+   */
+  solutions(step, line, options) {
+    const stoppable = { signal: signalOf(options) };
+    return solutionsLaterBy(solutionsRequest(step, line, options), (request) => this.#queue.answer(request, stoppable));
   }
 
   /**
