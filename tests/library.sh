@@ -84,7 +84,7 @@ tried() { # NAME: the test in C of this name
     esac
     ended
 }
-for name in calls facts threads fuzz fuzz_facts memory handlers broken_rules; do part tried $name; done
+for name in calls pieces facts threads fuzz fuzz_facts memory handlers broken_rules; do part tried $name; done
 
 # the headers in C++, by each compiler that is here
 compiled_by() { # COMPILER TEST PROGRAM WORD..: compiles the test of this name in C++, with these words too

@@ -32,6 +32,8 @@ FAULTS = ["R U\nR (U\nF\n", "(R (U))\n", "R)\n", "Q\n", "R U '2\n", "R " * 257 +
 MOST_INPUT = 16777216
 MANY = 20
 OF_WINE = b"wine: "
+# what wine says of a program that crashed
+OF_CRASH = b"Unhandled"
 WORDS: list[list[str]] = [["steps"], ["scramble", "1", "2", "25", "100"], ["scramble", "18446744073709551615", "0", "256", "20"], ["scramble", "1", "2", "0", "3"],
          ["scramble", "1", "2", "25", "0"], ["scramble", "1", "2", "257", "1"], ["scramble"], [], ["help"], ["solve"], ["solve", "eofb"],
          ["solve", "eofb", "21"], ["solve", "eofb", "x"], ["near", "eofb", "3"], ["near", "eofb", "3", "21"], ["count", "eofbx", "3"], ["solve", "", "3"],
@@ -94,10 +96,16 @@ class Drawing:
 
 def told(program: list[str], run: Run) -> tuple[int, bytes, bytes]:
     """Returns status, output and error text of a run. Wine writes lines of its own among the latter, when it makes its folder, or when one of its services
-    fails, as happens once in some hundred runs on a busy machine."""
+    fails, as happens once in some hundred runs on a busy machine. A run without a text of the program's, of which it says so, is made once more."""
     words, data = run
-    ran = subprocess.run(program + words, input=data, capture_output=True, check=False)
-    return ran.returncode, ran.stdout, b"".join(line for line in ran.stderr.splitlines(keepends=True) if not line.startswith(OF_WINE))
+    for _ in range(2):
+        ran = subprocess.run(program + words, input=data, capture_output=True, check=False)
+        said = ran.stderr.splitlines(keepends=True)
+        text = b"".join(line for line in said if not line.startswith(OF_WINE))
+        if ran.returncode == 0 or text or not said or OF_CRASH in ran.stderr:
+            break
+        print(f"once more, since wine said: {b''.join(said)!r}")
+    return ran.returncode, ran.stdout, text
 
 
 def main() -> None:
