@@ -8,8 +8,14 @@ brackets.
 from __future__ import annotations
 
 import sys
+from typing import Union
 
 import nissy
+
+
+def written(part: Union[nissy.Orientation, nissy.Reduction]) -> str:
+    """A step's name and its moves."""
+    return f"{part.step} {part.moves}" if part.side == "normal" else f"{part.step} ({part.moves})"
 
 
 def main() -> None:
@@ -19,7 +25,8 @@ def main() -> None:
     slack = int(sys.argv[2]) if len(sys.argv) > 2 else 1
     number = int(sys.argv[3]) if len(sys.argv) > 3 else 10
     for way in nissy.best(sys.argv[1], slack=slack, most=number):
-        print(f"{way.total} moves by {(way.eo or way.dr).step}, {way.case}: {way.line}")
+        steps = [written(part) for part in (way.eo, way.dr) if part]
+        print(f"{way.total} moves:", f", {way.case}, ".join(steps))
 
 
 if __name__ == "__main__":

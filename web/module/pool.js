@@ -164,6 +164,7 @@ export class WorkerPool {
     this.stop();
     for (const queue of this.#queues) queue.end();
   }
+
   /**
    * Asks the workers of many lines, each of the next piece that none has.
    * @param {AllRequest} request
