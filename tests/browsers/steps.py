@@ -6,7 +6,6 @@ from wanted import Position
 
 SCRAMBLE = "F2 U2 L2 D2 R2 L2 U2 L B R2 B2 L2 D F B2 R2 U' F R L U R2 F' D2 R2"
 ADDRESS = "#scramble=" + SCRAMBLE.replace(" ", "_").replace("'", "-")
-EXAMPLE = "R' U' F D2 L2 F R2 U2 R2 B D2 L B2 D' B2 L' R' B' D2 B2 R' U' F"
 TYPED: tuple[tuple[str, list[str]], ...] = (
     ("U", ["U"]),
     ("u2", ["U2"]),
@@ -29,7 +28,7 @@ def back(browser: Browser) -> None:
 
 
 def history(tally: Tally, browser: Browser) -> None:
-    """Steps, undo, Clear, random scrambles and examples can be had back by the browser; typing, a side and a list are no such steps."""
+    """Steps, undo, Clear and random scrambles can be had back by the browser; typing, a side and a list are no such steps."""
     browser.open(ADDRESS)
     entries = browser.script("return history.length")
     browser.click("#switch")
@@ -54,15 +53,15 @@ def history(tally: Tally, browser: Browser) -> None:
     back(browser)
     tally.equal("Back after a step", (browser.text("bracketed"), browser.text("side")), ("", "inverse side"))
     tally.equal("with its list", browser.text("solutions-heading"), "EO F/B, inverse side")
-    browser.act("[data-example]")
-    tally.equal("an example", browser.script(VALUE), EXAMPLE)
-    browser.click("#random")
-    browser.until("return document.getElementById('scramble').value !== arguments[0]", EXAMPLE)
-    browser.wait()
-    back(browser)
-    tally.equal("Back after a random scramble", browser.script(VALUE), EXAMPLE)
-    back(browser)
-    tally.equal("Back after an example", browser.script(VALUE), SCRAMBLE)
+    drawn = [SCRAMBLE]
+    for _ in range(2):
+        browser.click("#random")
+        browser.until("return document.getElementById('scramble').value !== arguments[0]", drawn[-1])
+        browser.wait()
+        drawn.append(browser.script(VALUE))
+    for scramble in (drawn[1], SCRAMBLE):
+        back(browser)
+        tally.equal("Back after a random scramble", browser.script(VALUE), scramble)
     entries = browser.script("return history.length")
     browser.fill("scramble", "R U F")
     tally.equal("typing makes no entry", browser.script("return history.length"), entries)
