@@ -11,7 +11,7 @@ from selenium.webdriver.common.keys import Keys
 
 from net import letters_of, stickers_of
 
-PATIENCE = 180
+PATIENCE = 400
 # longer continuations are looked for by themselves only while the page is seen: for most of what is tried it isn't, so that rows stay
 UNSEEN = 'Object.defineProperty(Document.prototype, "hidden", { configurable: true, get: () => !window.isSeen });'
 IDLE = """
