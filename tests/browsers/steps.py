@@ -6,6 +6,7 @@ from wanted import Position
 
 SCRAMBLE = "F2 U2 L2 D2 R2 L2 U2 L B R2 B2 L2 D F B2 R2 U' F R L U R2 F' D2 R2"
 ADDRESS = "#scramble=" + SCRAMBLE.replace(" ", "_").replace("'", "-")
+EXAMPLE = "R' U' F D2 L2 F R2 U2 R2 B D2 L B2 D' B2 L' R' B' D2 B2 R' U' F"
 TYPED: tuple[tuple[str, list[str]], ...] = (
     ("U", ["U"]),
     ("u2", ["U2"]),
