@@ -4,6 +4,7 @@
 #include "nissy_tokens.hpp"
 
 #include "faults.h"
+#include "thrown.hpp"
 
 #include <stdexcept>
 
@@ -19,15 +20,6 @@ template <typename Call> void has_fault(Call call, int code, std::size_t column,
         holds(0, "it throws", what.c_str());
     } catch (const nissy::fault &thrown) {
         holds(thrown.code() == code && thrown.column() == column && thrown.what() == what, "its fault", what.c_str());
-    }
-}
-
-template <typename Thrown, typename Call> void throws(Call call, const char *of) {
-    try {
-        call();
-        holds(0, "it throws", of);
-    } catch (const Thrown &thrown) {
-        holds(thrown.what()[0] != 0, "it says what", of);
     }
 }
 

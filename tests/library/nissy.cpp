@@ -5,6 +5,7 @@
 #include "faults.h"
 #include "refused.h"
 #include "searches.h"
+#include "thrown.hpp"
 
 #include <limits>
 #include <thread>
@@ -31,18 +32,6 @@ void solves(const nissy::tables &tables, const search_row &row) {
     holds(counted.length.has_value() == !found.empty(), "there is a least length if there are solutions", row.line);
     if (counted.length) holds(*counted.length == row.least && found.front().length == row.least, "the least length", row.line);
     if (row.nodes) holds(counted.nodes == row.nodes, "the positions looked at", row.line);
-}
-
-// A call throws this exception, and one that says something.
-template <typename Thrown, typename Call> void throws(Call call, const char *of) {
-    try {
-        call();
-        holds(0, "it throws", of);
-    } catch (const Thrown &thrown) {
-        holds(thrown.what()[0] != 0, "it says what", of);
-    } catch (...) {
-        holds(0, "it throws another exception", of);
-    }
 }
 
 // A call throws this fault.
