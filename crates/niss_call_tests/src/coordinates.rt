@@ -1,7 +1,7 @@
 //! Coordinates of cubes, and the tables that turn them.
 use crate::cubes::{cube_after, quarter};
 use niss_cube::Coordinate::{self, Flip, Slice, Twist};
-use niss_cube::{Axis, Cube, Face, OutOfMemory, TurnTable, TurnTables};
+use niss_cube::{Axis, Cube, Face, OutOfMemory, TurnTables};
 use std::alloc::Allocator;
 use std::process::Abort;
 
@@ -109,11 +109,4 @@ fn tables_turn_the_solved_cube(rt: HostRuntime) {
     let built = TurnTables::build(rt.alloc());
     check_tables(&rt, &built);
     drop(built);
-}
-
-#[test]
-fn the_table_of_one_coordinate_turns_the_solved_cube(rt: HostRuntime) {
-    let table = TurnTable::build_in(rt.alloc(), Twist).expect(&rt, "a table");
-    assert!(rt; table.next(Axis::Ud, 0, quarter(Face::R)) == 1494);
-    drop(table);
 }

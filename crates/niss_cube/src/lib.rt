@@ -43,4 +43,4 @@ pub use cube::Cube;
 pub use cube::coordinate::Coordinate;
 pub use niss_moves::{Axis, Face, Power, Rotation, Turn};
 pub use step::{Goal, Step};
-pub use turn_tables::{OutOfMemory, TurnTable, TurnTables};
+pub use turn_tables::{OutOfMemory, TurnTables};

@@ -52,13 +52,6 @@ impl<A: Allocator> TurnTable<A> {
         Ok(TurnTable { coordinate, rows })
     }
 
-    /// The coordinate.
-    pub fn coordinate(&self) -> Coordinate
-        ensures { result ≡ self.now }
-    {
-        self.coordinate
-    }
-
     /// The rank on an axis after a turn of any cube that has this rank before it; both are below the coordinate's `count`.
     #[inline(always)]
     pub fn next(&self, axis: Axis, rank: u16, turn: Turn) -> u16
