@@ -4,20 +4,6 @@ ghost use Rattle.std.specs.List.{prefix_len};
 
 use std::simd::prelude::*;
 
-/// The first index of the level in eight bytes, or 8 if there is none.
-fn first_in_word(word: &[u8; 8], level: u8) -> usize
-    ensures { result ≡ prefix_len (λ byte. not (byte == level)) word.now }
-{
-    let mask = u8x8::from_array(*word)
-        .simd_eq(u8x8::splat(level))
-        .to_bitmask();
-    if mask == 0 {
-        8
-    } else {
-        mask.trailing_zeros() as usize
-    }
-}
-
 /// The first index of the level in a block, or 32 if there is none.
 fn first_in_block(block: &[u8; 32], level: u8) -> usize
     ensures { result ≡ prefix_len (λ byte. not (byte == level)) block.now }
@@ -42,13 +28,6 @@ pub fn next_at(table: &[u8], from: usize, level: u8) -> Option<usize>
     ensures none { IfNone result
         ((k : ℕ) → from ≤ k → k < length table.now → slice_index table.now k ≢ level) }
 {
-    // at a level that many entries have, the next is mostly among the first eight
-    if let Some(word) = table[from..].first_chunk::<8>() {
-        let place = first_in_word(word, level);
-        if place < 8 {
-            return Some(from + place);
-        }
-    }
     let (blocks, rest) = table[from..].as_chunks::<32>();
     let mut at = from;
     for block in blocks {

@@ -1,18 +1,6 @@
 use Rattle.niss_search.proofs.Words.{arith, ◌≡◌, ◌≢◌, ◌+◌, ◌-◌, ℕ, List, drop, slice_index, get_or, sym, ap, ◌∙◌, subst, get_or-drop}
-use Rattle.niss_search.proofs.ScanLemmas.{told-first, told-block, joined}
+use Rattle.niss_search.proofs.ScanLemmas.{told-block, joined}
 use Rattle.niss_search.proofs.scan.next_at.Goals as goal
-
-pub returns-then-place-lt8-clause-found : goal.returns-then-place-lt8-clause-found
-returns-then-place-lt8-clause-found c =
-    let word = c.in-Some.ensures.cases in
-    let first = told-first 8 c.args.table.now c.args.from _ c.args.level c.in-Some.word.now c.requires word.enough word.same c.first_in_word-place.ensures in
-    (omega arith, omega (arith, first.room), first.here c.if-place-lt8.true)
-
-pub returns-then-place-lt8-clause-least : goal.returns-then-place-lt8-clause-least
-returns-then-place-lt8-clause-least c =
-    let word = c.in-Some.ensures.cases in
-    let first = told-first 8 c.args.table.now c.args.from _ c.args.level c.in-Some.word.now c.requires word.enough word.same c.first_in_word-place.ensures in
-    first.differ
 
 pub returns-then-place-lt32-clause-found : goal.returns-then-place-lt32-clause-found
 returns-then-place-lt32-clause-found c =
