@@ -2,6 +2,7 @@
 ghost use Rattle.std.specs.Prelude.{◌≡◌, ◌≤◌, false, Some, IfOk, length};
 ghost use Rattle.niss_shell.specs.Device.{ReadShows, CallShows, read_call, source_state, target_state};
 
+use crate::refusing::Refusing;
 use linked_list_allocator::LocalHeap;
 use niss_shell::{DeviceFault, Source, Target};
 use std::alloc::Global;
@@ -20,7 +21,7 @@ pub struct Devices<'a> {
     /// The error of a failed call, if the run is given them as streams of `std::io`.
     pub stream_error: Option<io::ErrorKind>,
     /// What the run takes its memory of, if that isn't ample.
-    pub heap: Option<&'a LocalHeap>,
+    pub memory: Option<&'a Refusing<&'a LocalHeap>>,
 }
 
 /// Reads of a byte, all is taken, and no call fails.
@@ -33,7 +34,7 @@ pub const FAULTLESS: Devices<'static> = Devices {
     most_reported: usize::MAX,
     failed_report: None,
     stream_error: None,
-    heap: None,
+    memory: None,
 };
 
 /// Few bytes in each call: so lines, moves and answers are cut anywhere.

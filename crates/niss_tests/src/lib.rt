@@ -23,6 +23,8 @@ mod memory;
 mod near;
 #[cfg(test)]
 mod refused_growths;
+// its proofs are by hand, and a crate's proofs are read without its tests too
+mod refusing;
 #[cfg(test)]
 mod runs;
 #[cfg(test)]

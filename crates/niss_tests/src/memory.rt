@@ -1,5 +1,6 @@
 //! Runs with heaps of the size that some growths ask for, or a little less.
 use crate::devices::{Devices, FAULTLESS};
+use crate::refusing::Refusing;
 use crate::runs::Given::Input;
 use crate::runs::Run::{self, Failure, Good};
 use crate::runs::{OUT_OF_MEMORY, repeated};
@@ -16,8 +17,9 @@ pub fn check_heap(
     run: Run<'_>,
 ) -> Result<(), AllocError> {
     let heap = LocalHeap::new(alloc, size)?;
+    let memory = Refusing::after(&heap, u64::MAX);
     let devices = Devices {
-        heap: Some(&heap),
+        memory: Some(&memory),
         ..FAULTLESS
     };
     let calls = run.check(rt, alloc, devices);

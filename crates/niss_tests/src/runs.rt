@@ -105,8 +105,8 @@ pub fn run_over<'a>(
     let mut out = devices.target(alloc);
     let mut err = devices.error_target(alloc);
     let mut looks = Meter::new();
-    let status = match (devices.heap, devices.stream_error) {
-        (Some(heap), _) => run_in(heap, words, &mut input, &mut out, &mut err, &mut looks),
+    let status = match (devices.memory, devices.stream_error) {
+        (Some(memory), _) => run_in(memory, words, &mut input, &mut out, &mut err, &mut looks),
         (None, None) => run(alloc, words, &mut input, &mut out, &mut err, &mut looks),
         (None, Some(_)) => run(
             alloc,
