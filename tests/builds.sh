@@ -1,6 +1,6 @@
 #!/usr/bin/env bash
 # Tries Makefile and tools in one order after another, also after edits, checks that were killed and a checkout of another commit, on a small
-# workspace of its own, with one function in each of five crates, named as ours are:
+# workspace of its own, with one function in each of four crates, named as ours are:
 #
 #     tests/builds.sh
 #
@@ -33,7 +33,7 @@ $2() -> u8
 }
 END
 }
-exported() { number "$1" $'#[unsafe(no_mangle)]\npub extern "C" fn nissy_number' 'second()' 'use niss_embed::second;'; }
+exported() { number "$1" $'#[unsafe(no_mangle)]\npub extern "C" fn nissy_number' 'first()' 'use niss_moves::first;'; }
 program() {
     mkdir -p "$here/crates/nissy/src"
     echo 7 > "$here/crates/nissy/stdout"
@@ -52,19 +52,17 @@ END
 by_git() { git -c user.name=tests -c user.email=tests@localhost "$@"; }
 workspace() {
     number niss_moves 'pub fn first' 7
-    number niss_embed 'pub fn second' 'first()' 'use niss_moves::first;'
     exported niss_c
     exported niss_page
     program
-    mkdir -p "$here/tests/wrong-bodies/niss_embed"
-    printf '%s\n' 'gate: second_is_eight' 'Returns 8.' 'refused: niss_embed::second' '- first()' '+ first() + 1' \
-        > "$here/tests/wrong-bodies/niss_embed/lib.txt"
+    mkdir -p "$here/tests/wrong-bodies/niss_c"
+    printf '%s\n' 'gate: number_is_eight' 'Returns 8.' 'refused: niss_c::nissy_number' '- first()' '+ first() + 1' \
+        > "$here/tests/wrong-bodies/niss_c/lib.txt"
     mkdir "$here/packaging" && cp -R "$top/packaging/aarch64" "$here/packaging" && cp -R "$top"/{Makefile,HANDLES,tools} "$here" && cd "$here" || return
     cat > crates.txt << END
 niss_moves:
-niss_embed: niss_moves
-niss_c staticlib: niss_embed
-niss_page staticlib: niss_embed
+niss_c staticlib: niss_moves
+niss_page staticlib: niss_moves
 nissy: niss_moves
 END
     printf '%s\n' out build > .gitignore
@@ -78,7 +76,7 @@ killed_after() { # SECONDS COMMAND..
     [ $status -eq 137 ] || { echo "it ended with status $status:" && tail -n 3 "$room/said" && return 1; }
 }
 is_built() { make --no-print-directory all lib; }
-goes_on() { python3 -B -c 'import sys; sys.path.insert(0, "tools"); import kit; sys.exit(not kit.goes_on(["niss_moves", "niss_embed"]))'; }
+goes_on() { python3 -B -c 'import sys; sys.path.insert(0, "tools"); import kit; sys.exit(not kit.goes_on(["niss_moves", "niss_c"]))'; }
 is_first() { cmp build/libnissy.a "$room/first.a"; }
 
 workspace || { fails "a workspace is made"; ended; exit; }
@@ -108,29 +106,27 @@ if missing aarch64-linux-gnu-gcc || missing qemu-aarch64; then skips "what is fo
     holds "the program runs there" test "$(by_qemu build/aarch64/nissy)" = 7
     holds "the library is called there" called_on_arm
 fi
-is_refused() { tools/wrong-bodies --show second_is_eight; }
+is_refused() { tools/wrong-bodies --show number_is_eight; }
 holds "a wrong body is refused after these" is_refused
 
-edit niss_moves 'A number' 'One number'
-holds "all is built after an edit of a comment in the lowest crate" is_built
-holds "the library is the same" is_first
-for crate in niss_moves niss_embed niss_c niss_page; do edit $crate '7' '9'; done
+for crate in niss_moves niss_c niss_page; do edit $crate '7' '9'; done
 echo 9 > crates/nissy/stdout
 by_git commit -qam two
 holds "all is built after an edit of each function" is_built
 holds "the library is another" refuses is_first
 by_git checkout -q HEAD~1
-holds "all is built in the commit before" is_built
+edit niss_moves 'A number' 'One number'
+holds "all is built in the commit before, with another comment in the lowest crate" is_built
 holds "the library is the first one again" is_first
 holds "the program is, too" test "$(build/nissy)" = 7
 
-holds "a check of one crate" env -C crates/niss_embed rt check
+holds "a check of one crate" env -C crates/niss_c rt check
 holds "the tools go on from what it left" goes_on
-edit niss_embed 'A number' 'One number'
-holds "a check is killed" killed_after 1 env -C crates/niss_embed rt lib
+edit niss_moves 'One number' 'The number'
+holds "a check is killed" killed_after 1 env -C crates/niss_moves rt lib
 holds "all is built after a check that was killed" is_built
 # a text of its own in each run, since `rt ci` takes what it proved of the same files on this machine
-edit niss_embed 'One number' "The number at $EPOCHREALTIME"
+edit niss_moves 'The number' "The number at $EPOCHREALTIME"
 holds "a gate is killed" killed_after 3 rt ci
 holds "all is built after a gate that was killed" is_built
 holds "a wrong body is refused after it" is_refused
