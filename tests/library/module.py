@@ -11,7 +11,6 @@ import copy
 import doctest
 import os
 import pickle
-import subprocess
 import sys
 import threading
 import time
@@ -24,21 +23,12 @@ sys.path[:0] = [PYTHON, os.path.join(TOP, "tests")]
 import nissy
 import called
 from runs import runs as rows_of_all
-from tally import Tally
+from tally import Tally, raised
 
 USAGE = b"usage: nissy COMMAND [ARGUMENTS]\n"
 TOO_LONG = b"nissy: input longer than 16777216 bytes\n"
 tally = Tally()
 holds = tally.holds
-
-
-def raised(kind, call):
-    """What the call raises of this kind, or None."""
-    try:
-        call()
-    except kind as error:
-        return error
-    return None
 
 
 def lines():
@@ -52,14 +42,13 @@ def lines():
         for call in (nissy.invert, nissy.unniss, nissy.cleanup, nissy.facelets):
             fault = raised(nissy.LineFault, lambda: call(line))
             holds("%s refuses %r" % (call.__name__, line), fault and (fault.column, fault.text) == (column, text))
-    fault = raised(ValueError, lambda: nissy.invert("R Q"))
+    fault = raised(nissy.LineFault, lambda: nissy.invert("R Q"))
     holds("a fault says its column and text", str(fault) == "column 3: not a move")
     for name, again in (("to another process", lambda: pickle.loads(pickle.dumps(fault))), ("as a copy", lambda: copy.copy(fault))):
         same = not raised(TypeError, again) and again()
         holds("a fault comes whole " + name,
               same and (type(same), str(same), same.column, same.text) == (nissy.LineFault, str(fault), 3, "not a move"))
-    too_long = raised(ValueError, lambda: nissy.invert(b" " * (nissy.MOST_INPUT + 1)))
-    holds("a line that is too long is a ValueError without a column", too_long and not isinstance(too_long, nissy.LineFault))
+    holds("a line that is too long has no column", raised(nissy.Fault, lambda: nissy.invert(b" " * (nissy.MOST_INPUT + 1))))
     holds("a line of 16,777,216 blanks is read", nissy.invert(b" " * nissy.MOST_INPUT) == "")
     holds("nothing is no line, nor is a number", all(raised(TypeError, lambda: nissy.invert(it)) for it in (None, 3)))
 
@@ -159,18 +148,10 @@ def threads():
     searching.join()
 
 
-def library():
-    """The library that isn't there."""
-    named = dict(os.environ, NISSY_LIBRARY="/nowhere/libnissy.so.2", PYTHONPATH=PYTHON)
-    done = subprocess.run([sys.executable, "-c", "import nissy"], capture_output=True, env=named, check=False)
-    holds("a library that isn't there is an ImportError that names it", done.stderr.splitlines()[-1].startswith(b"ImportError: ") and
-          b": /nowhere/libnissy.so.2: " in done.stderr.splitlines()[-1])
-
-
 def main():
     """All of it."""
     large = (large_output,) if "large" in sys.argv[1:] else ()
-    for part in (lines, runs, names, examples, rooms, threads, library) + large:
+    for part in (lines, runs, names, examples, rooms, threads) + large:
         part()
     tally.end()
 
