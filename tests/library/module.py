@@ -13,8 +13,8 @@ import os
 import pickle
 import sys
 import threading
-import time
 import typing
+from dataclasses import FrozenInstanceError
 
 TOP = os.path.join(os.path.dirname(os.path.abspath(__file__)), "..", "..")
 PYTHON = os.path.join(TOP, "python")
@@ -66,7 +66,7 @@ def runs():
     holds("one text is no list of words", all(raised(TypeError, lambda: nissy.run(it)) for it in ("steps", b"steps")))
     holds("a number is no word", raised(TypeError, lambda: nissy.run(["count", "eofb", 20, "R"])))
     holds("nor is it an input", raised(TypeError, lambda: nissy.run(["invert"], 3)))
-    holds("an answer can't be changed", raised(AttributeError, lambda: setattr(nissy.run(["steps"]), "status", 1)))
+    holds("an answer can't be changed", raised(FrozenInstanceError, lambda: setattr(nissy.run(["steps"]), "status", 1)))
     holds("the module's functions have types", typing.get_type_hints(nissy.run)["return"] is nissy.Answer)
     public = [getattr(nissy, name) for name in nissy.__all__ if callable(getattr(nissy, name))]
     holds("each function and each class says what it does", len(public) > 10 and all(it.__doc__ for it in public))
@@ -122,7 +122,7 @@ def large_output():
 
 
 def threads():
-    """Threads that call side by side, and one that goes on while another searches."""
+    """Threads that call side by side. That others go on meanwhile is tried by facts.py."""
     wrong = []
 
     def call(number):
@@ -138,14 +138,6 @@ def threads():
     for thread in calling:
         thread.join()
     holds("each thread has the answers of its own calls", not wrong)
-    searching = threading.Thread(target=nissy.run, args=(["count", "dr-eofb", "0"], b"\n" * 400_000))
-    searching.start()
-    begun, turns = time.monotonic(), 0
-    while searching.is_alive() and turns < 100:
-        time.sleep(0.0001)
-        turns += 1
-    holds("other threads go on during a call", turns >= 20 or time.monotonic() - begun < 0.02)
-    searching.join()
 
 
 def main():
