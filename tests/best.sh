@@ -27,6 +27,6 @@ if missing node || [ ! -e "$folder/nissy.wasm" ]; then skips "JavaScript, since 
     module=$folder/nissy.wasm
 fi
 part python3 tests/best/alike.py 1 24 "$caller" "$module"
-part python3 tests/best/counted.py "$program" 1 12
+part python3 tests/best/counted.py "$program" 1 13
 parts_end
 ended

@@ -1,5 +1,6 @@
 #!/usr/bin/env bash
-# Tries the page that `make page` built, drives it in Chromium, and shows it in Firefox and WebKit; tsc reads its types, and mypy what tries it:
+# Tries the page that `make page` built, drives it in Chromium, and compares with that Firefox and WebKit; tsc reads its types, and mypy what
+# tries it:
 #
 #     tests/browsers.sh [PAGE [PROGRAM]]
 #
@@ -43,22 +44,15 @@ else
     # each in a browser of its own, which mostly waits
     for name in $($python tests/browsers/drive.py); do part $python tests/browsers/drive.py "$page" "$program" "$name"; done
 fi
-if missing firefox && missing firefox-esr; then
-    skips "the page in Firefox, which isn't installed"
-else
-    part python3 tests/browsers/firefox.py "$page"
+others=no beside=()
+if missing firefox && missing firefox-esr; then skips "the page in Firefox, which isn't installed"; else others=yes; fi
+if missing WebKitWebDriver || missing xvfb-run; then skips "the page in WebKit, since webkit2gtk-driver or xvfb isn't installed"; else
+    others=yes beside=(xvfb-run -a)
 fi
-if missing WebKitWebDriver || missing xvfb-run || ! $python -c "import selenium" 2> /dev/null; then
-    skips "the page in WebKit, since webkit2gtk-driver, xvfb or python3-selenium isn't installed"
+if [ $others = no ] || missing chromium || missing chromedriver || ! $python -c "import selenium" 2> /dev/null; then
+    skips "the browsers beside each other, since Chromium, the others or python3-selenium isn't installed"
 else
-    part xvfb-run -a $python tests/browsers/webkit.py "$page"
-fi
-if missing chromium || missing chromedriver || { missing firefox && missing firefox-esr; } || missing WebKitWebDriver || missing xvfb-run ||
-    ! $python -c "import selenium" 2> /dev/null; then
-    skips "the browsers beside each other, since one of them isn't installed"
-else
-    # two that look for a free display at once may find the same
-    after="xvfb-run -a $python tests/browsers/webkit.py $page" part xvfb-run -a $python tests/browsers/alike.py "$page"
+    part "${beside[@]}" $python tests/browsers/alike.py "$page"
 fi
 parts_end
 ended

@@ -1,5 +1,6 @@
 """Counts what holds and what doesn't, and the line that a script of the gate ends with."""
 import sys
+from typing import Any, Callable, Type
 
 
 class Tally:
@@ -24,6 +25,15 @@ class Tally:
         """Ends the script by its last line and its status."""
         print(f"{self.passed} passed, {self.failed} failed")
         sys.exit(0 if self.passed and not self.failed else 1)
+
+
+def raised(kind: Type[BaseException], call: Callable[[], object]) -> Any:
+    """What a call raises of exactly this kind, or None."""
+    try:
+        call()
+    except Exception as error:
+        return error if type(error) is kind else None
+    return None
 
 
 def short(value: object, most: int = 300) -> str:

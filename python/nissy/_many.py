@@ -161,14 +161,17 @@ def _side_by_side(taking: _Taking, asking: Asking[Value], threads: int) -> Itera
         taking.took(piece, seconds)
         return asking.told(piece, told)
 
+    def answers(pool: ThreadPoolExecutor) -> Iterator[Value]:
+        for piece in taking:
+            asked.append((piece, pool.submit(asking.timed, piece)))
+            if len(asked) > 2 * threads:
+                yield from first()
+        while asked:
+            yield from first()
+
     with ThreadPoolExecutor(threads, "nissy") as pool:
         try:
-            for piece in taking:
-                asked.append((piece, pool.submit(asking.timed, piece)))
-                if len(asked) > 2 * threads:
-                    yield from first()
-            while asked:
-                yield from first()
+            yield from answers(pool)
         finally:
             # those that have begun end, and the others need not
             for _, future in asked:

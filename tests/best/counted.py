@@ -190,7 +190,8 @@ def goes_on(question: Question, row: nissy.Continuation) -> bool:
     scramble = start[0] + inverse_of(start[1])
     cubes = [to_faces(inverse_of(inside) + scramble + outside)[0] for outside, inside in (before, (normal, bracketed))]
     count = sum(len(clean(to_faces(moves)[0])) for moves in (normal, bracketed))
-    return holds(cubes[1], row.dr.step) and count == row.total and row.case == "{}c{}e".format(*pieces(cubes[0], row.dr.step))
+    is_long = all(part.length == len(part.moves.split()) for part in (row.eo, row.dr) if part)
+    return is_long and holds(cubes[1], row.dr.step) and count == row.total and row.case == "{}c{}e".format(*pieces(cubes[0], row.dr.step))
 
 
 def written(row: nissy.Continuation) -> str:
@@ -202,8 +203,9 @@ def main() -> None:
     """Some questions, of which those without faults are counted, and those that turn the cube are gone on with."""
     program, (seed, count), tally = Program(sys.argv[1]), map(int, sys.argv[2:4]), Tally()
     draw, counted = Drawing(seed), 0
-    # a slack takes half a minute
+    # after 25 turns a slack takes half a minute
     slow = [Question(draw.scramble(), so_far, 1) for so_far in ("", draw.both_sides())] if count > MOST_QUICK else []
+    slow.append(Question("R U F2 L D R B", "", 1))
     for question in [*slow, *(it for it in drawn(seed, 4 * count) if it.slack == 0 or "(" in it.so_far and it.most == 5)]:
         if counted == count:
             break

@@ -1,6 +1,6 @@
 #!/usr/bin/python3
-"""Compares what the page shows in Chromium, Firefox and WebKit, as far as they are here: the text of each card as it is seen, and what
-assistive technology is told that buttons and fields are called. WebKit needs a display.
+"""Compares what the page shows in Chromium, Firefox and WebKit, as far as they are here: the text of each card and the letters of the nets
+as they are seen, and what assistive technology is told that buttons and fields are called. WebKit needs a display.
 
     tests/browsers/alike.py PAGE
 
@@ -15,7 +15,9 @@ from pathlib import Path
 sys.path.insert(0, str(Path(__file__).resolve().parent.parent))
 
 from anywhere import DONE, Window
+from net import letters_of, stickers_of
 from tally import Tally
+from wanted import SIDES
 from windows import BROWSERS, is_here
 
 SCRAMBLE = "#scramble=R-_U-_F_D2_L2_F_R2_U2_R2_B_D2_L_B2_D-_B2_L-_R-_B-_D2_B2_R-_U-_F"
@@ -31,7 +33,8 @@ STATES = (
     ("the best with one move more", "#scramble=R_U_F",
      "const field = document.getElementById('best-slack'); field.value = '1'; field.dispatchEvent(new Event('change'))"),
     ("kept lines", BOTH + "&kept=inverse.B_D_R_F2_B_D;a_note,normal.R-_U_F-_R_L", ""),
-    ("a fault", "#scramble=R_U_q_F", ""),
+    ("a fault", "#scramble=R_U", "const field = document.getElementById('scramble'); field.value = 'R U q F';"
+     "field.dispatchEvent(new Event('input'))"),
     ("a line that is too long", "#scramble=" + "_".join(["R", "U"] * 129), ""),
     ("a solved cube", "#scramble=R_U&steps=normal.U-_R-", ""),
     ("a reduction", BOTH + "~normal.D2_R", ""),
@@ -57,6 +60,8 @@ CONTROLS = """
     return seen.map((each) => [each.localName, each.id, each.ariaLabel, [...(each.labels ?? [])].map((label) => label.textContent).join(),
         each.localName === "button" || each.localName === "summary" ? each.textContent : each.value, each.ariaPressed, each.disabled,
         [...(each.options ?? [])].map((option) => option.textContent.trim()).join()])"""
+# what the page's own policy refuses it
+REFUSED = "window.refused = []; addEventListener('securitypolicyviolation', (event) => window.refused.push(event.blockedURI))"
 DRAWN = """
     const seen = [...document.querySelectorAll(".net, table, .unseen:not(#status)")].filter((each) => each.checkVisibility());
     return seen.map((each) => [each.ariaLabel ?? each.caption?.textContent, each.localName === "table" ? "" : each.textContent])"""
@@ -66,6 +71,7 @@ def shown(window: Window, address: str, act: str) -> dict[str, object]:
     """What a window shows of a state, once all is answered."""
     window.open("about:blank")
     window.open(address)
+    window.script(REFUSED)
     # so that none of them is further than another
     window.script("document.getElementById('best-further').checked = false")
     if not window.until(DONE):
@@ -76,7 +82,9 @@ def shown(window: Window, address: str, act: str) -> dict[str, object]:
         if "best-slack" not in act:
             window.until(f"return location.hash !== {json.dumps(before)}")
         window.until(DONE)
-    return {"cards": window.script(CARDS), "controls": window.script(CONTROLS), "drawn": window.script(DRAWN)}
+    nets = [letters_of(window.script(stickers_of(side))) for side in SIDES]
+    shows = {"cards": window.script(CARDS), "controls": window.script(CONTROLS), "drawn": window.script(DRAWN)}
+    return {**shows, "nets": nets, "refused": window.script("return window.refused")}
 
 
 def all_shown(browser: str, page: str) -> list[dict[str, object]]:

@@ -1,22 +1,14 @@
-"""What the page must show in each browser beside Chromium, in which all of it is tried."""
+"""Windows of any browser, and when the page in one has its answers."""
 import json
 import time
 from abc import ABC, abstractmethod
-from pathlib import Path
 from typing import Any
 
-from net import letters_of, stickers_of
-from tally import Tally
-from wanted import SIDES, Position
-
 PATIENCE = 90
-SCRAMBLE, FIRST = "R U F", "R"
-ADDRESS = "#scramble=R_U_F&steps=inverse.R&list=eofb.normal.1"
 DONE = """
     return document.querySelector("#results[aria-busy=false]") !== null
         && document.querySelector("[aria-busy=true]") === null"""
 SEEN = "return [...document.querySelectorAll(%s)].filter((each) => each.checkVisibility())"
-REFUSALS = "const said = []; addEventListener('securitypolicyviolation', (event) => said.push(event.blockedURI)); window.said = said"
 
 
 class Window(ABC):
@@ -51,10 +43,6 @@ class Window(ABC):
             time.sleep(0.05)
         return True
 
-    def texts(self, selector: str) -> list[str]:
-        """The texts of all elements that a selector finds."""
-        return self.script(f"return [...document.querySelectorAll({json.dumps(selector)})].map((each) => each.textContent)")
-
 
 class Driven(Window):
     """A window of a browser that selenium drives."""
@@ -76,21 +64,3 @@ class Driven(Window):
 
     def end(self) -> None:
         self.driver.quit()
-
-
-def try_all(tally: Tally, window: Window, page: Path) -> None:
-    """A scramble with a step on the inverse side, its list, a fault, and a search for the best."""
-    window.open(page.resolve().as_uri() + ADDRESS)
-    tally.holds("the page answers", window.until(DONE))
-    window.script(REFUSALS)
-    position = Position(SCRAMBLE, "", FIRST)
-    for side in SIDES:
-        tally.equal(f"the net of the {side} side", letters_of(window.script(stickers_of(side))), position.letters(side))
-    cells = window.script("return [...document.querySelectorAll('#steps-body .cell')].map((each) => each.ariaLabel)")
-    tally.equal("the orientations", cells, position.cells())
-    tally.equal("the list", window.texts("#solutions-groups .take"), position.rows("eofb", "normal", 1)[:200])
-    tally.holds("the best are found", window.until(DONE) and len(window.texts("#best-body tr")) > 0)
-    window.script("const field = document.getElementById('scramble'); field.value = 'R q'; field.dispatchEvent(new Event('input'))")
-    tally.holds("a fault is shown", window.until("return document.querySelector('#scramble-fault mark') !== null"))
-    tally.equal("its words", window.texts("#scramble-fault p"), ["\u201cq\u201d is no move."])
-    tally.equal("what the policy refused", window.script("return window.said"), [])

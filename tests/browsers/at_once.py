@@ -101,8 +101,7 @@ def seen(tally: Tally, browser: Browser) -> None:
     tally.equal("nothing is marked at first", browser.script(marked), [])
     taken = browser.listed()[1]
     browser.script("document.querySelectorAll('#solutions-groups .take')[1].click()")
-    browser.until("return document.querySelectorAll('#line-list li').length === 1")
-    browser.wait()
+    browser.settle("return document.querySelectorAll('#line-list li').length === 1")
     back(browser)
     browser.until("return document.querySelector('#solutions-groups .seen') !== null")
     tally.equal("the row that was taken", browser.script(marked), [[taken, True]])
@@ -121,8 +120,7 @@ def more(tally: Tally, browser: Browser) -> None:
     tally.equal("there are no more", browser.text("solutions-more"), "")
     last = browser.listed()[-1]
     browser.script("const row = [...document.querySelectorAll('#solutions-groups .take')].at(-1); row.focus(); row.click()")
-    browser.until("return document.querySelectorAll('#line-list li').length === 1")
-    browser.wait()
+    browser.settle("return document.querySelectorAll('#line-list li').length === 1")
     back(browser)
     tally.holds("Back leads to the last", browser.until("return document.activeElement.dataset.key === arguments[0]", last))
 

@@ -74,6 +74,12 @@ class Browser:
         if not self.until(IDLE):
             raise TimeoutError("the page still waits for answers")
 
+    def settle(self, text: str, *words: object) -> None:
+        """Waits until a script answers with true, and then until nothing waits for an answer."""
+        if not self.until(text, *words):
+            raise TimeoutError(f"the page doesn't come to this: {text}")
+        self.wait()
+
     def wait_best(self) -> None:
         """Waits until the best are found, or nothing looks for them."""
         self.wait()

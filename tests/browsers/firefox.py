@@ -1,24 +1,13 @@
-#!/usr/bin/env python3
-"""Shows the page in Firefox, by its own remote protocol (Marionette), since Debian has no driver for it.
-
-    tests/browsers/firefox.py PAGE
-
-The last line is `N passed, M failed`, and the status is 1 where M isn't 0.
-"""
+"""A Firefox that is driven by its own remote protocol (Marionette), since Debian has no driver for it."""
 import json
 import shutil
 import socket
 import subprocess
-import sys
-import tempfile
 import time
 from pathlib import Path
 from typing import Any
 
-sys.path.insert(0, str(Path(__file__).resolve().parent.parent))
-
-from anywhere import PATIENCE, SEEN, Window, try_all
-from tally import Tally
+from anywhere import PATIENCE, SEEN, Window
 
 
 def free_port() -> int:
@@ -97,19 +86,3 @@ class Firefox(Window):
         except subprocess.TimeoutExpired:
             self.process.kill()
             self.process.wait()
-
-
-def main() -> None:
-    """Begins and ends a Firefox with a profile of its own."""
-    tally = Tally()
-    with tempfile.TemporaryDirectory(ignore_cleanup_errors=True) as room:
-        firefox = Firefox(room)
-        try:
-            try_all(tally, firefox, Path(sys.argv[1]))
-        finally:
-            firefox.end()
-    tally.end()
-
-
-if __name__ == "__main__":
-    main()

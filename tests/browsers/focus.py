@@ -136,8 +136,7 @@ def comes_back(tally: Tally, browser: Browser) -> None:
     for keys in ("", Keys.ENTER):
         browser.open(FLIPPED)
         browser.submit("own", "R R'")
-        browser.until("return document.querySelectorAll('#line-list li').length === 1")
-        browser.wait()
+        browser.settle("return document.querySelectorAll('#line-list li').length === 1")
         browser.click('[data-cell="eofb.normal"]')
         browser.script("const it = document.getElementById('slack'); it.value = '3'; it.dispatchEvent(new Event('change'))")
         browser.script(stop, "solutions-stop")

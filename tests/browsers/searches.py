@@ -16,8 +16,7 @@ def cases(tally: Tally, browser: Browser) -> None:
     """Bad edges and cases of a scramble, as solvers counted them, in the table, the list and the best; and filters by case."""
     browser.open()
     browser.submit("seed", "20261125")
-    browser.until("return document.getElementById('scramble').value !== ''")
-    browser.wait()
+    browser.settle("return document.getElementById('scramble').value !== ''")
     heads = "return [...document.querySelectorAll('#steps-body th')].map((each) => each.textContent)"
     tally.equal("bad edges", browser.script(heads), ["EO F/B 4 bad edges", "EO R/L 6 bad edges", "EO U/D 6 bad edges"])
     browser.act('[data-cell="eofb.normal"]')
@@ -42,8 +41,7 @@ def cases(tally: Tally, browser: Browser) -> None:
     far = [min(int(name[4]) + int(name[6]) for name in listed[moves]) for moves in browser.listed()]
     tally.equal("sorted by case", far, sorted(far))
     browser.submit("own", "R2 D' L F")
-    browser.until("return document.querySelectorAll('#line-list li').length === 1")
-    browser.wait()
+    browser.settle("return document.querySelectorAll('#line-list li').length === 1")
     tally.equal("the cases of the steps that follow", browser.script(heads)[:2], ["DR U/D 4c2e", "DR R/L 6c6e"])
 
 
@@ -137,8 +135,7 @@ def hasty(tally: Tally, browser: Browser) -> None:
     listed = Position(LONGER).rows("eoud", "inverse")
     tally.equal("a hasty choice is answered for the scramble that is shown", browser.listed(), listed)
     browser.script("location.hash = '#scramble=F'; setTimeout(() => { location.hash = '#scramble=R_U' })")
-    browser.until("return document.getElementById('scramble').value === 'R U'")
-    browser.wait()
+    browser.settle("return document.getElementById('scramble').value === 'R U'")
     tally.equal("the last address is shown", browser.letters("normal"), Position("R U").letters("normal"))
 
 
@@ -153,8 +150,7 @@ def impatient(tally: Tally, browser: Browser) -> None:
     tally.equal("of many scrambles the one of the seed is shown", browser.script("return document.getElementById('scramble').value"), drawn)
     add = "const own = document.getElementById('own'); own.value = 'R'; for (let at = 0; at < 3; at += 1) own.form.requestSubmit();"
     browser.script("document.querySelector('[data-example]').click();" + add)
-    browser.until("return document.querySelectorAll('#line-list li').length > 0")
-    browser.wait()
+    browser.settle("return document.querySelectorAll('#line-list li').length > 0")
     tally.equal("moves that are sent three times at once", browser.text("bracketed"), "R")
     tally.equal("with no fault", (browser.text("own-fault"), browser.script("return document.getElementById('own').value")), ("", ""))
     another = "document.querySelector('[data-example]').click(); document.getElementById('results').setAttribute('aria-busy', 'true')"
@@ -168,13 +164,11 @@ def random(tally: Tally, browser: Browser) -> None:
     """Scrambles by a seed."""
     browser.open()
     browser.submit("seed", "42")
-    browser.until("return document.getElementById('scramble').value !== ''")
-    browser.wait()
+    browser.settle("return document.getElementById('scramble').value !== ''")
     wanted = program_answers(browser.program, ["scramble", "42", "1", "25", "1"], [])
     tally.equal("a seed's scramble", [browser.script("return document.getElementById('scramble').value")], wanted)
     browser.click("#random")
-    browser.until("return document.getElementById('scramble').value !== arguments[0]", wanted[0])
-    browser.wait()
+    browser.settle("return document.getElementById('scramble').value !== arguments[0]", wanted[0])
     seed = browser.script("return document.getElementById('seed').value")
     wanted = program_answers(browser.program, ["scramble", seed, "1", "25", "1"], [])
     tally.equal("a random one shows its seed", [browser.script("return document.getElementById('scramble').value")], wanted)

@@ -79,8 +79,7 @@ def keeps_nothing(tally: Tally, browser: Browser) -> None:
         name = browser.command("Page.addScriptToEvaluateOnNewDocument", source=script)["identifier"]
         browser.open(SCRAMBLE)
         browser.submit("own", "R")
-        browser.until("return document.querySelectorAll('#line-list li').length === 1")
-        browser.wait()
+        browser.settle("return document.querySelectorAll('#line-list li').length === 1")
         browser.choose("theme", "dark")
         tally.equal(f"{what}: the theme", browser.script("return document.documentElement.dataset.theme"), "dark")
         tally.equal(f"{what}: the step", (browser.text("bracketed"), browser.text("alert"), len(browser.cells())), ("R", "", 6))

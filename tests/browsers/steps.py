@@ -38,8 +38,7 @@ def history(tally: Tally, browser: Browser) -> None:
     browser.act("#solutions-groups .take")
     first = browser.text("bracketed")
     browser.submit("own", "R")
-    browser.until("return document.querySelectorAll('#line-list li').length === 2")
-    browser.wait()
+    browser.settle("return document.querySelectorAll('#line-list li').length === 2")
     both = browser.text("bracketed")
     browser.act("#clear")
     tally.equal("a step, moves by hand and Clear make one each", browser.script("return history.length"), entries + 3)
@@ -57,8 +56,7 @@ def history(tally: Tally, browser: Browser) -> None:
     drawn = [SCRAMBLE]
     for _ in range(2):
         browser.click("#random")
-        browser.until("return document.getElementById('scramble').value !== arguments[0]", drawn[-1])
-        browser.wait()
+        browser.settle("return document.getElementById('scramble').value !== arguments[0]", drawn[-1])
         drawn.append(browser.script(VALUE))
     for scramble in (drawn[1], SCRAMBLE):
         back(browser)
@@ -143,8 +141,7 @@ def returns(tally: Tally, browser: Browser) -> None:
     )
     before = browser.script(place)
     browser.script("document.activeElement.click()")
-    browser.until("return document.querySelectorAll('#line-list li').length === 1")
-    browser.wait()
+    browser.settle("return document.querySelectorAll('#line-list li').length === 1")
     back(browser)
     tally.holds(
         "a row of a list has the focus again",
@@ -165,8 +162,7 @@ def offers_last(tally: Tally, browser: Browser) -> None:
     tally.equal("an address alone was done by another", browser.script(OFFERED), False)
     browser.open(f"{ADDRESS}&steps=inverse.R")
     browser.submit("own", "U F")
-    browser.until("return document.querySelectorAll('#line-list li').length === 2")
-    browser.wait()
+    browser.settle("return document.querySelectorAll('#line-list li').length === 2")
     browser.act("#keep-line")
     address = browser.script("return location.hash")
     browser.open()
@@ -191,8 +187,7 @@ def offers_what_is_read(tally: Tally, browser: Browser) -> None:
     browser.open()
     tally.equal("a side alone doesn't take its place", browser.text("last-line"), "B D")
     browser.act("[data-example]")
-    browser.until("return document.querySelectorAll('#steps-body .cell').length > 0")
-    browser.wait()
+    browser.settle("return document.querySelectorAll('#steps-body .cell').length > 0")
     back(browser)
     browser.until("return document.getElementById('welcome').checkVisibility()")
     tally.equal("the browser's Back to the beginning offers what was done since", browser.text("last-line"), EXAMPLE)

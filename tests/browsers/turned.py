@@ -61,16 +61,14 @@ def by_hand(tally: Tally, browser: Browser) -> None:
     for side, (typed, faces) in zip(SIDES, LINES):
         browser.open(f"#scramble=F_R2&side={side}")
         browser.submit("own", typed)
-        browser.until("return document.querySelector('#line-list li') !== null")
-        browser.wait()
+        browser.settle("return document.querySelector('#line-list li') !== null")
         tally.equal(f"{typed} by hand", browser.text("bracketed"), faces if side == "normal" else f"({faces})")
         address = browser.script("return location.hash")
         reaches(tally, browser, f"{typed} by hand, {side}", address, Position("F R2", **{side: faces}))
     for typed, faces in (("R (x) U", "R U"), ("x (y)", ""), ("M (R y U) F", "R L' U (R U)"), ("R2 U ()", "R2 U")):
         browser.open("#side=inverse")
         browser.submit("own", typed)
-        browser.until("return document.getElementById('own').value === ''")
-        browser.wait()
+        browser.settle("return document.getElementById('own').value === ''")
         tally.equal(f"{typed} by hand", browser.text("bracketed"), faces)
 
 

@@ -11,7 +11,7 @@
 #include <signal.h>
 #include <time.h>
 
-enum { AREA = 1 << 17, ROOM = 1 << 16, MARGIN = 64, BLOCK = 4096, UNTOUCHED = '#' };
+enum { AREA = 1 << 17, ROOM = 1 << 16, MARGIN = 64, BLOCK = 4096 };
 
 static char draw_name[64];
 

@@ -27,6 +27,10 @@ from tally import Tally
 AXES: Tuple[nissy.Axis, ...] = ("fb", "rl", "ud")
 ORDER = nissy.steps()
 LINES_AT_ONCE = 2000
+# after these alone several steps hold, or all
+HALF_TURNS: List[Move] = [(face, 2) for face in "UDRLFB"]
+# of facts that came, how many steps hold, and of checks, whether they solve
+CAME = {("facts", "0 steps"), ("facts", "2 steps"), ("facts", "13 steps"), ("check", "solved"), ("check", "unsolved")}
 
 # a call: its name, and the one line or two that it is about
 Call = Tuple[str, List[bytes]]
@@ -79,7 +83,11 @@ def of_model(call: str, lines: List[bytes]) -> str:
 
 def facts_of_python(line: bytes) -> str:
     """What Python sees of a line."""
-    seen = nissy.facts(line)
+    return told_facts(nissy.facts(line))
+
+
+def told_facts(seen: nissy.Facts) -> str:
+    """Facts as they are compared."""
     axes = ["/".join(",".join(it.places) for it in (seen.bad_edges[axis], seen.bad_corners[axis], seen.misplaced_edges[axis])) for axis in AXES]
     cases = {axis: f"{seen.bad_corners[axis]}c{seen.misplaced_edges[axis]}e" for axis in AXES}
     if seen.case != cases:
@@ -138,7 +146,7 @@ def drawn(draw: Drawing, count: int) -> Iterator[Call]:
     """Yields the calls."""
     last = b""
     for _ in range(count):
-        line = draw.line(draw.choice([4, 15, 30])).encode()
+        line = (draw.line(draw.choice([4, 15, 30])) if draw.random() < 0.9 else draw.started_from_solved(HALF_TURNS, 12)).encode()
         if draw.random() < 0.15:
             line = draw.damaged(line)
         for call in PYTHON:
@@ -157,6 +165,22 @@ def inverse_of(line: bytes) -> bytes:
         return line
 
 
+def kind_of(call: str, want: str) -> str:
+    """What kind of an answer it is."""
+    if want.startswith("fault"):
+        return "a fault"
+    if call == "facts":
+        return "%d steps" % len(want.split(" ")[3].replace(",", " ").split())
+    return ("solved" if want[0] == "1" else "unsolved") if call == "check" else "an answer"
+
+
+def are_alike(lines: List[bytes]) -> bool:
+    """Whether facts of many lines at once, by several threads, are those of each."""
+    alone = [of_python("facts", [line]) for line in lines]
+    told = nissy.facts_all(lines, threads=3)
+    return alone == [told_facts(it) if isinstance(it, nissy.Facts) else fault_of(it.text, getattr(it, "column", 0)) for it in told]
+
+
 def main() -> None:
     """All calls, some lines at a time."""
     seed, count = map(int, sys.argv[1:3])
@@ -170,10 +194,12 @@ def main() -> None:
         wrong += [("Python", call, want) for call, want in zip(calls, wanted) if of_python(*call) != want]
         if caller:
             wrong += [("C++", call, want, got) for call, want, got in zip(calls, wanted, of_caller(caller, calls)) if got != want]
-        kinds.update((call, "a fault" if want.startswith("fault") else "an answer") for (call, _), want in zip(calls, wanted))
+        kinds.update((call, kind_of(call, want)) for (call, _), want in zip(calls, wanted))
+        tally.holds("facts of many lines at once", are_alike([line for call, (line, *_) in calls if call == "facts"]))
     for (call, kind), times in sorted(kinds.items()):
         tally.holds(f"{call}: {times} with {kind}", times)
         print(f"{call}: {times} with {kind}")
+    tally.holds("each kind of answer came", CAME <= set(kinds))
     tally.equal(f"{sum(kinds.values())} calls in Python{' and in C++' if caller else ''}", wrong[:5], [])
     print(f"{sum(kinds.values())} calls")
     tally.end()

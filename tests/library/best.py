@@ -19,19 +19,10 @@ TOP = Path(__file__).resolve().parents[2]
 sys.path[:0] = [str(TOP / "python"), str(TOP / "tests")]
 
 import nissy
-from tally import Tally
+from tally import Tally, raised
 
 untyped: Any = nissy
 SCRAMBLE = "R' U' F D2 L2 F R2 U2 R2 B D2 L B2 D' B2 L' R' B' D2 B2 R' U' F"
-
-
-def raised(kind: Any, call: Any) -> Any:
-    """What a call raises of this kind, or None."""
-    try:
-        call()
-    except kind as error:
-        return error
-    return None
 
 
 def told(tally: Tally) -> None:

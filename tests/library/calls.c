@@ -6,7 +6,7 @@
 #include "rows.h"
 #include "searches.h"
 
-enum { UNTOUCHED = '#', MOST = 20 };
+enum { MOST = 20 };
 
 typedef nissy_line_answer line_call(const uint8_t *, size_t, uint8_t *, size_t);
 
@@ -19,12 +19,6 @@ typedef struct line_row {
 static const line_row READ[] = {
 #include "texts.inc"
 };
-
-static guarded untouched(size_t size) {
-    guarded out = guard(size);
-    memset(out.bytes, UNTOUCHED, size);
-    return out;
-}
 
 /* Whether a buffer holds the beginning of a text, as much as it has room for, and is as it was behind that. */
 static int holds_beginning(guarded buffer, size_t length, const char *text) {
@@ -97,12 +91,6 @@ static nissy_search_answer solve(const nissy_tables *tables, const search_row *r
 
 static nissy_search_answer count_of(const nissy_tables *tables, const search_row *row, uint64_t most, uint64_t most_nodes) {
     return nissy_count(tables, (const uint8_t *)row->line, strlen(row->line), row->limit, row->slack, most, most_nodes);
-}
-
-/* Whether two searches that wrote as many solutions say the same of them. */
-static int is_same(nissy_search_answer one, nissy_search_answer other) {
-    return one.status == other.status && one.fault == other.fault && one.column == other.column && one.least == other.least &&
-           one.more == other.more && one.solutions == other.solutions && one.nodes == other.nodes;
 }
 
 /* What is written is a beginning of the row's text, of whole solutions, and nothing stands behind it. */

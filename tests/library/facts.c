@@ -6,7 +6,7 @@
 #include "searches.h"
 #include "stickers.h"
 
-enum { UNTOUCHED = '#', ALL_STEPS = (1 << 13) - 1, OF_R = 0x911, CORNERS_OF_R = 0x99 };
+enum { ALL_STEPS = (1 << 13) - 1, OF_R = 0x911, CORNERS_OF_R = 0x99 };
 
 static nissy_facts_answer facts_of(const char *line) {
     guarded read = copied(line, strlen(line));
@@ -139,12 +139,6 @@ static void most_moves_are_judged(void) {
     holds(check.solved && check.moves == 256 && check.clean_moves == 0, "its inverse solves it", "256 moves");
 }
 
-static guarded untouched(size_t size) {
-    guarded out = guard(size);
-    memset(out.bytes, UNTOUCHED, size);
-    return out;
-}
-
 /* A text of lines, of which the fifth is empty and the last one has no line feed, and where each ends. */
 static const char LINES[] = "F\nR q\nR U F\nF B\n\n(U\nF";
 static const char *const EACH_LINE[] = {"F", "R q", "R U F", "F B", "", "(U", "F"};
@@ -154,11 +148,6 @@ enum { LINE_COUNT = 7 };
 static void is_taken(nissy_lines_answer got, size_t room, const char *of) {
     size_t lines = room < LINE_COUNT ? room : LINE_COUNT;
     holds(got.status == NISSY_DONE && got.lines == lines && got.bytes == LINE_ENDS[lines], "the lines that are taken", of);
-}
-
-static int is_same_search(nissy_search_answer one, nissy_search_answer other) {
-    return one.status == other.status && one.fault == other.fault && one.column == other.column && one.least == other.least &&
-           one.more == other.more && one.length == other.length && one.solutions == other.solutions && one.nodes == other.nodes;
 }
 
 static void counts_lines(const nissy_tables *tables, uint8_t limit, uint64_t most, uint64_t most_nodes, const char *of) {
@@ -171,19 +160,13 @@ static void counts_lines(const nissy_tables *tables, uint8_t limit, uint64_t mos
         for (size_t at = 0; at < got.lines; at++) {
             const uint8_t *line = (const uint8_t *)EACH_LINE[at];
             nissy_search_answer alone = nissy_count(tables, line, strlen(EACH_LINE[at]), limit, 0, most, most_nodes);
-            holds(is_same_search(answers[at], alone), "the answer to a line", EACH_LINE[at]);
+            holds(is_same(answers[at], alone) && !answers[at].length, "the answer to a line", EACH_LINE[at]);
         }
         size_t written = (size_t)got.lines * sizeof *answers;
         holds(are_all(out.bytes + written, out.size - written, UNTOUCHED), "behind the answers it is as it was", of);
         let_go(out);
     }
     let_go(text);
-}
-
-static int is_same_facts(const nissy_facts_answer *one, const nissy_facts_answer *other) {
-    int is_same = one->status == other->status && one->fault == other->fault && one->solved == other->solved && one->column == other->column;
-    for (int axis = 0; axis < AXES; axis++) is_same = is_same && is_same_axis(one->axes[axis], other->axes[axis]);
-    return is_same && one->moves == other->moves && one->clean_moves == other->clean_moves && one->holds == other->holds;
 }
 
 static void judges_lines(void) {

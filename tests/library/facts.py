@@ -1,10 +1,10 @@
 #!/usr/bin/env python3
 """What the Python module sees of cubes without a search, what it says of solutions, and many lines at once, with and without threads.
 
-    tests/library/facts.py [SEED COUNT]
+    tests/library/facts.py
 
-COUNT drawn lines, 2,000 if no number is named, are compared with the independent model of tests/model. The library is that of
-NISSY_LIBRARY. The last line is `N passed, M failed`, and the status is 1 where M isn't 0.
+Drawn lines are tried by beside_model.py. The library is that of NISSY_LIBRARY. The last line is `N passed, M failed`, and the status is 1
+where M isn't 0.
 """
 import copy
 import itertools
@@ -14,17 +14,13 @@ import sys
 import threading
 import time
 from pathlib import Path
-from typing import Any, Dict, Iterator, List
+from typing import Any, Iterator, List
 
 TOP = Path(__file__).resolve().parents[2]
-sys.path[:0] = [str(TOP / "python"), str(TOP / "tests"), str(TOP / "tests/model")]
+sys.path[:0] = [str(TOP / "python"), str(TOP / "tests")]
 
-import bad_pieces as model
 import nissy
-from cube import LAYERS
-from drawing import Drawing
-from notation import read, word_of
-from tally import Tally
+from tally import Tally, raised
 
 # the package as one calls it who looks at no types
 untyped: Any = nissy
@@ -39,15 +35,6 @@ SOLUTIONS = [("R U F2", "F2 U' R'", (True, 3, 3, ())), ("R U F2", "F2 (R U)", (T
              ("R", "R", (False, 1, 1, ())), ("R", "R' x", (True, 1, 1, ())), ("M", "M'", (True, 2, 2, ("slices",))),
              ("R L'", "r' l", (False, 2, 2, ("lower_case",))), ("Rw", "r\u2019", (True, 1, 1, ("lower_case", "apostrophe"))),
              ("U2", "U2'", (True, 1, 1, ("half_prime",))), ("U", "U U2", (True, 2, 1, ())), ("()", "()", (True, 0, 0, ("brackets",)))]
-
-
-def raised(kind: Any, call: Any) -> Any:
-    """What the call raises of exactly this kind, or None."""
-    try:
-        call()
-    except Exception as error:
-        return error if type(error) is kind else None
-    return None
 
 
 def told(fault: Any) -> Any:
@@ -99,45 +86,6 @@ def solutions(tally: Tally) -> None:
     tally.equal("too long a solution", str(too_long), "line 2: a line has at most 16,777,216 bytes")
 
 
-def as_model(got: nissy.Facts) -> model.Seen:
-    """Facts as the model has them."""
-    axes: Dict[str, model.OfAxis] = {}
-    for axis in got.case:
-        axes[axis] = model.OfAxis(got.bad_edges[axis].places, got.bad_corners[axis].places, got.misplaced_edges[axis].places)
-    return model.Seen(got.solved, got.moves, got.clean_moves, got.holds, axes)
-
-
-def drawn_lines(seed: int, count: int) -> List[str]:
-    """Drawn lines, some of half turns alone."""
-    drawing = Drawing(seed)
-    lines = [drawing.line(drawing.choice([3, 12, 30])) for _ in range(count)]
-    return lines + [drawing.started_from_solved([(face, 2) for face in "UDRLFB"], 12) for _ in range(count // 10)]
-
-
-def drawn_facts(tally: Tally, lines: List[str]) -> None:
-    """Facts of drawn lines, beside the model."""
-    wanted, wrong = [model.seen(line.encode()) for line in lines], []
-    for line, want, got in zip(lines, wanted, nissy.raising(nissy.facts_all(lines, 3))):
-        cases_of_model = {axis: f"{len(it.bad_corners)}c{len(it.misplaced_edges)}e" for axis, it in want.axes.items()}
-        if as_model(got) != want or got.case != cases_of_model or got != nissy.facts(line):
-            wrong.append(line)
-    tally.equal(f"facts of {len(lines)} lines", wrong, [])
-    tally.holds("some hold no step, some several, some all", {0, 2, 13} < {len(it.holds) for it in wanted})
-
-
-def drawn_checks(tally: Tally, lines: List[str]) -> None:
-    """Checks of drawn solutions, half of them right, beside the model."""
-    pairs = [(one, nissy.invert(one) + " x2" if at % 2 else other) for at, (one, other) in enumerate(zip(lines, reversed(lines)))]
-    wrong, answers = [], set()
-    for scramble, solution in pairs:
-        solved, it = model.is_solution(scramble.encode(), solution.encode()), model.seen(solution.encode())
-        answers.add(solved)
-        if nissy.check(scramble, solution) != (solved, it.moves, it.clean_moves, model.forms(solution.encode())):
-            wrong.append((scramble, solution))
-    tally.equal("checks of drawn solutions", wrong, [])
-    tally.equal("both answers are there", answers, {True, False})
-
-
 def tokens(tally: Tally) -> None:
     """The moves of lines that a person can tell."""
     tally.equal("moves and brackets", nissy.tokens("R (u2' M) F\u2019"),
@@ -147,23 +95,6 @@ def tokens(tally: Tally) -> None:
     tally.equal("the other way round", [it.quarters for it in nissy.tokens("L L' L2 E S")], [-1, 1, 2, -1, 1])
     for line, column, text in FAULTS:
         tally.equal(f"tokens of {line!r}", told(raised(nissy.LineFault, lambda: untyped.tokens(line))), (column, text, None))
-
-
-def as_token(move: Any) -> Any:
-    """A move of the model as a token has it."""
-    letters, quarters = move
-    axis, layers, clockwise = LAYERS[letters]
-    return word_of(move), "xyz"[axis], layers, {1: 1, 2: 2, 3: -1}[clockwise * quarters % 4]
-
-
-def drawn_tokens(tally: Tally, lines: List[str]) -> None:
-    """The moves of drawn lines, beside the model."""
-    wrong = []
-    for line in lines:
-        parts, got = [list(map(as_token, part)) for part in read(line.encode())], nissy.tokens(line)
-        if [[it[:4] for it in got if it.inverse == inverse] for inverse in (False, True)] != parts:
-            wrong.append(line)
-    tally.equal("moves of drawn lines", wrong, [])
 
 
 def bounds(tally: Tally) -> None:
@@ -290,14 +221,8 @@ def goes_on(tally: Tally) -> None:
 def main() -> None:
     """All of it."""
     tally = Tally()
-    seed, count = map(int, sys.argv[1:3] or ("1", "2000"))
-    for part in (cases, solutions, bounds, one_by_one, many, goes_on):
+    for part in (cases, solutions, tokens, bounds, one_by_one, many, goes_on):
         part(tally)
-    tokens(tally)
-    lines = drawn_lines(seed, count)
-    drawn_tokens(tally, lines)
-    drawn_facts(tally, lines)
-    drawn_checks(tally, lines)
     tally.end()
 
 

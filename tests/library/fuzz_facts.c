@@ -35,12 +35,6 @@ static unsigned moves_cleaned(text line) {
     return count;
 }
 
-static int is_same_facts(const nissy_facts_answer *one, const nissy_facts_answer *other) {
-    int is_same = one->status == other->status && one->fault == other->fault && one->solved == other->solved && one->column == other->column;
-    for (int axis = 0; axis < AXES; axis++) is_same = is_same && is_same_axis(one->axes[axis], other->axes[axis]);
-    return is_same && one->moves == other->moves && one->clean_moves == other->clean_moves && one->holds == other->holds;
-}
-
 /* What is seen of a line, beside the model of its stickers. */
 static void try_facts(text line) {
     static char letters[NISSY_LINE_ROOM];

@@ -11,11 +11,10 @@ import copy
 import doctest
 import os
 import pickle
-import subprocess
 import sys
 import threading
-import time
 import typing
+from dataclasses import FrozenInstanceError
 
 TOP = os.path.join(os.path.dirname(os.path.abspath(__file__)), "..", "..")
 PYTHON = os.path.join(TOP, "python")
@@ -24,21 +23,12 @@ sys.path[:0] = [PYTHON, os.path.join(TOP, "tests")]
 import nissy
 import called
 from runs import runs as rows_of_all
-from tally import Tally
+from tally import Tally, raised
 
 USAGE = b"usage: nissy COMMAND [ARGUMENTS]\n"
 TOO_LONG = b"nissy: input longer than 16777216 bytes\n"
 tally = Tally()
 holds = tally.holds
-
-
-def raised(kind, call):
-    """What the call raises of this kind, or None."""
-    try:
-        call()
-    except kind as error:
-        return error
-    return None
 
 
 def lines():
@@ -52,14 +42,13 @@ def lines():
         for call in (nissy.invert, nissy.unniss, nissy.cleanup, nissy.facelets):
             fault = raised(nissy.LineFault, lambda: call(line))
             holds("%s refuses %r" % (call.__name__, line), fault and (fault.column, fault.text) == (column, text))
-    fault = raised(ValueError, lambda: nissy.invert("R Q"))
+    fault = raised(nissy.LineFault, lambda: nissy.invert("R Q"))
     holds("a fault says its column and text", str(fault) == "column 3: not a move")
     for name, again in (("to another process", lambda: pickle.loads(pickle.dumps(fault))), ("as a copy", lambda: copy.copy(fault))):
         same = not raised(TypeError, again) and again()
         holds("a fault comes whole " + name,
               same and (type(same), str(same), same.column, same.text) == (nissy.LineFault, str(fault), 3, "not a move"))
-    too_long = raised(ValueError, lambda: nissy.invert(b" " * (nissy.MOST_INPUT + 1)))
-    holds("a line that is too long is a ValueError without a column", too_long and not isinstance(too_long, nissy.LineFault))
+    holds("a line that is too long has no column", raised(nissy.Fault, lambda: nissy.invert(b" " * (nissy.MOST_INPUT + 1))))
     holds("a line of 16,777,216 blanks is read", nissy.invert(b" " * nissy.MOST_INPUT) == "")
     holds("nothing is no line, nor is a number", all(raised(TypeError, lambda: nissy.invert(it)) for it in (None, 3)))
 
@@ -77,7 +66,7 @@ def runs():
     holds("one text is no list of words", all(raised(TypeError, lambda: nissy.run(it)) for it in ("steps", b"steps")))
     holds("a number is no word", raised(TypeError, lambda: nissy.run(["count", "eofb", 20, "R"])))
     holds("nor is it an input", raised(TypeError, lambda: nissy.run(["invert"], 3)))
-    holds("an answer can't be changed", raised(AttributeError, lambda: setattr(nissy.run(["steps"]), "status", 1)))
+    holds("an answer can't be changed", raised(FrozenInstanceError, lambda: setattr(nissy.run(["steps"]), "status", 1)))
     holds("the module's functions have types", typing.get_type_hints(nissy.run)["return"] is nissy.Answer)
     public = [getattr(nissy, name) for name in nissy.__all__ if callable(getattr(nissy, name))]
     holds("each function and each class says what it does", len(public) > 10 and all(it.__doc__ for it in public))
@@ -133,7 +122,7 @@ def large_output():
 
 
 def threads():
-    """Threads that call side by side, and one that goes on while another searches."""
+    """Threads that call side by side. That others go on meanwhile is tried by facts.py."""
     wrong = []
 
     def call(number):
@@ -149,28 +138,12 @@ def threads():
     for thread in calling:
         thread.join()
     holds("each thread has the answers of its own calls", not wrong)
-    searching = threading.Thread(target=nissy.run, args=(["count", "dr-eofb", "0"], b"\n" * 400_000))
-    searching.start()
-    begun, turns = time.monotonic(), 0
-    while searching.is_alive() and turns < 100:
-        time.sleep(0.0001)
-        turns += 1
-    holds("other threads go on during a call", turns >= 20 or time.monotonic() - begun < 0.02)
-    searching.join()
-
-
-def library():
-    """The library that isn't there."""
-    named = dict(os.environ, NISSY_LIBRARY="/nowhere/libnissy.so.2", PYTHONPATH=PYTHON)
-    done = subprocess.run([sys.executable, "-c", "import nissy"], capture_output=True, env=named, check=False)
-    holds("a library that isn't there is an ImportError that names it", done.stderr.splitlines()[-1].startswith(b"ImportError: ") and
-          b": /nowhere/libnissy.so.2: " in done.stderr.splitlines()[-1])
 
 
 def main():
     """All of it."""
     large = (large_output,) if "large" in sys.argv[1:] else ()
-    for part in (lines, runs, names, examples, rooms, threads, library) + large:
+    for part in (lines, runs, names, examples, rooms, threads) + large:
         part()
     tally.end()
 

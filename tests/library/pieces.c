@@ -2,7 +2,7 @@
    solutions, and what can't be one. */
 #include "searches.h"
 
-enum { UNTOUCHED = '#', MOST = 20, LINE = 65 };
+enum { MOST = 20, LINE = 65 };
 
 /* A search behind a sequence. */
 static nissy_search_answer behind(const nissy_tables *tables, const search_row *row, const char *after, size_t size, uint64_t most,
@@ -71,8 +71,7 @@ static void is_behind(const nissy_tables *tables, const char *after, const char 
 
 static void is_none(const nissy_tables *tables, const char *after, uint8_t limit, uint8_t slack, int status, int fault, const char *line) {
     search_row row = {"eofb", line, limit, slack, "", 0, 0};
-    guarded out = guard(2 * LINE);
-    memset(out.bytes, UNTOUCHED, out.size);
+    guarded out = untouched(2 * LINE);
     nissy_search_answer got = behind(tables, &row, after, strlen(after), NISSY_ALL, NISSY_ALL, out);
     holds(got.status == status && got.fault == fault && !got.length && !got.solutions && !got.nodes && !got.more, "it is refused", after);
     holds(are_all(out.bytes, out.size, UNTOUCHED), "nothing is written", after);

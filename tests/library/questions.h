@@ -41,9 +41,4 @@ static inline nissy_search_answer count_of(question of, text line) {
     return is;
 }
 
-static inline int is_same(nissy_search_answer one, nissy_search_answer other) {
-    return one.status == other.status && one.fault == other.fault && one.column == other.column && one.least == other.least &&
-           one.more == other.more && one.solutions == other.solutions && one.nodes == other.nodes;
-}
-
 #endif

@@ -146,6 +146,12 @@ static inline int is_same_axis(nissy_axis_facts one, nissy_axis_facts other) {
            one.bad_corners == other.bad_corners && one.misplaced_edges == other.misplaced_edges;
 }
 
+static inline int is_same_facts(const nissy_facts_answer *one, const nissy_facts_answer *other) {
+    int is_equal = one->status == other->status && one->fault == other->fault && one->solved == other->solved && one->column == other->column;
+    for (int axis = 0; axis < AXES; axis++) is_equal = is_equal && is_same_axis(one->axes[axis], other->axes[axis]);
+    return is_equal && one->moves == other->moves && one->clean_moves == other->clean_moves && one->holds == other->holds;
+}
+
 /* Whether facts are those of the cube with these letters. */
 static inline int are_of(const nissy_facts_answer *facts, const char *letters) {
     nissy_axis_facts seen[AXES];

@@ -69,4 +69,19 @@ static inline int are_all(const uint8_t *bytes, size_t size, uint8_t byte) {
     return 1;
 }
 
+/* What a buffer is filled with, to see what a call wrote. */
+enum { UNTOUCHED = '#' };
+
+static inline guarded untouched(size_t size) {
+    guarded out = guard(size);
+    memset(out.bytes, UNTOUCHED, size);
+    return out;
+}
+
+/* Whether two searches say the same, whatever they had room for. */
+static inline int is_same(nissy_search_answer one, nissy_search_answer other) {
+    return one.status == other.status && one.fault == other.fault && one.column == other.column && one.least == other.least &&
+           one.more == other.more && one.solutions == other.solutions && one.nodes == other.nodes;
+}
+
 #endif

@@ -20,7 +20,7 @@ sys.path[:0] = [str(TOP / "python"), str(TOP / "tests")]
 
 import called as shared
 import nissy
-from tally import Tally
+from tally import Tally, raised
 
 # the steps, each with the one that must hold before it
 STEPS = {name: start for name, start in shared.rows("step")}
@@ -37,15 +37,6 @@ LYING = {"__eq__": lambda it, other: True, "__hash__": lambda it: hash("eorl"), 
 
 # the package as one calls it who looks at no types
 untyped: Any = nissy
-
-
-def raised(kind: Type[BaseException], call: Callable[[], object]) -> Any:
-    """What the call raises of exactly this kind, or None."""
-    try:
-        call()
-    except Exception as error:
-        return error if type(error) is kind else None
-    return None
 
 
 def says(tally: Tally, kind: Type[BaseException], text: str, call: Callable[[], object]) -> None:

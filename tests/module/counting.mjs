@@ -29,8 +29,3 @@ export function cubeAfter(nissy, scramble, parts) {
   const line = `${nissy.invert(inverse)} ${scramble} ${normal}`;
   return { normal: line, inverse: nissy.invert(line) };
 }
-
-/** The parts that a line has. */
-export const partsOf = (line) =>
-  [...line.matchAll(/\(([^()]*)\)|[^()]+/g)].map(([whole, inside]) =>
-    (inside === undefined ? { side: "normal", moves: whole.trim() } : { side: "inverse", moves: inside.trim() }));

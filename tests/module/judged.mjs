@@ -2,10 +2,9 @@
 import { NissyFault, SearchCut } from "../../web/module/nissy.js";
 import { STEPS } from "./called.mjs";
 import { factsByLetters } from "./letters.mjs";
-import { same, thrown } from "./tally.mjs";
+import { TURNS, drawn, same, thrown } from "./tally.mjs";
 
 const LINES = 2_000;
-const TURNS = [..."UDRLFB"].flatMap((face) => [face, `${face}2`, `${face}'`]);
 const NONE = { fb: [], rl: [], ud: [] };
 const RIGHT_EDGES = ["UR", "DR", "FR", "BR"];
 const RIGHT_CORNERS = ["URF", "UBR", "DFR", "DRB"];
@@ -49,14 +48,6 @@ const FAULTS = [
   [["facts", "R q"], null, 3, "column 3: not a move"],
   [["factsAll", ["R", "U".repeat(257)]], 2, 257, "line 2, column 257: more than 256 moves"],
 ];
-
-/** The last of some numbers that are always the same. */
-let state = 20261127;
-
-function drawn(end) {
-  state = (Math.imul(state, 1664525) + 1013904223) >>> 0;
-  return Math.floor((state / 2 ** 32) * end);
-}
 
 /** Lines of any turns, or of those of half turns and two faces, and then a few of any. */
 function drawnLine() {

@@ -225,7 +225,7 @@ async function tryJudging() {
   const facts = (at) => [...bytes.subarray(at, at + 3), view.getUint32(at + 4, true), ...Array.from({ length: 18 }, (_, next) => short(at + 8 + 2 * next))];
   const filled = () => bytes.fill(FILLED, answer, answer + 64);
   // R moves UR, DR, FR and BR, and URF, UBR, DFR and DRB: bits 0, 4, 8 and 11, and 0, 3, 4 and 7
-  const [edges, corners, fours] = [0x911, 0x99, 4 + 256 * 4];
+  const [edges, corners] = [0x911, 0x99];
   // and leaves eofb, eoud, drrl-eofb, drrl-eoud, eo, dr-eofb and dr-eoud: steps 0, 2, 4, 7, 9, 10 and 12
   const holds = 0b1011010010101;
   const ofTurn = [0, 0, 0, 0, 1, 1, holds, 0, corners, edges, 256 * 4, 4, edges, 0, 0, 4, 0, 0, corners, edges, 256 * 4, 4];

@@ -13,22 +13,13 @@ import { performance } from "node:perf_hooks";
 import { NissyPool } from "../../web/module/node.js";
 import { Nissy } from "../../web/module/nissy.js";
 import { WorkerPool } from "../../web/module/pool.js";
-import { ended, moduleBytes, same, thrown } from "./tally.mjs";
+import { TURNS, drawn, ended, moduleBytes, same, thrown } from "./tally.mjs";
 
 const LINES = 100_000;
-const TURNS = [..."UDRLFB"].flatMap((face) => [face, `${face}2`, `${face}'`]);
 const ENDLESS = "R U F2 L D R B";
 const LONG = { slack: 14 };
 const SOON = 30_000;
 const nissy = await Nissy.load(moduleBytes);
-
-let state = 20261127;
-
-/** The next of some numbers that are always the same, from 0 to below `end`. */
-function drawn(end) {
-  state = (Math.imul(state, 1664525) + 1013904223) >>> 0;
-  return Math.floor((state / 2 ** 32) * end);
-}
 
 /** Short lines, of which some in a hundred can't be read. */
 const drawnLines = (count) => Array.from({ length: count }, () => {

@@ -33,6 +33,15 @@ export function ended() {
   process.exitCode = passed > 0 && failed === 0 ? 0 : 1;
 }
 
+export const TURNS = [..."UDRLFB"].flatMap((face) => [face, `${face}2`, `${face}'`]);
+let state = 20261127;
+
+/** The next of some numbers that are always the same, from 0 to below `end`. */
+export function drawn(end) {
+  state = (Math.imul(state, 1664525) + 1013904223) >>> 0;
+  return Math.floor((state / 2 ** 32) * end);
+}
+
 export const text = (bytes) => new TextDecoder().decode(bytes);
 export const fingerprint = (memory) => createHash("sha256").update(new Uint8Array(memory.buffer)).digest("hex");
 export const moduleBytes = readFileSync(process.argv[2]);

@@ -17,7 +17,7 @@ use Rattle.niss_search.proofs.Bounds.{last-within, least-within, looks-sum-small
 use Rattle.niss_search.proofs.ListLemmas.{flat_map-none, in-range, range-push, range-split, sum_by-range_more, flat_map-range_more}
 use Rattle.niss_search.proofs.LookLemmas.{first_or-from, first_or-le, first_or-within, solutions-same, all_looks-same, distance-cube}
 use Rattle.niss_search.specs.declared.searching.Outcome.{Outcome}
-use Rattle.niss_search.proofs.DepthFirst.{Descends-then, StopsIn-before, for_each-append}
+use Rattle.niss_search.proofs.DescentParts.{Descends-then, StopsIn-before, for_each-append}
 
 -- a length within the last one is so still where none is nearer than it
 within-or : (n slack d : ℕ) (o p : Option ℕ) → d ≤ unwrap_or p (n + 1) → d ≤ last_length o n slack → d ≤ last_length (option_or o p) n slack

@@ -12,7 +12,7 @@ use Rattle.niss_search.proofs.ListLemmas.{range_with_len-append}
 use Rattle.niss_search.proofs.LookLemmas.{reaching-same, looks-same, distance-cube}
 use Rattle.niss_search.proofs.Words.{GoesThrough, StopsIn, progress_at, Ok, Err, Path, Place, at_limit, Result, IfOk, OnOk, IfErr, WentThrough}
 use Rattle.niss_search.proofs.Words.{EndedIn, Delivers, PositionsFollowCubes, HasPosition, later_of, deepening_looks_of, distance_of, cubes}
-use Rattle.niss_search.proofs.DepthFirst.{for_each-cons, for_each-append, Descends-then, StopsIn-before}
+use Rattle.niss_search.proofs.DescentParts.{for_each-cons, for_each-append, Descends-then, StopsIn-before}
 use Rattle.niss_search.proofs.Bounds.{looks-sum-small, turns_of-length}
 use Rattle.niss_search.proofs.LaterLemmas.{passed, later_below, later_turn, all_later-paths, all_later-looks, later_below-looks}
 

@@ -1,6 +1,7 @@
 pub mod Words
 pub mod ListLemmas
 pub mod DepthFirst
+pub mod DescentParts
 pub mod LookLemmas
 pub mod Bounds
 pub mod DeepeningLemmas

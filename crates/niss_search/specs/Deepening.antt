@@ -10,7 +10,7 @@ use Rattle.niss_search.specs.Solutions.{Space, reaching, looks, solutions, all_l
 use Rattle.niss_search.specs.Later.{turn_place}
 use Rattle.niss_search.specs.Delivery.{Path, at_limit, WentThrough, EndedIn}
 use Rattle.niss_search.specs.Positions.{positions, distance_at, position_after}
-use Rattle.niss_search.specs.declared.searching.Descent.{Descent}
+use Rattle.niss_search.specs.declared.searching.depth_first.Descent.{Descent}
 
 -- A part of a search: the paths that it hands out, and how many looks it makes.
 pub record Part : Type 0 where

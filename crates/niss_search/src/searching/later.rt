@@ -10,7 +10,8 @@ ghost use Rattle.niss_search.specs.Delivery.{WentThrough, EndedIn, at_limit};
 ghost use Rattle.niss_search.specs.Budgets.{is_cut_in};
 ghost use Rattle.niss_search.specs.Deepening.{Delivers, Keeps, Makes, turns, below_at, later_at, all_later, later_turn_at};
 
-use super::{Descent, Root, Sink};
+use super::depth_first::Descent;
+use super::{Root, Sink};
 use crate::budget::{Budget, Stopped, UpTo};
 use crate::laws::positions_follow_cubes;
 use crate::path::TurnPath;

@@ -1,6 +1,6 @@
 use Rattle.niss_search.proofs.Words.{◌+◌, ◌-◌, ◌≤◌, ◌∙◌, arith, length, range_with_len, for_each, err_from_is_err_and, positions, distance_at}
 use Rattle.niss_search.proofs.Words.{deepening}
-use Rattle.niss_search.proofs.DepthFirst.{StopsIn-before}
+use Rattle.niss_search.proofs.DescentParts.{StopsIn-before}
 use Rattle.niss_search.proofs.LaterParts.{later_at-small, all_later-start, goes-on_later, stops_later, room_later}
 use Rattle.niss_search.proofs.searching.Root.deepen_later.Goals as goal
 

@@ -1,9 +1,9 @@
 use Rattle.niss_search.proofs.Words.{◌≡◌, arith, length, ◌+◌, ◌<◌, ◌∙◌, sym, ◌≤◌, [], refl, ◌-◌, ◌∷◌, ◌++◌, get_or, subst, suc}
 use Rattle.niss_search.proofs.Words.{distance_at, position_after, ◌^◌, IsFollower, beyond_at, progress_of, Path, All-drop, take_rest, at_limit}
 use Rattle.std.proofs.lemmas.List.{length-drop}
-use Rattle.niss_search.proofs.DepthFirst.{no_follower, beyond_at-end, Remains-all, Remains-room}
-use Rattle.niss_search.proofs.DepthFirst.{Descends-take, Remains-cut, Remains-room_next, Remains-next, Remains-stops, Remains-far}
-use Rattle.niss_search.proofs.searching.Descent.+descent.Goals as goal
+use Rattle.niss_search.proofs.DescentParts.{no_follower, beyond_at-end, Remains-all, Remains-room}
+use Rattle.niss_search.proofs.DescentParts.{Descends-take, Remains-cut, Remains-room_next, Remains-next, Remains-stops, Remains-far}
+use Rattle.niss_search.proofs.searching.depth_first.Descent.+descent.Goals as goal
 
 pub try_turns-loop-stop-init : goal.try_turns-loop-stop-init
 try_turns-loop-stop-init g t c =

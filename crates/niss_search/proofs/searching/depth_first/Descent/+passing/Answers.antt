@@ -1,8 +1,8 @@
 use Rattle.niss_search.proofs.Words.{◌≡◌, ◌+◌, ◌<◌, ◌≤◌, ◌^◌, ◌∙◌, sym, arith, length, get_or, drop, subst, Ok, Err, Bool, Contains}
 use Rattle.niss_search.proofs.Words.{Contains-get_or, nat_tests, later_at, turns_of, no_turn, later_turn_at, distance_at, progress_of, Path, for_each}
-use Rattle.niss_search.proofs.DepthFirst.{StopsIn-cut, StopsIn-before, GoesThrough-looks, Descends-then}
+use Rattle.niss_search.proofs.DescentParts.{StopsIn-cut, StopsIn-before, GoesThrough-looks, Descends-then}
 use Rattle.niss_search.proofs.LaterParts.{later_at-none, later_at-some, later_at-far, later_at-near, later_at-split, passed-more, passed-room}
-use Rattle.niss_search.proofs.searching.Descent.+passing.Goals as goal
+use Rattle.niss_search.proofs.searching.depth_first.Descent.+passing.Goals as goal
 
 pub pass-returns-then-is_empty-clause-makes : goal.pass-returns-then-is_empty-clause-makes
 pass-returns-then-is_empty-clause-makes g t c =

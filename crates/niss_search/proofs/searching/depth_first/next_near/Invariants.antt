@@ -1,5 +1,5 @@
 use Rattle.niss_search.proofs.Words.{◌≡◌, ◌+◌, ◌<◌, All, take, distance_after}
-use Rattle.niss_search.proofs.searching.next_near.Given as goal
+use Rattle.niss_search.proofs.searching.depth_first.next_near.Given as goal
 
 abbrev pub invariant-loop-index : goal.invariant-loop-index
 invariant-loop-index g l = record {

@@ -1,6 +1,6 @@
 use Rattle.niss_search.proofs.Words.{arith, ◌<◌, distance_at, at_limit, beyond_at, below_at, progress_of}
-use Rattle.niss_search.proofs.DepthFirst.{StopsIn-cut, beyond_at-far, GoesThrough-looks, Descends-then}
-use Rattle.niss_search.proofs.searching.Descent.begin_with.Goals as goal
+use Rattle.niss_search.proofs.DescentParts.{StopsIn-cut, beyond_at-far, GoesThrough-looks, Descends-then}
+use Rattle.niss_search.proofs.searching.depth_first.Descent.begin_with.Goals as goal
 
 pub returns-then-look-left-clause-makes : goal.returns-then-look-left-clause-makes
 returns-then-look-left-clause-makes g c =

@@ -1,6 +1,6 @@
 use Rattle.niss_search.proofs.Words.{length, ◌+◌, ◌≤◌, ◌*◌, at_limit, progress_of, Keeps, GoesThrough}
 use Rattle.niss_search.proofs.LaterLemmas.{passed}
-use Rattle.niss_search.proofs.searching.Descent.+passing.Given as goal
+use Rattle.niss_search.proofs.searching.depth_first.Descent.+passing.Given as goal
 
 abbrev pub decreases-pass : goal.decreases-pass
 decreases-pass g l = 3 * length l.after.now + 2

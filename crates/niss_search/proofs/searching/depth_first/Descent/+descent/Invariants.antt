@@ -1,6 +1,6 @@
 use Rattle.niss_search.proofs.Words.{length, ◌+◌, ◌<◌, ◌≤◌, ◌*◌, All, at_limit, IsFollower, progress_of, Keeps}
-use Rattle.niss_search.proofs.DepthFirst.{Remains}
-use Rattle.niss_search.proofs.searching.Descent.+descent.Given as goal
+use Rattle.niss_search.proofs.DescentParts.{Remains}
+use Rattle.niss_search.proofs.searching.depth_first.Descent.+descent.Given as goal
 
 abbrev pub decreases-extend : goal.decreases-extend
 decreases-extend g l = 3 * l.left + 1

@@ -1,0 +1,215 @@
+//! One length: depth first from a position, with a look before each turn that is put on the path.
+ghost use Rattle.std.specs.Prelude.{◌+◌, ◌≤◌, ◌<◌, ◌^◌, ◌∷◌, length, [], ◌-◌, ◌++◌, All, IfSome, IfNone};
+ghost use Rattle.niss_search.specs.Cubes.{IsPosition};
+ghost use Rattle.niss_search.specs.Positions.{distance_at};
+ghost use Rattle.niss_search.specs.Deepening.{below_at, beyond_at, Keeps, Makes, turns};
+ghost use Rattle.niss_search.specs.Followers.{IsFollower, IsNextNear, AreFar};
+
+use super::Sink;
+use crate::budget::Budget;
+use crate::path::TurnPath;
+use crate::tables::{Follower, Kind, Meter, Position, SearchTables, StateSpace, Tables};
+use niss_moves::Turn;
+use std::alloc::Allocator;
+
+/// A descent: the path that it goes along, the sink that it hands what it finds, and how much that is.
+///
+/// The meter isn't in it, but goes in and comes back by value: through a borrow each look would write it to memory.
+#[derive(Drop)]
+pub(super) struct Descent<'a, K> {
+    pub path: &'a mut TurnPath,
+    pub sink: &'a mut K,
+    pub count: u128,
+}
+
+impl<K: Sink> Descent<'_, K> {
+    /// Looks at the position of the path and, if the look allows, goes on below it with `left` turns more. Hands
+    /// what it finds to the sink, and counts it.
+    pub fn begin<A: Allocator, B: Budget<K::Fault>>(
+        &mut self,
+        tables: &Tables<A>,
+        position: &Position,
+        left: u8,
+        meter: Meter,
+        budget: &B,
+    ) -> (Meter, Result<(), B::Stop>)
+        requires position { IsPosition tables.now position.now }
+        requires room { length (turns self.old) + left ≤ self.old.path.now.limit }
+        requires meter { meter + (below_at tables.now position.now (turns self.old) left).looks < 2 ^ 128 }
+        requires budget { meter ≤ B.bound budget.now }
+        requires count { self.old.count ≤ meter }
+        ensures keeps { Keeps self.old self.new meter result.0 }
+        ensures within { result.0 ≤ B.bound budget.now }
+        ensures makes { Makes K.took K.refused B.is_cut (B.bound budget.now) (below_at tables.now position.now (turns self.old) left)
+            meter result.0 self.old self.new result.1 }
+    {
+        match tables.kind() {
+            Kind::Edges(kind) => self.begin_with(kind, position, left, meter, budget),
+            Kind::AnyEdges(kind) => self.begin_with(kind, position, left, meter, budget),
+            Kind::Domino(kind) => self.begin_with(kind, position, left, meter, budget),
+            Kind::EitherDomino(kind) => self.begin_with(kind, position, left, meter, budget),
+        }
+    }
+
+    /// `begin` with tables of one kind.
+    fn begin_with<S: StateSpace, B: Budget<K::Fault>>(
+        &mut self,
+        tables: &SearchTables<S>,
+        position: &Position,
+        left: u8,
+        meter: Meter,
+        budget: &B,
+    ) -> (Meter, Result<(), B::Stop>)
+        requires position { IsPosition tables.now.step position.now }
+        requires room { length (turns self.old) + left ≤ self.old.path.now.limit }
+        requires meter { meter + (below_at tables.now.step position.now (turns self.old) left).looks < 2 ^ 128 }
+        requires budget { meter ≤ B.bound budget.now }
+        requires count { self.old.count ≤ meter }
+        ensures keeps { Keeps self.old self.new meter result.0 }
+        ensures within { result.0 ≤ B.bound budget.now }
+        ensures makes { Makes K.took K.refused B.is_cut (B.bound budget.now) (below_at tables.now.step position.now (turns self.old) left)
+            meter result.0 self.old self.new result.1 }
+    {
+        let mut meter = meter;
+        let state = tables.state(position);
+        if let Err(stop) = budget.admit(&meter, 1) {
+            return (meter, Err(stop));
+        }
+        if tables.look(state, &mut meter) > left {
+            return (meter, Ok(()));
+        }
+        self.extend(tables, state, left, meter, budget)
+    }
+
+    /// Goes on below the path with `left` turns more, once its state was looked at. So a turn is put on the path only
+    /// if the look after it allows. It is inlined: where a path ends, no call is made.
+    #[cycle(descent)]
+    #[inline(always)]
+    fn extend<S: StateSpace, B: Budget<K::Fault>>(
+        &mut self,
+        tables: &SearchTables<S>,
+        state: S::State,
+        left: u8,
+        meter: Meter,
+        budget: &B,
+    ) -> (Meter, Result<(), B::Stop>)
+        requires near { distance_at tables.now.step (S.seen tables.now.space state) ≤ left }
+        requires room { length (turns self.old) + left ≤ self.old.path.now.limit }
+        requires meter { meter
+            + (beyond_at tables.now.step (S.seen tables.now.space state) (turns self.old) left).looks < 2 ^ 128 }
+        requires budget { meter ≤ B.bound budget.now }
+        requires count { self.old.count < meter }
+        ensures keeps { Keeps self.old self.new (meter - 1) result.0 }
+        ensures within { result.0 ≤ B.bound budget.now }
+        ensures makes { Makes K.took K.refused B.is_cut (B.bound budget.now)
+            (beyond_at tables.now.step (S.seen tables.now.space state) (turns self.old) left)
+            meter result.0 self.old self.new result.1 }
+    {
+        if left == 0 {
+            // counted first, since nothing follows on the hand-out: of the count nothing is said if the sink refuses
+            self.count += 1;
+            return (meter, B::taken(self.sink.take(self.path)));
+        }
+        self.try_turns(tables, state, left, meter, budget)
+    }
+
+    /// Tries the turns that may follow the path, with `left` turns more.
+    #[cycle(descent)]
+    fn try_turns<S: StateSpace, B: Budget<K::Fault>>(
+        &mut self,
+        tables: &SearchTables<S>,
+        state: S::State,
+        left: u8,
+        meter: Meter,
+        budget: &B,
+    ) -> (Meter, Result<(), B::Stop>)
+        requires some { 0 < left }
+        requires near { distance_at tables.now.step (S.seen tables.now.space state) ≤ left }
+        requires room { length (turns self.old) + left ≤ self.old.path.now.limit }
+        requires meter { meter
+            + (beyond_at tables.now.step (S.seen tables.now.space state) (turns self.old) left).looks < 2 ^ 128 }
+        requires budget { meter ≤ B.bound budget.now }
+        requires count { self.old.count < meter }
+        ensures keeps { Keeps self.old self.new (meter - 1) result.0 }
+        ensures within { result.0 ≤ B.bound budget.now }
+        ensures makes { Makes K.took K.refused B.is_cut (B.bound budget.now)
+            (beyond_at tables.now.step (S.seen tables.now.space state) (turns self.old) left)
+            meter result.0 self.old self.new result.1 }
+    {
+        let mut meter = meter;
+        let mut rest = tables.turns_after(self.path.last());
+        loop {
+            if let Err(stop) = budget.admit(&meter, rest.len()) {
+                return (meter, Err(stop));
+            }
+            let Some(index) = next_near(tables, state, rest, left - 1, &mut meter) else {
+                return (meter, Ok(()));
+            };
+            let next = rest[index];
+            // the state once more: kept from the look, it would be written to memory at each look
+            let after = tables.after(state, next);
+            let (counted, below) = self.follow(tables, after, next.turn, left - 1, meter, budget);
+            meter = counted;
+            if let Err(stop) = below {
+                return (meter, Err(stop));
+            }
+            rest = &rest[index + 1..];
+        }
+    }
+
+    /// Goes on below the path and a turn with `left` turns more, once the state after the turn was looked at.
+    #[cycle(descent)]
+    fn follow<S: StateSpace, B: Budget<K::Fault>>(
+        &mut self,
+        tables: &SearchTables<S>,
+        state: S::State,
+        turn: Turn,
+        left: u8,
+        meter: Meter,
+        budget: &B,
+    ) -> (Meter, Result<(), B::Stop>)
+        requires near { distance_at tables.now.step (S.seen tables.now.space state) ≤ left }
+        requires room { length (turns self.old) + 1 + left ≤ self.old.path.now.limit }
+        requires meter { meter
+            + (beyond_at tables.now.step (S.seen tables.now.space state) (turns self.old ++ turn ∷ []) left).looks
+            < 2 ^ 128 }
+        requires budget { meter ≤ B.bound budget.now }
+        requires count { self.old.count < meter }
+        ensures keeps { Keeps self.old self.new (meter - 1) result.0 }
+        ensures within { result.0 ≤ B.bound budget.now }
+        ensures makes { Makes K.took K.refused B.is_cut (B.bound budget.now)
+            (beyond_at tables.now.step (S.seen tables.now.space state) (turns self.old ++ turn ∷ []) left)
+            meter result.0 self.old self.new result.1 }
+    {
+        self.path.push(turn);
+        let below = self.extend(tables, state, left, meter, budget);
+        self.path.pop();
+        below
+    }
+}
+
+/// Looks at the state after each turn, up to the first after which the look allows `left` turns more; returns its
+/// index. Most looks end here: all that the loop calls is inlined, so that where the tables stand is read once for all
+/// of its looks.
+#[inline(always)]
+fn next_near<S: StateSpace>(
+    tables: &SearchTables<S>,
+    state: S::State,
+    followers: &[Follower],
+    left: u8,
+    meter: &mut Meter,
+) -> Option<usize>
+    requires of_step { All (IsFollower tables.now.step) followers.now }
+    requires meter { meter.old + length followers.now < 2 ^ 128 }
+    ensures near { IfSome result (IsNextNear tables.now.step (S.seen tables.now.space state) left
+        followers.now meter.old meter.new) }
+    ensures far { IfNone result (AreFar tables.now.step (S.seen tables.now.space state) left
+        followers.now meter.old meter.new) }
+{
+    for index in 0..followers.len() {
+        if tables.look(tables.after(state, followers[index]), meter) <= left {
+            return Some(index);
+        }
+    }
+    None
+}
