@@ -34,9 +34,11 @@ class fault : public std::runtime_error {
 public:
     // by the program's words for it, such as "not a move"; `line` is said before the column
     fault(nissy_fault code, std::size_t column, const std::string &text, const std::string &line = "")
-        : std::runtime_error(place_of(column, line) + text), code_(code), column_(column), place_(place_of(column, line).size()) {}
+        : std::runtime_error(place_of(column, line) + text), code_(code), line_(line.empty() ? 0 : line == "scramble, " ? 1 : 2),
+          column_(column), place_(place_of(column, line).size()) {}
 
     nissy_fault code() const noexcept { return code_; }
+    int line() const noexcept { return line_; } // of a call on two lines which one has it: 1 the scramble, 2 the other; else 0
     // the place of the fault in bytes, from 1; 0 of NISSY_START
     std::size_t column() const noexcept { return column_; }
     // the same in characters of the line, which is in UTF-8
@@ -56,6 +58,7 @@ private:
     }
 
     nissy_fault code_;
+    int line_;
     std::size_t column_;
     std::size_t place_; // where text() begins in what(): a copy of an exception mustn't throw, as that of a string of its own may
 };
@@ -70,7 +73,6 @@ struct cut : std::runtime_error {
 struct solution {
     std::string moves;
     int length;
-
     friend bool operator==(const solution &one, const solution &other) { return one.moves == other.moves && one.length == other.length; }
     friend bool operator!=(const solution &one, const solution &other) { return !(one == other); }
 };
@@ -82,7 +84,6 @@ struct count {
     std::uint64_t nodes;       // the positions that the search looked at
     bool more = false;         // there are others beyond `most`; if it was cut, there may be
     bool is_cut = false;       // it would have looked at more positions than it may: what it says is a beginning
-
     friend bool operator==(const count &one, const count &other) {
         return one.length == other.length && one.solutions == other.solutions && one.nodes == other.nodes && one.more == other.more &&
                one.is_cut == other.is_cut;
@@ -301,7 +302,7 @@ inline std::vector<answer<line_facts>> facts_all(std::string_view text) {
     return detail::all_lines<nissy_facts_answer>(text, nissy_facts_lines, make);
 }
 
-// Whether a solution solves a scramble. The what() of a fault also says which of the two lines has it.
+// Whether a solution solves a scramble. A fault also says which line has it.
 inline verdict check(std::string_view scramble, std::string_view solution) {
     const nissy_check_answer answer = nissy_check(detail::bytes(scramble), scramble.size(), detail::bytes(solution), solution.size());
     detail::end_unless_read(answer.status, answer.fault, answer.column, {}, answer.line == 1 ? "scramble, " : "solution, ");
@@ -390,7 +391,6 @@ public:
 
 private:
     static constexpr std::uint64_t MOST_OF_ONE = 65; // bytes of a solution
-
     const detail::kept_tables::value_type *kept_; // never null
 };
 

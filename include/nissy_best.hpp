@@ -305,7 +305,8 @@ inline std::vector<continuation> continuations(const start &from, std::int64_t s
 // all, on the better side. If an orientation holds, the reductions, up to `slack` longer; if a reduction is reached, nothing.
 //
 // Moves of `so_far` in brackets are made on the inverse side. All moves count, those so far too, once they are merged on each side. The order
-// is by these, by the moves of the first step, and by the pieces of the case. `most` is how many are returned.
+// is by these, by the moves of the first step, and by the pieces of the case. `most` is how many are returned. Each unit of slack makes this
+// many times as long and as large, and nothing bounds it.
 inline std::vector<continuation> best(std::string_view scramble, std::string_view so_far = {}, std::int64_t slack = 0,
                                       std::uint64_t most = 20) {
     detail::turns(slack, "slack");

@@ -180,7 +180,7 @@ beside_program() {
 }
 if missing python3; then skips "there is no python3 here"; else
     part beside_program
-    for trial in processes values module facts best; do part python3 tests/library/$trial.py; done
+    for trial in processes values module facts best service; do part python3 tests/library/$trial.py; done
     if python3.7 -c "import ctypes" 2> /dev/null; then
         for trial in module values processes best; do part python3.7 tests/library/$trial.py; done
     else

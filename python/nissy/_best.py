@@ -150,7 +150,9 @@ def best(scramble: Text, so_far: Text = "", *, slack: int = 0, most: Optional[in
 
     Moves of `so_far` in brackets are made on the inverse side. All moves count, those so far too, once they are merged on each side. The
     order is by these, then by the moves of the first step, then by the pieces of the case. No more than `most` are returned, or all if it is
-    None. Raises LineFault with `line` 1 for the scramble and 2 for the moves so far, and Fault if both have too many moves together."""
+    None. Each unit of slack makes this many times as long and as large, and nothing bounds it.
+
+    Raises LineFault with `line` 1 for the scramble and 2 for the moves so far, and Fault if both have too many moves together."""
     given = bytes_of(scramble, "the scramble"), bytes_of(so_far, "the line so far")
     longer = number_of(slack, "the slack", _MOST_SLACK)
     count = MOST_WORD if most is None else number_of(most, "most", MOST_WORD)

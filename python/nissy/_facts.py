@@ -123,7 +123,7 @@ class Facts:
     @property
     def case(self) -> Dict[Axis, Case]:
         """The case of a domino reduction on each axis: misoriented corners, and edges on the wrong side of the slice."""
-        return self._by_axis(lambda numbers: Case(f"{numbers[4]}c{numbers[5]}e"))
+        return self._by_axis(lambda numbers: _case(numbers[4], numbers[5]))
 
     def _by_axis(self, of_axis: Callable[[Tuple[int, ...]], Value]) -> Dict[Axis, Value]:
         """Returns what each axis's numbers stand for."""
@@ -169,6 +169,12 @@ def _edges(mask: int) -> Pieces:
 def _corners(mask: int) -> Pieces:
     """Returns the corners of a mask."""
     return Pieces(_chosen(mask, _CORNERS))
+
+
+@lru_cache(maxsize=None)
+def _case(corners: int, edges: int) -> Case:
+    """Returns the case of so many corners and edges."""
+    return Case(f"{corners}c{edges}e")
 
 
 @lru_cache(maxsize=None)

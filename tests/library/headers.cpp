@@ -1,5 +1,6 @@
-/* The headers beside nissy.hpp: the moves of a line, solutions one after another, and the best continuations. */
+/* The headers beside nissy.hpp: the moves of a line, solutions one after another, the best continuations, and names. */
 #include "nissy_best.hpp"
+#include "nissy_names.hpp"
 #include "nissy_solutions.hpp"
 #include "nissy_tokens.hpp"
 
@@ -20,6 +21,7 @@ template <typename Call> void has_fault(Call call, int code, std::size_t column,
         holds(0, "it throws", what.c_str());
     } catch (const nissy::fault &thrown) {
         holds(thrown.code() == code && thrown.column() == column && thrown.what() == what, "its fault", what.c_str());
+        holds(thrown.line() == (what.find("scramble") == std::string::npos ? 2 : 1), "its line", what.c_str());
     }
 }
 
@@ -36,6 +38,21 @@ void moves_are_told() {
     holds(nissy::tokens("z")[0].layers == std::vector<int>{-1, 0, 1} && nissy::tokens("b")[0].layers == std::vector<int>{-1, 0}, "layers", "z b");
     holds(nissy::tokens({}).empty() && nissy::tokens(" (\t)\r").empty(), "no moves", "");
     for (const fault_row &row : UNREAD) throws<nissy::fault>([&] { nissy::tokens(row.line); }, row.line);
+}
+
+// One turn of R, whose pieces a hand finds, and a solution of every form.
+void names_are_told() {
+    using names = std::vector<std::string>;
+    const nissy::line_facts facts = nissy::facts("R");
+    holds(nissy::edge_names(facts.rl().bad_edge_places) == names{"UR", "DR", "FR", "BR"}, "its bad edges", "R");
+    holds(nissy::corner_names(facts.ud().bad_corner_places) == names{"URF", "UBR", "DFR", "DRB"}, "its bad corners", "R");
+    holds(nissy::edge_names(facts.fb().bad_edge_places).empty() && nissy::form_names(nissy::check("R", "R'").forms).empty(), "no names", "R");
+    for (std::size_t at = 0; at < 12; at++) holds(nissy::edge_names(1U << at).size() == 1, "a name for each place", "edges");
+    for (std::size_t at = 0; at < 8; at++) holds(nissy::corner_names(1U << at).size() == 1, "a name for each place", "corners");
+    const std::pair<const char *, const char *> forms[] = {
+        {"M", "slices"}, {"u", "lower_case"}, {"(U)", "brackets"}, {"U\xe2\x80\x99", "apostrophe"}, {"U2'", "half_prime"}};
+    for (const auto &[line, form] : forms) holds(nissy::form_names(nissy::check("", line).forms) == names{form}, "its form", line);
+    holds(nissy::form_names(nissy::check("", "(M2' u\xe2\x80\x99)").forms).size() == 5, "all forms", "(M2' u’)");
 }
 
 // Rows that a person can tell: one turn from a reduction, and one from an orientation.
@@ -98,6 +115,7 @@ void faults_are_thrown() {
 
 int main() {
     moves_are_told();
+    names_are_told();
     continuations_are_told();
     rows_are_counted();
     solutions_follow();

@@ -58,6 +58,16 @@ template <typename Call> void has_words(Call call, const char *text, const char 
     }
 }
 
+// A call throws a fault of this line of two, or of one line alone if it is 0.
+template <typename Call> void has_line(Call call, int line, const char *of) {
+    try {
+        call();
+        holds(0, "it throws", of);
+    } catch (const nissy::fault &thrown) {
+        holds(nissy::fault(thrown).line() == line, "which line has it", of);
+    }
+}
+
 // What is seen of lines: rows that guides for solvers have, and one whose places a hand finds.
 void lines_are_judged() {
     for (const auto &[line, wanted] : {std::pair{"R", "4c4e"}, {"R U2 R", "4c2e"}, {"R U R", "3c2e"}, {"", "0c0e"}})
@@ -81,6 +91,9 @@ void solutions_are_checked() {
     has_fault([] { nissy::check("R q", "("); }, NISSY_NOT_A_MOVE, 3, "nissy: scramble, column 3: not a move", "R q");
     has_fault([] { nissy::check("R", "(U"); }, NISSY_UNCLOSED, 1, "nissy: solution, column 1: bracket not closed", "(U");
     has_words([] { nissy::check("R", "(U"); }, "bracket not closed", "", "(U");
+    has_line([] { nissy::check("R q", "("); }, 1, "R q");
+    has_line([] { nissy::check("R", "(U"); }, 2, "(U");
+    has_line([] { nissy::invert("(U"); }, 0, "(U");
     const std::string blanks(NISSY_MOST_INPUT + 1, ' ');
     throws<std::length_error>([&] { nissy::check("R", blanks); }, "a solution of 16,777,217 blanks");
     throws<std::length_error>([&] { nissy::facts(blanks); }, "16,777,217 blanks");

@@ -1,0 +1,147 @@
+#!/usr/bin/env python3
+"""The example examples/serve.py: what it tells of requests, and that none of many at once holds it.
+
+    tests/library/service.py [SEED COUNT]
+
+The moves that it says are no WCA notation are compared with the forms that the library tells of COUNT drawn lines, 2,000 if no number is
+named. The library is that of NISSY_LIBRARY. The last line is `N passed, M failed`, and the status is 1 where M isn't 0.
+"""
+from __future__ import annotations
+
+import http.client
+import json
+import os
+import signal
+import subprocess
+import sys
+import threading
+import time
+from pathlib import Path
+from typing import Dict, List, Set, Tuple
+from urllib.parse import urlencode
+
+TOP = Path(__file__).resolve().parents[2]
+sys.path[:0] = [str(TOP / "python"), str(TOP / "examples"), str(TOP / "tests"), str(TOP / "tests/model")]
+
+import nissy
+import serve
+from drawing import Drawing
+from tally import Tally
+
+# clients at once, and how long they may wait: the search that each asks for would take days without a bound
+CLIENTS, SECONDS = 16, 60
+LONG = {"step": "eofb", "line": "R U F", "slack": "20"}
+
+# requests, and what a person says of them
+REQUESTS: List[Tuple[str, Dict[str, str], int, Dict[str, object]]] = [
+    ("/check", {"scramble": "R U", "solution": "U' R' x"}, 200, {"solved": True, "moves": 2, "forms": (), "foreign": []}),
+    ("/check", {"scramble": "R", "solution": "(R)"}, 200,
+     {"solved": True, "moves": 1, "forms": ("brackets",), "foreign": [{"text": "(", "character": 1}, {"text": ")", "character": 3}]}),
+    ("/check", {"scramble": "", "solution": "U2 M2\u2019Rw'"}, 200,
+     {"solved": False, "moves": 4, "forms": ("slices", "apostrophe", "half_prime"), "foreign": [{"text": "M2\u2019", "character": 4}]}),
+    ("/check", {"scramble": "R\u2019 Q", "solution": ""}, 400, {"error": "not a move", "line": "scramble", "character": 4}),
+    ("/check", {"scramble": "R", "solution": "\u2019"}, 400, {"error": "not a move", "line": "solution", "character": 1}),
+    ("/check", {"scramble": "R"}, 400, {"error": "solution is missing"}),
+    ("/search", {"step": "eofb", "line": "F"}, 200, {"cut": False, "first": ["F", "F'"], "solutions": 2}),
+    ("/search", {"step": "eofb", "line": "F q"}, 400, {"error": "not a move", "character": 3}),
+    ("/search", {"step": "drud-eofb", "line": "F"}, 400, {"error": "eofb does not hold"}),
+    ("/search", {"step": "eofb"}, 400, {"error": "line is missing"}),
+    ("/other", {}, 404, {"error": "there are /check and /search"}),
+]
+
+
+def form_of(text: str) -> Set[str]:
+    """The forms of one move or bracket."""
+    signs = {"slices": text[0] in "MES", "lower_case": text[0] in "udrlfb", "brackets": text in "()", "apostrophe": "\u2019" in text,
+             "half_prime": text[-2:] in ("2'", "2\u2019")}
+    return {form for form, has in signs.items() if has}
+
+
+def requests_are_answered(tally: Tally) -> None:
+    """Requests that a person can tell, also some with numbers or steps that there aren't."""
+    for path, asked, status, told in REQUESTS:
+        tally.equal(f"{path} {asked}", serve.answer(f"{path}?{urlencode(asked)}"), (status, told))
+    for more in ({"slack": "21"}, {"slack": "-1"}, {"slack": "x"}, {"step": "eofx"}, {"step": ""}, {"step": "\0"}):
+        status, told = serve.answer("/search?" + urlencode({"step": "eofb", "line": "F", **more}))
+        tally.holds(f"{more} is refused", status == 400 and set(told) == {"error"})
+
+
+def forms_have_places(tally: Tally, drawing: Drawing, count: int) -> None:
+    """What is no WCA notation stands where it is said to, and is of the forms that the library tells."""
+    for _ in range(count):
+        line = drawing.line()
+        foreign, forms = serve.foreign(line), set(nissy.check("", line).forms)
+        tally.equal(f"the forms of {line!r}", {form for it in foreign for form in form_of(it["text"])}, forms)
+        tally.holds(f"each has one, in {line!r}", all(form_of(it["text"]) for it in foreign))
+        tally.holds(f"their places in {line!r}", all(line.startswith(it["text"], it["character"] - 1) for it in foreign))
+
+
+def asked(port: int, path: str, wanted: Dict[str, str]) -> Tuple[int, Dict[str, object]]:
+    """The status of a request to the running server, and its answer."""
+    client = http.client.HTTPConnection("127.0.0.1", port, timeout=SECONDS)
+    try:
+        client.request("GET", f"{path}?{urlencode(wanted)}")
+        answer = client.getresponse()
+        return answer.status, json.load(answer)
+    finally:
+        client.close()
+
+
+def searches_are_cut(tally: Tally, port: int) -> None:
+    """All of many clients at once have an answer to the longest search, and another one has his beside them."""
+    told: List[Tuple[int, object]] = []
+
+    def ask() -> None:
+        status, answer = asked(port, "/search", LONG)
+        told.append((status, answer.get("cut")))
+
+    clients = [threading.Thread(target=ask) for _ in range(CLIENTS)]
+    for client in clients:
+        client.start()
+    tally.equal("a check beside them", asked(port, "/check", {"scramble": "R", "solution": "R'"})[1].get("solved"), True)
+    for client in clients:
+        client.join()
+    tally.equal("the longest search", told, [(200, True)] * CLIENTS)
+
+
+def ends_amid_searches(tally: Tally, server: subprocess.Popen[str], port: int) -> None:
+    """SIGTERM ends the server while clients ask it, one search after another."""
+    answered = threading.Semaphore(0)
+
+    def ask() -> None:
+        try:
+            while True:
+                asked(port, "/search", LONG)
+                answered.release()
+        except (OSError, http.client.HTTPException):
+            pass  # the server is gone
+
+    clients = [threading.Thread(target=ask) for _ in range(CLIENTS)]
+    for client in clients:
+        client.start()
+    tally.holds("clients are answered", all(answered.acquire(timeout=SECONDS) for _ in clients))
+    begun = time.monotonic()
+    server.terminate()
+    tally.equal("the server ends by SIGTERM", server.wait(SECONDS), -signal.SIGTERM)
+    tally.holds("and soon", time.monotonic() - begun < SECONDS / 2)
+    for client in clients:
+        client.join()
+
+
+def main() -> None:
+    """Asks the functions, and then a server of its own."""
+    seed, count = (int(sys.argv[1]), int(sys.argv[2])) if len(sys.argv) > 2 else (1, 2000)
+    tally = Tally()
+    requests_are_answered(tally)
+    forms_have_places(tally, Drawing(seed), count)
+    environment = {**os.environ, "PYTHONPATH": str(TOP / "python")}
+    with subprocess.Popen([sys.executable, str(TOP / "examples/serve.py"), "0"], env=environment, stdout=subprocess.PIPE, text=True) as server:
+        assert server.stdout is not None
+        port = int(server.stdout.readline())
+        searches_are_cut(tally, port)
+        ends_amid_searches(tally, server, port)
+    tally.end()
+
+
+if __name__ == "__main__":
+    main()
