@@ -42,6 +42,8 @@ INSTALLED := \
 	docs/MANUAL.md:share/doc/nissy/MANUAL.md \
 	docs/COOKBOOK.md:share/doc/nissy/COOKBOOK.md \
 	docs/MANY.md:share/doc/nissy/MANY.md \
+	docs/WORDS.md:share/doc/nissy/WORDS.md \
+	$(foreach file,$(notdir $(wildcard docs/words/*.svg)),docs/words/$(file):share/doc/nissy/words/$(file)) \
 	completions/nissy.bash:share/bash-completion/completions/nissy \
 	completions/_nissy:share/zsh/site-functions/_nissy \
 	completions/nissy.fish:share/fish/vendor_completions.d/nissy.fish \
@@ -127,7 +129,7 @@ uninstall:
 	@$(EACH_INSTALLED); rm -f "$$to"; done
 	@# what Python keeps of the module that it read
 	@rm -f $(foreach file,$(wildcard python/nissy/*.py),"$(DESTDIR)$(PYTHONDIR)"/nissy/__pycache__/$(notdir $(file:.py=)).*.pyc)
-	@for folder in "$(PREFIX)/share/doc/nissy/examples" "$(PREFIX)/share/doc/nissy" "$(LIBDIR)/cmake/nissy" "$(PYTHONDIR)/nissy/__pycache__" "$(PYTHONDIR)/nissy"; do \
+	@for folder in "$(PREFIX)/share/doc/nissy/examples" "$(PREFIX)/share/doc/nissy/words" "$(PREFIX)/share/doc/nissy" "$(LIBDIR)/cmake/nissy" "$(PYTHONDIR)/nissy/__pycache__" "$(PYTHONDIR)/nissy"; do \
 		rmdir "$(DESTDIR)$$folder" 2> /dev/null || true; \
 	done
 

@@ -42,6 +42,8 @@ wanted="755 bin/nissy build/nissy
 644 share/doc/nissy/COOKBOOK.md docs/COOKBOOK.md
 644 share/doc/nissy/MANUAL.md docs/MANUAL.md
 644 share/doc/nissy/MANY.md docs/MANY.md
+644 share/doc/nissy/WORDS.md docs/WORDS.md
+$(find docs/words -name '*.svg' -printf '644 share/doc/nissy/words/%f %p\n')
 644 share/fish/vendor_completions.d/nissy.fish completions/nissy.fish
 644 share/man/man1/nissy.1 docs/nissy.1
 644 share/zsh/site-functions/_nissy completions/_nissy"

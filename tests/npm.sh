@@ -55,7 +55,7 @@ block() { sed -n "/^\`\`\`$1\$/,/^\`\`\`\$/p" "$package/README.md" | sed '1d;/^`
 example() { block js > "$user/example.mjs" && cmp <(block text) <(in_folder node example.mjs) && rm "$user/example.mjs"; }
 holds "the example of its page prints what the page says" example
 holds "they speak of nothing that only the repository has" refuses grep -nE '\bmake (all|lib|page|dist|test|install|build)|repository|tools/|web/' \
-    "$package"/{README,MANUAL,COOKBOOK,MANY,ABI}.md
+    "$package"/{README,MANUAL,COOKBOOK,MANY,WORDS,ABI}.md
 holds "it names no licence" refuses grep -q '"license"' "$package/package.json"
 
 # imported, and its types

@@ -217,8 +217,8 @@ if ! ls "$made"/*.deb > /dev/null 2>&1; then skips "the Debian packages, which w
         done
     }
     holds "each speaks of the other program of the name" says_names
-    dead_pages() { # from page to page of a folder, or of two beside each other
-        (cd "$root/usr/share/doc" && grep -oHE '\]\([^)# ]+\.md' ./*/*.md) | sed 's|/[^/]*:\](|/|' | sort -u | while read -r page; do
+    dead_pages() { # from page to page or picture of a folder, or of two beside each other
+        (cd "$root/usr/share/doc" && grep -oHE '\]\([^)# ]+' ./*/*.md) | sed 's|/[^/]*:\](|/|' | sort -u | while read -r page; do
             [[ $page == *http* || -e $root/usr/share/doc/$page ]] || echo "$page"
         done
     }

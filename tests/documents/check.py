@@ -57,6 +57,13 @@ def columns(tally: Tally, pages: list[Page]) -> None:
         tally.equal(f"{page.name}: its lines of more than {MOST_COLUMNS} columns", page.longer_lines(MOST_COLUMNS), [])
 
 
+def fences(tally: Tally, pages: list[Page]) -> None:
+    """A fence names its language, and a file at most: a package's reader sees it as it is."""
+    for page in pages:
+        longer = [line for line in page.lines if line.startswith("```") and not re.fullmatch(r"```(\w+( [\w-]+\.js)?)?", line)]
+        tally.equal(f"{page.name}: its fences that say more", longer, [])
+
+
 def readme(tally: Tally, page: Page) -> None:
     """README has links, is short, and names the logic of the kit that is here, where one is."""
     tally.holds("README.md has links", page.links())
@@ -204,6 +211,7 @@ def main() -> None:
     pages = [Page(TOP, str(path.relative_to(TOP))) for pattern in PAGES for path in sorted(TOP.glob(pattern))]
     links_and_tables(tally, pages)
     columns(tally, pages)
+    fences(tally, pages)
     readme(tally, Page(TOP, "README.md"))
     names_of_code(tally, code)
     for what in unlike or [""]:

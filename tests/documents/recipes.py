@@ -7,13 +7,13 @@ A block ```sh is run, and where the next block is ```text, that is what it print
 with `$ ` is run, and the lines after it are what it prints. The blocks of a page run one after another in one shell, so that variables and
 files stay; the whole page is run by each of sh, bash and zsh that is there. A block ```bash, ```zsh or ```fish runs by that shell alone.
 They find the repository's folder `examples` beside them.
-A block ```js is a script of its own, which node runs at the top of the repository, if the module is built. `needs TOOL..` after the shell's name
-skips the block if one of the tools is missing, or, if it has a slash, the file of the repository; what is skipped is named. So are the examples
-of a manual page.
+A block ```js is a script of its own, which node runs at the top of the repository, if the module is built. A block that takes a tool of TOOLS, or
+the library, is skipped if that isn't here, and named. So are the examples of a manual page.
 The last line is `N passed, M failed`, and the status is 1 where M isn't 0.
 """
 import difflib
 import os
+import re
 import shutil
 import subprocess
 import sys
@@ -30,6 +30,9 @@ from tally import Tally
 SHELLS = {"sh": ("sh", "bash", "zsh"), "bash": ("bash",), "zsh": ("zsh",), "fish": ("fish",)}
 # what runs a block that is a script of its own, the ending of its file, and what it needs of the folder build
 SCRIPTS = {"js": ("node", ".mjs", "nissy.wasm")}
+# tools that a system may lack, as a block takes them: at the beginning of a line; and what takes the library
+TOOLS = re.compile(r"^(?:import )?(cc|c\+\+|dask|parallel|python3)(?=[ .])", re.MULTILINE)
+OF_LIBRARY = re.compile(r"-lnissy|^import nissy|^python3 examples/", re.MULTILINE)
 ESCAPES = ((r"\(aq", "'"), (r"\(dq", '"'), (r"\-", "-"), (r"\e", "\\"))
 SECONDS = 300
 NOT_REACHED = "nothing: the shell ended before it\n"
@@ -41,10 +44,15 @@ class Example:
 
     kind: str
     line: int
-    needs: tuple[str, ...] = ()
     command: str = ""
     wanted: str = ""
     wrong: dict[str, str] = field(default_factory=dict)
+
+    def needs(self) -> list[str]:
+        """Returns the tools, and the files of the repository, without which it can't run."""
+        program, _, module = SCRIPTS.get(self.kind, (self.kind, "", ""))
+        built = ["libnissy.so"] if OF_LIBRARY.search(self.command) else []
+        return [program, *TOOLS.findall(self.command), *(f"build/{file}" for file in (module, *built) if file)]
 
 
 def from_roff(text: str) -> str:
@@ -70,9 +78,9 @@ def examples_of(text: str) -> list[Example]:
     inside, last = "", None
     for number, line in enumerate(text.splitlines(), 1):
         if line.startswith("```"):
-            kind, *options = (line[3:].split() or ["other"]) if not inside else [""]
+            kind = (line[3:].split() or ["other"])[0] if not inside else ""
             if kind in SHELLS or kind in SCRIPTS:
-                last = Example(kind, number, tuple(options[1:]) if options[:1] == ["needs"] else ())
+                last = Example(kind, number)
                 found.append(last)
             elif inside in ("text", "console"):
                 last = None
@@ -150,8 +158,7 @@ def runnable(name: str, examples: list[Example]) -> list[Example]:
     """Returns the examples of a page whose shell and tool are here, and names the others."""
     here = []
     for it in examples:
-        program, _, built = SCRIPTS.get(it.kind, (it.kind, "", ""))
-        missing = next((tool for tool in (program, *it.needs, built and f"build/{built}") if tool and not is_here(tool)), None)
+        missing = next((tool for tool in it.needs() if not is_here(tool)), None)
         if missing:
             print(f"skipped: {name}:{it.line}, no {missing} here")
         else:
