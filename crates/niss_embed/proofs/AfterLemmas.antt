@@ -11,7 +11,7 @@ use Rattle.niss_moves.specs.Places.{Place}
 use Rattle.niss_moves.specs.declared.token.Token.{Token}
 use Rattle.niss_moves.specs.declared.token.Token.TheVariants as token
 use Rattle.niss_search.specs.Budgets.{is_cut_in}
-use Rattle.niss_search.specs.Cubes.{least_length_of, near_solutions_of, cubes}
+use Rattle.niss_search.specs.Cubes.{least_length_of, near_solutions_of, near_looks_of, cubes}
 use Rattle.niss_search.specs.Delivery.{WentThrough, StoppedIn, EndedIn}
 use Rattle.niss_search.specs.Laws.{FirstIsLeast, SolutionsAreSequences}
 use Rattle.niss_search.specs.Later.{comes_after, later_of, deepening_looks_of}
@@ -51,9 +51,9 @@ module _ (step : Step) (w : Wanted) (p : List Turn) (e : Place → Place) where
   all = all_behind step w p e
 
   -- a search that was cut before it knew the least length
-  pub cut_early : (out : List ℕ) (looks : ℕ) → looks ≤ looks_for_behind step w e → capped looks ≤ w.most_nodes → w.most_nodes < looks_for_behind step w e
+  pub cut_early : (out : List ℕ) (looks : ℕ) → looks ≤ looks_for_behind step w e → capped looks ≤ w.most_nodes → w.most_nodes < near_looks_of step e w.limit 0
       → SolvesBehind step w p e (memory out out) (cut_before looks)
-  cut_early out looks at_most within cut =
+  cut_early out looks at_most within early =
       let l : Lines = record {
         before = out;
         after = out;
@@ -75,10 +75,10 @@ module _ (step : Step) (w : Wanted) (p : List Turn) (e : Place → Place) where
         finds = record {
           more = λ n. absurd (n refl);
           maybe_more = λ c. refl;
-          least = inr (refl, refl, refl);
+          least = inr (refl, refl, refl, early);
           looks_at_most = capped_le looks (looks_for_behind step w e) at_most;
           within = within;
-          cut = λ c. cut;
+          cut = λ c. omega (arith, early);
           no_fault = refl;
           no_column = refl;
         };

@@ -51,10 +51,11 @@ pub record FindsBehind (step : Step) (w : Wanted) (p : List Turn) (e : Place →
   -- whether there are more behind it than came; of a search that was cut it isn't known
   pub more : told.status ≢ status_number Cut → told.more ≡ nat_lt told.solutions (length (all_behind step w p e))
   pub maybe_more : told.status ≡ status_number Cut → told.more ≡ true
-  -- the least length of all solutions, unless it was cut before it knew it
+  -- the least length of all solutions, unless it was cut before it knew it, since the search for the shortest looks at more
   pub least :
       (told.least ≡ unwrap_or (least_length_of step e w.limit) 0)
-      ⊎ ((told.status ≡ status_number Cut) × (told.solutions ≡ 0) × (told.least ≡ 0))
+      ⊎ ((told.status ≡ status_number Cut) × (told.solutions ≡ 0) × (told.least ≡ 0)
+      × (w.most_nodes < near_looks_of step e w.limit 0))
   pub looks_at_most : told.nodes ≤ capped (looks_for_behind step w e)
   pub within : told.nodes ≤ w.most_nodes
   -- it is cut only if both searches look at more

@@ -213,6 +213,12 @@ later_searched {E = E} took refused is_cut bound step x n ts m m1 s s1 r h law e
   by_result (Err stop) h =
       record { solutions = tt; ok = tt; err = rw found h.stopped; looks_at_most = omega (arith, looked, h.looked, all_later-looks step x ts n); over = λ t. omega (arith, looked, h.over t, all_later-looks step x ts n) }
 
+-- what went through made all of its looks
+pub later_looked : {K E : Type 0} (took refused : K → Path → K → Type 0) (is_cut : E → Bool) (bound : ℕ) (part : Part) (n m m1 : ℕ) (s s1 : K) (r : Result ℕ E)
+    → Delivers took refused n part m m1 s s1 is_cut bound (λ count. count) r → OnOk r (m1 ≡ m + part.looks)
+later_looked took refused is_cut bound part n m m1 s s1 (Ok count) h = h.looked
+later_looked took refused is_cut bound part n m m1 s s1 (Err stop) h = tt
+
 -- the looks up to a length are few
 pub deepening_looks-small : (step : Step) (e : Place → Place) (n : ℕ) → n ≤ 20 → deepening_looks_of step e n ≤ 21 * (21 * 18 ^ 20)
 deepening_looks-small step e n h =

@@ -58,6 +58,8 @@ pub fn search_after<K: Sink, A: Allocator>(
         (is_cut_in stop) sink.old (later_of tables.now e path.old.limit after.now) sink.new) }
     ensures cut { (e : Place → Place) → HasPosition tables.now e position.now
         → IfErr result (λ stop. is_cut_in stop ≡ true → looks < deepening_looks_of tables.now e path.old.limit) }
+    ensures looks { OnOk result (meter.new
+        ≡ meter.old + (all_later tables.now position.now path.old.limit after.now).looks) }
     ensures looks_at_most { (e : Place → Place) → HasPosition tables.now e position.now
         → meter.new ≤ meter.old + deepening_looks_of tables.now e path.old.limit }
     ensures rises { meter.old ≤ meter.new }
