@@ -49,7 +49,7 @@ static void in_pieces(const nissy_tables *tables, const search_row *row) {
     nissy_search_answer whole = behind(tables, row, row->text, size, NISSY_ALL, NISSY_ALL, out);
     holds(behind(tables, row, row->text, size, NISSY_ALL, whole.nodes, out).status == NISSY_DONE, "as many positions as it looks at", row->line);
     // with so many looks it knows the least length
-    uint64_t least_at = nissy_count(tables, (const uint8_t *)row->line, strlen(row->line), row->limit, 0, NISSY_ALL).nodes;
+    uint64_t least_at = nissy_count(tables, (const uint8_t *)row->line, strlen(row->line), row->limit, 0, NISSY_ALL, NISSY_ALL).nodes;
     for (uint64_t bound = 0; bound < whole.nodes; bound++) {
         nissy_search_answer cut = behind(tables, row, row->text, size, NISSY_ALL, bound, out);
         holds(cut.status == NISSY_CUT && cut.more == 1 && cut.nodes <= bound, "a lower bound cuts it", row->line);
