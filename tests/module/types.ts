@@ -64,6 +64,9 @@ export async function followed(nissy: Nissy, worker: NissyWorker, bytes: Uint8Ar
   const counts: (Count | NissyFault | RangeError)[] = await pools[0].countAll("eofb", ["R"], { faults: "value", signal, onProgress });
   const facts: Facts[] = await pools[1].factsAll(["R"], { onProgress });
   const solutions: Solutions[] = await pools[0].solveAll("eofb", ["R"] as const, { most: 1 });
+  // a function written in the call has the types of what it is told, also beside other options
+  await pools[0].countAll("eofb", ["R"], { signal, onProgress: (done, all) => onProgress(done, all) });
+  await pools[0].solveAll("eofb", ["R"], { faults: "value", onProgress: (done, all) => onProgress(done, all) });
   const best: BestRow[] = await pools[1].best("R U F", { slack: 1 });
   for (const pool of pools) pool.end();
   return [rows, total, eo?.moves, lengths, tokens.map(({ layers }) => layers[0]), counts, facts, solutions, best, pools[0].size].join(" ");

@@ -110,7 +110,7 @@ export class WorkerPool {
   /**
    * @template {string} Name
    * @template {Wanted & Many & Followed & Stoppable} [Options={}]
-   * @param {StepName<Name>} step @param {readonly Text[]} lines @param {Options} [options] @returns {Promise<Told<Solutions, Options>[]>}
+   * @param {StepName<Name>} step @param {readonly Text[]} lines @param {Options & Followed} [options] @returns {Promise<Told<Solutions, Options>[]>}
    */
   async solveAll(step, lines, options) {
     const request = allRequest(() => solveRequest(step, "", options), lines, options);
@@ -120,7 +120,7 @@ export class WorkerPool {
   /**
    * @template {string} Name
    * @template {Wanted & Many & Followed & Stoppable} [Options={}]
-   * @param {StepName<Name>} step @param {readonly Text[]} lines @param {Options} [options] @returns {Promise<Told<Count, Options>[]>}
+   * @param {StepName<Name>} step @param {readonly Text[]} lines @param {Options & Followed} [options] @returns {Promise<Told<Count, Options>[]>}
    */
   async countAll(step, lines, options) {
     const request = allRequest(() => countRequest(step, "", options), lines, options);
@@ -129,7 +129,7 @@ export class WorkerPool {
 
   /**
    * @template {Many & Followed & Stoppable} [Options={}]
-   * @param {readonly Text[]} lines @param {Options} [options] @returns {Promise<Told<Facts, Options>[]>}
+   * @param {readonly Text[]} lines @param {Options & Followed} [options] @returns {Promise<Told<Facts, Options>[]>}
    */
   async factsAll(lines, options) {
     const request = allRequest(() => factsRequest(""), lines, options);
