@@ -106,7 +106,7 @@ function startOf(nissy, scramble, soFar) {
  * @param {Side} side
  * @param {number} total
  */
-function firstOf(nissy, position, step, side, total) {
+export function firstOf(nissy, position, step, side, total) {
   const solutions = nissy.solve(step, position.lines[side]);
   const first = solutions.find(({ moves }) => totalWith(nissy, position, { side, moves }) === total);
   if (first === undefined) throw new Error("no reduction has as many moves as were counted");

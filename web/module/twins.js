@@ -41,6 +41,16 @@ export function twinKey(moves, step) {
 export const lastTurnsOf = (moves, step) => moves.slice(startOfTwin(moves, step));
 
 /**
+ * Some moves, and those of their twins.
+ * @param {string} moves
+ * @param {readonly string[]} others the last turns of the twins
+ */
+export function withTwins(moves, others) {
+  const own = moves.split(" ");
+  return [moves, ...others.map((end) => [...own.slice(0, own.length - end.split(" ").length), end].join(" "))];
+}
+
+/**
  * Puts twins together, each under the first of them.
  * @param {readonly Solution[]} solutions
  * @param {string} step its name

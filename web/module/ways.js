@@ -110,11 +110,11 @@ const mostMerged = (made, step) => Math.max(0, ...mergersOf(made, step, "").map(
  * @param {Step} step
  * @param {Position} position
  * @param {Side} side
+ * @param {number | null} [length] the least one there, if it is known
  * @returns {Way}
  */
-export function wayTo(nissy, step, position, side) {
+export function wayTo(nissy, step, position, side, length = leastOf(nissy, step, position.lines[side], MOST_SEARCHED)) {
   const [line, made] = [position.lines[side], position.made[side]];
-  const length = leastOf(nissy, step, line, MOST_SEARCHED);
   if (length === null) return { length, total: Infinity };
   if (movesIn(line).length > MOST_ASKED_BEHIND) {
     const totals = nissy.solve(step, line).map(({ moves }) => totalWith(nissy, position, { side, moves }));
