@@ -229,8 +229,8 @@ def goes_on(tally: Tally, browser: Browser) -> None:
     legend = "return document.querySelector('#steps .head .least').checkVisibility()"
     ways: tuple[tuple[str, set[str], list[str]], ...] = (
         ("", {"eo"}, []),
-        ("&steps=normal.D2_R2_L_U", {"dr"}, ["Another EO in place of this one"]),
-        ("&steps=normal.D2_R2_L_U~normal.B_R_D2_B_R_B_R_B", set(), ["Another EO or DR in place of this DR"]),
+        ("&steps=normal.D2_R2_L_U", {"dr"}, ["Going on from here, this EO given up"]),
+        ("&steps=normal.D2_R2_L_U~normal.B_R_D2_B_R_B_R_B", set(), ["Going on from here, this DR given up"]),
     )
     for steps, kinds, said in ways:
         browser.open(ADDRESS + steps)

@@ -13,8 +13,14 @@ import { twinKey } from "./twins.js";
 /** @typedef {Part & {length: number, place: number[]}} Sided a solution on its side, and its place among all: by sides, and within its list */
 
 /**
- * The reduction that follows an orientation: the side on which it is best, the least length on each side, and all moves with it.
- * @typedef {{step: Step, side: Side, lengths: OnSides<number | null>, totals: OnSides<number>}} Next
+ * The least length of a reduction on each side, and all moves with it.
+ * @typedef {{lengths: OnSides<number | null>, totals: OnSides<number>}} Ways
+ */
+
+/**
+ * The reduction that follows an orientation: the side on which it is best, its ways after any of the twins, and its own ones, after the
+ * twin that is shown.
+ * @typedef {Ways & {step: Step, side: Side, own: Ways}} Next
  */
 
 /**

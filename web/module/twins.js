@@ -59,11 +59,11 @@ export function withTwins(moves, others) {
 export function mergeTwins(solutions, step) {
   /** @type {Map<string, Twins>} */
   const merged = new Map();
-  for (const { moves, length } of solutions) {
-    const key = twinKey(moves, step);
+  for (const each of solutions) {
+    const key = twinKey(each.moves, step);
     const first = merged.get(key);
-    if (first) first.others.push(lastTurnsOf(moves, step));
-    else merged.set(key, { moves, length, others: [] });
+    if (first) first.others.push(lastTurnsOf(each.moves, step));
+    else merged.set(key, { ...each, others: [] });
   }
   return [...merged.values()];
 }

@@ -78,5 +78,5 @@ export function bestRow(row, acts) {
     cells.push(cell("td", { class: "axis" }, next.marks, " ", element("span", { class: "case" }, next.case)));
     cells.push(...SIDES.map((side) => lengthCell(next, side)));
   }
-  return element("tr", { role: "row", "data-marks": next ? next.marks : state }, ...cells, cell("td", {}, star));
+  return element("tr", { role: "row", "data-marks": state }, ...cells, cell("td", {}, star));
 }

@@ -17,9 +17,10 @@ const farness = ({ next, far }) => (next === null ? 0 : far);
 /** @param {Row} one @param {Row} other */
 export const byCase = (one, other) => farness(one) - farness(other);
 
-/** @param {import("../module/best-rows.js").Row} row @returns {Row} a row with what it reaches in the page's words */
+/** @param {import("../module/best-rows.js").Row} row @returns {Row} a row with what it reaches in the page's words, and the lengths after
+ * the moves that it shows */
 function rowInWords(row) {
-  const next = row.next && { ...row.next, marks: stateOf(stepNamed(row.next.step)), case: row.case };
+  const next = row.next && { ...row.next, ...row.next.own, marks: stateOf(stepNamed(row.next.step)), case: row.case };
   return { ...row, state: stateOf(stepNamed(row.step)), next };
 }
 

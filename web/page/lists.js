@@ -3,15 +3,15 @@
 import { FACES_OF, stepNamed } from "../module/best-steps.js";
 import { turnsOfFace } from "../module/merging.js";
 import { mergeTwins, withoutEarlier } from "../module/twins.js";
-import { leastOf } from "../module/ways.js";
+import { countOf, leastOf, totalsWith } from "../module/ways.js";
 import { joined, otherSide } from "./steps.js";
 
 /** @typedef {import("../module/nissy.js").Nissy} Nissy */
 /** @typedef {import("./address.js").List} List */
 /** @typedef {import("./steps.js").Lines} Lines */
-/** @typedef {import("../module/twins.js").Twins & {cases?: Record<string, string>, begin?: import("./steps.js").Part, line?: string}} Entry
- * a solution, with the cases after it where these are known; where it is split `length` is that of all its moves, `begin` are those on the
- * other side, and `line` is the cube after these */
+/** @typedef {import("../module/twins.js").Twins & {total?: number, cases?: Record<string, string>, begin?: import("./steps.js").Part,
+ * line?: string}} Entry a solution, with all moves and the cases after it where these are known; where it is split `length` is that of all
+ * its moves, `begin` are those on the other side, and `line` is the cube after these */
 /** @typedef {{entries: Entry[], all: number, left: number, whole: boolean}} Rows `all`: how many solutions there are, and `left`: without
  * those that reach the step before their last move */
 
@@ -71,18 +71,28 @@ function ownSolutions(nissy, { step, side, slack }, now) {
   return { solutions, whole: found.length <= MOST_LISTED };
 }
 
-/** @param {Nissy} nissy @param {{list: List, now: Lines}} asked @returns {Rows} */
-export function rowsOfList(nissy, { list, now }) {
+/** Tells of solutions all moves with each, if moves were made before, and puts those with the fewest first.
+ * @param {Nissy} nissy @param {Entry[]} solutions @param {import("../module/ways.js").Position} position @param {import("./steps.js").Side} side */
+function withTotals(nissy, solutions, position, side) {
+  if (countOf(position) === 0 || solutions.length > MOST_WITH_CASES) return solutions;
+  const totals = totalsWith(nissy, position, side, solutions);
+  return solutions.map((each, at) => ({ ...each, total: totals[at] })).sort((one, other) => one.total - other.total || one.length - other.length);
+}
+
+/** @param {Nissy} nissy @param {{list: List, position: import("../module/ways.js").Position}} asked @returns {Rows} */
+export function rowsOfList(nissy, { list, position }) {
+  const now = position.lines;
   const isSplit = list.split > 0;
   const { solutions, whole } = (isSplit ? splitSolutions : ownSolutions)(nissy, list, now);
   const isEach = list.isAll || isSplit;
-  const left = isEach ? solutions : withoutEarlier(solutions);
+  const wanted = isEach ? solutions : withoutEarlier(solutions);
+  const left = isSplit ? wanted : withTotals(nissy, wanted, position, list.side);
   /** @type {Entry[]} */
   const entries = isEach ? left : mergeTwins(left, list.step);
   if (stepNamed(list.step).needs === null) {
-    const wanted = entries.slice(0, MOST_WITH_CASES);
-    const facts = nissy.factsAll(wanted.map(({ moves, line = now[list.side] }) => joined(line, moves)));
-    wanted.forEach((entry, at) => {
+    const first = entries.slice(0, MOST_WITH_CASES);
+    const facts = nissy.factsAll(first.map(({ moves, line = now[list.side] }) => joined(line, moves)));
+    first.forEach((entry, at) => {
       entry.cases = facts[at].cases;
     });
   }

@@ -296,7 +296,7 @@ export class Page {
     if (list && !this.#cube) return;
     this.#nets.follow(list ? stateOf(stepNamed(list.step)) : "");
     const name = list ? [this.#turn, list.step, list.side, list.slack, list.isAll, list.split ?? 0].join(" ") : "";
-    const isShown = await this.#list.show(name, list, list && this.#cube.position.lines);
+    const isShown = await this.#list.show(name, list, list && this.#cube.position);
     if (!isShown) return;
     if (this.#nextFocus.take("list")) this.#list.focus();
     this.#goBack();

@@ -2,8 +2,7 @@
 // what follows a row of the best.
 import { firstOf } from "../module/best.js";
 import { NissyFault } from "../module/faults.js";
-import { withTwins } from "../module/twins.js";
-import { afterPart, countOf, madeBy, wayTo } from "../module/ways.js";
+import { afterPart, countOf, madeBy, totalsWith, wayTo } from "../module/ways.js";
 import { readScramble } from "./lines.js";
 import { SIDES, bracketed, caseOfStep, isReduced, offeredAmong, openSteps, stateOf, stepNamed } from "./steps.js";
 
@@ -13,8 +12,8 @@ import { SIDES, bracketed, caseOfStep, isReduced, offeredAmong, openSteps, state
 /** @typedef {import("./steps.js").Part} Part */
 /** @typedef {import("./steps.js").Side} Side */
 /** @typedef {{letters: string, facts: Facts}} View what is drawn of a cube, and marked */
-/** @typedef {import("../module/replies.js").Count & {total: number}} Counted `total`: all moves with the shortest, once they are merged;
- * Infinity if there is none */
+/** @typedef {import("../module/replies.js").Count & {total: number, best: number}} Counted `total`: the fewest moves in all with a shortest
+ * solution, once they are merged, Infinity if there is none; `best`: how many make that */
 /** @typedef {{step: import("./steps.js").OfferedStep, normal: Counted, inverse: Counted}} Offer */
 /** @typedef {{parts: Part[], facts: Facts[], reached: string[][], totals: number[], turns: number[], now: Position}} Walk
  * what is known of a line after each beginning, from none of its parts to all; `turns`: of each part; `now`: the cube at the end */
@@ -80,7 +79,11 @@ export function framesOf(nissy, { scramble, parts }) {
 function offerOf(nissy, step, position) {
   const [normal, inverse] = SIDES.map((side) => {
     const count = nissy.count(step.name, position.lines[side]);
-    return { ...count, total: wayTo(nissy, step.name, position, side, count.length).total };
+    const { total } = wayTo(nissy, step.name, position, side, count.length);
+    // where the best saves nothing none does
+    const isEach = total >= countOf(position) + count.length;
+    const all = isEach ? [] : totalsWith(nissy, position, side, nissy.solve(step.name, position.lines[side]));
+    return { ...count, total, best: isEach ? count.solutions : all.filter((each) => each === total).length };
   });
   return { step, normal, inverse };
 }
@@ -114,15 +117,12 @@ export function walkKept(nissy, { scramble, candidates }) {
 
 /** @typedef {{counts: Record<Side, number | null>, first: Part | null}} Reductions `counts`: null where there is none */
 
-/** How many of the shortest reductions follow a row of the best on each side, with the length that it shows, after its moves or else the
- * first of its twins that has some; and the first with which it has as many moves in all as it says.
+/** How many of the shortest reductions follow a row of the best on each side, and the first with which it has as many moves in all as it
+ * says.
  * @param {Nissy} nissy @param {{row: import("./finder.js").Row, position: Position}} asked @returns {Reductions} */
-export function reductionsOf(nissy, { row: { part, others, next, total }, position }) {
-  const twins = withTwins(part.moves, others).map((moves) => afterPart(nissy, position, { side: part.side, moves }));
-  const countOn = (side) => {
-    const counts = twins.map(({ lines }) => nissy.count(next.step, lines[side]));
-    return counts.find(({ length }) => length === next.lengths[side])?.solutions ?? null;
-  };
-  const first = Number.isFinite(total) ? { side: next.side, moves: firstOf(nissy, twins[0], next.step, next.side, total).moves } : null;
-  return { counts: { normal: countOn("normal"), inverse: countOn("inverse") }, first };
+export function reductionsOf(nissy, { row: { part, next, total }, position }) {
+  const after = afterPart(nissy, position, part);
+  const [normal, inverse] = SIDES.map((side) => (next.lengths[side] === null ? null : nissy.count(next.step, after.lines[side]).solutions));
+  const first = Number.isFinite(total) ? { side: next.side, moves: firstOf(nissy, after, next.step, next.side, total).moves } : null;
+  return { counts: { normal, inverse }, first };
 }

@@ -88,13 +88,13 @@ export class SolutionList {
   }
 
   /** Looks for a list, or shows that none is open; one that is shown already stays. Says whether it is shown in the end.
-   * @param {string} name what tells it from others @param {List | null} list @param {import("./steps.js").Lines | null} now the cube */
-  async show(name, list, now) {
+   * @param {string} name what tells it from others @param {List | null} list @param {import("../module/ways.js").Position | null} position */
+  async show(name, list, position) {
     if (name === this.#name) return false;
     this.#name = name;
     this.#calls.stop();
     // the engine searches while the card is drawn; what is wrong is said where it is waited for
-    const asked = list && this.#calls.ask("rowsOfList", { list, now });
+    const asked = list && this.#calls.ask("rowsOfList", { list, position });
     asked?.catch(() => {});
     this.#open(list);
     if (!list) return false;
@@ -238,12 +238,13 @@ export class SolutionList {
     const nearest = new Map(byCase ? matching.map((entry) => [entry, this.#nearest(entry)]) : []);
     const farOf = (entry) => nearest.get(entry)?.far ?? 0;
     if (byCase) matching.sort((one, other) => farOf(one) - farOf(other) || one.length - other.length);
-    /** @type {Map<string | number, Group>} */
+    /** @type {Map<string, Group>} */
     const groups = new Map();
     for (const entry of matching) {
-      const key = nearest.get(entry)?.name ?? entry.length;
-      const group = groups.get(key) ?? { name: typeof key === "number" ? counted(key, "move") : key, entries: [], longest: 0, list: null };
-      groups.set(key, group);
+      const inAll = entry.total === undefined ? "" : `, ${entry.total} in all`;
+      const name = nearest.get(entry)?.name ?? counted(entry.length, "move") + inAll;
+      const group = groups.get(name) ?? { name, entries: [], longest: 0, list: null };
+      groups.set(name, group);
       group.entries.push(entry);
       group.longest = Math.max(group.longest, signsOf(entry, this.#list.side));
     }

@@ -7,11 +7,14 @@ import { SIDES, caseOfStep, isReduced, openSteps, stateOf, statesOf, titleOf } f
 /** @typedef {import("./steps.js").Side} Side */
 /** @typedef {{facts: import("../module/facts.js").Facts, made: number, reached: string[]}} Cube */
 
-/** The least length, what that makes in all, if moves were made before, and how many solutions there are.
- * @param {import("./position.js").Counted} count @param {number} made moves before it @returns {[string, string, string]} */
-function wordsOf({ length, total, solutions }, made) {
-  if (length === null) return ["–", "", "none within 20 moves"];
-  return [counted(length, "move"), made > 0 ? `${total} in all, ` : "", counted(solutions, "solution")];
+/** The least length, what that makes in all, if moves were made before, and how many solutions there are, or how many of them make that; at
+ * last a word that a narrow page has no room for.
+ * @param {import("./position.js").Counted} count @param {number} made moves before it @returns {string[]} */
+function wordsOf({ length, total, solutions, best }, made) {
+  if (length === null) return ["–", "", "none within 20 moves", ""];
+  const [some, all] = [best, solutions].map((each) => each.toLocaleString("en"));
+  const words = best < solutions ? [`${some} of ${all}`, " solutions"] : [counted(solutions, "solution"), ""];
+  return [counted(length, "move"), made > 0 ? `${total} in all, ` : "", ...words];
 }
 
 /** How long the page waits for all offers, to show them together with the cube. */
@@ -39,7 +42,7 @@ export async function offersAt(calls, { reached, now: position }) {
 }
 
 /** A step that is still to be counted. */
-const UNCOUNTED = { length: null, total: Infinity, solutions: 0, nodes: 0 };
+const UNCOUNTED = { length: null, total: Infinity, solutions: 0, nodes: 0, best: 0 };
 
 /** @param {Offer[]} offers @returns whether offers are reductions */
 const areReductions = ([{ step }]) => step.needs !== null;
@@ -170,7 +173,7 @@ export class StepTable {
 
   /** @param {Cube} cube @returns what stands above the offers that begin anew */
   #anew({ reached }) {
-    const words = isReduced(reached) ? "Another EO or DR in place of this DR" : "Another EO in place of this one";
+    const words = `Going on from here, this ${isReduced(reached) ? "DR" : "EO"} given up`;
     return element("tr", { class: "anew" }, element("td", { colspan: 3, class: "note" }, words));
   }
 
@@ -187,7 +190,7 @@ export class StepTable {
 
   #cell({ step, ...counts }, side, { least, made, list }) {
     const count = counts[side];
-    const [length, all, solutions] = wordsOf(count, made);
+    const [length, all, solutions, word] = wordsOf(count, made);
     const name = `${step.name}.${side}`;
     const isLeast = least !== null && count.length === least;
     const about = { "data-side": side === "normal" ? "Normal" : "Inverse" };
@@ -201,8 +204,9 @@ export class StepTable {
       class: isLeast ? "cell least" : "cell",
       "data-cell": name,
       "aria-pressed": String(list !== null && name === `${list.step}.${list.side}`),
-      "aria-label": `${titleOf(step)}, ${side} side: ${length}, ${all}${solutions}${isLeast ? ", shortest" : ""}`,
+      "aria-label": `${titleOf(step)}, ${side} side: ${length}, ${all}${solutions}${word}${isLeast ? ", shortest" : ""}`,
       click: () => this.#chosen(step.name, side),
-    }, element("strong", {}, length), element("small", {}, all, element("span", { class: "together" }, solutions))));
+    }, element("strong", {}, length), element("small", {}, all, element("span", { class: "together" }, solutions, element("span",
+      { class: "beyond" }, word)))));
   }
 }
