@@ -2,13 +2,11 @@
 steps split over both sides."""
 from itertools import product
 
-from best import LONGER, MORE, ROWS, SCRAMBLE, address_of, program_answers, program_lists
+from best import DETAILS, LONGER, MORE, ROWS, SCRAMBLE, address_of, program_answers, program_lists
 from browser import Browser
 from tally import Tally
 from wanted import SIDES, TITLES, Position, merged_count
 
-DETAILS = """return [...document.querySelectorAll('#best-body tr')].map((row) => [row.querySelector('.first').textContent,
-    ...[...row.querySelectorAll('.times')].map((each) => each.textContent)])"""
 TURNS = [face + power for face in "UDRLFB" for power in ("", "2", "'")]
 LISTED = "return [...document.querySelectorAll('#solutions-groups .take')].map((each) => each.textContent)"
 

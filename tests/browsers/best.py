@@ -18,6 +18,8 @@ ROWS = """return [...document.querySelectorAll('#best-body tr')].map((row) => {
     const lengths = [normal, inverse].map((each) => each.split('×')[0]);
     return [total, row.querySelector('.take').textContent, state, next.split(' ').slice(0, 2).join(' '), ...lengths];
 })"""
+DETAILS = """return [...document.querySelectorAll('#best-body tr')].map((row) => [row.querySelector('.first').textContent,
+    ...[...row.querySelectorAll('.times')].map((each) => each.textContent)])"""
 SHOWN_FILTERS = "return ['best-filters', 'best-turns'].map((name) => !document.getElementById(name).hidden)"
 MORE = "const more = document.getElementById('best-more'); if (more.hidden) return true; more.click(); return false"
 
@@ -243,6 +245,7 @@ def stopped(tally: Tally, browser: Browser) -> None:
     tally.equal("what it says", note, f"Stopped. {done:,} of {all_of_them:,} EOs tried.")
     tally.holds("it stops before the end", done < all_of_them)
     tally.holds("what was found stays", len(browser.script(ROWS)) > 0)
+    tally.equal("with what each leads to", [words for words in browser.script(DETAILS) if "" in words], [])
     browser.choose("best-slack", "0")
     browser.wait_best()
     tally.holds("and it can be asked again", "tried" in browser.text("best-note") and "Stopped" not in browser.text("best-note"))

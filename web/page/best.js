@@ -308,6 +308,8 @@ export class BestContinuations {
     stop.disabled = !isOn;
     part("best-progress").hidden = !isOn;
     setBusy("best", isAsked, "");
+    // of rows that a stop left too
+    if (!isAsked && this.#progress) this.#reductions.tell(this.#question.position, this.#seen);
     if (isOn) part("best-progress").removeAttribute("value");
   }
 
