@@ -188,9 +188,9 @@ export class SolutionList {
 
   #setWorking(isWorking) {
     const stop = part("solutions-stop");
-    // what is hidden can't keep the focus
+    // what can't be pressed can't keep the focus
     if (!isWorking && document.activeElement === stop) part("solutions-heading").focus();
-    stop.hidden = !isWorking;
+    stop.disabled = !isWorking;
     setBusy("solutions", isWorking, LOOKING);
   }
 
