@@ -180,7 +180,6 @@ export class KeptCandidates {
     part("kept-left").hidden = count === 0;
     part("kept-left-words").textContent = count === 0 ? "" : `${counted(count, "line")} ${count === 1 ? "was" : "were"} removed.`;
     part("kept").classList.toggle("empty", this.#candidates.length === 0 && count === 0);
-    part("kept-clear").hidden = this.#candidates.length === 0;
     // what is hidden can't keep the focus
     if (isFocused && count === 0) part("kept-heading").focus({ preventScroll: true });
   }

@@ -136,10 +136,10 @@ export class Page {
 
   /** Takes another state, or parts of it. While an address is still read, what is done on the page that is seen overtakes it.
    * A list doesn't outlast a change of the steps, since it belongs to the cube before it.
-   * @param {Partial<State>} change @param {{focusNext?: import("./focus.js").Where, isStep?: boolean}} how where the focus is to go with the
-   * answers, and whether the browser's Back leads to what was before */
-  #change(change, { focusNext, isStep = "parts" in change } = {}) {
-    this.#scramble.tellLeft(0);
+   * @param {Partial<State>} change @param {{focusNext?: import("./focus.js").Where, isStep?: boolean, left?: number}} how where the focus is to go with the
+   * answers, whether the browser's Back leads to what was before, and how many kept lines it leads back to */
+  #change(change, { focusNext, isStep = "parts" in change, left = 0 } = {}) {
+    this.#scramble.tellLeft(left);
     this.#nextFocus.set(focusNext);
     this.#wayBack.set(null);
     if ("parts" in change) keepPlace();
@@ -158,16 +158,16 @@ export class Page {
 
   /** @param {string} scramble @param {import("./scramble.js").ScrambleChange} change */
   async #setScramble(scramble, { isNew, fmc, isStep }) {
-    const left = isNew ? this.#state.kept.length : 0;
-    this.#change(isNew ? { ...emptyState(), scramble } : { scramble }, { isStep });
-    this.#scramble.tellLeft(left);
+    // what is typed further leads back to the same
+    const before = isStep ? 0 : this.#scramble.left;
+    const left = isNew ? this.#state.kept.length : before;
+    this.#change(isNew ? { ...emptyState(), scramble } : { scramble }, { isStep, left });
     if (!fmc) return;
     const turn = this.#turn;
     try {
       const { unread, ...read } = await this.#byHand.ask("readWritten", fmc);
       if (turn !== this.#turn) return;
-      this.#change(read, { isStep: false });
-      this.#scramble.tellLeft(left);
+      this.#change(read, { isStep: false, left });
       tell(part("alert"), whyUnread(unread));
     } catch (fault) {
       if (turn === this.#turn && !(fault instanceof Stopped)) tell(part("alert"), unanswered(fault));

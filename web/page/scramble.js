@@ -37,6 +37,8 @@ export class ScrambleField {
   #isDraft = false;
   /** whether the field has no room for the end of what is pasted */
   #isCut = false;
+  /** how many kept lines a way leads back to */
+  left = 0;
 
   /** @param {import("./calls.js").Calls} calls
    * @param {(scramble: string, change: ScrambleChange) => void} changed */
@@ -119,8 +121,9 @@ export class ScrambleField {
   /** Says how many kept lines a new scramble leaves, beside a way back to them; nothing of none.
    * @param {number} count */
   tellLeft(count) {
-    const button = part("left-back");
-    const isFocused = document.activeElement === button;
+    if (count === this.left) return;
+    this.left = count;
+    const isFocused = document.activeElement === part("left-back");
     part("left").hidden = count === 0;
     const words = `${counted(count, "kept line")} ${count === 1 ? "was" : "were"} left.`;
     part("left-words").textContent = count === 0 ? "" : words;
