@@ -106,8 +106,8 @@ export class Bound {
   }
 }
 
-/** How many orientations, twins as one, are tried before rows are told: few at first, so that some are there soon. */
-const BATCHES = [100, 500, 1500];
+/** How many orientations, twins as one, are tried before rows are told: few at first, so that some are there soon, and never very many. */
+const BATCHES = [100, 500];
 
 /**
  * A list in batches.
