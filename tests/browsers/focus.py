@@ -202,9 +202,8 @@ def words(tally: Tally, browser: Browser) -> None:
     """What the tables and the fields are called."""
     browser.open(ADDRESS)
     ground = "return getComputedStyle(document.querySelector(arguments[0])).backgroundColor"
-    swatch = "return getComputedStyle(document.querySelector('.head .least'), '::before').backgroundColor"
     tally.equal("the word for the shortest cells", browser.texts("#steps .head .least"), ["shortest"])
-    tally.equal("it has their colour", browser.script(swatch), browser.script(ground, "td .least"))
+    tally.equal("it has their colour", browser.script(ground, "#steps .head .least"), browser.script(ground, "td .least"))
     tally.equal(
         "the columns of the best",
         browser.texts("#best-table thead th")[:6],
