@@ -1,5 +1,5 @@
 // Finds the best continuations, each axis by an engine of its own: what they find is one list, sorted by all moves, those made counted too.
-import { byTotal } from "../module/best-rows.js";
+import { BestRows } from "../module/best-rows.js";
 import { ORIENTATIONS, stateOf, stepNamed } from "./steps.js";
 
 /** @typedef {import("./calls.js").Calls} Calls */
@@ -24,65 +24,25 @@ function rowInWords(row) {
   return { ...row, state: stateOf(stepNamed(row.step)), next };
 }
 
-/** The place of a row among sorted ones.
- * @param {Row[]} rows @param {Row} row @param {number} from a place that it isn't before */
-function placeAmong(rows, row, from) {
-  let [low, high] = [from, rows.length];
-  while (low < high) {
-    const middle = (low + high) >> 1;
-    if (byTotal(rows[middle], row) <= 0) low = middle + 1;
-    else high = middle;
-  }
-  return low;
-}
-
-/** Two sorted lists as one; it compares no row of the first with the next one, since thousands stay as they are.
- * @param {Row[]} rows @param {Row[]} added */
-function sortedInto(rows, added) {
-  const all = [];
-  let from = 0;
-  for (const row of added) {
-    const at = placeAmong(rows, row, from);
-    all.push(...rows.slice(from, at), row);
-    from = at;
-  }
-  return [...all, ...rows.slice(from)];
-}
-
 /** What is found on some axes, as one list. */
 export class Found {
   #counts;
-  #rows;
+  #best;
   #isCut;
-  /** @type {Map<string, Row>} each once: if two orientations hold, a reduction may follow each of them */
-  #byKey;
 
   /** @param {number} axes how many @param {{rows: Row[], isCut: boolean}} [before] what was found before */
   constructor(axes, before = { rows: [], isCut: false }) {
     this.#counts = Array.from({ length: axes }, () => ({ done: 0, all: null }));
-    this.#rows = before.rows;
+    this.#best = new BestRows(MOST_KEPT, before.rows);
     this.#isCut = before.isCut;
-    this.#byKey = new Map(before.rows.map((row) => [row.key, row]));
   }
 
   /** Takes what is new of an axis.
    * @param {number} at its place @param {Progress} found */
   take(at, found) {
     this.#counts[at] = found;
-    const added = found.rows.map(rowInWords).sort(byTotal).filter((row) => this.#isBetter(row));
-    const rows = added.length === 0 ? this.#rows : sortedInto(this.#rows, added);
-    this.#isCut ||= found.isCut || rows.length > MOST_KEPT;
-    this.#rows = rows.slice(0, MOST_KEPT);
-  }
-
-  /** Whether a row is new, or better than the one of its key, which it then takes the place of.
-   * @param {Row} row */
-  #isBetter(row) {
-    const known = this.#byKey.get(row.key);
-    if (known && byTotal(known, row) <= 0) return false;
-    if (known) this.#rows = this.#rows.filter((each) => each !== known);
-    this.#byKey.set(row.key, row);
-    return true;
+    this.#best.add(found.rows.map(rowInWords));
+    this.#isCut ||= found.isCut || this.#best.isCut;
   }
 
   /** Forgets how far an axis is, which is to be looked at anew.
@@ -94,7 +54,7 @@ export class Found {
   /** @returns {Progress} of all */
   progress() {
     const sum = (name) => this.#counts.reduce((all, each) => (all === null || each[name] === null ? null : all + each[name]), 0);
-    return { done: sum("done"), all: sum("all"), rows: this.#rows, isCut: this.#isCut };
+    return { done: sum("done"), all: sum("all"), rows: this.#best.rows, isCut: this.#isCut };
   }
 }
 
