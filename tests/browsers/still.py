@@ -30,9 +30,9 @@ PLACES_AFTER = """const [name, value, selectors] = arguments;
         const { left, top } = (part.matches('figcaption') ? range : part).getBoundingClientRect();
         return [Math.round(left), Math.round(top)];
     });"""
-COUNTED = """const [text] = arguments;
+COUNTED = """const [text, hidden] = arguments;
     const more = document.getElementById('best-more');
-    [more.textContent, more.hidden] = [text, text === ''];
+    Object.assign(more, { textContent: text, hidden });
     const { left } = document.getElementById('best-clear').getBoundingClientRect();
     const { right, height } = more.getBoundingClientRect();
     return [left, right, height].map(Math.round);"""
@@ -92,7 +92,7 @@ def stands(tally: Tally, browser: Browser, width: int) -> None:
     browser.wait_best()
     browser.choose("best-axis", "EO F/B")
     words = "More of" if width <= 600 else "Show more of"
-    counts = [browser.script(COUNTED, text) for text in (f"{words} 7", f"{words} 10,000", "")]
+    counts = [browser.script(COUNTED, *shown) for shown in ((f"{words} 7", False), (f"{words} 10,000", False), (f"{words} 7", True))]
     tally.equal(f"{width}: beside the count of the best", counts, counts[:1] * len(counts))
 
 
