@@ -252,14 +252,14 @@ def says_in_all(tally: Tally, browser: Browser) -> None:
     """A cell says how many of its solutions have as few moves in all as it says, and the list begins with these."""
     scramble, made = "R' U' F U' R2 F D2 L R D2 U B U' B' L B U' L' F' R2 B F L R' U' F", "R2 B U' R F"
     at = Position(scramble, made)
-    browser.open(f"#scramble={scramble}&steps=normal.{made}&list=drrl-eoud.normal.0".replace(" ", "_").replace("'", "-"))
-    totals = at.totals("drrl-eoud", "normal")
+    browser.open(f"#scramble={scramble}&steps=normal.{made}&list=drrl-eofb.normal.0".replace(" ", "_").replace("'", "-"))
+    totals = at.totals("drrl-eofb", "normal")
     counts = [(total, totals.count(total)) for total in sorted(set(totals))]
     tally.holds(f"they have several: {counts}", len(counts) > 1)
     tally.equal("the cells", browser.cells(), at.cells())
-    tally.equal("the rows", browser.listed(), at.rows("drrl-eoud", "normal"))
+    tally.equal("the rows", browser.listed(), at.rows("drrl-eofb", "normal"))
     heads = [head.split(":")[0] for head in browser.texts("#solutions-groups h3")]
-    length = at.count("drrl-eoud", "normal")[0]
+    length = at.count("drrl-eofb", "normal")[0]
     tally.equal("by all moves", heads, [f"{length} moves, {total} in all" for total, _ in counts])
 
 
