@@ -83,10 +83,13 @@ def stands(tally: Tally, browser: Browser, width: int) -> None:
     browser.wait()
     found = browser.script(PLACES_AFTER, "slack", "3", ["[popovertarget=help-list]", "#list-filters", "#solutions-note"])
     tally.equal(f"{width}: the head of a list", looking, found)
-    places = [browser.script(PLACES_AFTER, "marks", mark, ["figcaption", "#piece", "#play-on"]) for mark in ("none", "EO F/B", "DR U/D")]
-    for press in ("#play", "#play", *["#play-back"] * 10, *["#play-on"] * 3):
-        browser.click(press)
-        places.append(browser.script(PLACES_AFTER, "marks", "none", ["figcaption", "#piece", "#play-on"]))
+    of_cube = ["figcaption", "#piece", "#play-on"]
+    places = [browser.script(PLACES_AFTER, "marks", mark, of_cube) for mark in ("none", "EO F/B", "DR U/D")]
+    backward = [("play-back", "played", f"{at} of 10") for at in reversed(range(10))]
+    for press, part, words in (*backward, ("play", "play", "Pause"), ("play", "play", "Play")):
+        browser.script("document.getElementById(arguments[0]).click()", press)
+        browser.until("return document.getElementById(arguments[0]).textContent.startsWith(arguments[1])", part, words)
+        places.append(browser.script(PLACES_AFTER, "marks", "none", of_cube))
     tally.equal(f"{width}: the cube's card", places, places[:1] * len(places))
     browser.open(SCRAMBLE)
     browser.wait_best()
