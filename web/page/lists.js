@@ -72,11 +72,13 @@ function ownSolutions(nissy, { step, side, slack }, now) {
 }
 
 /** Tells of solutions all moves with each, if moves were made before, and puts those with the fewest first.
- * @param {Nissy} nissy @param {Entry[]} solutions @param {import("../module/ways.js").Position} position @param {import("./steps.js").Side} side */
+ * @param {Nissy} nissy @param {Entry[]} solutions @param {import("../module/ways.js").Position} position
+ * @param {import("./steps.js").Side} side */
 function withTotals(nissy, solutions, position, side) {
   if (countOf(position) === 0 || solutions.length > MOST_WITH_CASES) return solutions;
   const totals = totalsWith(nissy, position, side, solutions);
-  return solutions.map((each, at) => ({ ...each, total: totals[at] })).sort((one, other) => one.total - other.total || one.length - other.length);
+  const counted = solutions.map((each, at) => ({ ...each, total: totals[at] }));
+  return counted.sort((one, other) => one.total - other.total || one.length - other.length);
 }
 
 /** @param {Nissy} nissy @param {{list: List, position: import("../module/ways.js").Position}} asked @returns {Rows} */

@@ -136,8 +136,8 @@ export class Page {
 
   /** Takes another state, or parts of it. While an address is still read, what is done on the page that is seen overtakes it.
    * A list doesn't outlast a change of the steps, since it belongs to the cube before it.
-   * @param {Partial<State>} change @param {{focusNext?: import("./focus.js").Where, isStep?: boolean, left?: number}} how where the focus is to go with the
-   * answers, whether the browser's Back leads to what was before, and how many kept lines it leads back to */
+   * @param {Partial<State>} change @param {{focusNext?: import("./focus.js").Where, isStep?: boolean, left?: number}} how where the focus
+   * is to go with the answers, whether the browser's Back leads to what was before, and how many kept lines it leads back to */
   #change(change, { focusNext, isStep = "parts" in change, left = 0 } = {}) {
     this.#scramble.tellLeft(left);
     this.#nextFocus.set(focusNext);

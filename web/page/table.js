@@ -7,8 +7,8 @@ import { SIDES, caseOfStep, isReduced, openSteps, stateOf, statesOf, titleOf } f
 /** @typedef {import("./steps.js").Side} Side */
 /** @typedef {{facts: import("../module/facts.js").Facts, made: number, reached: string[]}} Cube */
 
-/** The least length, what that makes in all, if moves were made before, and how many solutions there are, or how many of them make that; at
- * last a word that a narrow page has no room for.
+/** The least length, what that makes in all, if moves were made before, and how many solutions there are, or how many of them make that,
+ * with a word that is said and not shown.
  * @param {import("./position.js").Counted} count @param {number} made moves before it @returns {string[]} */
 function wordsOf({ length, total, solutions, best }, made) {
   if (length === null) return ["–", "", "none within 20 moves", ""];
@@ -206,7 +206,6 @@ export class StepTable {
       "aria-pressed": String(list !== null && name === `${list.step}.${list.side}`),
       "aria-label": `${titleOf(step)}, ${side} side: ${length}, ${all}${solutions}${word}${isLeast ? ", shortest" : ""}`,
       click: () => this.#chosen(step.name, side),
-    }, element("strong", {}, length), element("small", {}, all, element("span", { class: "together" }, solutions, element("span",
-      { class: "beyond" }, word)))));
+    }, element("strong", {}, length), element("small", {}, all, element("span", { class: "together" }, solutions))));
   }
 }
