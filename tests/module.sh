@@ -21,7 +21,7 @@ if missing python3; then
 else
     part python3 tests/module/beside_program.py "$program" "$module" 1 0.25
 fi
-for trial in typed in_worker wrong overridden rows plain twins totals best pool; do part node "tests/module/$trial.mjs" "$module"; done
+for trial in typed in_worker wrong overridden rows plain twins written totals best pool; do part node "tests/module/$trial.mjs" "$module"; done
 
 # Debian's Python has Debian's selenium, whatever other Python comes first
 python=/usr/bin/python3

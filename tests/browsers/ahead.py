@@ -2,13 +2,11 @@
 steps split over both sides."""
 from itertools import product
 
-from best import LONGER, MORE, ROWS, SCRAMBLE, address_of, program_answers, program_lists
+from best import DETAILS, LONGER, MORE, ROWS, SCRAMBLE, address_of, program_answers, program_lists
 from browser import Browser
 from tally import Tally
-from wanted import SIDES, TITLES, Position, merged_count, twin_key
+from wanted import SIDES, TITLES, Position, merged_count
 
-DETAILS = """return [...document.querySelectorAll('#best-body tr')].map((row) => [row.querySelector('.first').textContent,
-    ...[...row.querySelectorAll('.times')].map((each) => each.textContent)])"""
 TURNS = [face + power for face in "UDRLFB" for power in ("", "2", "'")]
 LISTED = "return [...document.querySelectorAll('#solutions-groups .take')].map((each) => each.textContent)"
 
@@ -23,26 +21,22 @@ def reductions_after(program: str, scramble: str, step: str, made: dict[str, str
 
 
 def counts_reductions(tally: Tally, browser: Browser) -> None:
-    """Each row has the number of its shortest reductions on both sides, after its moves or a twin's, and the first that makes as many
-    moves as the row says."""
+    """Each row has the number of its shortest reductions on both sides, after its moves, and the first that makes as many moves as the
+    row says."""
     for scramble in (SCRAMBLE, LONGER):
         browser.open(address_of(scramble))
         browser.wait_best()
         for row, (first, *times) in zip(browser.script(ROWS), browser.script(DETAILS), strict=True):
             total, moves, orientation, reduction, *lengths = row
-            step, eo, own = STEP_OF[f"{reduction} after {orientation}"], STEP_OF[orientation], moves.strip("()")
+            step, own = STEP_OF[f"{reduction} after {orientation}"], moves.strip("()")
             side = "inverse" if moves.startswith("(") else "normal"
-            alike = [each for each in Position(scramble).solutions(eo, side) if twin_key(each, eo) == twin_key(own, eo)]
-            nothing = {"normal": "", "inverse": ""}
-            found = {each: reductions_after(browser.program, scramble, step, nothing | {side: each}) for each in alike}
-            for at, (each, length) in enumerate(zip(SIDES, lengths)):
-                counts = {len(twin[each]) for twin in found.values() if len(twin[each][0].split()) == int(length)}
-                count = int(times[at].strip("×").replace(",", ""))
-                tally.holds(f"{moves}, {reduction}, {each}: how many there are: {count}", count in counts)
+            made = {"normal": "", "inverse": ""} | {side: own}
+            found = reductions_after(browser.program, scramble, step, made)
+            wanted = [(str(len(found[each][0].split())), f"×{len(found[each]):,}") for each in SIDES]
+            tally.equal(f"{moves}, {reduction}: how many there are", [*zip(lengths, times)], wanted)
             line = first.removeprefix("then ")
             beside = "inverse" if line.startswith("(") else "normal"
-            tally.holds(f"{line} is one of them", line.strip("()") in found[own][beside])
-            made = nothing | {side: own}
+            tally.holds(f"{line} is one of them", line.strip("()") in found[beside])
             rest = merged_count(f"{made[beside]} {line.strip('()')}") + len(made[SIDES[beside == "normal"]].split())
             tally.equal(f"{moves} {line}: all moves", rest, int(total))
 

@@ -14,12 +14,24 @@ SHOWN = 168
 LISTEN = """window.asked = [];
     const { postMessage } = Worker.prototype;
     Worker.prototype.postMessage = function (...words) {
-        const [{ request, question }] = words;
-        const one = request?.call === "all" ? request.search : request;
-        if (one) window.asked.push(`${one.call} ${one.step ?? ""}`.trim());
-        if (question) window.asked.push("best");
+        const [{ request }] = words;
+        const counted = { build: ({ step }) => [step], offersOf: ({ steps }) => steps }[request?.call] ?? (() => []);
+        for (const step of counted(request?.about)) window.asked.push(`count ${step}`);
+        if (request?.call === "bestOfAxis") window.asked.push("best");
         postMessage.apply(this, words);
     };"""
+
+
+# keeps the rows that are shown in a part, selects the first one's moves, and counts what is taken away
+STAND = """const holder = document.getElementById(arguments[0]);
+    window.rowsNow = () => [...holder.querySelectorAll('.take')].map((take) => take.closest('li, tr'));
+    window.stood = rowsNow();
+    getSelection().selectAllChildren(stood[0].querySelector('.take'));
+    window.taken = 0;
+    new MutationObserver((changes) => changes.forEach(({ removedNodes }) => { window.taken += removedNodes.length; }))
+        .observe(holder, { childList: true, subtree: true })"""
+STOOD = """const isSelected = getSelection().containsNode(stood[0].querySelector('.take').firstChild, true);
+    return [stood.filter((row, at) => row === rowsNow()[at]).length, isSelected, taken]"""
 
 
 def ahead(tally: Tally, browser: Browser) -> None:
@@ -113,11 +125,19 @@ def more(tally: Tally, browser: Browser) -> None:
     """Each row of a list can be reached without a filter, also by Back."""
     browser.open(address_of(LONGER) + "&list=eofb.normal.1")
     tally.equal("the first rows", len(browser.listed()), 200)
+    browser.script(STAND, "solutions-groups")
     browser.act("#solutions-more")
+    tally.equal("the rows that stood there stay as they are, and what is selected in one", browser.script(STOOD), [200, True, 0])
     wanted = re.search(r"(\d+) rows: twins", browser.text("solutions-note"))
     tally.equal("all of them", str(len(browser.listed())), wanted[1] if wanted else "")
     tally.equal("the first that is new has the focus", browser.focused(), browser.listed()[200])
     tally.equal("there are no more", browser.text("solutions-more"), "")
+    browser.wait_best()
+    shown = browser.script("return document.querySelectorAll('#best-body tr').length")
+    browser.script(STAND, "best-body")
+    browser.click("#best-more")
+    tally.equal("so do those of the best", browser.script(STOOD), [shown, True, 0])
+    tally.holds("others follow them", browser.script("return rowsNow().length") > shown > 0)
     last = browser.listed()[-1]
     browser.script("const row = [...document.querySelectorAll('#solutions-groups .take')].at(-1); row.focus(); row.click()")
     browser.settle("return document.querySelectorAll('#line-list li').length === 1")

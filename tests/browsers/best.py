@@ -18,6 +18,8 @@ ROWS = """return [...document.querySelectorAll('#best-body tr')].map((row) => {
     const lengths = [normal, inverse].map((each) => each.split('×')[0]);
     return [total, row.querySelector('.take').textContent, state, next.split(' ').slice(0, 2).join(' '), ...lengths];
 })"""
+DETAILS = """return [...document.querySelectorAll('#best-body tr')].map((row) => [row.querySelector('.first').textContent,
+    ...[...row.querySelectorAll('.times')].map((each) => each.textContent)])"""
 SHOWN_FILTERS = "return ['best-filters', 'best-turns'].map((name) => !document.getElementById(name).hidden)"
 MORE = "const more = document.getElementById('best-more'); if (more.hidden) return true; more.click(); return false"
 
@@ -54,19 +56,20 @@ def ways_of(program: str, position: Position, step: str, side: str, slack: int =
 
 
 def wanted_rows(program: str, position: Position, is_all: bool = False) -> dict[str, set[tuple[str, ...]]]:
-    """The rows of the best by their twins' key: each with the moves of one of the best twins, and the least of all on each side."""
+    """The rows of the best by their twins' key: each with the moves of one of the best twins, and its lengths on each side."""
     rows: dict[str, set[tuple[str, ...]]] = {}
     for step, side in product(STEPS, SIDES):
         classes: dict[tuple[str, str], dict[str, dict[str, tuple[int, int]]]] = {}
         for (moves, reduction), ways in ways_of(program, position, step, side).items():
             classes.setdefault((moves if is_all else twin_key(moves, step), reduction), {})[moves] = ways
         for (key, reduction), twins in classes.items():
-            normal, inverse = (min(ways[each] for ways in twins.values()) for each in SIDES)
-            total = min(normal[0], inverse[0])
-            best = [moves for moves, ways in twins.items() if min(ways.values())[0] == total]
-            said = (TITLES[step], TITLES[reduction].split(" after")[0], str(normal[1]), str(inverse[1]))
-            lines = [moves if side == "normal" else f"({moves})" for moves in best]
-            rows[f"{side} {key} {reduction}"] = {(str(total), line, *said) for line in lines}
+            total = min(min(ways.values())[0] for ways in twins.values())
+            best = {moves: ways for moves, ways in twins.items() if min(ways.values())[0] == total}
+            said = (TITLES[step], TITLES[reduction].split(" after")[0])
+            rows[f"{side} {key} {reduction}"] = {
+                (str(total), moves if side == "normal" else f"({moves})", *said, *(str(ways[each][1]) for each in SIDES))
+                for moves, ways in best.items()
+            }
     return rows
 
 
@@ -242,6 +245,7 @@ def stopped(tally: Tally, browser: Browser) -> None:
     tally.equal("what it says", note, f"Stopped. {done:,} of {all_of_them:,} EOs tried.")
     tally.holds("it stops before the end", done < all_of_them)
     tally.holds("what was found stays", len(browser.script(ROWS)) > 0)
+    tally.equal("with what each leads to", [words for words in browser.script(DETAILS) if "" in words], [])
     browser.choose("best-slack", "0")
     browser.wait_best()
     tally.holds("and it can be asked again", "tried" in browser.text("best-note") and "Stopped" not in browser.text("best-note"))

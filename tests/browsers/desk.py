@@ -53,6 +53,8 @@ def undoes(tally: Tally, browser: Browser) -> None:
     browser.click("#kept-clear")
     tally.equal("all are removed", (browser.script(LINES), browser.text("kept-left-words")), ([], "5 lines were removed."))
     tally.equal("the undo has the focus", browser.focused(), "kept-back")
+    acts = "return ['copy-kept', 'kept-sort'].some((name) => document.getElementById(name).checkVisibility())"
+    tally.holds("nothing is left to copy or to sort", not browser.script(acts))
     browser.click("#kept-back")
     browser.until(KEPT_SAID)
     tally.equal("which is undone too", browser.script(LINES), lines)
@@ -60,8 +62,14 @@ def undoes(tally: Tally, browser: Browser) -> None:
     browser.wait_best()
     browser.act("#best-body .star")
     tally.equal("another change ends the offer", browser.text("kept-left"), "")
+    is_seen = "const { top, bottom } = document.getElementById('kept-back').getBoundingClientRect(); return top > 0 && bottom <= innerHeight"
     for width in (1440, 1180, 390):
         browser.command("Emulation.setDeviceMetricsOverride", width=width, height=900, deviceScaleFactor=1, mobile=False)
+        browser.open(ADDRESS + "&kept=" + ",".join(f"normal.{'_'.join(['R', 'U'] * at)}" for at in range(1, 20)))
+        browser.until(KEPT_SAID)
+        browser.script("document.getElementById('kept').scrollIntoView()")
+        browser.click("#kept-list li:nth-child(2) button:nth-of-type(2)")
+        tally.holds(f"{width}: the undo is seen", browser.script(is_seen))
         browser.open(FIVE)
         browser.until(KEPT_SAID)
         browser.click("#kept-clear")

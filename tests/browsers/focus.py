@@ -202,9 +202,8 @@ def words(tally: Tally, browser: Browser) -> None:
     """What the tables and the fields are called."""
     browser.open(ADDRESS)
     ground = "return getComputedStyle(document.querySelector(arguments[0])).backgroundColor"
-    swatch = "return getComputedStyle(document.querySelector('.head .least'), '::before').backgroundColor"
     tally.equal("the word for the shortest cells", browser.texts("#steps .head .least"), ["shortest"])
-    tally.equal("it has their colour", browser.script(swatch), browser.script(ground, "td .least"))
+    tally.equal("it has their colour", browser.script(ground, "#steps .head .least"), browser.script(ground, "td .least"))
     tally.equal(
         "the columns of the best",
         browser.texts("#best-table thead th")[:6],
@@ -229,8 +228,8 @@ def goes_on(tally: Tally, browser: Browser) -> None:
     legend = "return document.querySelector('#steps .head .least').checkVisibility()"
     ways: tuple[tuple[str, set[str], list[str]], ...] = (
         ("", {"eo"}, []),
-        ("&steps=normal.D2_R2_L_U", {"dr"}, ["Another EO in place of this one"]),
-        ("&steps=normal.D2_R2_L_U~normal.B_R_D2_B_R_B_R_B", set(), ["Another EO or DR in place of this DR"]),
+        ("&steps=normal.D2_R2_L_U", {"dr"}, ["Going on from here, this EO given up"]),
+        ("&steps=normal.D2_R2_L_U~normal.B_R_D2_B_R_B_R_B", set(), ["Going on from here, this DR given up"]),
     )
     for steps, kinds, said in ways:
         browser.open(ADDRESS + steps)

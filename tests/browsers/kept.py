@@ -184,6 +184,25 @@ def leaves_kept(tally: Tally, browser: Browser) -> None:
     tally.equal("another one leaves them", (browser.texts("#kept-list .moves"), browser.script(said)), ([], "2 kept lines were left."))
     browser.click("#left-back")
     tally.holds("they come back", browser.until("return document.querySelectorAll('#kept-list li').length === 2"))
+    for typed in ("", "B", "B U", "B U F"):
+        browser.fill("scramble", typed)
+    tally.equal("one that is typed keeps the way back", browser.script(said), "2 kept lines were left.")
+    browser.click("#left-back")
+    tally.holds("which leads to them", browser.until("return document.querySelectorAll('#kept-list li').length === 2"))
+
+
+def keeps_lengths(tally: Tally, browser: Browser) -> None:
+    """What is kept of a row says what the row says, also where a twin that isn't shown has fewer moves on a side."""
+    browser.open("#scramble=R-_U-_F_U-_R2_F_D2_L_R_D2_U_B_U-_B-_L_B_U-_L-_F-_R2_B_F_L_R-_U-_F")
+    browser.choose("best-slack", "2")
+    browser.wait_best()
+    rows = browser.script(ROWS)
+    tally.holds("a row has twins", browser.texts("#best-body .twins"))
+    browser.script("document.querySelectorAll('#best-body .star').forEach((star) => star.click())")
+    browser.choose("kept-sort", "kept")
+    browser.until(KEPT_SAID)
+    said = [[words[0], words[-1].split(" ", 3)[3]] for words in browser.script(KEPT_WORDS)]
+    tally.equal("each as in its row", said, [[row[1], f"N {row[4]} I {row[5]}, {row[0]} in all"] for row in rows])
 
 
 def keeps_stages(tally: Tally, browser: Browser) -> None:
@@ -251,5 +270,5 @@ def leads_to_kept(tally: Tally, browser: Browser) -> None:
 
 def try_all(tally: Tally, browser: Browser) -> None:
     """All of them."""
-    for part in (keeps, keeps_in_address, copies_kept, keeps_a_note, leaves_kept, keeps_moves_alone, keeps_reductions, keeps_stages, leads_to_kept):
+    for part in (keeps, keeps_in_address, copies_kept, keeps_a_note, leaves_kept, keeps_lengths, keeps_moves_alone, keeps_reductions, keeps_stages, leads_to_kept):
         part(tally, browser)

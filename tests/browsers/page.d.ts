@@ -25,6 +25,8 @@ interface Event {
 
 interface Array<T> {
   findLastIndex(is: (value: T, index: number) => boolean): number;
+  toSpliced(start: number, deleted: number, ...added: T[]): T[];
+  with(index: number, value: T): T[];
 }
 
 declare function scrollTo(to: { top: number; behavior: "instant" }): void;

@@ -101,8 +101,8 @@ def kept(tally: Tally, browser: Browser) -> None:
     browser.wait_best()
     tally.holds("those of another cube aren't shown", browser.texts("#best-body th") != found[0])
     slow = (
-        "const { postMessage } = Worker.prototype; Worker.prototype.postMessage = function (...words) { if (!('question' in words[0])) "
-        "postMessage.apply(this, words); }"
+        "const { postMessage } = Worker.prototype; Worker.prototype.postMessage = function (...words) { "
+        "if (words[0].request?.call !== 'bestOfAxis') postMessage.apply(this, words); }"
     )
     browser.script(slow)
     browser.act("#undo-step")
@@ -248,7 +248,22 @@ def filters(tally: Tally, browser: Browser) -> None:
     tally.equal("what is said of twins", browser.text("solutions-note"), "2 solutions. 1 row: twins share one.")
 
 
+def says_in_all(tally: Tally, browser: Browser) -> None:
+    """A cell says how many of its solutions have as few moves in all as it says, and the list begins with these."""
+    scramble, made = "R' U' F U' R2 F D2 L R D2 U B U' B' L B U' L' F' R2 B F L R' U' F", "R2 B U' R F"
+    at = Position(scramble, made)
+    browser.open(f"#scramble={scramble}&steps=normal.{made}&list=drrl-eofb.normal.0".replace(" ", "_").replace("'", "-"))
+    totals = at.totals("drrl-eofb", "normal")
+    counts = [(total, totals.count(total)) for total in sorted(set(totals))]
+    tally.holds(f"they have several: {counts}", len(counts) > 1)
+    tally.equal("the cells", browser.cells(), at.cells())
+    tally.equal("the rows", browser.listed(), at.rows("drrl-eofb", "normal"))
+    heads = [head.split(":")[0] for head in browser.texts("#solutions-groups h3")]
+    length = at.count("drrl-eofb", "normal")[0]
+    tally.equal("by all moves", heads, [f"{length} moves, {total} in all" for total, _ in counts])
+
+
 def try_all(tally: Tally, browser: Browser) -> None:
     """All of them."""
-    for part in (history, refused, undo, kept, returns, leaves_list, offers_last, offers_what_is_read, filters):
+    for part in (history, refused, undo, kept, returns, leaves_list, offers_last, offers_what_is_read, filters, says_in_all):
         part(tally, browser)

@@ -19,6 +19,23 @@ LISTEN = """window.shifts = [];
         each.sources.map(({ node }) => node?.id || node?.className || node?.nodeName || "")])))
         .observe({ type: "layout-shift", buffered: true });"""
 SHIFTS = "return window.shifts.filter(([value, time]) => time >= arguments[0]).map(([value, , moved]) => [value.toFixed(3), ...moved])"
+# where some parts are once something is chosen of a field, before there is an answer; of text where its first letter is
+PLACES_AFTER = """const [name, value, selectors] = arguments;
+    const field = document.getElementById(name);
+    field.value = value;
+    field.dispatchEvent(new Event('change'));
+    return selectors.map((selector) => {
+        const [part, range] = [document.querySelector(selector), document.createRange()];
+        range.selectNodeContents(part);
+        const { left, top } = (part.matches('figcaption') ? range : part).getBoundingClientRect();
+        return [Math.round(left), Math.round(top)];
+    });"""
+COUNTED = """const [text, hidden] = arguments;
+    const more = document.getElementById('best-more');
+    Object.assign(more, { textContent: text, hidden });
+    const { left } = document.getElementById('best-clear').getBoundingClientRect();
+    const { right, height } = more.getBoundingClientRect();
+    return [left, right, height].map(Math.round);"""
 FIRST_ROW = "return document.querySelector('#best-body .take').getBoundingClientRect().top"
 
 
@@ -59,6 +76,29 @@ def searches(tally: Tally, browser: Browser, width: int) -> None:
     tally.equal(f"{width}: what moves meanwhile", browser.script(SHIFTS, since), [])
 
 
+def stands(tally: Tally, browser: Browser, width: int) -> None:
+    """Neither the count of the best nor a list that is looked for, marks or a move that is played move what stands beside them."""
+    browser.open(SCRAMBLE + "&steps=inverse.B_D_R_F2_B_D~normal.R_B-~normal.D2_R&list=eofb.normal.0")
+    looking = browser.script(PLACES_AFTER, "slack", "3", ["[popovertarget=help-list]", "#list-filters", "#solutions-note"])
+    browser.wait()
+    found = browser.script(PLACES_AFTER, "slack", "3", ["[popovertarget=help-list]", "#list-filters", "#solutions-note"])
+    tally.equal(f"{width}: the head of a list", looking, found)
+    of_cube = ["figcaption", "#piece", "#play-on"]
+    places = [browser.script(PLACES_AFTER, "marks", mark, of_cube) for mark in ("none", "EO F/B", "DR U/D")]
+    backward = [("play-back", "played", f"{at} of 10") for at in reversed(range(10))]
+    for press, part, words in (*backward, ("play", "play", "Pause"), ("play", "play", "Play")):
+        browser.script("document.getElementById(arguments[0]).click()", press)
+        browser.until("return document.getElementById(arguments[0]).textContent.startsWith(arguments[1])", part, words)
+        places.append(browser.script(PLACES_AFTER, "marks", "none", of_cube))
+    tally.equal(f"{width}: the cube's card", places, places[:1] * len(places))
+    browser.open(SCRAMBLE)
+    browser.wait_best()
+    browser.choose("best-axis", "EO F/B")
+    words = "More of" if width <= 600 else "Show more of"
+    counts = [browser.script(COUNTED, *shown) for shown in ((f"{words} 7", False), (f"{words} 10,000", False), (f"{words} 7", True))]
+    tally.equal(f"{width}: beside the count of the best", counts, counts[:1] * len(counts))
+
+
 def try_all(tally: Tally, browser: Browser) -> None:
     """On windows of each size."""
     browser.command("Page.enable")
@@ -67,4 +107,5 @@ def try_all(tally: Tally, browser: Browser) -> None:
         browser.command("Emulation.setDeviceMetricsOverride", width=width, height=height, deviceScaleFactor=1, mobile=False)
         opens(tally, browser, width)
         searches(tally, browser, width)
+        stands(tally, browser, width)
     browser.command("Page.removeScriptToEvaluateOnNewDocument", identifier=script["identifier"])

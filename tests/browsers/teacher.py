@@ -1,4 +1,6 @@
 """A teacher's page: why a piece is good or bad, moves that are covered until they are asked for, and nets for a projector."""
+import re
+
 from browser import Browser
 from looks import SCRAMBLE
 from selenium.webdriver.common.keys import Keys
@@ -12,6 +14,10 @@ EDGE_PLACES = (1, 3, 5, 7)
 CHOICES = ("EO F/B", "EO R/L", "EO U/D", "DR U/D", "DR R/L", "DR F/B")
 COVERED = """return [...document.querySelectorAll('.take')].filter((each) => each.checkVisibility()).map((each) =>
     getComputedStyle(each).color === 'rgba(0, 0, 0, 0)')"""
+
+LABELS = "return [...document.querySelectorAll('#choices :is(.take, .star, .copy)')].map((each) => each.ariaLabel)"
+# a turn as it is said; the axes of a case, such as F/B, are none
+TURN = r"\b[UDRLFB](?:2|\b(?!/))(?<!/.)"
 
 
 def tells_why(tally: Tally, browser: Browser) -> None:
@@ -58,8 +64,11 @@ def covers(tally: Tally, browser: Browser) -> None:
         .filter((each) => getComputedStyle(each).visibility !== 'hidden').length"""
     tally.equal("and what would tell them", browser.script(shown), 0)
     tally.holds("numbers aren't", browser.script("return document.querySelector('#best-body .number').checkVisibility()"))
+    tally.equal("no label tells them either", [each for each in browser.script(LABELS) if re.search(TURN, each)], [])
     browser.click("#solutions-groups .take")
     tally.equal("the first press shows them", browser.script(COVERED).count(False), 1)
+    told = [each for each in browser.script(LABELS) if re.search(TURN, each)]
+    tally.equal(f"and its buttons' labels tell them: {told}", [each.split()[0] for each in told][1:], ["Keep", "Copy"])
     tally.equal("and takes nothing", browser.text("line-list"), "")
     line = browser.texts("#solutions-groups .take")[0]
     browser.act("#solutions-groups .take")
@@ -67,6 +76,7 @@ def covers(tally: Tally, browser: Browser) -> None:
     browser.script("document.getElementById('cover').click()")
     browser.wait_best()
     tally.equal("all are seen again", set(browser.script(COVERED)), {False})
+    tally.equal("and told", [each for each in browser.script(LABELS) if not re.search(TURN, each)], [])
 
 
 def enlarges(tally: Tally, browser: Browser) -> None:

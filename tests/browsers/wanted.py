@@ -144,9 +144,21 @@ class Position:
         made = {**self.made, side: f"{self.made[side]} {moves}"}
         return sum(merged_count(each) for each in made.values())
 
+    def totals(self, step: str, side: str) -> list[int]:
+        """The number of moves in all with each shortest solution, the least first."""
+        return sorted(self.in_all(side, moves) for moves in self.solutions(step, side))
+
     def total(self, step: str, side: str) -> int:
         """The least number of moves in all with a shortest solution."""
-        return min(self.in_all(side, moves) for moves in self.solutions(step, side))
+        return self.totals(step, side)[0]
+
+    def in_words(self, step: str, side: str, solutions: int) -> str:
+        """How many solutions there are, or how many of them have the fewest moves in all; after moves with that number."""
+        if not self.in_all():
+            return counted(solutions, "solution")
+        totals = self.totals(step, side)
+        best = totals.count(totals[0])
+        return f"{totals[0]} in all, {f'{best:,} of ' if best < solutions else ''}{counted(solutions, 'solution')}"
 
     def cells(self) -> list[str]:
         """What the cells of the page's table are called."""
@@ -155,14 +167,14 @@ class Position:
             counts = {(step, side): self.count(step, side) for step in group for side in SIDES}
             least = min((length for length, _, _ in counts.values()), default=0) if self.keeps(group) else None
             for (step, side), (length, solutions, _) in counts.items():
-                total = f"{self.total(step, side)} in all, " if self.in_all() else ""
-                said = f"{counted(length, 'move')}, {total}{counted(solutions, 'solution')}"
+                said = f"{counted(length, 'move')}, {self.in_words(step, side, solutions)}"
                 names.append(f"{TITLES[step]}, {side} side: {said}{', shortest' if length == least else ''}")
         return names
 
     def rows(self, step: str, side: str, slack: int = 0) -> list[str]:
-        """The rows of a list, without their lengths."""
-        return rows_of(self.solutions(step, side, slack), step)
+        """The rows of a list, without their lengths: after moves those first that have the fewest in all."""
+        solutions = self.solutions(step, side, slack)
+        return rows_of(sorted(solutions, key=lambda moves: self.in_all(side, moves)) if self.in_all() else solutions, step)
 
     def solutions(self, step: str, side: str, slack: int = 0) -> list[str]:
         """The solutions of a step, without their lengths."""

@@ -8,7 +8,7 @@ import { continuations } from "../../web/module/best-search.js";
 import { ORIENTATIONS, reductionsAfter } from "../../web/module/best-steps.js";
 import { Nissy } from "../../web/module/nissy.js";
 import { mergeTwins } from "../../web/module/twins.js";
-import { madeBy } from "../../web/module/ways.js";
+import { madeBy, totalsWith } from "../../web/module/ways.js";
 import { SIDES, cubeAfter, inAll, merged } from "./counting.mjs";
 import { ended, moduleBytes, same } from "./tally.mjs";
 
@@ -33,7 +33,7 @@ function rowsOf(lines, parts, reached, orientation, slack) {
 }
 
 /** How many rows were tried; of how many merging matters, and of how many a hidden twin is better on a side. */
-const tried = { rows: 0, merged: 0, twins: 0 };
+const tried = { rows: 0, merged: 0, twins: 0, lists: 0 };
 
 /** The rows before an orientation: all moves of the best twin, and the least of all on each side. */
 function tryOrientations(scramble, parts) {
@@ -50,6 +50,10 @@ function tryOrientations(scramble, parts) {
       const what = `${scramble}, ${JSON.stringify(parts)}: ${part.moves} on ${part.side}, ${next.step}`;
       same(`${what}: in all`, total, Math.min(...best.map((each) => each.total)));
       same(`${what}: of the moves that are shown`, Math.min(...ways[0].map((each) => each.total)), total);
+      const [normal, inverse] = ways[0];
+      same(`${what}: after the moves that are shown`, next.own, {
+        lengths: { normal: normal.length, inverse: inverse.length }, totals: { normal: normal.total, inverse: inverse.total },
+      });
       same(`${what}: on each side`, [next.lengths, next.totals], [
         { normal: best[0].length, inverse: best[1].length }, { normal: best[0].total, inverse: best[1].total },
       ]);
@@ -74,17 +78,31 @@ function tryReductions(scramble, parts, orientation) {
   return reductionsAfter(orientation).length;
 }
 
+/** All moves with each solution of a step that merges with some of them. */
+function tryLists(scramble, parts, step) {
+  const position = { lines: cubeAfter(nissy, scramble, parts), made: madeBy(nissy, parts) };
+  for (const side of SIDES) {
+    const list = nissy.solve(step, position.lines[side], { slack: 1 });
+    const totals = list.map(({ moves }) => inAll([...parts, { side, moves }]));
+    same(`${scramble}, ${JSON.stringify(parts)}: ${step} on the ${side} side`, totalsWith(nissy, position, side, list), totals);
+    tried.lists += list.filter(({ length }, at) => totals[at] < inAll(parts) + length).length;
+  }
+}
+
 const SCRAMBLES = [20261127, 20261128, 20261129].map((seed) => nissy.scramble(seed, 1, 25));
 for (const scramble of SCRAMBLES) {
   tryOrientations(scramble, []);
   const [first] = nissy.solve("eofb", nissy.invert(scramble), { slack: 0 });
   const parts = [{ side: "inverse", moves: first.moves }];
   tryReductions(scramble, parts, "eofb");
+  for (const { name } of reductionsAfter("eofb")) tryLists(scramble, parts, name);
+  tryLists(scramble, [{ side: "normal", moves: "R U2 D" }, { side: "inverse", moves: "F B2" }], "eorl");
   tryOrientations(scramble, [{ side: "normal", moves: "R U2 D" }, { side: "inverse", moves: "F B2" }]);
   tryOrientations(scramble, [{ side: "normal", moves: "R R" }, { side: "inverse", moves: "L' D" }]);
 }
 same(`rows: ${tried.rows}`, tried.rows >= LEAST_ROWS, true);
 same(`rows in which moves merge: ${tried.merged}`, tried.merged > 0, true);
+same(`solutions of lists in which moves merge: ${tried.lists}`, tried.lists > 0, true);
 same(`rows in which a hidden twin is better on a side: ${tried.twins}`, tried.twins > 0, true);
 same("merging", ["R R", "R L R", "R R'", "F R L R2 L' F"].map(merged), [1, 2, 0, 3]);
 ended();

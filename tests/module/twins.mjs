@@ -1,13 +1,12 @@
-// Tries web/module/twins.js beside the engine, and where web/page/cases.js has the stickers of pieces: twins have the same case, and what is
+// Tries web/module/twins.js beside the engine, and the stickers of pieces: twins have the same case, and what is
 // left out was reached before its last move.
 //
 //     node tests/module/twins.mjs MODULE
 //
 // The last line is `N passed, M failed`, and the status is 1 where M isn't 0.
 import { ORIENTATIONS, REDUCTIONS } from "../../web/module/best-steps.js";
-import { CORNER_PLACES, EDGE_PLACES, Nissy } from "../../web/module/nissy.js";
+import { CORNER_PLACES, EDGE_PLACES, Nissy, stickersOf } from "../../web/module/nissy.js";
 import { mergeTwins, withoutEarlier } from "../../web/module/twins.js";
-import { stickersOf } from "../../web/page/cases.js";
 import { ended, moduleBytes, same } from "./tally.mjs";
 
 const AXES = ["UD", "RL", "FB"];

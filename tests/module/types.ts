@@ -1,7 +1,7 @@
 // A caller in TypeScript, who is told of what is wrong: tests/module.sh has tsc read this beside the types of the module.
 import {
-  isStep, loadNissy, Nissy, NissyFault, NissyPool, NissyWorker, SearchCut, VERSION, type BestRow, type Check, type Count, type EdgePlace,
-  type Facts, type Form, type Solution, type Solutions, type Step, type Token,
+  isStep, loadNissy, Nissy, NissyFault, NissyPool, NissyWorker, plainLine, readFmc, SearchCut, stickersOf, VERSION, type BestRow, type Check,
+  type Count, type EdgePlace, type Facts, type Fmc, type Form, type PlainLine, type Solution, type Solutions, type Step, type Token,
 } from "./node.js";
 import { NissyPool as NissyPoolOfBrowsers, NissyWorker as NissyWorkerOfBrowsers } from "./browser.js";
 import type { CountReply, LineFault, LineReply, StartFault } from "./replies.js";
@@ -33,6 +33,13 @@ export async function callsInWorker(bytes: Uint8Array, signal: AbortSignal): Pro
   worker.drop();
   worker.end();
   return [...drawn, ...solutions, ...all.flat()].map(({ length }) => length);
+}
+
+export function read(text: string, places: readonly EdgePlace[]): number {
+  const { line, places: at, leftOut }: PlainLine = plainLine(text);
+  const written: Fmc | null = readFmc(text);
+  const numbers: number[] = stickersOf([...places, "URF"]);
+  return line.length + at.length + leftOut.length + (written?.candidates.length ?? 0) + numbers.length;
 }
 
 export function judged(nissy: Nissy): string {

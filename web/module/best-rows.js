@@ -13,8 +13,14 @@ import { twinKey } from "./twins.js";
 /** @typedef {Part & {length: number, place: number[]}} Sided a solution on its side, and its place among all: by sides, and within its list */
 
 /**
- * The reduction that follows an orientation: the side on which it is best, the least length on each side, and all moves with it.
- * @typedef {{step: Step, side: Side, lengths: OnSides<number | null>, totals: OnSides<number>}} Next
+ * The least length of a reduction on each side, and all moves with it.
+ * @typedef {{lengths: OnSides<number | null>, totals: OnSides<number>}} Ways
+ */
+
+/**
+ * The reduction that follows an orientation: the side on which it is best, its ways after any of the twins, and its own ones, after the
+ * twin that is shown.
+ * @typedef {Ways & {step: Step, side: Side, own: Ways}} Next
  */
 
 /**
@@ -44,16 +50,79 @@ export function byTotal(one, other) {
 }
 
 /**
- * The best of some rows in their order, each once: if two orientations hold, a reduction may follow each of them.
+ * The place of a row among sorted ones.
  * @template {Row} Each
  * @param {Each[]} rows
- * @param {number} most
- * @returns {Each[]}
+ * @param {Each} row
+ * @param {number} from a place that it isn't before
  */
-export function bestOf(rows, most) {
-  const known = new Set();
-  const sorted = rows.slice().sort(byTotal);
-  return sorted.filter(({ key }) => !known.has(key) && known.add(key)).slice(0, most);
+function placeAmong(rows, row, from) {
+  let [low, high] = [from, rows.length];
+  while (low < high) {
+    const middle = (low + high) >> 1;
+    if (byTotal(rows[middle], row) <= 0) low = middle + 1;
+    else high = middle;
+  }
+  return low;
+}
+
+/**
+ * Two sorted lists as one. No row of the first is compared with the next one, since thousands stay as they are.
+ * @template {Row} Each
+ * @param {Each[]} rows
+ * @param {Each[]} added
+ */
+function sortedInto(rows, added) {
+  /** @type {Each[]} */
+  const all = [];
+  let from = 0;
+  for (const row of added) {
+    const at = placeAmong(rows, row, from);
+    all.push(...rows.slice(from, at), row);
+    from = at;
+  }
+  return [...all, ...rows.slice(from)];
+}
+
+/**
+ * The best of the rows that are added, in their order, each once: if two orientations hold, a reduction may follow each of them.
+ * @template {Row} Each
+ */
+export class BestRows {
+  #most;
+  #byKey;
+  /** Whether some were left out. */
+  isCut = false;
+
+  /**
+   * @param {number} most how many rows are kept
+   * @param {Each[]} [rows] the first of them, in their order
+   */
+  constructor(most, rows = []) {
+    this.#most = most;
+    this.#byKey = new Map(rows.map((row) => [row.key, row]));
+    this.rows = rows;
+  }
+
+  /** @param {Each[]} rows */
+  add(rows) {
+    const added = rows.slice().sort(byTotal).filter((row) => this.#isBetter(row));
+    const all = added.length === 0 ? this.rows : sortedInto(this.rows, added);
+    this.isCut ||= all.length > this.#most;
+    this.rows = all.slice(0, this.#most);
+  }
+
+  /**
+   * Whether a row is new, or better than the one of its key, which it then takes the place of.
+   * @param {Each} row
+   */
+  #isBetter(row) {
+    const known = this.#byKey.get(row.key);
+    if (known && byTotal(known, row) <= 0) return false;
+    if (known) this.rows = this.rows.filter((each) => each !== known);
+    this.#byKey.set(row.key, row);
+    return true;
+  }
 }
 
 /**
@@ -100,8 +169,8 @@ export class Bound {
   }
 }
 
-/** How many orientations, twins as one, are tried before rows are told: few at first, so that some are there soon. */
-const BATCHES = [100, 500, 1500];
+/** How many orientations, twins as one, are tried before rows are told: few at first, so that some are there soon, and never very many. */
+const BATCHES = [100, 500];
 
 /**
  * A list in batches.

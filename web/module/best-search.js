@@ -105,13 +105,19 @@ function rowOf(nissy, { orientation: { name }, key, twins }, reduction) {
   const totals = { normal: normal.total, inverse: inverse.total };
   const { side: own, place } = twins[0].part;
   const side = totals[otherSide(own)] < totals[own] ? otherSide(own) : own;
-  const { part, after } = bestOn(side).twin;
+  const { twin: { part, after }, ...shown } = bestOn(side);
   return {
     total: totals[side],
     step: name,
     part: { side: own, moves: part.moves },
     length: part.length,
-    next: { step: reduction.name, side, lengths: { normal: normal.length, inverse: inverse.length }, totals },
+    next: {
+      step: reduction.name, side, lengths: { normal: normal.length, inverse: inverse.length }, totals,
+      own: {
+        lengths: { normal: shown.normal.length, inverse: shown.inverse.length },
+        totals: { normal: shown.normal.total, inverse: shown.inverse.total },
+      },
+    },
     ...caseOf(nissy, after, reduction),
     others: twins.filter((twin) => twin.part !== part).map((twin) => lastTurnsOf(twin.part.moves, name)),
     place: [placeOf(name), ...place, placeOf(reduction.name)],

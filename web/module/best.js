@@ -1,6 +1,6 @@
 // The best continuations of a scramble and the moves so far, as values: the rows of the search, each with the moves of its reduction.
 import { ORIENTATIONS } from "./best-steps.js";
-import { bestOf } from "./best-rows.js";
+import { BestRows } from "./best-rows.js";
 import { continuations } from "./best-search.js";
 import { NissyFault } from "./faults.js";
 import { movesIn } from "./merging.js";
@@ -106,7 +106,7 @@ function startOf(nissy, scramble, soFar) {
  * @param {Side} side
  * @param {number} total
  */
-function firstOf(nissy, position, step, side, total) {
+export function firstOf(nissy, position, step, side, total) {
   const solutions = nissy.solve(step, position.lines[side]);
   const first = solutions.find(({ moves }) => totalWith(nissy, position, { side, moves }) === total);
   if (first === undefined) throw new Error("no reduction has as many moves as were counted");
@@ -146,13 +146,12 @@ function rowsAfter(nissy, { scramble, slack, most, axes }, soFar, tell) {
   if (holds.some((step) => step.startsWith("dr"))) return [];
   const held = ORIENTATIONS.filter(({ name }) => holds.includes(name));
   const asked = (held.length > 0 ? held : ORIENTATIONS).map(({ name }) => name).filter((name) => axes.includes(name));
-  /** @type {Row[]} */
-  let rows = [];
+  const best = new BestRows(most);
   for (const { done, all, rows: added } of continuations(nissy, start.position, holds, asked, { slack, isAll: false, most })) {
-    rows = bestOf([...rows, ...added], most);
+    best.add(added);
     tell({ done, all });
   }
-  return rows.map((row) => ({ ...row, shown: shownOf(nissy, start, row) }));
+  return best.rows.map((row) => ({ ...row, shown: shownOf(nissy, start, row) }));
 }
 
 /**

@@ -1,6 +1,7 @@
 // The engine in a worker of a browser, and in several.
 import { WorkerPool } from "./pool.js";
-import { WorkerCalls, listenedTo } from "./worker-calls.js";
+import { WorkerCalls } from "./worker-calls.js";
+import { listenedTo } from "./worker-queue.js";
 
 export * from "./nissy.js";
 

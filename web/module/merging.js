@@ -36,11 +36,11 @@ function lastOfAxis(made) {
 }
 
 /**
- * The turns of a face that keep what a step starts from.
+ * The turns of a face that keep what a step starts from: a reduction keeps its orientation, so the two faces of that have half turns alone.
  * @param {string} face
  * @param {StepOnAxis} step
  */
-function turnsOfFace(face, { needs }) {
+export function turnsOfFace(face, { needs }) {
   const halves = needs === null ? "" : FACES_OF[stepNamed(needs).axis];
   return (halves.includes(face) ? ["2"] : POWERS).map((power) => face + power);
 }

@@ -21,6 +21,8 @@ import { solutionsBy } from "./solutions.js";
 export { EngineMissing, NissyFault, NoWebAssembly, SearchCut, Stopped } from "./faults.js";
 export { CORNER_PLACES, EDGE_PLACES } from "./facts.js";
 export { STEPS, isStep } from "./steps.js";
+export { stickersOf } from "./stickers.js";
+export { plainLine, readFmc } from "./written.js";
 
 /** @typedef {import("./bytes.js").Text} Text */
 /** @typedef {import("./source.js").ModuleSource} ModuleSource */
@@ -46,6 +48,8 @@ export { STEPS, isStep } from "./steps.js";
 /** @typedef {import("./requests.js").Wanted} Wanted */
 /** @typedef {import("./requests.js").Within} Within */
 /** @typedef {import("./steps.js").Step} Step */
+/** @typedef {import("./written.js").Fmc} Fmc */
+/** @typedef {import("./written.js").PlainLine} PlainLine */
 
 /** The version of the scripts, and of the module that comes with them. */
 export const VERSION = "2.0.0";

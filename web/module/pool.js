@@ -1,5 +1,5 @@
 // Several workers that share many lines: these go to them in pieces, and the answers come back in the order of the lines.
-import { bestOf } from "./best-rows.js";
+import { BestRows } from "./best-rows.js";
 import { ORIENTATIONS } from "./best-steps.js";
 import { wholeNumber } from "./bytes.js";
 import { Stopped } from "./faults.js";
@@ -151,7 +151,10 @@ export class WorkerPool {
     };
     const replies = await this.#together(options, (signal) =>
       Promise.all(requests.map((request, at) => this.#queues[at % this.size].answer(request, { signal }, follow(at)))));
-    return shownIn(bestOf(replies.flatMap(bestIn), requests[0].most));
+    /** @type {BestRows<import("./best.js").RowWithMoves>} */
+    const best = new BestRows(requests[0].most);
+    best.add(replies.flatMap(bestIn));
+    return shownIn(best.rows);
   }
 
   /** Gives up all calls. */

@@ -41,6 +41,16 @@ export function twinKey(moves, step) {
 export const lastTurnsOf = (moves, step) => moves.slice(startOfTwin(moves, step));
 
 /**
+ * Some moves, and those of their twins.
+ * @param {string} moves
+ * @param {readonly string[]} others the last turns of the twins
+ */
+export function withTwins(moves, others) {
+  const own = moves.split(" ");
+  return [moves, ...others.map((end) => [...own.slice(0, own.length - end.split(" ").length), end].join(" "))];
+}
+
+/**
  * Puts twins together, each under the first of them.
  * @param {readonly Solution[]} solutions
  * @param {string} step its name
@@ -49,11 +59,11 @@ export const lastTurnsOf = (moves, step) => moves.slice(startOfTwin(moves, step)
 export function mergeTwins(solutions, step) {
   /** @type {Map<string, Twins>} */
   const merged = new Map();
-  for (const { moves, length } of solutions) {
-    const key = twinKey(moves, step);
+  for (const each of solutions) {
+    const key = twinKey(each.moves, step);
     const first = merged.get(key);
-    if (first) first.others.push(lastTurnsOf(moves, step));
-    else merged.set(key, { moves, length, others: [] });
+    if (first) first.others.push(lastTurnsOf(each.moves, step));
+    else merged.set(key, { ...each, others: [] });
   }
   return [...merged.values()];
 }

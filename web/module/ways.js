@@ -1,5 +1,6 @@
 // Ways from a cube to a step: the cube on both sides with the moves that were made there, the least length of the step, and all moves with
 // it, once those of each side are merged.
+import { AXES, FACES_OF } from "./best-steps.js";
 import { mergersOf, movesIn } from "./merging.js";
 import { SIDES, joined, movesOn, otherSide } from "./sides.js";
 
@@ -110,11 +111,11 @@ const mostMerged = (made, step) => Math.max(0, ...mergersOf(made, step, "").map(
  * @param {Step} step
  * @param {Position} position
  * @param {Side} side
+ * @param {number | null} [length] the least one there, if it is known
  * @returns {Way}
  */
-export function wayTo(nissy, step, position, side) {
+export function wayTo(nissy, step, position, side, length = leastOf(nissy, step, position.lines[side], MOST_SEARCHED)) {
   const [line, made] = [position.lines[side], position.made[side]];
-  const length = leastOf(nissy, step, line, MOST_SEARCHED);
   if (length === null) return { length, total: Infinity };
   if (movesIn(line).length > MOST_ASKED_BEHIND) {
     const totals = nissy.solve(step, line).map(({ moves }) => totalWith(nissy, position, { side, moves }));
@@ -142,3 +143,19 @@ export function isWithin(nissy, step, position, bound) {
  * @param {Part} part
  */
 export const totalWith = (nissy, { made }, { side, moves }) => made[otherSide(side)].length + mergedWith(nissy, made[side], moves).length;
+
+/**
+ * All moves with each of some solutions that may follow on a side.
+ * @param {Nissy} nissy
+ * @param {Position} position
+ * @param {Side} side
+ * @param {readonly import("./replies.js").Solution[]} solutions
+ * @returns {number[]}
+ */
+export function totalsWith(nissy, position, side, solutions) {
+  const last = position.made[side].at(-1) ?? "";
+  const faces = AXES.map((axis) => FACES_OF[axis]).find((each) => each.includes(last[0])) ?? "";
+  // one that begins on another axis merges with nothing
+  return solutions.map(({ moves, length }) =>
+    (faces.includes(moves[0]) ? totalWith(nissy, position, { side, moves }) : countOf(position) + length));
+}

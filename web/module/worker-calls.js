@@ -40,25 +40,6 @@ import { WorkerQueue } from "./worker-queue.js";
  */
 
 /**
- * What starts a worker of a browser.
- * @param {() => Worker} made
- * @param {() => string} [place] where its script is looked for
- * @returns {NewWorker}
- */
-export function listenedTo(made, place) {
-  return (took, failed) => {
-    const worker = made();
-    worker.addEventListener("message", ({ data }) => took(data));
-    worker.addEventListener("error", (event) => {
-      event.preventDefault();
-      // browsers have no message for a script that can't be had
-      failed(event.message || `the worker's script, or one that it imports, can't be loaded${place ? ` from ${place()}` : ""}`);
-    });
-    return worker;
-  };
-}
-
-/**
  * The engine in a worker. Its calls are those of `Nissy`, and what these throw, the promises are rejected with. Each may be given up by an
  * `AbortSignal`: the tables of the steps are built anew after a call that ran.
  */

@@ -36,6 +36,25 @@ import { Signals, reasonOf, signalOf } from "./signals.js";
  */
 const errorOf = ({ name, message }) => (name === "RangeError" ? new RangeError(message) : new EngineMissing(message));
 
+/**
+ * What starts a worker of a browser.
+ * @param {() => Worker} made
+ * @param {() => string} [place] where its script is looked for
+ * @returns {NewWorker}
+ */
+export function listenedTo(made, place) {
+  return (took, failed) => {
+    const worker = made();
+    worker.addEventListener("message", ({ data }) => took(data));
+    worker.addEventListener("error", (event) => {
+      event.preventDefault();
+      // browsers have no message for a script that can't be had
+      failed(event.message || `the worker's script, or one that it imports, can't be loaded${place ? ` from ${place()}` : ""}`);
+    });
+    return worker;
+  };
+}
+
 /** What is asked of a worker, and given up. */
 export class WorkerQueue {
   /** @type {SentModule} */ #module;

@@ -3,10 +3,8 @@
 import { REDUCTIONS, isSide, stepNamed } from "./steps.js";
 
 /** @typedef {import("./steps.js").Part} Part */
-/**
- * @typedef {{step: string, side: import("./steps.js").Side, slack: number, isAll: boolean, split?: number}} List
- * `split`: how many moves its solutions begin with on the other side
- */
+/** @typedef {{step: string, side: import("./steps.js").Side, slack: number, isAll: boolean, split?: number}} List
+ * `split`: how many moves its solutions begin with on the other side */
 /** @typedef {{parts: Part[], note: string, next: string}} Candidate `next`: the reduction that it was kept with, or "" */
 /** @typedef {{scramble: string, parts: Part[], side: import("./steps.js").Side, list: List | null, kept: Candidate[]}} State */
 
@@ -14,8 +12,12 @@ export const LONGEST_ADDRESS = 20000;
 // 256 moves, each of as many signs as one may have and in brackets, are half of it
 export const LONGEST_SCRAMBLE = 4096;
 export const GREATEST_SLACK = 3;
+/** How many moves of a list may stand on the other side. */
+export const MOST_SPLIT = 2;
 export const MOST_CANDIDATES = 24;
 export const LONGEST_NOTE = 80;
+/** How many moves the engine reads in one line. */
+export const MOST_MOVES = 256;
 const MOST_PARTS = 256;
 const MOST_NAMED = 5;
 const LONGEST_NAME = 24;
@@ -27,7 +29,7 @@ const SPLIT = /^split([12])$/;
 export const emptyState = () => ({ scramble: "", parts: [], side: "normal", list: null, kept: [] });
 
 /** Moves as an address has them: `_` for a blank and `-` for an apostrophe, since some programs cut an address there. */
-function written(text) {
+function escaped(text) {
   const plain = (sign) => `%${sign.charCodeAt(0).toString(16).toUpperCase()}`;
   return encodeURIComponent(text.replace(/[\uD800-\uDFFF]/gu, "\uFFFD"))
     .replace(/[-_()*!~.]/g, plain)
@@ -35,17 +37,16 @@ function written(text) {
     .replace(/'/g, "-");
 }
 
-/** A text as the one line that the engine reads of it.
- * @param {string} text */
+/** @param {string} text @returns a text as the one line that the engine reads of it */
 export const oneLine = (text) => text.replace(/[\r\n]/g, " ");
 
 const spelled = (text) => decodeURIComponent(text.replace(/_/g, "%20").replace(/-/g, "'"));
 
 /** @param {Part[]} parts */
-const writtenParts = (parts) => parts.map(({ side, moves }) => `${side}.${written(moves)}`).join("~");
+const writtenParts = (parts) => parts.map(({ side, moves }) => `${side}.${escaped(moves)}`).join("~");
 
 /** @param {Candidate} candidate */
-const writtenCandidate = ({ parts, note, next }) => [writtenParts(parts), written(note), next].join(";").replace(/;+$/, "");
+const writtenCandidate = ({ parts, note, next }) => [writtenParts(parts), escaped(note), next].join(";").replace(/;+$/, "");
 
 /** @param {List} list */
 function writtenList({ step, side, slack, isAll, split = 0 }) {
@@ -55,7 +56,7 @@ function writtenList({ step, side, slack, isAll, split = 0 }) {
 /** @param {State} state */
 export function addressOf({ scramble, parts, side, list, kept }) {
   const fields = [];
-  if (scramble !== "") fields.push(`scramble=${written(scramble)}`);
+  if (scramble !== "") fields.push(`scramble=${escaped(scramble)}`);
   if (parts.length > 0) fields.push(`steps=${writtenParts(parts)}`);
   if (side !== "normal") fields.push(`side=${side}`);
   if (list) fields.push(`list=${writtenList(list)}`);
@@ -63,8 +64,7 @@ export function addressOf({ scramble, parts, side, list, kept }) {
   return `#${fields.join("&")}`;
 }
 
-/** Whether an address has room for a state.
- * @param {State} state */
+/** @param {State} state @returns whether an address has room for a state */
 export const fitsAddress = (state) => addressOf(state).length <= LONGEST_ADDRESS;
 
 /** @param {string} text @returns {Part} */
@@ -75,12 +75,16 @@ function readPart(text) {
   return { side, moves: plain };
 }
 
-/** @param {string} text @returns {Part[]} */
-function readParts(text) {
-  const parts = text.split("~");
-  if (parts.length > MOST_PARTS) throw new Error("too many");
-  return parts.map(readPart);
+/** Splits a text into at most so many pieces.
+ * @param {string} text @param {string} sign @param {number} most */
+function split(text, sign, most) {
+  const pieces = text.split(sign);
+  if (pieces.length > most) throw new Error("too many");
+  return pieces;
 }
+
+/** @param {string} text @returns {Part[]} */
+const readParts = (text) => split(text, "~", MOST_PARTS).map(readPart);
 
 /** @param {string} text @returns {List} */
 function readList(text) {
@@ -103,35 +107,33 @@ function readCandidate(text) {
   return { parts: readParts(parts), note: plain, next };
 }
 
-/** What each field of an address puts into the state.
- * @type {Record<string, (state: State, text: string) => void>} */
+/** @param {string} text */
+function readText(text) {
+  const scramble = oneLine(spelled(text));
+  if (scramble.length > LONGEST_SCRAMBLE) throw new Error("too long");
+  return scramble;
+}
+
+/** @param {string} text */
+function readSide(text) {
+  if (!isSide(text)) throw new Error("no side");
+  return text;
+}
+
+/** @param {string} text */
+const readCandidates = (text) => split(text, ",", MOST_CANDIDATES).map(readCandidate);
+
+/** Which part of the state each field of an address is, and how it is read. */
 const FIELDS = {
-  scramble: (state, text) => {
-    const scramble = oneLine(spelled(text));
-    if (scramble.length > LONGEST_SCRAMBLE) throw new Error("too long");
-    state.scramble = scramble;
-  },
-  steps: (state, text) => {
-    state.parts = readParts(text);
-  },
-  side: (state, text) => {
-    if (!isSide(text)) throw new Error("no side");
-    state.side = text;
-  },
-  list: (state, text) => {
-    state.list = readList(text);
-  },
-  kept: (state, text) => {
-    const candidates = text.split(",");
-    if (candidates.length > MOST_CANDIDATES) throw new Error("too many");
-    state.kept = candidates.map(readCandidate);
-  },
+  scramble: { is: "scramble", read: readText },
+  steps: { is: "parts", read: readParts },
+  side: { is: "side", read: readSide },
+  list: { is: "list", read: readList },
+  kept: { is: "kept", read: readCandidates },
 };
 
-/**
- * Puts a field into the state, or says why it isn't.
- * @param {State} state @param {string} field @param {Set<string>} said @returns {string}
- */
+/** Puts a field into the state, or says why it isn't.
+ * @param {State} state @param {string} field @param {Set<string>} said @returns {string} */
 function readField(state, field, said) {
   const [name, value, ...rest] = field.split("=");
   if (!Object.hasOwn(FIELDS, name)) return "unknown";
@@ -139,17 +141,16 @@ function readField(state, field, said) {
   if (said.has(name)) return "said twice";
   said.add(name);
   try {
-    FIELDS[name](state, value);
+    const { is, read } = FIELDS[name];
+    state[is] = read(value);
     return "";
   } catch (fault) {
     return fault instanceof URIError ? "broken escapes" : fault.message;
   }
 }
 
-/**
- * The state that an address gives, and what of it was left out, or "".
- * @param {string} hash @returns {{state: State, fault: string}}
- */
+/** The state that an address gives, and what of it was left out, or "".
+ * @param {string} hash @returns {{state: State, fault: string}} */
 export function readAddress(hash) {
   const text = hash.replace(/^#/, "");
   if (text.length > LONGEST_ADDRESS) return { state: emptyState(), fault: "This address is too long, so the page begins empty." };

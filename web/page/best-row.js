@@ -6,27 +6,22 @@ import { SIDES, bracketed } from "./steps.js";
 
 /** @typedef {import("./finder.js").Row} Row */
 /** @typedef {import("./steps.js").Part} Part */
-/**
- * @typedef {{goOn: (row: Row) => void, star: (button: HTMLElement, parts: Part[], next?: string) => void,
- *     isStarred: (parts: Part[], next?: string) => boolean, isSeen: (parts: Part[], next?: string) => boolean}} RowActs
- */
+/** @typedef {{goOn: (row: Row) => void, star: (button: HTMLElement, parts: Part[], next?: string) => void,
+ * isStarred: (parts: Part[], next?: string) => boolean, isSeen: (parts: Part[], next?: string) => boolean}} RowActs */
 
 /** How many signs the style adds to a row that was seen, and how wide a sign of a twin is beside one of the moves. */
 const SEEN_SIGNS = 2;
 const SIGN_OF_TWIN = 0.7;
 
-/** A cell whose role stays where a narrow page lays the row out as a grid.
- * @param {"td" | "th"} name */
+/** @param {"td" | "th"} name @returns a cell whose role stays where a narrow page lays the row out as a grid */
 function cell(name, attributes, ...children) {
   const role = name === "th" ? { role: "rowheader", scope: "row" } : { role: "cell" };
   return element(name, { ...role, ...attributes }, ...children);
 }
 
-/**
- * The cell of a row's moves and twins, which tells the style how many signs stand on one line, where the page is narrow and elsewhere.
+/** The cell of a row's moves and twins, which tells the style how many signs stand on one line, where the page is narrow and elsewhere.
  * @param {HTMLElement} take @param {string[]} others the last turns of the twins @param {boolean} isBeside whether they stand beside the
- * moves there
- */
+ * moves there */
 function movesCell(take, others, isBeside) {
   // as solvers write it: the last turn may be the one or the other
   const either = others.length === 1 ? ` / ${others[0]}` : ` or ${others.length} twins`;
@@ -51,10 +46,8 @@ function lengthCell({ lengths, totals, side: best }, side) {
   return cell("td", about, lengths[side] === null ? "–" : String(lengths[side]), element("small", { class: "times" }));
 }
 
-/**
- * Shows in a row how many of the shortest reductions there are on each side, and the first of them.
- * @param {Element} shown the row @param {import("./reductions.js").Reductions} reductions
- */
+/** Shows in a row how many of the shortest reductions there are on each side, and the first of them.
+ * @param {Element} shown the row @param {import("./position.js").Reductions} reductions */
 export function tellReductions(shown, { counts, first }) {
   shown.querySelectorAll(".number").forEach((each, at) => {
     const count = counts[SIDES[at]];
@@ -77,7 +70,7 @@ export function bestRow(row, acts) {
   const take = takeButton(line, { key, isSeen }, () => acts.goOn(row));
   // one orientation has a row, and a star, for each reduction that may follow
   const whole = next ? `${line}, ${next.marks} ${next.case}` : line;
-  const star = starButton(whole, acts.isStarred([added], next?.step), (button) => acts.star(button, [added], next?.step));
+  const star = starButton(whole, () => acts.isStarred([added], next?.step), (button) => acts.star(button, [added], next?.step));
   const moves = movesCell(take, others, next !== null);
   const cells = [cell("th", {}, all), moves, cell("td", { class: "axis" }, state)];
   if (next) {
@@ -85,5 +78,5 @@ export function bestRow(row, acts) {
     cells.push(cell("td", { class: "axis" }, next.marks, " ", element("span", { class: "case" }, next.case)));
     cells.push(...SIDES.map((side) => lengthCell(next, side)));
   }
-  return element("tr", { role: "row", "data-marks": next ? next.marks : state }, ...cells, cell("td", {}, star));
+  return element("tr", { role: "row", "data-marks": state }, ...cells, cell("td", {}, star));
 }

@@ -1,13 +1,15 @@
 // The card of the best continuations: looked for by themselves, longer ones too, with progress, a stop, filters, and rows that go on.
+import { byTotal } from "../module/best-rows.js";
+import { Stopped } from "../module/faults.js";
+import { GREATEST_SLACK } from "./address.js";
 import { bestRow } from "./best-row.js";
-import { Stopped } from "./calls.js";
-import { announce, announceLater, counted, element, part, setBusy, tell } from "./element.js";
-import { BestFilter, FilterSigns, NOT_MOVES } from "./filter.js";
-import { byCase, byTotal, findContinuations } from "./finder.js";
+import { announce, announceLater, counted, part, setBusy, tell } from "./element.js";
+import { Filters, NOT_MOVES, caseAtMost, chosen, offerChoices, offerLastTurns, offerMoves, withTurns } from "./filter.js";
+import { byCase, findContinuations } from "./finder.js";
 import { FurtherSearch } from "./further.js";
 import { ShownReductions } from "./reductions.js";
-import { focusButton, focusWithin, roveWithin } from "./rows.js";
-import { isReduced, reducedAfter } from "./steps.js";
+import { addRows, refreshRows, roveWithin, showRows, takeNamed } from "./rows.js";
+import { ORIENTATIONS, SIDES, isReduced, reducedAfter, stateOf } from "./steps.js";
 import { isNarrow } from "./view.js";
 
 /** @typedef {import("./finder.js").Row} Row */
@@ -19,6 +21,7 @@ const LOOKING_FOR_BEST = "Looking for the best …";
  * none follows them in their row. */
 const SHOWN_FIRST = { narrow: 3, wide: 6, ofReductions: 8 };
 const SHOWN_MORE = 40;
+const TOTALS = ["7", "8", "9", "10", "11", "12", "13"];
 /** Of how many searches what was found is kept. */
 const MOST_KEPT_SEARCHES = 8;
 
@@ -28,9 +31,8 @@ function shownFirst(reached) {
   return reached.length > 0 ? SHOWN_FIRST.ofReductions : SHOWN_FIRST.wide;
 }
 
-/** What a search is known by.
- * @param {Question} question */
-const nameOfSearch = ({ now, slack, isAll }) => [now.normal, now.inverse, slack, isAll].join("/");
+/** @param {Question} question @returns what a search is known by */
+const nameOfSearch = ({ position: { lines }, slack, isAll }) => [lines.normal, lines.inverse, slack, isAll].join("/");
 
 /** How many rows that aren't seen belong before the last one that is.
  * @param {Row[]} rows @param {string[]} seen the keys of those that are seen */
@@ -40,11 +42,27 @@ function newAmong(rows, seen) {
   return rows.slice(0, Math.max(0, last)).filter(({ key }) => !known.has(key)).length;
 }
 
+/** The filters of orientations, with the reduction that follows and its case; and of reductions, after which there is no case. */
+const filters = () => ({
+  ofOrientations: [
+    caseAtMost("best", ({ next }) => [next.case]),
+    chosen("best-axis", ORIENTATIONS.map(stateOf), ({ state }, axis) => state === axis),
+    chosen("best-side", [...SIDES], ({ part: { side } }, wanted) => side === wanted),
+    chosen("best-next", reducedAfter(ORIENTATIONS.map(({ name }) => name)), ({ next }, marks) => next.marks === marks),
+    chosen("best-total", TOTALS, ({ total }, most) => total <= Number(most)),
+  ],
+  ofReductions: [
+    chosen("best-reduction", [], ({ state }, wanted) => state === wanted),
+    chosen("best-reduction-side", [...SIDES], ({ part: { side } }, wanted) => side === wanted),
+    withTurns("best-filter", "best-last", ({ part: { moves }, others }) => ({ moves, others })),
+  ],
+});
+
 export class BestContinuations {
   #finders;
   #acts;
-  #filter = new BestFilter({ changed: () => this.#filtered(), typed: () => this.#typed() });
-  #signs = new FilterSigns("best", () => this.#clear());
+  #kinds = filters();
+  #filters = new Filters("best", part("best-note"), Object.values(this.#kinds), () => this.#filtered());
   #question = null;
   /** @type {Further | null} what the rows are shown of */
   #progress = null;
@@ -57,9 +75,11 @@ export class BestContinuations {
   #reductions;
   #shown = 0;
   #body = part("best-body");
+  /** @type {Row[]} those that are seen */
+  #seen = [];
 
   /**
-   * @param {import("./finder.js").Finder[]} finders of its own, one an axis
+   * @param {import("./calls.js").Calls[]} finders of its own, one an axis
    * @param {import("./calls.js").Calls} calls that tell more of rows that are seen
    * @param {import("./best-row.js").RowActs & {shown: () => void, isBusy: () => boolean}} acts `isBusy`: whether the page waits for
    * something else
@@ -75,6 +95,7 @@ export class BestContinuations {
       ended: (fault) => this.#endedFurther(fault),
     });
     roveWithin(this.#body);
+    offerMoves("best-slack", GREATEST_SLACK);
     part("best-stop").addEventListener("click", () => this.#stopped());
     part("best-new").addEventListener("click", () => this.#showNewer());
     part("best-further").addEventListener("change", () => this.#turnFurther());
@@ -83,31 +104,35 @@ export class BestContinuations {
     part("best-more").addEventListener("click", () => this.#more());
   }
 
-  /**
-   * Takes another cube, or none, and looks for the best of it.
-   * @param {{now: import("./steps.js").Lines, parts: import("./steps.js").Part[], reached: string[]} | null} cube
-   */
+  /** Takes another cube, or none, and looks for the best of it.
+   * @param {{position: import("../module/ways.js").Position, reached: string[]} | null} cube */
   reset(cube) {
     this.#stop();
     this.#question = cube;
-    this.#progress = null;
-    this.#newer = null;
+    [this.#progress, this.#newer] = [null, null];
+    this.#seen = [];
     this.#reductions.clear();
     this.#shown = shownFirst(cube?.reached ?? []);
-    const isNeeded = cube !== null && !isReduced(cube.reached);
     // until another cube is known nothing shows or hides the card, or what is read below it would move
-    if (cube !== null) part("best").hidden = !isNeeded;
-    if (!isNeeded) {
-      this.#body.replaceChildren();
-      part("best-note").textContent = "";
-      part("best-more").hidden = true;
-      this.#tellNewer(0);
-      this.#working(false);
-      return;
-    }
-    part("best-table").classList.toggle("of-reductions", cube.reached.length > 0);
-    part("best-unasked").hidden = cube.reached.length > 0;
-    this.#filter.begin(reducedAfter(cube.reached));
+    if (cube !== null) this.expect(cube.reached, false);
+    if (cube !== null && !isReduced(cube.reached)) return this.#begin(cube.reached);
+    this.#body.replaceChildren();
+    part("best-note").textContent = "";
+    part("best-more").hidden = true;
+    this.#takeNewer();
+    this.#working(false);
+  }
+
+  /** @param {string[]} reached the orientations that hold */
+  #begin(reached) {
+    part("best-unasked").hidden = reached.length > 0;
+    part("best-filters").hidden = reached.length > 0;
+    part("best-turns").hidden = reached.length === 0;
+    // those of reductions belong to one cube
+    this.#filters.use(this.#kinds.ofReductions);
+    this.#filters.clear();
+    offerChoices("best-reduction", reducedAfter(reached));
+    if (reached.length === 0) this.#filters.use(this.#kinds.ofOrientations);
     this.#ask();
   }
 
@@ -130,29 +155,18 @@ export class BestContinuations {
 
   /** Shows the stars as they are. */
   mark() {
-    this.#draw();
+    refreshRows(this.#body);
   }
 
-  #clear() {
-    this.#filter.clear();
-    this.#filtered();
-    announce(part("best-note").textContent);
-  }
-
-  /** Shows what the filters leave, from its beginning. */
+  /** Shows what the filters leave, from its beginning, and says whether there are rows. */
   #filtered() {
     this.#shown = shownFirst(this.#question?.reached ?? []);
     this.#takeNewer();
     this.#draw();
+    return this.#progress !== null;
   }
 
-  /** The same once nothing more is typed, and says it. */
-  #typed() {
-    this.#filtered();
-    if (this.#progress !== null) announceLater(part("best-note").textContent);
-  }
-
-  /** Makes the row seen that has this name, and answers its button, or null.
+  /** Makes the row seen that has this name, and returns its button, or null.
    * @param {string} key */
   reveal(key) {
     const placeIn = (progress) => (this.#rows(progress) ?? []).findIndex((row) => row.key === key);
@@ -161,7 +175,7 @@ export class BestContinuations {
     if (at < 0) return null;
     this.#shown = Math.max(this.#shown, at + 1);
     this.#draw();
-    return this.#body.querySelectorAll(".take")[at];
+    return takeNamed(this.#body, key);
   }
 
   #stop() {
@@ -201,14 +215,12 @@ export class BestContinuations {
     else if (this.#found.has(nameOfSearch(this.#question))) this.#ask();
   }
 
-  /**
-   * Takes what was found without being asked for. Rows that are seen stay where they are: what belongs among them waits until it is asked
+  /** Takes what was found without being asked for. Rows that are seen stay where they are: what belongs among them waits until it is asked
    * for.
-   * @param {Further} progress
-   */
+   * @param {Further} progress */
   #foundFurther(progress) {
     if (progress.done === progress.all) this.#keep(this.#question, progress);
-    const seen = [...this.#body.querySelectorAll(".take")].map(({ dataset }) => dataset.key);
+    const seen = this.#seen.map(({ key }) => key);
     const rows = this.#rows(progress) ?? [];
     this.#newer = progress;
     this.#tellProgress(progress);
@@ -226,8 +238,7 @@ export class BestContinuations {
 
   /** Takes the rows that were found since into those that are shown. */
   #takeNewer() {
-    if (this.#newer === null) return;
-    this.#progress = this.#newer;
+    this.#progress = this.#newer ?? this.#progress;
     this.#newer = null;
     this.#tellNewer(0);
   }
@@ -243,11 +254,11 @@ export class BestContinuations {
 
   /** Shows the rows that were found since in their places, and goes to the first of them. */
   #showNewer() {
-    const seen = new Set([...this.#body.querySelectorAll(".take")].map(({ dataset }) => dataset.key));
+    const seen = new Set(this.#seen.map(({ key }) => key));
     this.#takeNewer();
     this.#draw();
-    const first = [...this.#body.querySelectorAll(".take")].find(({ dataset }) => !seen.has(dataset.key));
-    (first ?? part("best-heading")).focus({ preventScroll: true });
+    const first = this.#seen.find(({ key }) => !seen.has(key));
+    (first ? takeNamed(this.#body, first.key) : part("best-heading")).focus({ preventScroll: true });
   }
 
   /** @param {Question} question */
@@ -256,7 +267,6 @@ export class BestContinuations {
     const { slack } = question;
     this.#progress = null;
     this.#showRows([]);
-    this.#tellNewer(0);
     this.#working(true);
     part("best-note").textContent = LOOKING_FOR_BEST;
     try {
@@ -298,6 +308,8 @@ export class BestContinuations {
     stop.disabled = !isOn;
     part("best-progress").hidden = !isOn;
     setBusy("best", isAsked, "");
+    // of rows that a stop left too
+    if (!isAsked && this.#progress) this.#reductions.tell(this.#question.position, this.#seen);
     if (isOn) part("best-progress").removeAttribute("value");
   }
 
@@ -306,7 +318,7 @@ export class BestContinuations {
     this.#progress = progress;
     this.#tellProgress(progress);
     if (progress.done === progress.all) this.#working(false);
-    this.#filter.offer(progress.rows);
+    if (this.#question.reached.length > 0) offerLastTurns("best-last", progress.rows.map((row) => row.part.moves));
     this.#draw();
     this.#acts.shown();
   }
@@ -320,8 +332,7 @@ export class BestContinuations {
 
   #tried() {
     const { done, all, slack } = this.#newer ?? this.#progress;
-    const isOfReductions = this.#question.reached.length > 0;
-    if (isOfReductions) return "";
+    if (this.#question.reached.length > 0) return "";
     const longer = slack > this.#question.slack ? `Up to ${slack} longer: ` : "";
     // how many there are isn't known until the longer ones are found
     if (all === null) return `${longer}${counted(done, "EO")} tried.`;
@@ -331,20 +342,19 @@ export class BestContinuations {
   /** The rows that the filters leave, in their order; or null if what is typed isn't moves.
    * @param {Further | null} progress */
   #rows(progress) {
-    const rows = this.#filter.left(progress?.rows ?? []);
+    const rows = this.#filters.left(progress?.rows ?? []);
     if (part("best-sort").value === "case") rows?.sort((one, other) => byCase(one, other) || byTotal(one, other));
     return rows;
   }
 
   #draw() {
-    this.#signs.show(this.#filter.count(), false);
-    if (this.#progress === null) return this.#showRows([]);
     const left = this.#rows(this.#progress);
     const rows = left ?? [];
+    this.#filters.show(rows.length === 0 && this.#progress?.rows.length > 0);
     const shown = rows.slice(0, this.#shown);
-    this.#showRows(shown.map((row) => bestRow(row, this.#acts)));
-    if (!this.#isAsked) this.#reductions.tell(this.#question, shown);
-    this.#signs.show(this.#filter.count(), rows.length === 0 && this.#progress.rows.length > 0);
+    this.#showRows(shown);
+    if (this.#progress === null) return;
+    if (!this.#isAsked) this.#reductions.tell(this.#question.position, shown);
     this.#tellRows(left === null ? null : rows.length);
   }
 
@@ -373,16 +383,15 @@ export class BestContinuations {
     this.#body.querySelectorAll(".take")[from]?.focus();
   }
 
-  /** Shows the rows in place of the last ones; the same row keeps the focus, if it is there.
-   * @param {HTMLElement[]} rows */
+  /** Shows rows below those that are seen, or in place of them. One that moved among others would be a shift of what is seen, so then all
+   * are made anew.
+   * @param {Row[]} rows */
   #showRows(rows) {
-    const focused = focusWithin(this.#body);
-    this.#body.replaceChildren(...rows);
-    const buttons = [...this.#body.querySelectorAll(".take")];
-    buttons[0]?.setAttribute("tabindex", "0");
-    if (focused === null) return;
-    const same = buttons.find(({ dataset }) => dataset.key === focused.key);
-    if (same) focusButton(same, focused.place);
-    else (buttons[0] ?? part("best-heading")).focus({ preventScroll: true });
+    const stay = this.#seen.every((row, at) => row === rows[at]) ? this.#seen.length : 0;
+    this.#seen = rows;
+    showRows(this.#body, () => {
+      if (stay === 0) this.#body.replaceChildren();
+      addRows(this.#body, rows.slice(stay).map((row) => bestRow(row, this.#acts)));
+    }, part("best-heading"));
   }
 }

@@ -1,21 +1,20 @@
-// Calls of the engine as promises. The engine runs in a worker, whose script stands in the page, so that the page never waits; workers
-// start and build the tables that may be needed next while nothing else is asked.
-import { WorkerCalls } from "../module/worker-calls.js";
+// Questions to the engine, as promises. It runs in a worker, whose script stands in the page (worker.js has what may be asked), so that the
+// page never waits; workers start and build the tables that may be needed next while nothing else is asked.
+import { NissyFault } from "../module/faults.js";
+import { WorkerQueue } from "../module/worker-queue.js";
 import { ORIENTATIONS, REDUCTIONS, openSteps, reductionsAfter } from "./steps.js";
 import { watched } from "./watch.js";
 
-export { EngineMissing, Stopped } from "../module/faults.js";
+/** @typedef {import("./worker.js").Answers} Answers */
 
 const UNREADABLE = "An answer of it can't be read.";
 
-/**
- * What starts workers of the page, by the text of their script. One is started before it is asked for, since that takes a while.
- * @param {string} script @returns {(name?: string) => Worker}
- */
+/** What starts workers of the page, by the text of their script. One is started before it is asked for, since that takes a while.
+ * @param {string} script @returns {() => Worker} */
 export function workersOf(script) {
-  const start = (name = "") => {
+  const start = () => {
     const address = URL.createObjectURL(new Blob([script], { type: "text/javascript" }));
-    const worker = new Worker(address, { name });
+    const worker = new Worker(address);
     // not before it was read
     worker.addEventListener("message", () => URL.revokeObjectURL(address), { once: true });
     // an answer that can't be read would be waited for
@@ -34,26 +33,50 @@ export function workersOf(script) {
   } catch {
     // whoever asks for one is told why it can't be started
   }
-  return (name = "") => {
-    const ready = name === "" ? early : null;
-    if (ready !== null) early = null;
-    return ready ?? start(name);
+  return () => {
+    const ready = early;
+    early = null;
+    return ready ?? start();
   };
 }
 
-/** An engine in a worker of its own, which the first call starts. */
-export class Calls extends WorkerCalls {
+/** An engine in a worker of its own, which the first question starts. */
+export class Calls {
+  #queue;
+  /** how many answers are waited for, beside tables */
+  #asked = 0;
   /** @type {Set<string>} the steps whose tables are built */
   #ready = new Set();
   /** @type {string[]} the steps whose tables are still to be built */
   #unready = [];
 
-  /** @param {(name?: string) => Worker} newWorker @param {import("../module/worker-calls.js").SentModule} module */
+  /** @param {() => Worker} newWorker @param {import("../module/worker-queue.js").SentModule} module */
   constructor(newWorker, module) {
-    super(module, watched(() => newWorker()));
+    this.#queue = new WorkerQueue(module, watched(newWorker));
   }
 
-  /** Has the tables of some steps built before they are needed, one after another, until calls are given up.
+  /**
+   * What the engine says. Rejects with a `NissyFault` if lines can't be read.
+   * @template {keyof Answers} Name
+   * @param {Name} call @param {Parameters<Answers[Name]>[1]} about @param {(progress: any) => void} [followed] what is told before the end
+   * @returns {Promise<ReturnType<Answers[Name]>>}
+   */
+  async ask(call, about, followed) {
+    this.#asked++;
+    try {
+      return await this.#answer(call, about, followed);
+    } finally {
+      this.#asked--;
+    }
+  }
+
+  async #answer(call, about, followed) {
+    const { value, fault } = await this.#queue.answer(/** @type {any} */ ({ call, about }), {}, followed);
+    if (fault) throw new NissyFault(fault.text, fault);
+    return value;
+  }
+
+  /** Has the tables of some steps built before they are needed, one after another, until questions are given up.
    * @param {string[]} steps */
   async ready(steps) {
     const unready = steps.filter((name) => !this.#ready.has(name));
@@ -61,7 +84,7 @@ export class Calls extends WorkerCalls {
     try {
       while (unready === this.#unready && unready.length > 0) {
         const step = unready.shift();
-        await this.count(step, "");
+        await this.#answer("build", { step });
         this.#ready.add(step);
       }
     } catch {
@@ -69,16 +92,23 @@ export class Calls extends WorkerCalls {
     }
   }
 
-  /** Gives up the calls that wait for their turn. */
+  /** Gives up the questions that wait for their turn. */
   drop() {
     this.#unready = [];
-    super.drop();
+    this.#queue.drop();
   }
 
-  /** Gives up all calls: what runs has its worker ended, and the tables with it. */
+  /** Gives up all questions: what runs has its worker ended, and the tables with it, unless these are all that it has to do. */
   stop() {
+    if (this.#asked === 0) return this.drop();
+    this.end();
+  }
+
+  /** The same, also of a worker that has nothing to do. */
+  end() {
     this.#ready.clear();
-    super.stop();
+    this.#unready = [];
+    this.#queue.end();
   }
 }
 
@@ -91,10 +121,7 @@ export class Readiness {
   #workers;
   #timer = 0;
 
-  /**
-   * @param {{calls: import("./calls.js").Calls, byHand: import("./calls.js").Calls, list: import("./calls.js").Calls,
-   *     finders: import("./finder.js").Finder[]}} workers
-   */
+  /** @param {{calls: Calls, byHand: Calls, list: Calls, finders: Calls[]}} workers */
   constructor(workers) {
     this.#workers = workers;
   }
@@ -104,10 +131,8 @@ export class Readiness {
     clearTimeout(this.#timer);
   }
 
-  /**
-   * Begins in a moment, and not while the best are looked for.
-   * @param {string[]} reached @param {boolean} isBare whether no scramble is there yet @param {() => boolean} isBusy
-   */
+  /** Begins in a moment, and not while the best are looked for.
+   * @param {string[]} reached @param {boolean} isBare whether no scramble is there yet @param {() => boolean} isBusy */
   begin(reached, isBare, isBusy) {
     this.stop();
     this.#timer = setTimeout(() => (isBusy() ? this.begin(reached, isBare, isBusy) : this.#build(reached, isBare)), REST);

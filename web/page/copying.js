@@ -1,24 +1,20 @@
 // Copies: a line as solvers write it on a scoresheet, the scramble on top and then a step a line with what it reaches and how long it is;
 // and how a text comes to the clipboard.
 import { announce, part } from "./element.js";
-import { newlyReached } from "./position.js";
-import { bracketed } from "./steps.js";
+import { bracketed, newlyReached } from "./steps.js";
 import { tellAt } from "./view.js";
 
 /** @typedef {import("./position.js").Walk} Walk */
 
-/**
- * A step with its comment, such as `D R B2 // DR R/L (3/10)`: its moves, and those up to its end.
- * @param {Walk} walk @param {number} index
- */
+/** A step with its comment, such as `D R B2 // DR R/L (3/10)`: its moves, and those up to its end.
+ * @param {Walk} walk @param {number} index */
 function stepLine(walk, index) {
   const [own, total] = [walk.turns[index], walk.totals[index + 1]];
   const count = index === 0 ? `(${total})` : `(${own}/${total})`;
   return `${bracketed([walk.parts[index]])} // ${[newlyReached(walk, index).join(", "), count].filter(Boolean).join(" ")}`;
 }
 
-/** The steps of a line, a text of a line each.
- * @param {Walk} walk */
+/** @param {Walk} walk @returns the steps of a line, a text of a line each */
 const stepLines = (walk) => walk.parts.map((_, index) => stepLine(walk, index));
 
 /** @param {string} scramble @param {Walk} walk */
@@ -33,7 +29,7 @@ export function fmcOfAll(scramble, candidates) {
 
 const MOMENT = 1500;
 
-/** A word on a button for a moment.
+/** Shows a word on a button for a moment.
  * @param {HTMLElement} button @param {string} word */
 function sayOn(button, word) {
   button.dataset.word ??= button.textContent;

@@ -1,6 +1,6 @@
 // The card of the cube: the nets of both sides, the pieces that are marked on them, how they are held, and moves that are played on them.
 import { AXES } from "../module/best-steps.js";
-import { stickersOf } from "./cases.js";
+import { stickersOf } from "../module/stickers.js";
 import { announce, element, part, tell } from "./element.js";
 import { emptyNet, plainView, showCube, stickerOf, turnedView } from "./net.js";
 import { SIDES, axisName } from "./steps.js";
@@ -13,10 +13,8 @@ const FOLLOW = "follow";
 const PLAIN = "none";
 const BEAT = 700;
 
-/**
- * The places of the pieces that a choice marks, and what they are called; a choice is `EO F/B` or `DR U/D`.
- * @param {import("../module/facts.js").Facts} facts @param {string} choice
- */
+/** The places of the pieces that a choice marks, and what they are called; a choice is `EO F/B` or `DR U/D`.
+ * @param {import("../module/facts.js").Facts} facts @param {string} choice */
 function marksOf({ badEdges, badCorners, misplacedEdges, cases }, choice) {
   const [kind, name] = choice.split(" ");
   const axis = AXES.find((each) => axisName(each) === name);
@@ -66,11 +64,9 @@ export class Cube {
     part("play-on").addEventListener("click", () => this.#step(1));
   }
 
-  /**
-   * Shows a cube.
+  /** Shows a cube.
    * @param {Record<Side, View>} views @param {number} count how many moves lead to it from the scramble
-   * @param {() => Promise<{move: string, views: Record<Side, View>}[]>} ask for the cube after each of them
-   */
+   * @param {() => Promise<{move: string, views: Record<Side, View>}[]>} ask for the cube after each of them */
   show(views, count, ask) {
     this.stop();
     this.#views = views;
@@ -118,8 +114,7 @@ export class Cube {
     part("cube-large").focus();
   }
 
-  /** What the cell of the open list would mark, or "".
-   * @param {string} choice */
+  /** @param {string} choice what the cell of the open list would mark, or "" */
   follow(choice) {
     this.#open = choice;
     this.#draw();

@@ -6,8 +6,7 @@
  *     selectionEnd: number, showPopover(): void, setSelectionRange(from: number, to: number): void, max: number, open: boolean}} PageElement
  */
 
-/** The element of the page that has this id.
- * @param {string} id @returns {PageElement} */
+/** @param {string} id @returns {PageElement} the element of the page that has this id */
 export function part(id) {
   const found = document.getElementById(id);
   if (!found) throw new Error(`the page has no part ${id}`);
@@ -32,6 +31,9 @@ export function element(name, attributes = {}, ...children) {
   return /** @type {any} */ (made);
 }
 
+/** @param {string} text @param {Parameters<typeof element>[1]} attributes @returns a new button */
+export const button = (text, attributes) => element("button", { type: "button", ...attributes }, text);
+
 /** Shows text in an element, and hides the element where there is none.
  * @param {HTMLElement} where @param {string} text */
 export function tell(where, text) {
@@ -49,10 +51,8 @@ export function announce(text) {
   part("status").textContent = text;
 }
 
-/**
- * Says something to screen readers once nothing else changes for a moment; an empty text takes back what would be said.
- * @param {string} text
- */
+/** Says something to screen readers once nothing else changes for a moment; an empty text takes back what would be said.
+ * @param {string} text */
 export function announceLater(text) {
   clearTimeout(later);
   if (text !== "") later = setTimeout(announce, QUIET, text);
@@ -61,22 +61,18 @@ export function announceLater(text) {
 const LONG_WAIT = 500;
 const waiting = new Map();
 
-/**
- * Says of a part of the page whether it waits for answers, and to screen readers what it waits for, where that takes a while.
- * @param {string} id @param {boolean} isBusy @param {string} [text] what is said
- */
+/** Says of a part of the page whether it waits for answers, and to screen readers what it waits for, where that takes a while.
+ * @param {string} id @param {boolean} isBusy @param {string} [text] what is said */
 export function setBusy(id, isBusy, text = "") {
   part(id).setAttribute("aria-busy", String(isBusy));
   clearTimeout(waiting.get(id));
   if (isBusy && text !== "") waiting.set(id, setTimeout(announce, LONG_WAIT, text));
 }
 
-/** A number with its word: `1 move`, `1,200 moves`.
- * @param {number} count @param {string} word */
+/** @param {number} count @param {string} word @returns a number with its word: `1 move`, `1,200 moves` */
 export function counted(count, word) {
   return `${count.toLocaleString("en")} ${word}${count === 1 ? "" : "s"}`;
 }
 
-/** Moves as they are said, since an apostrophe isn't read as solvers read it.
- * @param {string} moves */
+/** @param {string} moves @returns moves as they are said, since an apostrophe isn't read as solvers read it */
 export const spoken = (moves) => moves.replace(/'/g, " prime").replace(/\(/g, "on the inverse side ").replace(/\)/g, "");

@@ -1,70 +1,54 @@
-// What is left of rows: by how many corners and edges their cases may have, by turns that are typed, by the last turn, by axis and side.
-import { sizeOf } from "./cases.js";
-import { element, part, tell } from "./element.js";
+// What is left of rows: by what is chosen, by how many corners and edges their cases may have, by turns that are typed, by the last turn.
+import { withTwins } from "../module/twins.js";
+import { announce, announceLater, counted, element, part, tell } from "./element.js";
+import { sizeOfCase } from "./steps.js";
 
-/** @typedef {import("./finder.js").Row} Row */
+/** @typedef {{fields: string[], test: (...values: string[]) => ((row: any) => boolean) | null}} Kind of filter: its fields, and what says
+ * by the values of these whether a row is left; null if one of them can't be read */
+/** @typedef {{moves: string, others: string[]}} Ends moves, and the last turns of their twins */
 
 /** What is said of a text that isn't moves. */
 export const NOT_MOVES = "The text in the filter is not moves: type face turns such as F B'.";
 
 /** How many corners and edges of a case may be asked for, beside any number. */
-const MOST_OF_CASE = { corners: [7, 6, 5, 4, 3, 2, 0], edges: [6, 4, 2, 0] };
+const MOST_OF_CASE = { corners: ["7", "6", "5", "4", "3", "2", "0"], edges: ["6", "4", "2", "0"] };
+/** Of two turns of opposite faces, which may stand in either order, the lists have these first. */
+const FIRST_OF_AXIS = { D: "U", L: "R", B: "F" };
 
-/** How many of some fields leave not all.
- * @param {import("./element.js").PageElement[]} fields */
-const countOn = (fields) => fields.filter(({ value }) => value.trim() !== "").length;
-
-/**
- * Offers choices, of which the first leaves all; the one that is chosen stays, if it is among them.
- * @param {import("./element.js").PageElement} field @param {string[]} choices
- */
-function offerChoices(field, choices) {
+/** Offers choices, of which the first leaves all; the one that is chosen stays, if it is among them.
+ * @param {string} name of the field @param {string[]} choices */
+export function offerChoices(name, choices) {
+  const field = part(name);
   const chosen = field.value;
   field.replaceChildren(element("option", { value: "" }, "any"), ...choices.map((each) => element("option", { value: each }, each)));
   field.value = choices.includes(chosen) ? chosen : "";
 }
 
-/** Two fields for the most corners and edges of a case. */
-export class CaseFilter {
-  #fields;
-
-  /** @param {string} name with which the ids of both begin @param {() => void} changed */
-  constructor(name, changed) {
-    this.#fields = Object.entries(MOST_OF_CASE).map(([kind, counts]) => {
-      const field = part(`${name}-${kind}`);
-      const choices = counts.map((count) => element("option", { value: count }, String(count)));
-      field.append(element("option", { value: "" }, "any"), ...choices);
-      field.addEventListener("change", changed);
-      return field;
-    });
-  }
-
-  /** Leaves all. */
-  clear() {
-    for (const field of this.#fields) field.value = "";
-  }
-
-  /** How many fields leave not all. */
-  count() {
-    return countOn(this.#fields);
-  }
-
-  /**
-   * What says of the name of a case, such as `4c2e`, whether it is left; null if all are.
-   * @returns {((name: string) => boolean) | null}
-   */
-  test() {
-    if (this.count() === 0) return null;
-    const [corners, edges] = this.#fields.map(({ value }) => (value === "" ? Infinity : Number(value)));
-    return (name) => {
-      const size = sizeOf(name);
-      return size.corners <= corners && size.edges <= edges;
-    };
-  }
+/** Offers numbers of moves, from 0 on.
+ * @param {string} name of the field @param {number} most */
+export function offerMoves(name, most) {
+  const counts = Array.from({ length: most + 1 }, (_, count) => count);
+  part(name).append(...counts.map((count) => element("option", { value: count }, counted(count, "move"))));
 }
 
-/** Of two turns of opposite faces, which may stand in either order, the lists have these first. */
-const FIRST_OF_AXIS = { D: "U", L: "R", B: "F" };
+/** What is chosen in a field.
+ * @param {string} field @param {string[]} choices @param {(row: any, choice: string) => boolean} isLeft @returns {Kind} */
+export function chosen(field, choices, isLeft) {
+  offerChoices(field, choices);
+  return { fields: [field], test: (value) => (row) => value === "" || isLeft(row, value) };
+}
+
+/** The most corners and edges that one of a row's cases may have.
+ * @param {string} name with which the ids of both fields begin @param {(row: any) => string[]} casesOf such as `4c2e` @returns {Kind} */
+export function caseAtMost(name, casesOf) {
+  for (const [kind, counts] of Object.entries(MOST_OF_CASE)) offerChoices(`${name}-${kind}`, counts);
+  const test = (...values) => {
+    if (values.every((value) => value === "")) return () => true;
+    const [corners, edges] = values.map((value) => (value === "" ? Infinity : Number(value)));
+    return (row) => casesOf(row).map(sizeOfCase).some((size) => size.corners <= corners && size.edges <= edges);
+  };
+  return { fields: [`${name}-corners`, `${name}-edges`], test };
+}
 
 /** Turns as the lists have them, where neighbours of opposite faces are the other way round.
  * @param {string[]} turns */
@@ -77,222 +61,90 @@ function inListOrder(turns) {
   return ordered;
 }
 
-/** The face turns that are typed, or null where the text isn't moves.
- * @param {string} text @returns {string[] | null} */
+/** @param {string} text @returns {string[] | null} the face turns that are typed, or null where the text isn't moves */
 function turnsOf(text) {
   const plain = text.replace(/[\u2019\u2032\u00B4\u0060]/g, "'").toUpperCase();
   if (!/^\s*(?:[UDRLFB](?:2'?|')?\s*)*$/.test(plain)) return null;
   return inListOrder((plain.match(/[UDRLFB][2']*/g) ?? []).map((turn) => turn.replace("2'", "2")));
 }
 
-/** Whether moves have these turns one after another.
- * @param {string} moves @param {string[]} wanted */
-const hasTurns = (moves, wanted) => wanted.length === 0 || ` ${moves} `.includes(` ${wanted.join(" ")} `);
-
-/** The last turn of some moves, "" where there is none.
- * @param {string} moves */
+/** @param {string} moves @returns the last turn of some moves, "" where there is none */
 const lastTurn = (moves) => moves.slice(moves.lastIndexOf(" ") + 1);
 
-/** Some moves, and their twins.
- * @param {string} moves @param {string[]} others the last turns of the twins */
-export function withTwins(moves, others) {
-  const own = moves.split(" ");
-  return [moves, ...others.map((end) => [...own.slice(0, -end.split(" ").length), end].join(" "))];
-}
-
-/**
- * Fields for turns that stand one after another, and for the last turn.
- * @typedef {{moves: string, others: string[]}} Ends moves, and the last turns of their twins
- */
-export class TurnFilter {
-  #typed;
-  #last;
-
-  /** @param {{typed: string, last: string}} names of the fields @param {{changed: () => void, typed: () => void}} acts */
-  constructor(names, { changed, typed }) {
-    this.#typed = part(names.typed);
-    this.#last = part(names.last);
-    this.#typed.addEventListener("input", typed);
-    this.#last.addEventListener("change", changed);
-  }
-
-  /** Leaves all. */
-  clear() {
-    this.#typed.value = "";
-    this.#last.value = "";
-  }
-
-  /** How many fields leave not all. */
-  count() {
-    return countOn([this.#typed, this.#last]);
-  }
-
-  focus() {
-    this.#typed.focus();
-  }
-
-  /** Offers the last turns of a list; the one that is chosen stays, if it is among them.
-   * @param {{moves: string}[]} entries */
-  offer(entries) {
-    const turns = [...new Set(entries.map(({ moves }) => lastTurn(moves)).filter(Boolean))].sort();
-    offerChoices(this.#last, turns);
-  }
-
-  /**
-   * What says of moves or one of their twins whether they are left; or null if what is typed isn't moves.
-   * @returns {((ends: Ends) => boolean) | null}
-   */
-  test() {
-    const wanted = turnsOf(this.#typed.value);
-    this.#typed.setAttribute("aria-invalid", String(wanted === null));
+/** Turns that stand one after another, and the last turn, of a row's moves or of one of their twins.
+ * @param {string} typed the field of the first @param {string} last of the second @param {(row: any) => Ends} endsOf @returns {Kind} */
+export function withTurns(typed, last, endsOf) {
+  offerChoices(last, []);
+  const test = (text, end) => {
+    const wanted = turnsOf(text);
+    part(typed).setAttribute("aria-invalid", String(wanted === null));
     if (wanted === null) return null;
-    const last = this.#last.value;
-    return ({ moves, others }) => {
-      return withTwins(moves, others).some((each) => hasTurns(each, wanted) && (last === "" || lastTurn(each) === last));
+    const turns = wanted.length === 0 ? "" : ` ${wanted.join(" ")} `;
+    return (row) => {
+      const { moves, others } = endsOf(row);
+      return withTwins(moves, others).some((each) => ` ${each} `.includes(turns) && (end === "" || lastTurn(each) === end));
     };
-  }
+  };
+  return { fields: [typed, last], test };
 }
 
-/** The filters of a list. */
-export class ListFilter {
-  #cases;
-  #turns;
+/** Offers the last turns of some moves.
+ * @param {string} field @param {string[]} all the moves of each row */
+export const offerLastTurns = (field, all) => offerChoices(field, [...new Set(all.map(lastTurn).filter(Boolean))].sort());
 
-  /** @param {{changed: () => void, typed: () => void}} acts */
-  constructor(acts) {
-    this.#cases = new CaseFilter("most", acts.changed);
-    this.#turns = new TurnFilter({ typed: "filter", last: "last-turn" }, acts);
-  }
-
-  /** Leaves all. */
-  clear() {
-    this.#turns.clear();
-    this.#cases.clear();
-  }
-
-  /** How many fields leave not all. */
-  count() {
-    return this.#turns.count() + this.#cases.count();
-  }
-
-  focus() {
-    this.#turns.focus();
-  }
-
-  /** Offers the last turns of a list.
-   * @param {{moves: string}[]} entries */
-  offerLastTurns(entries) {
-    this.#turns.offer(entries);
-  }
-
-  /**
-   * What is left of a list, each entry by itself or one of its twins; or null if what is typed isn't moves.
-   * @template {import("../module/twins.js").Twins} Entry
-   * @param {Entry[]} entries @param {(entry: Entry) => {name: string}[]} casesOf @returns {Entry[] | null}
-   */
-  left(entries, casesOf) {
-    const hasTurn = this.#turns.test();
-    if (hasTurn === null) return null;
-    const isLeft = this.#cases.test();
-    const hasCase = (entry) => isLeft === null || casesOf(entry).some(({ name }) => isLeft(name));
-    return entries.filter((entry) => hasTurn(entry) && hasCase(entry));
-  }
-}
-
-/** What says of a card how many of its filters are on, a button that clears them, and a sentence where they leave nothing. */
-export class FilterSigns {
+/** The filters of a card, which says how many of them are on, and if they leave nothing; a button clears them. */
+export class Filters {
+  #kinds;
   #badge;
   #button;
   #none;
 
-  /** @param {string} name with which the ids begin @param {() => void} clear */
-  constructor(name, clear) {
-    this.#badge = part(`${name}-on`);
-    this.#button = part(`${name}-clear`);
-    this.#none = part(`${name}-none`);
+  /** @param {string} name with which the ids begin @param {HTMLElement} note that says what is left @param {Kind[][]} sets of which one is
+   * used at a time, at first the first one @param {() => boolean} changed says whether there are rows that may be left */
+  constructor(name, note, sets, changed) {
+    [this.#kinds] = sets;
+    [this.#badge, this.#button, this.#none] = ["on", "clear", "none"].map((each) => part(`${name}-${each}`));
+    for (const field of sets.flat().flatMap(({ fields }) => fields).map(part)) {
+      if (!field.matches("input")) field.addEventListener("change", changed);
+      // once nothing more is typed it is said what is left
+      else field.addEventListener("input", () => changed() && announceLater(note.textContent));
+    }
     this.#button.addEventListener("click", () => {
       // what is hidden can't keep the focus
       this.#badge.closest("summary").focus({ preventScroll: true });
-      clear();
+      this.clear();
+      if (changed()) announce(note.textContent);
     });
   }
 
-  /** @param {number} count how many are on @param {boolean} isEmpty whether they leave nothing of something */
-  show(count, isEmpty) {
-    tell(this.#badge, count === 0 ? "" : `${count} on`);
-    this.#button.hidden = count === 0;
-    this.#none.hidden = count === 0 || !isEmpty;
-  }
-}
-
-/** Whether a choice leaves a value: the first choice leaves each.
- * @param {import("./element.js").PageElement} field @param {string} value */
-const leaves = (field, value) => field.value === "" || field.value === value;
-
-/**
- * The filters of the best: of orientations their axis and side, the reduction that follows and its case; of reductions, after which there
- * is no case, their axis, their side and their turns. Those of reductions belong to one cube.
- */
-export class BestFilter {
-  #cases;
-  #turns;
-  #orientation = { axis: part("best-axis"), side: part("best-side"), next: part("best-next"), total: part("best-total") };
-  #reduction = { axis: part("best-reduction"), side: part("best-reduction-side") };
-  #isOfReductions = false;
-
-  /** @param {{changed: () => void, typed: () => void}} acts */
-  constructor(acts) {
-    this.#cases = new CaseFilter("best", acts.changed);
-    this.#turns = new TurnFilter({ typed: "best-filter", last: "best-last" }, acts);
-    const fields = [this.#orientation, this.#reduction].flatMap((each) => Object.values(each));
-    for (const field of fields) field.addEventListener("change", acts.changed);
-  }
-
-  /** Takes another cube.
-   * @param {string[]} reductions what may be reached, if an orientation holds; none before one */
-  begin(reductions) {
-    this.#isOfReductions = reductions.length > 0;
-    part("best-filters").hidden = this.#isOfReductions;
-    part("best-turns").hidden = !this.#isOfReductions;
-    this.#turns.clear();
-    this.#reduction.side.value = "";
-    this.#reduction.axis.value = "";
-    offerChoices(this.#reduction.axis, reductions);
+  /** Uses other kinds.
+   * @param {Kind[]} kinds */
+  use(kinds) {
+    this.#kinds = kinds;
   }
 
   /** Leaves all. */
   clear() {
-    this.#cases.clear();
-    this.#turns.clear();
     for (const field of this.#fields()) field.value = "";
   }
 
-  /** How many fields of those that are shown leave not all. */
-  count() {
-    return countOn(this.#fields()) + (this.#isOfReductions ? this.#turns.count() : this.#cases.count());
+  /** What is left of rows, or null if a field can't be read.
+   * @template Row @param {Row[]} rows @returns {Row[] | null} */
+  left(rows) {
+    const tests = this.#kinds.map(({ fields, test }) => test(...fields.map((name) => part(name).value)));
+    return tests.includes(null) ? null : rows.filter((row) => tests.every((test) => test(row)));
+  }
+
+  /** Says how many fields leave not all.
+   * @param {boolean} isEmpty whether they leave nothing of something */
+  show(isEmpty) {
+    const count = this.#fields().filter(({ value }) => value.trim() !== "").length;
+    tell(this.#badge, count === 0 ? "" : `${count} on`);
+    this.#button.hidden = count === 0;
+    this.#none.hidden = count === 0 || !isEmpty;
   }
 
   #fields() {
-    return Object.values(this.#isOfReductions ? this.#reduction : this.#orientation);
-  }
-
-  /** Offers the last turns of the rows.
-   * @param {Row[]} rows */
-  offer(rows) {
-    if (this.#isOfReductions) this.#turns.offer(rows.map(({ part: { moves } }) => ({ moves })));
-  }
-
-  /** What is left of the rows, or null if what is typed isn't moves.
-   * @param {Row[]} rows @returns {Row[] | null} */
-  left(rows) {
-    const { axis, side } = this.#isOfReductions ? this.#reduction : this.#orientation;
-    const some = rows.filter(({ state, part: own }) => leaves(axis, state) && leaves(side, own.side));
-    if (!this.#isOfReductions) {
-      const hasCase = this.#cases.test() ?? (() => true);
-      const most = this.#orientation.total.value === "" ? Infinity : Number(this.#orientation.total.value);
-      return some.filter(({ next, total }) => leaves(this.#orientation.next, next.marks) && hasCase(next.case) && total <= most);
-    }
-    const hasTurn = this.#turns.test();
-    return hasTurn && some.filter(({ part: { moves }, others }) => hasTurn({ moves, others }));
+    return this.#kinds.flatMap(({ fields }) => fields).map(part);
   }
 }

@@ -1,20 +1,17 @@
 // Longer orientations than those that were asked for, which nobody asked for: one move longer, and then two. They are looked for while the
 // page is seen and waits for nothing else, by workers that leave half of the processor to whatever is asked meanwhile.
-import { MOST_KEPT, byTotal } from "./finder.js";
+import { Found, findOnAxis } from "./finder.js";
 import { ORIENTATIONS } from "./steps.js";
 
-/** @typedef {import("./finder.js").Row} Row */
 /** @typedef {import("./finder.js").Question} Question */
 /** @typedef {import("./finder.js").Progress & {slack: number}} Further how many moves longer than the shortest it looks */
-/** @typedef {{done: number, all: number | null}} Count */
-/** @typedef {{question: Question, rows: Map<string, Row>, isCut: boolean, left: number[], running: Set<number>, counts: Count[]}} Search
- * `left`: the axes that are still to be looked at, by their places; `counts`: of each */
+/** @typedef {{question: Question, found: Found, left: number[], running: Set<number>}} Search `left`: the axes that are still to be looked
+ * at, by their places */
 
 /** How many moves longer than the shortest are looked for without being asked for. */
-export const FURTHEST = 2;
+const FURTHEST = 2;
 /** How long nothing is waited for before it begins, in milliseconds. */
 const IDLE_FOR = 600;
-const NOT_YET = { done: 0, all: null };
 
 /** How many axes are looked at together. */
 const mostTogether = () => Math.max(1, Math.min(ORIENTATIONS.length, Math.floor((navigator.hardwareConcurrency || 2) / 2)));
@@ -26,11 +23,9 @@ export class FurtherSearch {
   /** @type {Search | null} */
   #search = null;
 
-  /**
-   * @param {import("./finder.js").Finder[]} finders one an axis
+  /** @param {import("./calls.js").Calls[]} finders one an axis
    * @param {{isBusy: () => boolean, turned: () => void, found: (progress: Further) => void, ended: (fault: Error | null) => void}} acts
-   * `turned`: once it goes on, or no more
-   */
+   * `turned`: once it goes on, or no more */
   constructor(finders, acts) {
     this.#finders = finders;
     this.#acts = acts;
@@ -42,16 +37,16 @@ export class FurtherSearch {
     return this.#search !== null && !document.hidden;
   }
 
-  /**
-   * Goes on from what was found.
-   * @param {Question} question @param {{rows: Row[], isCut: boolean}} found the best that are up to the question's moves longer
-   */
-  begin(question, { rows, isCut }) {
+  /** Goes on from what was found.
+   * @param {Question} question @param {Pick<Further, "rows" | "isCut">} before the best that are up to its moves longer */
+  begin(question, before) {
     this.stop();
     if (question.reached.length > 0 || question.slack >= FURTHEST) return;
     this.#search = {
-      question: { ...question, slack: question.slack + 1 }, isCut, rows: new Map(rows.map((row) => [row.key, row])),
-      left: ORIENTATIONS.map((_, at) => at), running: new Set(), counts: ORIENTATIONS.map(() => NOT_YET),
+      question: { ...question, slack: question.slack + 1 },
+      found: new Found(ORIENTATIONS.length, before),
+      left: ORIENTATIONS.map((_, at) => at),
+      running: new Set(),
     };
     this.#wait();
   }
@@ -89,47 +84,38 @@ export class FurtherSearch {
     search.running.add(at);
     const isStill = () => search === this.#search;
     try {
-      await this.#finders[at].find(ORIENTATIONS[at].name, search.question, (found) => isStill() && this.#take(search, at, found));
-      search.running.delete(at);
+      await findOnAxis(this.#finders, ORIENTATIONS[at], search.question, (found) => isStill() && this.#take(search, at, found));
     } catch (fault) {
+      if (isStill()) this.#broken(search, at, fault);
+      return;
+    } finally {
       search.running.delete(at);
-      if (!isStill()) return;
-      // it was given up until the page is seen again
-      if (document.hidden) return this.#giveBack(search, at);
-      this.stop();
-      return this.#acts.ended(fault);
     }
     if (isStill()) this.#endOf(search);
   }
 
-  /** @param {Search} search @param {number} at the place of an axis that is to be looked at anew */
-  #giveBack(search, at) {
+  /** @param {Search} search @param {number} at the place of an axis @param {Error} fault why it isn't looked through */
+  #broken(search, at, fault) {
+    if (!document.hidden) {
+      this.stop();
+      return this.#acts.ended(fault);
+    }
+    // it was given up until the page is seen again
     search.left.unshift(at);
-    search.counts[at] = NOT_YET;
+    search.found.giveBack(at);
   }
 
   /** @param {Search} search @param {number} at @param {import("./finder.js").Progress} found */
   #take(search, at, found) {
-    search.counts[at] = found;
-    search.isCut ||= found.isCut;
-    for (const row of found.rows) search.rows.set(row.key, row);
-    this.#acts.found(this.#progressOf(search));
-  }
-
-  /** @param {Search} search @returns {Further} */
-  #progressOf({ question: { slack }, rows, isCut, counts }) {
-    const sorted = [...rows.values()].sort(byTotal);
-    const done = counts.reduce((sum, each) => sum + each.done, 0);
-    const all = counts.some((each) => each.all === null) ? null : counts.reduce((sum, each) => sum + each.all, 0);
-    return { done, all, rows: sorted.slice(0, MOST_KEPT), isCut: isCut || sorted.length > MOST_KEPT, slack };
+    search.found.take(at, found);
+    this.#acts.found({ ...search.found.progress(), slack: search.question.slack });
   }
 
   /** Goes on with the next axis, or with one more move, or ends.
    * @param {Search} search one of whose axes is looked through */
   #endOf(search) {
     if (search.left.length > 0 || search.running.size > 0) return this.#goOn();
-    const progress = this.#progressOf(search);
-    this.begin(search.question, progress);
+    this.begin(search.question, search.found.progress());
     if (this.#search === null) this.#acts.ended(null);
   }
 }

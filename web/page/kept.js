@@ -1,10 +1,9 @@
 // The card of the candidates that are kept: each with its moves, what it reaches, its case and a note; gone on with, taken away, or copied.
+import { Stopped } from "../module/faults.js";
 import { LONGEST_NOTE, MOST_CANDIDATES, fitsAddress } from "./address.js";
-import { Stopped } from "./calls.js";
 import { copy, fmcOfAll } from "./copying.js";
-import { announce, counted, element, part, spoken, tell } from "./element.js";
+import { announce, button, counted, element, part, spoken, tell } from "./element.js";
 import { WayTo } from "./places.js";
-import { walkKept } from "./position.js";
 import { ORIENTATIONS, REDUCTIONS, SIDES, axisName, bracketed, isReduced, reductionsAfter, stateOf, statesOf, stepNamed } from "./steps.js";
 import { tellAt, withoutMoving } from "./view.js";
 import { MOST_ARE_KEPT, NO_ROOM } from "./words.js";
@@ -13,21 +12,17 @@ import { MOST_ARE_KEPT, NO_ROOM } from "./words.js";
 /** @typedef {import("./steps.js").Part} Part */
 /** @typedef {import("./position.js").KeptWalk} KeptWalk */
 
-/** What a candidate is known by.
- * @param {Part[]} parts @param {string} next */
+/** @param {Part[]} parts @param {string} next @returns what a candidate is known by */
 const nameOf = (parts, next) => [bracketed(parts), next].join(" ").trim();
 
 /** @param {Candidate} candidate */
 const nameOfCandidate = ({ parts, next }) => nameOf(parts, next);
 
-/** What a candidate is called where it is said.
- * @param {Candidate} candidate */
+/** @param {Candidate} candidate @returns what a candidate is called where it is said */
 const saidOf = ({ parts, next }) => spoken(bracketed(parts)) + (next === "" ? "" : `, ${stateOf(stepNamed(next))}`);
 
-/**
- * What is kept once a line is starred, or no longer if it was, and whether it is.
- * @param {Candidate[]} candidates @param {Part[]} parts @param {string} next @returns {{kept: Candidate[], isKept: boolean}}
- */
+/** What is kept once a line is starred, or no longer if it was, and whether it is.
+ * @param {Candidate[]} candidates @param {Part[]} parts @param {string} next @returns {{kept: Candidate[], isKept: boolean}} */
 function withStar(candidates, parts, next) {
   const others = candidates.filter((each) => nameOfCandidate(each) !== nameOf(parts, next));
   const isKept = others.length === candidates.length;
@@ -41,8 +36,7 @@ function stageOf({ reached, next }) {
   return next !== null || isReduced(last) ? 2 : Math.min(1, last.length);
 }
 
-/** How many moves a candidate has, with the reduction that it was kept with.
- * @param {KeptWalk} walk */
+/** @param {KeptWalk} walk @returns how many moves a candidate has, with the reduction that it was kept with */
 const totalOf = ({ totals, next }) => next?.total ?? totals.at(-1);
 
 /** The reduction that a candidate was kept with, as its row says it: `DR F/B 6c4e: N 4 I 7, 9 in all`; or "".
@@ -60,18 +54,15 @@ function wordsOfNext({ next }) {
  * @param {KeptWalk} walk @param {string} name of a step that is reached in the end */
 const heldFrom = ({ reached }, name) => reached.findLastIndex((each) => !each.includes(name)) + 1;
 
-/** On which sides some steps are.
- * @param {Part[]} parts */
+/** @param {Part[]} parts @returns on which sides some steps are */
 function sidesOf(parts) {
   const sides = SIDES.filter((side) => parts.some((each) => each.side === side));
   return sides.length === 1 ? sides[0] : "both sides";
 }
 
-/**
- * The stages of a candidate with a reduction: up to the orientation before it, up to itself with the case that was solved, and what came
+/** The stages of a candidate with a reduction: up to the orientation before it, up to itself with the case that was solved, and what came
  * after it.
- * @param {KeptWalk} walk @returns {Stage[]}
- */
+ * @param {KeptWalk} walk @returns {Stage[]} */
 function stagesOfReduced(walk) {
   const { parts, facts } = walk;
   const reductions = REDUCTIONS.filter(({ name }) => walk.reached.at(-1).includes(name));
@@ -129,11 +120,9 @@ export class KeptCandidates {
   #list = part("kept-list");
   #way = new WayTo(part("bar-kept"), part("kept"), part("kept-heading"));
 
-  /**
-   * @param {import("./calls.js").Calls} calls of its own
+  /** @param {import("./calls.js").Calls} calls of its own
    * @param {{goOn: (parts: Part[], next: {step: string, side: import("./steps.js").Side} | null) => void,
-   *     change: (kept: Candidate[]) => void}} acts
-   */
+   * change: (kept: Candidate[]) => void}} acts */
   constructor(calls, acts) {
     this.#calls = calls;
     this.#acts = acts;
@@ -162,23 +151,19 @@ export class KeptCandidates {
     this.#draw();
   }
 
-  /**
-   * Keeps a line, or takes it away if it is kept.
-   * @param {import("./address.js").State} state @param {HTMLElement} button under which is said why it isn't kept @param {Part[]} parts
-   * @param {string} [next] the reduction that it is kept with
-   */
-  star(state, button, parts, next = "") {
+  /** Keeps a line, or takes it away if it is kept.
+   * @param {import("./address.js").State} state @param {HTMLElement} pressed under which is said why it isn't kept @param {Part[]} parts
+   * @param {string} [next] the reduction that it is kept with */
+  star(state, pressed, parts, next = "") {
     const { kept, isKept } = withStar(state.kept, parts, next);
-    if (kept.length > MOST_CANDIDATES) return tellAt(button, MOST_ARE_KEPT);
-    if (!fitsAddress({ ...state, kept })) return tellAt(button, NO_ROOM);
+    if (kept.length > MOST_CANDIDATES) return tellAt(pressed, MOST_ARE_KEPT);
+    if (!fitsAddress({ ...state, kept })) return tellAt(pressed, NO_ROOM);
     withoutMoving(part("results"), () => (isKept ? this.#acts.change(kept) : this.leave(kept)));
     announce(`${spoken(bracketed(parts))}: ${isKept ? "kept" : "no longer kept"}.`);
   }
 
-  /**
-   * Leaves fewer candidates, which can be undone until something else changes.
-   * @param {Candidate[]} left
-   */
+  /** Leaves fewer candidates, which can be undone until something else changes.
+   * @param {Candidate[]} left */
   leave(left) {
     const before = this.#candidates;
     this.#acts.change(left);
@@ -195,7 +180,6 @@ export class KeptCandidates {
     part("kept-left").hidden = count === 0;
     part("kept-left-words").textContent = count === 0 ? "" : `${counted(count, "line")} ${count === 1 ? "was" : "were"} removed.`;
     part("kept").classList.toggle("empty", this.#candidates.length === 0 && count === 0);
-    part("kept-clear").hidden = this.#candidates.length === 0;
     // what is hidden can't keep the focus
     if (isFocused && count === 0) part("kept-heading").focus({ preventScroll: true });
   }
@@ -221,7 +205,7 @@ export class KeptCandidates {
     const candidates = this.#candidates;
     if (this.#scramble === written && this.#walks.length === candidates.length) return;
     try {
-      const walks = await walkKept(this.#calls, scramble, candidates);
+      const walks = await this.#calls.ask("walkKept", { scramble, candidates });
       if (candidates !== this.#candidates) return;
       this.#walks = walks;
       this.#scramble = written;
@@ -232,8 +216,7 @@ export class KeptCandidates {
     }
   }
 
-  /** Whether a line is kept, by itself or with a reduction.
-   * @param {Part[]} parts @param {string} [next] */
+  /** @param {Part[]} parts @param {string} [next] @returns whether a line is kept, by itself or with a reduction */
   has(parts, next = "") {
     return this.#candidates.some((each) => nameOfCandidate(each) === nameOf(parts, next));
   }
@@ -258,8 +241,7 @@ export class KeptCandidates {
     tell(part("kept-count"), this.#candidates.length === 0 ? "" : counted(this.#candidates.length, "line"));
   }
 
-  /** What is pressed or typed in, by its name.
-   * @param {string} name */
+  /** @param {string} name @returns what is pressed or typed in, by its name */
   #control(name) {
     return [...this.#list.querySelectorAll("[data-control]")].find(({ dataset }) => dataset.control === name);
   }
@@ -267,13 +249,14 @@ export class KeptCandidates {
   #item({ candidate, walk, at }) {
     const { parts, note } = candidate;
     const [name, said] = [nameOfCandidate(candidate), saidOf(candidate)];
+    const act = (word, control, click) =>
+      button(word, { class: "quiet", "data-control": `${control} ${name}`, "aria-label": `${word}: ${said}`, click });
     const field = element("input", {
       class: "note-field", value: note, maxlength: LONGEST_NOTE, placeholder: "Note", autocomplete: "off",
       "data-control": `note ${name}`,
       "aria-label": `Note: ${said}`,
       change: (event) => {
-        const text = event.target.value.trim();
-        this.#acts.change(this.#candidates.map((each, place) => (place === at ? { ...each, note: text } : each)));
+        this.#acts.change(this.#candidates.with(at, { ...this.#candidates[at], note: event.target.value.trim() }));
       },
     });
     this.#notes[at] = field;
@@ -281,14 +264,8 @@ export class KeptCandidates {
       stepOf(parts, walk),
       element("span", { class: "row" },
         field,
-        element("button", {
-          type: "button", class: "quiet", "data-control": `on ${name}`, "aria-label": `Go on: ${said}`,
-          click: () => this.#acts.goOn(parts, walk?.next ? { step: candidate.next, side: walk.next.side } : null),
-        }, "Go on"),
-        element("button", {
-          type: "button", class: "quiet", "data-control": `away ${name}`, "aria-label": `Remove: ${said}`,
-          click: () => this.#remove(at),
-        }, "Remove")));
+        act("Go on", "on", () => this.#acts.goOn(parts, walk?.next ? { step: candidate.next, side: walk.next.side } : null)),
+        act("Remove", "away", () => this.#remove(at))));
   }
 
   /** Takes a candidate away; the focus, if it was in its row, goes to the next one.
@@ -297,7 +274,7 @@ export class KeptCandidates {
     const row = [...this.#list.children].find((each) => each.contains(document.activeElement));
     const next = row?.nextElementSibling ?? row?.previousElementSibling;
     const control = next?.querySelector("[data-control^=away]").dataset.control;
-    this.leave(this.#candidates.filter((_, place) => place !== at));
+    this.leave(this.#candidates.toSpliced(at, 1));
     if (row) (this.#control(control) ?? part("kept-back")).focus({ preventScroll: true });
   }
 }

@@ -5,8 +5,26 @@ import { bracketed } from "./steps.js";
 
 const LAST = "nissy-last";
 
-/** What an address says that can be gone on with: a state with a scramble, or null.
- * @param {string} address */
+/** @param {string} name @returns what the browser keeps under a name, or "" */
+export function stored(name) {
+  try {
+    return localStorage.getItem(name) ?? "";
+  } catch {
+    return "";
+  }
+}
+
+/** Has the browser keep a text, if it does so.
+ * @param {string} name @param {string} text */
+export function store(name, text) {
+  try {
+    localStorage.setItem(name, text);
+  } catch {
+    // then it holds until the page is closed
+  }
+}
+
+/** @param {string} address @returns what an address says that can be gone on with: a state with a scramble, or null */
 function readLast(address) {
   const { state, fault } = readAddress(address);
   return fault === "" && state.scramble.trim() !== "" ? state : null;
@@ -15,24 +33,12 @@ function readLast(address) {
 /** Keeps an address, if it can be gone on with: nothing else takes the place of what was done before.
  * @param {string} address */
 export function keepLast(address) {
-  try {
-    if (readLast(address) !== null) localStorage.setItem(LAST, address);
-  } catch {
-    // then nothing is offered
-  }
-}
-
-function last() {
-  try {
-    return localStorage.getItem(LAST) ?? "";
-  } catch {
-    return "";
-  }
+  if (readLast(address) !== null) store(LAST, address);
 }
 
 /** Offers what was done last, if it can be read. */
 export function offerLast() {
-  const address = last();
+  const address = stored(LAST);
   const state = readLast(address);
   part("last").hidden = state === null;
   if (state === null) return;

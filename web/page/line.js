@@ -1,13 +1,11 @@
 // The card of the line so far: the steps that were taken, each of which may be edited or taken away, undo, moves by hand, the switch of
 // sides, and the whole to copy.
-import { Stopped } from "./calls.js";
+import { Stopped } from "../module/faults.js";
+import { plainLine } from "../module/written.js";
 import { copy, fmcOf } from "./copying.js";
-import { announce, counted, element, part, spoken, tell } from "./element.js";
-import { readByHand } from "./lines.js";
-import { plainLine, wordsOfLeftOut } from "./pasted.js";
-import { newlyReached } from "./position.js";
-import { bracketed, isReduced, otherSide, statesOf } from "./steps.js";
-import { showFault } from "./words.js";
+import { announce, button, counted, element, part, spoken, tell } from "./element.js";
+import { bracketed, isReduced, newlyReached, otherSide, statesOf } from "./steps.js";
+import { showFault, wordsOfLeftOut } from "./words.js";
 
 /** @typedef {import("./steps.js").Part} Part */
 /** @typedef {import("./position.js").Walk} Walk */
@@ -17,20 +15,17 @@ const LONGEST_PASTED = 65536;
 const UNKNOWN = "…";
 const NO_MOVES = "No moves yet";
 
-/** The parts without their last move.
- * @param {Part[]} parts @returns {Part[]} */
+/** @param {Part[]} parts @returns {Part[]} the parts without their last move */
 export function withoutLastMove(parts) {
   const { side, moves } = parts.at(-1);
   const left = moves.split(" ").slice(0, -1).join(" ");
   return left === "" ? parts.slice(0, -1) : [...parts.slice(0, -1), { side, moves: left }];
 }
 
-/** Words in a row: `one`, `one and another`, `one, another and a third`.
- * @param {string[]} words */
+/** @param {string[]} words @returns words in a row: `one`, `one and another`, `one, another and a third` */
 const listed = (words) => [words.slice(0, -1).join(", "), ...words.slice(-1)].filter((each) => each !== "").join(" and ");
 
-/** What is said of a line that ends, or "".
- * @param {Walk} walk */
+/** @param {Walk} walk @returns what is said of a line that ends, or "" */
 function endOf({ parts, facts, reached, totals }) {
   const total = counted(totals.at(-1), "move");
   if (parts.length === 0) return "";
@@ -40,31 +35,21 @@ function endOf({ parts, facts, reached, totals }) {
   return `${listed(states)} ${states.length === 1 ? "is" : "are"} reached: ${total}. nissy has no step after a DR: go on by hand.`;
 }
 
-/**
- * What is known of the steps that two lines begin with in common.
- * @template Known @param {Known[]} known of each of `parts` @param {Part[]} parts @param {Part[]} others
- */
+/** What is known of the steps that two lines begin with in common.
+ * @template Known @param {Known[]} known of each of `parts` @param {Part[]} parts @param {Part[]} others */
 function keptOf(known, parts, others) {
   const end = parts.findIndex(({ side, moves }, at) => side !== others[at]?.side || moves !== others[at].moves);
   return end < 0 ? known : known.slice(0, end);
 }
 
-/** A list with others in place of one of its members.
- * @template Member
- * @param {Member[]} list @param {number} index @param {Member[]} others */
-const withOthers = (list, index, others) => [...list.slice(0, index), ...others, ...list.slice(index + 1)];
-
-/** What is to be known of a line without brackets before the cube is solved, or "".
- * @param {Walk} walk */
+/** @param {Walk} walk @returns what is to be known of a line without brackets before the cube is solved, or "" */
 function noteOfJoined({ parts, facts }) {
   if (facts.at(-1).solved || !parts.some(({ side }) => side === "inverse")) return "";
   return "Not finished: the inverse moves stand at the end as premoves, and what follows goes before them.";
 }
 
-/**
- * Has lines that are pasted go into a field of one line without their comments, of which the first would leave out all after it.
- * @param {import("./element.js").PageElement} field
- */
+/** Has lines that are pasted go into a field of one line without their comments, of which the first would leave out all after it.
+ * @param {import("./element.js").PageElement} field */
 function takeLines(field) {
   field.addEventListener("paste", (event) => {
     const text = event.clipboardData.getData("text/plain").trim().replace(/\r\n?/g, "\n");
@@ -91,11 +76,9 @@ export class LineSoFar {
   /** @type {Side} */
   #side = "normal";
 
-  /**
-   * @param {import("./calls.js").Calls} calls
+  /** @param {import("./calls.js").Calls} calls
    * @param {{change: (change: {parts?: Part[], side?: Side}) => boolean, star: () => void}} acts `change` says whether it leads back to
-   * a row
-   */
+   * a row */
   constructor(calls, acts) {
     this.#calls = calls;
     this.#acts = acts;
@@ -109,11 +92,9 @@ export class LineSoFar {
     part("undo-move").addEventListener("click", () => this.#undo(withoutLastMove(this.#parts)));
     part("clear").addEventListener("click", () => this.#undo([]));
     part("keep-line").addEventListener("click", () => acts.star());
-    for (const name of ["bracketed", "joined"]) {
-      const button = part(`copy-${name}`);
-      button.addEventListener("click", () => copy(part(name).textContent, button, part(name)));
+    for (const name of ["bracketed", "joined", "fmc"]) {
+      part(`copy-${name}`).addEventListener("click", (event) => copy(part(name).textContent, event.currentTarget, part(name)));
     }
-    part("copy-fmc").addEventListener("click", (event) => copy(part("fmc").textContent, event.currentTarget, part("fmc")));
   }
 
   /** Shows on which side moves by hand go.
@@ -162,10 +143,8 @@ export class LineSoFar {
     for (const name of ["line-list", "whole", "undo", "bar-total", "bar-undo", "keep-line"]) part(name).hidden = parts.length === 0;
   }
 
-  /**
-   * Shows what each step reaches, how long it is, and the whole.
-   * @param {Walk} walk @param {string} whole without brackets @param {string} scramble
-   */
+  /** Shows what each step reaches, how long it is, and the whole.
+   * @param {Walk} walk @param {string} whole without brackets @param {string} scramble */
   describe(walk, whole, scramble) {
     this.#showWhole({
       line: bracketed(walk.parts), joined: whole, total: counted(walk.totals.at(-1), "move"), note: noteOfJoined(walk),
@@ -200,23 +179,12 @@ export class LineSoFar {
 
   #item(each, index) {
     const text = bracketed([each]);
-    const edit = element("button", {
-      type: "button",
-      class: "quiet",
-      "aria-label": `Edit ${spoken(text)}`,
-      click: () => this.#edit(index),
-    }, "Edit");
-    const remove = element("button", {
-      type: "button",
-      class: "quiet",
-      "aria-label": `Remove ${spoken(text)}`,
-      click: () => this.#replace(index, [], 1),
-    }, "Remove");
+    const act = (word, click) => button(word, { class: "quiet", "aria-label": `${word} ${spoken(text)}`, click });
     const { reaches, lost, count } = this.#words[index];
     return element("li", {},
       element("span", { class: "step" },
         element("span", { class: "moves" }, text), reaches, lost, element("span", { class: "note" }, count)),
-      element("span", { class: "acts" }, edit, remove));
+      element("span", { class: "acts" }, act("Edit", () => this.#edit(index)), act("Remove", () => this.#replace(index, [], 1))));
   }
 
   /** Puts a field in place of a step.
@@ -245,25 +213,23 @@ export class LineSoFar {
       keydown: (event) => {
         if (event.key === "Escape") leave();
       },
-    }, field, element("button", { type: "submit" }, "Change"), element("button", { type: "button", click: leave }, "Leave"));
+    }, field, button("Change", { type: "submit" }), button("Leave", { click: leave }));
     item.replaceChildren(form, fault);
     field.focus();
     field.setSelectionRange(text.length, text.length);
   }
 
-  /**
-   * Puts parts in place of a step: the last of them is to reach what that one reached. The focus, if it was in the step's row, goes to the
+  /** Puts parts in place of a step: the last of them is to reach what that one reached. The focus, if it was in the step's row, goes to the
    * last row that is there then.
-   * @param {number} index @param {Part[]} added @param {number} button the place among its buttons of the one that has the focus then
-   */
-  #replace(index, added, button) {
+   * @param {number} index @param {Part[]} added @param {number} focused the place among its buttons of the one that has the focus then */
+  #replace(index, added, focused) {
     const isWithin = part("line-list").children[index].contains(document.activeElement);
     const reached = added.map((_, at) => (at === added.length - 1 ? this.#reached[index] : []));
-    this.#wanted = withOthers(this.#reached, index, reached);
-    this.#undo(withOthers(this.#parts, index, added));
+    this.#wanted = this.#reached.toSpliced(index, 1, ...reached);
+    this.#undo(this.#parts.toSpliced(index, 1, ...added));
     const place = index + Math.max(added.length, 1) - 1;
     const row = part("line-list").children[Math.min(place, this.#parts.length - 1)];
-    if (isWithin) row?.querySelectorAll("button")[button].focus({ preventScroll: true });
+    if (isWithin) row?.querySelectorAll("button")[focused].focus({ preventScroll: true });
   }
 
   #undo(parts) {
@@ -293,7 +259,7 @@ export class LineSoFar {
     const isStill = () => field.value === text && this.#parts === parts && field.isConnected;
     const plain = plainLine(text);
     try {
-      const added = await readByHand(this.#calls, plain.line, side);
+      const added = await this.#calls.ask("readByHand", { text: plain.line, side });
       if (!isStill()) return;
       showFault(where, field, plain, null, text);
       use(added);

@@ -4,7 +4,6 @@ import { compiled } from "../module/source.js";
 import { Calls, workersOf } from "./calls.js";
 import { copyLink } from "./copying.js";
 import { part } from "./element.js";
-import { Finder } from "./finder.js";
 import { offerLast } from "./last.js";
 import { Page } from "./page.js";
 import { offerCover } from "./rows.js";
@@ -19,9 +18,9 @@ async function unpacked() {
   return new Uint8Array(await new Response(bytes).arrayBuffer());
 }
 
-/** @param {import("../module/worker-calls.js").SentModule} module */
+/** @param {import("../module/worker-queue.js").SentModule} module */
 function start(module) {
-  const page = new Page({ calls: () => new Calls(newWorker, module), finder: () => new Finder(newWorker, module) });
+  const page = new Page(() => new Calls(newWorker, module));
   addEventListener("popstate", ({ state }) => page.returnTo(state));
   addEventListener("hashchange", () => page.begin(location.hash));
   page.begin(location.hash);

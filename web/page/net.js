@@ -7,12 +7,8 @@ const GAP = 2;
 
 /** The faces in the order of the engine's letters, with their place in the net. */
 const FACES = [
-  { name: "U", column: 1, row: 0 },
-  { name: "R", column: 2, row: 1 },
-  { name: "F", column: 1, row: 1 },
-  { name: "D", column: 1, row: 2 },
-  { name: "L", column: 0, row: 1 },
-  { name: "B", column: 3, row: 1 },
+  { name: "U", column: 1, row: 0 }, { name: "R", column: 2, row: 1 }, { name: "F", column: 1, row: 1 },
+  { name: "D", column: 1, row: 2 }, { name: "L", column: 0, row: 1 }, { name: "B", column: 3, row: 1 },
 ];
 
 /** @param {string} name @param {Record<string, string | number>} attributes */
@@ -47,8 +43,7 @@ export function emptyNet() {
  * @param {SVGElement} net @param {Element} target */
 export const stickerOf = (net, target) => [...net.querySelectorAll(".sticker")].indexOf(target.closest(".sticker"));
 
-/** The letters in words: each face with its three rows.
- * @param {string} letters */
+/** @param {string} letters @returns the letters in words: each face with its three rows */
 function inWords(letters) {
   return FACES.map(({ name }, face) => {
     const rows = [0, 3, 6].map((row) => [...letters.slice(9 * face + row, 9 * face + row + 3)].join(" "));
@@ -82,18 +77,13 @@ const PLACES = Array.from({ length: 54 }, (_, place) => place);
 function pointOf(place) {
   const [row, column] = [Math.floor((place % 9) / 3), place % 3];
   const points = [
-    [column - 1, 2, row - 1],
-    [2, 1 - row, 1 - column],
-    [column - 1, 1 - row, 2],
-    [column - 1, -2, 1 - row],
-    [-2, 1 - row, column - 1],
-    [1 - column, 1 - row, -2],
+    [column - 1, 2, row - 1], [2, 1 - row, 1 - column], [column - 1, 1 - row, 2],
+    [column - 1, -2, 1 - row], [-2, 1 - row, column - 1], [1 - column, 1 - row, -2],
   ];
   return points[Math.floor(place / 9)];
 }
 
-/** The places of all stickers of the piece that one is on, in their order.
- * @param {number} place */
+/** @param {number} place @returns the places of all stickers of the piece that one is on, in their order */
 export function pieceAt(place) {
   const nameOfCubie = (each) => pointOf(each).map((at) => Math.sign(at)).join();
   const wanted = nameOfCubie(place);

@@ -1,22 +1,20 @@
 // The page's state, and what each change of it makes the parts of the page show.
-import { NissyFault } from "../module/faults.js";
+import { NissyFault, Stopped } from "../module/faults.js";
+import { plainLine } from "../module/written.js";
 import { emptyState, readAddress } from "./address.js";
 import { BestContinuations } from "./best.js";
-import { Readiness, Stopped } from "./calls.js";
+import { Readiness } from "./calls.js";
 import { copy } from "./copying.js";
 import { Cube } from "./cube.js";
 import { announce, announceLater, part, setBusy, spoken, tell } from "./element.js";
 import { NextFocus } from "./focus.js";
 import { KeptCandidates } from "./kept.js";
 import { LineSoFar } from "./line.js";
-import { readKept, readScramble, readSteps, readWritten } from "./lines.js";
-import { plainLine } from "./pasted.js";
 import { Seen, WayBack, dropAddress, keepPlace, placeIn, writeState } from "./places.js";
-import { examine, framesOf, inPortions, offersOf } from "./position.js";
 import { ScrambleField } from "./scramble.js";
-import { OpenList, SolutionList } from "./solutions.js";
+import { SolutionList } from "./solutions.js";
 import { ORIENTATIONS, bracketed, isReduced, stateOf, stepNamed } from "./steps.js";
-import { StepTable } from "./table.js";
+import { StepTable, offersAt } from "./table.js";
 import { awaitAnswer, isBare, keepInView, listenToKeys, setUsable, showBeginning, showStart, star, waitsForAnswers } from "./view.js";
 import { tellFailed } from "./watch.js";
 import { titleOfPage, unanswered, whyNotListed, whyUnread } from "./words.js";
@@ -29,7 +27,6 @@ export class Page {
   #state = emptyState();
   #turn = 0;
   #cube = null;
-  #openList;
   #isReading = false;
   #nextFocus = new NextFocus();
   #wayBack = new WayBack();
@@ -46,8 +43,8 @@ export class Page {
   #best;
   #kept;
 
-  /** @param {{calls: () => import("./calls.js").Calls, finder: () => import("./finder.js").Finder}} made each has a worker of its own */
-  constructor({ calls: newCalls, finder }) {
+  /** @param {() => import("./calls.js").Calls} newCalls of which each has a worker of its own */
+  constructor(newCalls) {
     this.#calls = newCalls();
     this.#keptCalls = newCalls();
     // what is asked for by hand is never given up for another cube
@@ -64,14 +61,14 @@ export class Page {
       goOn: (parts, next) => this.#goOnKept(parts, next && { ...next, slack: 0, isAll: false }),
       change: (kept) => this.#change({ kept }),
     });
-    this.#list = new SolutionList({
+    const list = newCalls();
+    this.#list = new SolutionList(list, {
       ...stars,
       take: (taken, key) => this.#take(taken, key),
       change: (change) => this.#changeList(change),
       copy,
     });
-    const [list, finders] = [newCalls(), ORIENTATIONS.map(finder)];
-    this.#openList = new OpenList(list, this.#list);
+    const finders = ORIENTATIONS.map(newCalls);
     this.#readiness = new Readiness({ calls: this.#calls, byHand: this.#byHand, list, finders });
     this.#best = new BestContinuations(finders, this.#keptCalls, {
       ...stars, goOn: (row) => this.#goOn(row), shown: () => this.#goBack(), isBusy: waitsForAnswers,
@@ -114,8 +111,7 @@ export class Page {
     showBeginning(state);
     awaitAnswer(state);
     try {
-      state.parts = await readSteps(this.#calls, state.parts);
-      state.kept = await readKept(this.#calls, state.kept);
+      Object.assign(state, await this.#calls.ask("readAddressed", state));
     } catch (stop) {
       if (turn !== this.#turn) return;
       if (!(stop instanceof NissyFault)) return this.#showUnread(state, stop);
@@ -140,18 +136,20 @@ export class Page {
 
   /** Takes another state, or parts of it. While an address is still read, what is done on the page that is seen overtakes it.
    * A list doesn't outlast a change of the steps, since it belongs to the cube before it.
-   * @param {Partial<State>} change @param {{focusNext?: import("./focus.js").Where, isStep?: boolean}} how where the focus is to go with the
-   * answers, and whether the browser's Back leads to what was before */
-  #change(change, { focusNext, isStep = "parts" in change } = {}) {
-    this.#scramble.tellLeft(0);
+   * @param {Partial<State>} change @param {{focusNext?: import("./focus.js").Where, isStep?: boolean, left?: number}} how where the focus
+   * is to go with the answers, whether the browser's Back leads to what was before, and how many kept lines it leads back to */
+  #change(change, { focusNext, isStep = "parts" in change, left = 0 } = {}) {
+    this.#scramble.tellLeft(left);
     this.#nextFocus.set(focusNext);
     this.#wayBack.set(null);
     if ("parts" in change) keepPlace();
     this.#state = { ...this.#state, ...("parts" in change ? { list: null } : {}), ...change };
     const isOther = "scramble" in change || "parts" in change || this.#isReading;
     if (isOther) tell(part("alert"), "");
+    // the engine is asked first, and answers meanwhile
+    if (isOther) this.#refresh();
     writeState(this.#state, isStep);
-    if (isOther) return void this.#refresh();
+    if (isOther) return;
     this.#line.turnTo(this.#state.side);
     this.#table.mark(this.#state.list);
     this.#showList();
@@ -160,16 +158,16 @@ export class Page {
 
   /** @param {string} scramble @param {import("./scramble.js").ScrambleChange} change */
   async #setScramble(scramble, { isNew, fmc, isStep }) {
-    const left = isNew ? this.#state.kept.length : 0;
-    this.#change(isNew ? { ...emptyState(), scramble } : { scramble }, { isStep });
-    this.#scramble.tellLeft(left);
+    // what is typed further leads back to the same
+    const before = isStep ? 0 : this.#scramble.left;
+    const left = isNew ? this.#state.kept.length : before;
+    this.#change(isNew ? { ...emptyState(), scramble } : { scramble }, { isStep, left });
     if (!fmc) return;
     const turn = this.#turn;
     try {
-      const { unread, ...read } = await readWritten(this.#byHand, fmc);
+      const { unread, ...read } = await this.#byHand.ask("readWritten", fmc);
       if (turn !== this.#turn) return;
-      this.#change(read, { isStep: false });
-      this.#scramble.tellLeft(left);
+      this.#change(read, { isStep: false, left });
       tell(part("alert"), whyUnread(unread));
     } catch (fault) {
       if (turn === this.#turn && !(fault instanceof Stopped)) tell(part("alert"), unanswered(fault));
@@ -179,23 +177,27 @@ export class Page {
   /** Shows all of the state anew. A later call overtakes an earlier one. */
   async #refresh() {
     const turn = ++this.#turn;
+    const { scramble, parts } = this.#state;
     this.#isReading = false;
     this.#cube = null;
-    document.title = titleOfPage(this.#state);
     this.#readiness.stop();
     this.#calls.drop();
+    const asked = this.#calls.ask("examine", { text: plainLine(scramble).line, parts });
+    // what is wrong is said where it is waited for
+    asked.catch(() => {});
+    document.title = titleOfPage(this.#state);
     this.#nets.stop();
-    this.#line.show(this.#state.parts);
+    this.#line.show(parts);
     this.#line.turnTo(this.#state.side);
     this.#kept.show(this.#state.kept);
     this.#table.hold();
-    if (!this.#state.list) this.#openList.show("", null, null);
+    if (!this.#state.list) this.#list.show("", null, null);
     this.#best.reset(null);
     announceLater("");
     tellFailed("");
     setBusy("results", true);
     try {
-      await this.#answer(turn);
+      await this.#answer(turn, asked);
     } catch (fault) {
       if (turn === this.#turn) this.#refuse(fault);
     }
@@ -204,46 +206,32 @@ export class Page {
     setBusy("results", false);
   }
 
-  /** @param {number} turn of which the engine's answers are shown as they come */
-  async #answer(turn) {
-    const read = await this.#readScramble(turn);
-    if (read === null) return;
-    const cube = await examine(this.#calls, read.line, this.#state.parts);
+  /** @param {number} turn of which the engine's answers are shown as they come
+   * @param {Promise<import("./position.js").Examined | import("./position.js").Unexamined>} asked the first of them */
+  async #answer(turn, asked) {
+    const cube = await asked;
     if (turn !== this.#turn) return;
-    const offers = await inPortions(offersOf(this.#calls, cube.walk.reached.at(-1), cube.now, cube.made));
+    const fault = "unread" in cube ? new NissyFault(cube.unread.text, cube.unread) : null;
+    this.#scramble.judge(fault, "read" in cube ? cube.read : null);
+    showBeginning(this.#state);
+    if ("unread" in cube) return setUsable(false);
+    const offers = await offersAt(this.#calls, cube.walk);
     if (turn !== this.#turn) return;
-    this.#showCube(read, cube);
+    this.#showCube(cube);
     await this.#showOffers(turn, offers);
     if (turn !== this.#turn) return;
     this.#showAnswered();
     this.#readiness.begin(this.#cube.reached, part("choices").hidden, () => this.#best.isWorking());
   }
 
-  /** @param {number} turn @returns the scramble as it is read, or null if it is at fault or overtaken */
-  async #readScramble(turn) {
-    let read = null;
-    let fault = null;
-    try {
-      read = await readScramble(this.#calls, plainLine(this.#state.scramble).line);
-    } catch (stop) {
-      if (!(stop instanceof NissyFault)) throw stop;
-      fault = stop;
-    }
-    if (turn !== this.#turn) return null;
-    this.#scramble.judge(fault, read);
-    showBeginning(this.#state);
-    if (fault) setUsable(false);
-    return read;
-  }
-
-  #showCube({ line: scramble, isTurned }, { walk, now, views, whole }) {
+  #showCube({ read: { line: scramble, isTurned }, walk, views, whole }) {
     const { parts } = this.#state;
     const reached = walk.reached.at(-1);
     // as it was typed, if what follows names the faces so
     const written = isTurned ? scramble : plainLine(this.#state.scramble).line.trim().replace(/ +/g, " ");
-    this.#cube = { scramble, written, now, reached, facts: views.normal.facts, made: walk.totals.at(-1) };
+    this.#cube = { scramble, written, position: walk.now, reached, facts: views.normal.facts, made: walk.totals.at(-1) };
     const count = parts.reduce((sum, { moves }) => sum + moves.split(" ").length, 0);
-    this.#nets.show(views, count, () => framesOf(this.#byHand, scramble, parts));
+    this.#nets.show(views, count, () => this.#byHand.ask("framesOf", { scramble, parts }));
     this.#line.describe(walk, whole, written);
     setUsable(true);
     part("choices").hidden = isBare(this.#state);
@@ -267,14 +255,14 @@ export class Page {
   /** Shows the steps that may follow as soon as they are known, and has the best looked for.
    * @param {number} turn */
   async #showOffers(turn, portions) {
-    const { now, reached } = this.#cube;
+    const { position, reached } = this.#cube;
     if (portions.length > 1) this.#table.expect(this.#cube);
     for (const [at, portion] of portions.entries()) {
       const groups = await portion;
       if (turn !== this.#turn) return;
       this.#table.add(groups, this.#cube, this.#state.list);
       awaitAnswer(null);
-      if (at === 0) this.#best.reset(part("choices").hidden ? null : { now, parts: this.#state.parts, reached });
+      if (at === 0) this.#best.reset(part("choices").hidden ? null : { position, reached });
     }
   }
 
@@ -308,7 +296,7 @@ export class Page {
     if (list && !this.#cube) return;
     this.#nets.follow(list ? stateOf(stepNamed(list.step)) : "");
     const name = list ? [this.#turn, list.step, list.side, list.slack, list.isAll, list.split ?? 0].join(" ") : "";
-    const isShown = await this.#openList.show(name, list, list && this.#cube.now);
+    const isShown = await this.#list.show(name, list, list && this.#cube.position);
     if (!isShown) return;
     if (this.#nextFocus.take("list")) this.#list.focus();
     this.#goBack();
@@ -386,7 +374,7 @@ export class Page {
 
   /** Asks again for all that is seen, by other workers. */
   #tryAgain() {
-    for (const calls of [this.#calls, this.#keptCalls, this.#byHand, this.#openList, this.#best]) calls.end();
+    for (const calls of [this.#calls, this.#keptCalls, this.#byHand, this.#list, this.#best]) calls.end();
     // what the address says may not have been read yet
     if (this.#isReading) return void this.begin(location.hash);
     this.#nextFocus.set(this.#state.list ? "list" : "table");

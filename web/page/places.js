@@ -5,13 +5,12 @@ import { addressOf, fitsAddress } from "./address.js";
 import { part, tell } from "./element.js";
 import { keepLast } from "./last.js";
 import { bracketed } from "./steps.js";
-import { NOT_IN_ADDRESS, titleOfPage } from "./words.js";
+import { NOT_IN_ADDRESS } from "./words.js";
 
 /** @typedef {import("./steps.js").Part} Part */
 /** @typedef {{key: string, scroll: number}} Place */
 
-/** A place that came out of the history, or null.
- * @param {unknown} state @returns {Place | null} */
+/** @param {unknown} state @returns {Place | null} a place that came out of the history, or null */
 export function placeIn(state) {
   if (state === null || typeof state !== "object") return null;
   const { key, scroll } = /** @type {Record<string, unknown>} */ (state);
@@ -34,10 +33,8 @@ let writing = 0;
 /** Gives up an address that is still to be written. */
 export const dropAddress = () => clearTimeout(writing);
 
-/**
- * Puts an address into the history, a step as an entry of its own; a moment later where the browser has it done too often.
- * @param {string} address @param {boolean} isStep
- */
+/** Puts an address into the history, a step as an entry of its own; a moment later where the browser has it done too often.
+ * @param {string} address @param {boolean} isStep */
 function writeAddress(address, isStep) {
   dropAddress();
   keepLast(address);
@@ -52,12 +49,9 @@ function writeAddress(address, isStep) {
   if (!isWritten()) writing = setTimeout(writeAddress, AGAIN_AFTER, address, isStep);
 }
 
-/**
- * Puts a state into the title, and into the address if that has room for it, since a longer one isn't read.
- * @param {import("./address.js").State} state @param {boolean} isStep whether the browser's Back leads to what the address said before
- */
+/** Puts a state into the address if that has room for it, since a longer one isn't read.
+ * @param {import("./address.js").State} state @param {boolean} isStep whether the browser's Back leads to what the address said before */
 export function writeState(state, isStep) {
-  document.title = titleOfPage(state);
   const isLong = !fitsAddress(state);
   if (isLong || part("alert").textContent === NOT_IN_ADDRESS) tell(part("alert"), isLong ? NOT_IN_ADDRESS : "");
   if (!isLong) writeAddress(addressOf(state), isStep);
@@ -136,10 +130,8 @@ export class Seen {
   /** @type {Map<string, {key: string, list: import("./address.js").List | null}>} */
   #rows = new Map();
 
-  /**
-   * Keeps that a line was taken, from which row and beside which list, and with which step after it.
-   * @param {import("./address.js").State} state @param {Part[]} taken @param {string} key of the row @param {string} [next]
-   */
+  /** Keeps that a line was taken, from which row and beside which list, and with which step after it.
+   * @param {import("./address.js").State} state @param {Part[]} taken @param {string} key of the row @param {string} [next] */
   add({ scramble, parts, list }, taken, key, next = "") {
     const all = [...parts, ...taken];
     for (const step of new Set(["", next])) this.#names.add(nameOfSeen(scramble, all, step));
@@ -147,10 +139,8 @@ export class Seen {
     if (taken.length === 1) this.#rows.set(nameOfSeen(scramble, all, ""), { key, list });
   }
 
-  /**
-   * From which row the last step was taken, and beside which list, if it alone is undone; or null.
-   * @param {import("./address.js").State} state @param {Part[]} [left] what is left of the line
-   */
+  /** From which row the last step was taken, and beside which list, if it alone is undone; or null.
+   * @param {import("./address.js").State} state @param {Part[]} [left] what is left of the line */
   rowBefore({ scramble, parts }, left) {
     const before = parts.slice(0, -1);
     const isUndone = parts.length > 0 && left?.length === before.length && bracketed(left) === bracketed(before);

@@ -1,54 +1,67 @@
-// Rows of moves, in a list or a table: what is pressed in each, and one stop of the Tab key for all of them, with the arrow keys, Home and
-// End from row to row, and from button to button within one.
-import { element, part, spoken } from "./element.js";
-
-/**
- * The button that takes the moves of a row.
- * @param {string} text the moves as they are shown @param {{key: string, about?: string[], isSeen: boolean}} row what it is known by, what
- * is said of it, and whether it was taken @param {() => void} click
- */
-export function takeButton(text, { key, about = [], isSeen }, click) {
-  return element("button", {
-    type: "button",
-    class: `take moves${isSeen ? " seen" : ""}${uncovered.has(key) ? " uncovered" : ""}`,
-    tabindex: -1,
-    "data-key": key,
-    "aria-label": [spoken(text), ...about, ...(isSeen ? ["seen"] : [])].join(", "),
-    click,
-  }, text);
-}
+// Rows of moves, in a list or a table: what is pressed in each, how they come and go, and one stop of the Tab key for all of them, with the
+// arrow keys, Home and End from row to row, and from button to button within one.
+import { button, part, spoken } from "./element.js";
 
 /** @type {Set<string>} the rows that were pressed since moves are covered */
 const uncovered = new Set();
+
+/** @type {WeakMap<HTMLElement, () => boolean>} what says of a star whether its row is kept */
+const keptBy = new WeakMap();
+
+/** What a button of a row is called, and what while the row's moves are covered: then it says nothing of them.
+ * @param {string} open @param {string} covered */
+export const named = (open, covered) => ({ tabindex: -1, "data-open": open, "data-covered": covered });
+
+/** The button that takes the moves of a row.
+ * @param {string} text the moves as they are shown @param {{key: string, twins?: string[], cases?: string[], isSeen: boolean}} row what it
+ * is known by, what else is said of it, and whether it was taken @param {() => void} click */
+export function takeButton(text, { key, twins = [], cases = [], isSeen }, click) {
+  const seen = isSeen ? ["seen"] : [];
+  const names = named([spoken(text), ...cases, ...twins, ...seen].join(", "), ["Covered moves", ...cases, ...seen].join(", "));
+  return button(text, { class: ["take moves", ...seen].join(" "), "data-key": key, ...names, click });
+}
+
+/** The button that keeps the moves of a row.
+ * @param {string} text @param {() => boolean} isKept @param {(button: HTMLElement) => void} click */
+export function starButton(text, isKept, click) {
+  const names = named(`Keep ${spoken(text)}`, "Keep the covered moves");
+  const star = button("", { class: "star", ...names, click: ({ currentTarget }) => click(currentTarget) });
+  keptBy.set(star, isKept);
+  return star;
+}
+
+/** Shows of rows what may change: whether they are kept, and whether their moves are covered.
+ * @param {ParentNode} rows */
+export function refreshRows(rows) {
+  const areCovered = document.body.matches(".covers");
+  for (const take of takesOf(rows)) {
+    const isOpen = uncovered.has(take.dataset.key);
+    take.classList.toggle("uncovered", isOpen);
+    const name = areCovered && !isOpen ? "data-covered" : "data-open";
+    for (const each of buttonsOf(rowOf(take))) each.setAttribute("aria-label", each.getAttribute(name));
+  }
+  for (const star of rows.querySelectorAll(".star")) {
+    const isKept = keptBy.get(star)();
+    star.setAttribute("aria-pressed", String(isKept));
+    star.textContent = isKept ? "★" : "☆";
+  }
+}
 
 /** Lets moves be covered, for a class: the first press of a row shows its moves, and the next one takes them. */
 export function offerCover() {
   const field = part("cover");
   field.addEventListener("change", () => {
     uncovered.clear();
-    for (const each of document.querySelectorAll(".uncovered")) each.classList.remove("uncovered");
     document.body.classList.toggle("covers", field.checked);
+    refreshRows(part("choices"));
   });
   addEventListener("click", (event) => {
     const take = event.target instanceof Element ? event.target.closest(".covers .take:not(.uncovered)") : null;
     if (!(take instanceof HTMLElement)) return;
     event.stopPropagation();
     uncovered.add(take.dataset.key);
-    take.classList.add("uncovered");
+    refreshRows(rowOf(take));
   }, { capture: true });
-}
-
-/** The button that keeps the moves of a row.
- * @param {string} text @param {boolean} isKept @param {(button: HTMLElement) => void} click */
-export function starButton(text, isKept, click) {
-  return element("button", {
-    type: "button",
-    class: "star",
-    tabindex: -1,
-    "aria-pressed": String(isKept),
-    "aria-label": `Keep ${spoken(text)}`,
-    click: ({ currentTarget }) => click(currentTarget),
-  }, isKept ? "★" : "☆");
 }
 
 /** How many rows a key leads on, and how many buttons within a row. */
@@ -61,15 +74,15 @@ const takesOf = (holder) => [...holder.querySelectorAll(".take")];
 const nearest = (list, place) => list[Math.min(list.length - 1, Math.max(0, place))];
 
 /** The button that a key leads to from another one, or null.
- * @param {string} key @param {HTMLElement} button @param {HTMLElement} holder */
-function buttonAfter(key, button, holder) {
-  const [row, takes] = [rowOf(button), takesOf(holder)];
+ * @param {string} key @param {HTMLElement} from @param {HTMLElement} holder */
+function buttonAfter(key, from, holder) {
+  const [row, takes] = [rowOf(from), takesOf(holder)];
   if (key === "Home") return takes[0];
   if (key === "End") return takes.at(-1);
   if (Object.hasOwn(ROWS, key)) return nearest(takes, takes.indexOf(row.querySelector(".take")) + ROWS[key]);
   if (!Object.hasOwn(BUTTONS, key)) return null;
   const buttons = buttonsOf(row);
-  return nearest(buttons, buttons.indexOf(button) + BUTTONS[key]);
+  return nearest(buttons, buttons.indexOf(from) + BUTTONS[key]);
 }
 
 /** @param {HTMLElement} holder of the rows */
@@ -87,19 +100,28 @@ export function roveWithin(holder) {
   });
 }
 
-/**
- * Which row of a holder has the focus, by its key, and which of its buttons; or null.
- * @param {HTMLElement} holder @returns {{key: string, place: number} | null}
- */
-export function focusWithin(holder) {
-  const focused = document.activeElement;
-  if (!holder.contains(focused)) return null;
-  const row = rowOf(focused);
-  return { key: row.querySelector(".take").dataset.key, place: buttonsOf(row).indexOf(focused) };
+/** The button that takes the moves of a row, by what that is known by; or null.
+ * @param {HTMLElement} holder @param {string} key */
+export const takeNamed = (holder, key) => takesOf(holder).find(({ dataset }) => dataset.key === key) ?? null;
+
+/** Adds rows below others.
+ * @param {HTMLElement} holder @param {HTMLElement[]} rows */
+export function addRows(holder, rows) {
+  holder.append(...rows);
+  for (const row of rows) refreshRows(row);
 }
 
-/** Puts the focus on a button of a row.
- * @param {HTMLElement} take that takes the row's moves @param {number} place of the button */
-export function focusButton(take, place) {
-  buttonsOf(rowOf(take))[place].focus({ preventScroll: true });
+/** Has rows put into a holder, of which one is a stop of the Tab key. The same row keeps the focus; if it is gone the first has it, or what
+ * is given.
+ * @param {HTMLElement} holder @param {() => void} put @param {HTMLElement} otherwise */
+export function showRows(holder, put, otherwise) {
+  const focused = document.activeElement;
+  const row = holder.contains(focused) ? rowOf(focused) : null;
+  const [key, place] = row ? [row.querySelector(".take").dataset.key, buttonsOf(row).indexOf(focused)] : ["", 0];
+  put();
+  const [first] = takesOf(holder);
+  if (!holder.querySelector('.take[tabindex="0"]')) first?.setAttribute("tabindex", "0");
+  if (row === null || holder.contains(document.activeElement)) return;
+  const same = takeNamed(holder, key);
+  (same ? buttonsOf(rowOf(same))[place] : first ?? otherwise).focus({ preventScroll: true });
 }

@@ -1,18 +1,14 @@
 // The card of the scramble: its field, with what was left out of a text and what is at fault, examples, random scrambles from a seed, and
 // the fold of it if the page is narrow.
+import { Stopped } from "../module/faults.js";
+import { plainLine, readFmc } from "../module/written.js";
 import { LONGEST_SCRAMBLE } from "./address.js";
-import { Stopped } from "./calls.js";
 import { announce, announceLater, counted, element, part, tell } from "./element.js";
-import { NoSeed, scrambleOf } from "./engine.js";
-import { plainLine, readFmc, wordsOfLeftOut } from "./pasted.js";
 import { withoutMoving } from "./view.js";
-import { placeOfFault, showFault } from "./words.js";
+import { placeOfFault, showFault, wordsOfLeftOut } from "./words.js";
 
-/** @typedef {import("./pasted.js").Fmc} Fmc */
-/**
- * @typedef {{isNew: boolean, fmc: Fmc | null, isStep: boolean}} ScrambleChange
- * a new scramble begins a new line, one that is mended keeps it; `isStep`: whether the browser's Back leads to what was before
- */
+/** @typedef {{isNew: boolean, fmc: import("../module/written.js").Fmc | null, isStep: boolean}} ScrambleChange
+ * a new scramble begins a new line, one that is mended keeps it; `isStep`: whether the browser's Back leads to what was before */
 
 const PAUSE = 150;
 const SEEDS = "A seed is a whole number from 0 to 18,446,744,073,709,551,615.";
@@ -21,10 +17,7 @@ const NARROW = "(max-width: 59.99rem)";
 const PLAIN_SEED = { line: "", places: [], leftOut: [] };
 
 /** A seed that nobody chose. */
-function freshSeed() {
-  const [seed] = crypto.getRandomValues(new Uint32Array(1));
-  return String(seed);
-}
+const freshSeed = () => String(crypto.getRandomValues(new Uint32Array(1))[0]);
 
 export class ScrambleField {
   #calls;
@@ -44,11 +37,11 @@ export class ScrambleField {
   #isDraft = false;
   /** whether the field has no room for the end of what is pasted */
   #isCut = false;
+  /** how many kept lines a way leads back to */
+  left = 0;
 
-  /**
-   * @param {import("./calls.js").Calls} calls
-   * @param {(scramble: string, change: ScrambleChange) => void} changed
-   */
+  /** @param {import("./calls.js").Calls} calls
+   * @param {(scramble: string, change: ScrambleChange) => void} changed */
   constructor(calls, changed) {
     this.#calls = calls;
     this.#changed = changed;
@@ -104,10 +97,8 @@ export class ScrambleField {
     this.#isDraft = false;
   }
 
-  /**
-   * Shows what is wrong with the scramble, or that nothing is; and how it is read, where anything is left out.
-   * @param {Error | null} fault @param {{line: string, isTurned: boolean} | null} read
-   */
+  /** Shows what is wrong with the scramble, or that nothing is; and how it is read, where anything is left out.
+   * @param {Error | null} fault @param {{line: string, isTurned: boolean} | null} read */
   judge(fault, read) {
     const text = this.#field.value;
     const plain = plainLine(text);
@@ -130,8 +121,9 @@ export class ScrambleField {
   /** Says how many kept lines a new scramble leaves, beside a way back to them; nothing of none.
    * @param {number} count */
   tellLeft(count) {
-    const button = part("left-back");
-    const isFocused = document.activeElement === button;
+    if (count === this.left) return;
+    this.left = count;
+    const isFocused = document.activeElement === part("left-back");
     part("left").hidden = count === 0;
     const words = `${counted(count, "kept line")} ${count === 1 ? "was" : "were"} left.`;
     part("left-words").textContent = count === 0 ? "" : words;
@@ -139,10 +131,8 @@ export class ScrambleField {
     if (isFocused && count === 0) [part("random"), part("scramble-edit")].find((each) => each.checkVisibility())?.focus();
   }
 
-  /**
-   * Folds the card once something was done elsewhere, if the page is scrolled far enough for nothing to move by it.
-   * @param {Element} where
-   */
+  /** Folds the card once something was done elsewhere, if the page is scrolled far enough for nothing to move by it.
+   * @param {Element} where */
   #leave(where) {
     const card = part("scramble-card");
     if (!this.#isRead || card.contains(where) || card.matches(".folded")) return;
@@ -202,11 +192,9 @@ export class ScrambleField {
     this.#changed(fmc ? plain.line.trim() : plain.line, { isNew, fmc, isStep });
   }
 
-  /**
-   * Whether a scramble is another one than the last: it was pasted in its place, or typed after it was deleted. The beginning of the same
+  /** Whether a scramble is another one than the last: it was pasted in its place, or typed after it was deleted. The beginning of the same
    * one may be typed again.
-   * @param {string} line @param {boolean} isPasted in its place
-   */
+   * @param {string} line @param {boolean} isPasted in its place */
   #isOther(line, isPasted) {
     const last = this.#last.trim();
     if (line === "") {
@@ -233,14 +221,14 @@ export class ScrambleField {
     const draw = ++this.#draws;
     const show = (fault) => showFault(part("seed-fault"), this.#seed, PLAIN_SEED, fault, seed);
     try {
-      const scramble = await scrambleOf(this.#calls, seed);
+      const scramble = await this.#calls.ask("scrambleOf", { seed });
       if (draw !== this.#draws) return;
-      show(null);
+      show(scramble === null ? new Error(SEEDS) : null);
+      if (scramble === null) return;
       this.#put(scramble);
       announce(`Scramble from seed ${seed}: ${scramble}`);
     } catch (fault) {
-      if (draw !== this.#draws || fault instanceof Stopped) return;
-      show(fault instanceof NoSeed ? new Error(SEEDS) : fault);
+      if (draw === this.#draws && !(fault instanceof Stopped)) show(fault);
     }
   }
 }

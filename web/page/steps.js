@@ -1,5 +1,5 @@
-// The steps that the page offers, by the engine's names, and what they are called here; and the parts of a line, each a step on one side,
-// and how they are written.
+// The steps that the page offers, by the engine's names, what they are called here, and the numbers that solvers choose them by; and the
+// parts of a line, each a step on one side.
 import { FACES_OF, ORIENTATIONS, REDUCTIONS, reductionsAfter, stepNamed } from "../module/best-steps.js";
 import { SIDES } from "../module/sides.js";
 
@@ -15,12 +15,10 @@ export { SIDES, bracketed, joined, movesOn, otherSide } from "../module/sides.js
 /** @param {string} name @returns {name is Side} whether it names a side */
 export const isSide = (name) => SIDES.some((side) => side === name);
 
-/** An axis as solvers write it, such as `F/B`.
- * @param {Axis} axis */
+/** @param {Axis} axis @returns an axis as solvers write it, such as `F/B` */
 export const axisName = (axis) => [...FACES_OF[axis]].join("/");
 
-/** What holds once a step is reached.
- * @param {OfferedStep} step */
+/** @param {OfferedStep} step @returns what holds once a step is reached */
 export const stateOf = (step) => `${step.needs === null ? "EO" : "DR"} ${axisName(step.axis)}`;
 
 /** What may be reached by a reduction where some orientations hold.
@@ -28,8 +26,7 @@ export const stateOf = (step) => `${step.needs === null ? "EO" : "DR"} ${axisNam
 export const reducedAfter = (orientations) =>
   [...new Set(orientations.flatMap(reductionsAfter).map(stateOf))];
 
-/** What a step is called on the page.
- * @param {OfferedStep} step */
+/** @param {OfferedStep} step @returns what a step is called on the page */
 export const titleOf = (step) => (step.needs === null ? stateOf(step) : `${stateOf(step)} after ${stateOf(stepNamed(step.needs))}`);
 
 /** The steps that may start where others are reached, and aren't reached themselves.
@@ -41,10 +38,36 @@ export const openSteps = (reached) =>
  * @param {readonly import("../module/steps.js").Step[]} held */
 export const offeredAmong = (held) => held.filter((name) => stepNamed(name));
 
-/** What is reached, each state once.
- * @param {string[]} reached the names of steps */
+/** @param {string[]} reached the names of steps @returns what is reached, each state once */
 export const statesOf = (reached) => [...new Set(reached.map((name) => stateOf(stepNamed(name))))];
 
-/** Whether a domino reduction is among what is reached.
- * @param {string[]} reached */
+/** @param {string[]} reached the names of steps @returns whether a domino reduction is among what is reached */
 export const isReduced = (reached) => reached.some((name) => stepNamed(name).needs !== null);
+
+/** What a step of a line newly reaches; a reduction says the orientations that hold with it.
+ * @param {{reached: string[][]}} walk @param {number} index */
+export function newlyReached({ reached }, index) {
+  const before = statesOf(reached[index]);
+  const fresh = statesOf(reached[index + 1]).filter((state) => !before.includes(state));
+  const reductions = fresh.filter((state) => state.startsWith("DR"));
+  return reductions.length > 0 ? reductions : fresh;
+}
+
+/** @typedef {{corners: number, edges: number}} Size how many there are of each */
+
+/** @param {string} name such as `4c2e` @returns {Size} the numbers in the name of a case */
+export function sizeOfCase(name) {
+  const [corners, edges] = name.match(/\d+/g).map(Number);
+  return { corners, edges };
+}
+
+/** @param {Size} size @returns how far a case is, to sort by: an edge costs about as much as a corner */
+export const farnessOf = ({ corners, edges }) => corners + edges;
+
+/** What solvers choose a step by: bad edges, or the case.
+ * @param {import("../module/facts.js").Facts} facts @param {OfferedStep} step */
+export function caseOfStep({ badEdges, cases }, { axis, needs }) {
+  if (needs !== null) return cases[axis];
+  const count = badEdges[axis].length;
+  return `${count} bad edge${count === 1 ? "" : "s"}`;
+}

@@ -1,34 +1,56 @@
 // The table of the steps that may follow: a row for each, with what solvers choose by, and a cell for each side with the least length, what
 // it makes in all, and how many solutions there are; what is reached, in a line; and the looks, in a table of their own.
-import { caseOfStep } from "./cases.js";
 import { counted, element, part } from "./element.js";
-import { SIDES, isReduced, openSteps, stateOf, statesOf, titleOf } from "./steps.js";
+import { SIDES, caseOfStep, isReduced, openSteps, stateOf, statesOf, titleOf } from "./steps.js";
 
 /** @typedef {import("./position.js").Offer} Offer */
 /** @typedef {import("./steps.js").Side} Side */
 /** @typedef {{facts: import("../module/facts.js").Facts, made: number, reached: string[]}} Cube */
 
+/** The least length, what that makes in all, if moves were made before, and how many solutions there are, or how many of them make that,
+ * with a word that is said and not shown.
+ * @param {import("./position.js").Counted} count @param {number} made moves before it @returns {string[]} */
+function wordsOf({ length, total, solutions, best }, made) {
+  if (length === null) return ["–", "", "none within 20 moves", ""];
+  const [some, all] = [best, solutions].map((each) => each.toLocaleString("en"));
+  const words = best < solutions ? [`${some} of ${all}`, " solutions"] : [counted(solutions, "solution"), ""];
+  return [counted(length, "move"), made > 0 ? `${total} in all, ` : "", ...words];
+}
+
+/** How long the page waits for all offers, to show them together with the cube. */
+const SOON = 50;
+
+/** Steps in groups: orientations, and then reductions, where there are some.
+ * @param {import("./steps.js").OfferedStep[]} steps */
+const inGroups = (steps) => [false, true]
+  .map((isReduction) => steps.filter(({ needs }) => (needs !== null) === isReduction)).filter((group) => group.length > 0);
+
 /**
- * The least length, what that makes in all, if moves were made before, and how many solutions there are.
- * @param {import("./position.js").Counted} count @param {number} made moves before it @returns {[string, string, string]}
+ * Asks for the steps that may follow, each with its counts on both sides, in portions: all groups in one if they are there soon, since each
+ * part of the page that is shown by itself is laid out and painted by itself, which costs more than most counts; else each as it comes.
+ * @param {import("./calls.js").Calls} calls @param {import("./position.js").Walk} walk @returns {Promise<Promise<Offer[][]>[]>}
  */
-function wordsOf({ length, total, solutions }, made) {
-  if (length === null) return ["–", "", "none within 20 moves"];
-  return [counted(length, "move"), made > 0 ? `${total} in all, ` : "", counted(solutions, "solution")];
+export async function offersAt(calls, { reached, now: position }) {
+  const names = inGroups(openSteps(reached.at(-1))).map((group) => group.map(({ name }) => name));
+  const groups = names.map((steps) => calls.ask("offersOf", { steps, position }));
+  const all = Promise.all(groups);
+  const isSoon = await Promise.race([all.then(() => true, () => false), new Promise((later) => setTimeout(later, SOON, false))]);
+  const portions = isSoon ? [all] : groups.map((group) => group.then((offers) => [offers]));
+  // what is wrong is said where they are waited for
+  for (const portion of [...groups, ...portions]) portion.catch(() => {});
+  return portions;
 }
 
 /** A step that is still to be counted. */
-const UNCOUNTED = { length: null, total: Infinity, solutions: 0, nodes: 0 };
+const UNCOUNTED = { length: null, total: Infinity, solutions: 0, nodes: 0, best: 0 };
 
-/** Whether offers are reductions.
- * @param {Offer[]} offers */
+/** @param {Offer[]} offers @returns whether offers are reductions */
 const areReductions = ([{ step }]) => step.needs !== null;
 
 /** Whether some offers keep what is reached: each does where that is nothing, and a reduction keeps its orientation. */
 const keepsReached = (offers, reached) => reached.length === 0 || (areReductions(offers) && !isReduced(reached));
 
-/** The least length of a group of offers.
- * @param {Offer[]} offers */
+/** @param {Offer[]} offers @returns the least length of a group of offers */
 const leastOf = (offers) => Math.min(...offers.flatMap((offer) => SIDES.map((side) => offer[side].length ?? Infinity)));
 
 export class StepTable {
@@ -61,10 +83,8 @@ export class StepTable {
       [element("span", { class: "chip", "data-marks": state }, state), " "]));
   }
 
-  /**
-   * Adds groups of offers; of all that are shown a reduction comes before an orientation.
-   * @param {Offer[][]} added @param {Cube} cube @param {import("./address.js").List | null} list
-   */
+  /** Adds groups of offers; of all that are shown a reduction comes before an orientation.
+   * @param {Offer[][]} added @param {Cube} cube @param {import("./address.js").List | null} list */
   add(added, cube, list) {
     this.#groups.push(...added);
     this.#draw(cube, list);
@@ -80,11 +100,10 @@ export class StepTable {
   /** The groups of offers, a reduction before an orientation; one that is still to be counted stands in its place.
    * @param {Cube} cube @returns {Offer[][]} */
   #inOrder({ reached }) {
-    return [true, false].map((isReduction) => {
-      const known = this.#groups.find((group) => areReductions(group) === isReduction);
-      const steps = openSteps(reached).filter(({ needs }) => (needs !== null) === isReduction);
-      return known ?? steps.map((step) => ({ step, normal: UNCOUNTED, inverse: UNCOUNTED }));
-    }).filter((group) => group.length > 0);
+    return inGroups(openSteps(reached)).reverse().map((steps) => {
+      const blank = steps.map((step) => ({ step, normal: UNCOUNTED, inverse: UNCOUNTED }));
+      return this.#groups.find((group) => areReductions(group) === areReductions(blank)) ?? blank;
+    });
   }
 
   /** @param {Cube} cube @param {import("./address.js").List | null} list */
@@ -104,8 +123,7 @@ export class StepTable {
     if (focused) this.cell(focused)?.focus({ preventScroll: true });
   }
 
-  /** The cell of this name, or null.
-   * @param {string} name */
+  /** @param {string} name @returns the cell of this name, or null */
   cell(name) {
     return [...this.#body.querySelectorAll("[data-cell]")].find(({ dataset }) => dataset.cell === name) ?? null;
   }
@@ -153,10 +171,9 @@ export class StepTable {
     if (!cell?.closest("[inert]")) cell?.click();
   }
 
-  /** What stands above the offers that begin anew.
-   * @param {Cube} cube */
+  /** @param {Cube} cube @returns what stands above the offers that begin anew */
   #anew({ reached }) {
-    const words = isReduced(reached) ? "Another EO or DR in place of this DR" : "Another EO in place of this one";
+    const words = `Going on from here, this ${isReduced(reached) ? "DR" : "EO"} given up`;
     return element("tr", { class: "anew" }, element("td", { colspan: 3, class: "note" }, words));
   }
 
@@ -173,7 +190,7 @@ export class StepTable {
 
   #cell({ step, ...counts }, side, { least, made, list }) {
     const count = counts[side];
-    const [length, all, solutions] = wordsOf(count, made);
+    const [length, all, solutions, word] = wordsOf(count, made);
     const name = `${step.name}.${side}`;
     const isLeast = least !== null && count.length === least;
     const about = { "data-side": side === "normal" ? "Normal" : "Inverse" };
@@ -187,7 +204,7 @@ export class StepTable {
       class: isLeast ? "cell least" : "cell",
       "data-cell": name,
       "aria-pressed": String(list !== null && name === `${list.step}.${list.side}`),
-      "aria-label": `${titleOf(step)}, ${side} side: ${length}, ${all}${solutions}${isLeast ? ", shortest" : ""}`,
+      "aria-label": `${titleOf(step)}, ${side} side: ${length}, ${all}${solutions}${word}${isLeast ? ", shortest" : ""}`,
       click: () => this.#chosen(step.name, side),
     }, element("strong", {}, length), element("small", {}, all, element("span", { class: "together" }, solutions))));
   }

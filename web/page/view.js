@@ -1,6 +1,6 @@
 // How the page is seen and used as a whole: what stays in view and what is dimmed, light and dark, help under its button, and single keys.
 import { announce, part } from "./element.js";
-import { offerLast } from "./last.js";
+import { offerLast, store, stored } from "./last.js";
 
 const EDGE = 16;
 /** Where the columns stand beside each other. */
@@ -9,8 +9,7 @@ const BESIDE = "(min-width: 60rem)";
 /** Whether the page is as narrow as a phone's. */
 export const isNarrow = () => matchMedia("(max-width: 37.5rem)").matches;
 
-/** Whether nothing was done yet.
- * @param {import("./address.js").State} state */
+/** @param {import("./address.js").State} state @returns whether nothing was done yet */
 export const isBare = ({ scramble, parts }) => scramble.trim() === "" && parts.length === 0;
 
 /** Shows the beginning, and what was done last, where nothing was done yet.
@@ -36,10 +35,8 @@ export function awaitAnswer(state) {
   document.body.classList.toggle("begun", state !== null && isBare(state));
 }
 
-/**
- * Scrolls to where a column that stays shows what has the focus. The browser scrolls to where that is, and the column goes along.
- * @param {HTMLElement} column @param {Element} focused
- */
+/** Scrolls to where a column that stays shows what has the focus. The browser scrolls to where that is, and the column goes along.
+ * @param {HTMLElement} column @param {Element} focused */
 function showFocused(column, focused) {
   // a button that is clicked stays under the mouse
   if (focused.getBoundingClientRect().top >= 0 || !focused.matches(":focus-visible")) return;
@@ -48,10 +45,8 @@ function showFocused(column, focused) {
   scrollTo({ top: start + within - EDGE });
 }
 
-/**
- * Lets a column stay while the other one is scrolled; of one that is higher than the window the lower end stays.
- * @param {HTMLElement} column
- */
+/** Lets a column stay while the other one is scrolled; of one that is higher than the window the lower end stays.
+ * @param {HTMLElement} column */
 export function keepInView(column) {
   const place = () => {
     // where nothing stays the browser keeps still what is read, but not beside a change of this
@@ -63,10 +58,8 @@ export function keepInView(column) {
   column.addEventListener("focusin", ({ target }) => requestAnimationFrame(() => showFocused(column, target)));
 }
 
-/**
- * Makes a change that may show or hide what stands above a part, without moving the part under a finger.
- * @param {HTMLElement} still @param {() => void} change
- */
+/** Makes a change that may show or hide what stands above a part, without moving the part under a finger.
+ * @param {HTMLElement} still @param {() => void} change */
 export function withoutMoving(still, change) {
   const { top } = still.getBoundingClientRect();
   change();
@@ -79,10 +72,8 @@ export function setUsable(usable) {
   for (const name of ["line", "results", "kept", "cube"]) part(name).inert = !usable;
 }
 
-/**
- * Scrolls to what follows a step; on a narrow page to the results, and after the last step to the line: below the results, or beside them.
- * @param {boolean} isFinished
- */
+/** Scrolls to what follows a step; on a narrow page to the results, and after the last step to the line: below the results, or beside them.
+ * @param {boolean} isFinished */
 export function showStart(isFinished) {
   if (!matchMedia(BESIDE).matches) return part(isFinished ? "line" : "results").scrollIntoView({ block: "start" });
   scrollTo({ top: 0, behavior: "instant" });
@@ -93,23 +84,6 @@ export function showStart(isFinished) {
 const KEY = "nissy-theme";
 const THEMES = ["light", "dark"];
 
-function kept() {
-  try {
-    return localStorage.getItem(KEY) ?? "";
-  } catch {
-    return "";
-  }
-}
-
-/** @param {string} theme */
-function keep(theme) {
-  try {
-    localStorage.setItem(KEY, theme);
-  } catch {
-    // then it holds until the page is closed
-  }
-}
-
 /** @param {string} theme "" for the system's */
 function use(theme) {
   if (THEMES.includes(theme)) document.documentElement.dataset.theme = theme;
@@ -118,12 +92,12 @@ function use(theme) {
 
 export function offerThemes() {
   const field = part("theme");
-  const theme = THEMES.includes(kept()) ? kept() : "";
+  const theme = THEMES.includes(stored(KEY)) ? stored(KEY) : "";
   field.value = theme;
   use(theme);
   field.addEventListener("change", () => {
     use(field.value);
-    keep(field.value);
+    store(KEY, field.value);
   });
 }
 
@@ -162,9 +136,6 @@ export function placeHelp() {
 
 const FIELDS_TO_TYPE = "input, textarea, select, [contenteditable]";
 
-/** The star of the row that has the focus, or null. */
-const starOfRow = () => document.activeElement?.closest("li, tr")?.querySelector(".star") ?? null;
-
 /** @param {Record<string, () => void>} acts by their keys */
 export function listenToKeys(acts) {
   addEventListener("keydown", (event) => {
@@ -182,7 +153,7 @@ export function listenToKeys(acts) {
 /** Keeps the row that has the focus, or what is given where none has it.
  * @param {() => void} otherwise */
 export function star(otherwise) {
-  const button = starOfRow();
+  const button = document.activeElement?.closest("li, tr")?.querySelector(".star");
   if (button) button.click();
   else otherwise();
 }

@@ -1,5 +1,5 @@
 // Watches the workers, so that the page never waits without a word: one may fail, and one that ended or crashed may say nothing at all.
-import { listenedTo } from "../module/worker-calls.js";
+import { listenedTo } from "../module/worker-queue.js";
 import { part } from "./element.js";
 import { engineFails } from "./words.js";
 
@@ -37,24 +37,15 @@ class Silence {
   }
 }
 
-/** Whether a message to a worker asks for an answer: one that brings the module or has tables built doesn't.
- * @param {any} message */
-const asks = (message) => "request" in message || "question" in message;
-
-/** Whether a worker has more to say after a message: of the best it tells some after the other.
- * @param {any} data */
-const goesOn = (data) => Boolean(data.found);
-
-/**
- * What starts a worker of which the page says that it failed, or that it is silent.
- * @param {() => Worker} made @returns {import("../module/worker-calls.js").NewWorker}
- */
+/** What starts a worker of which the page says that it failed, or that it is silent.
+ * @param {() => Worker} made @returns {import("../module/worker-queue.js").NewWorker} */
 export function watched(made) {
   const start = listenedTo(made);
   return (took, failed) => {
     const silence = new Silence();
     const worker = start((data) => {
-      if (goesOn(data)) silence.begin();
+      // of the best it tells some after the other
+      if ("progress" in data) silence.begin();
       else silence.end();
       took(data);
     }, (message) => {
@@ -63,9 +54,10 @@ export function watched(made) {
       failed(message);
     });
     return {
-      postMessage: (message) => {
+      postMessage: (/** @type {object} */ message) => {
         worker.postMessage(message);
-        if (asks(message)) silence.begin();
+        // what brings the module has no answer
+        if ("request" in message) silence.begin();
       },
       terminate: () => {
         silence.end();

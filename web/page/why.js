@@ -7,16 +7,14 @@ const TELLING_AXES = ["U/D", "F/B", "R/L"];
 /** In which order the faces of a piece are named. */
 const NAMED_FIRST = "UDFBRL";
 
-/** The face that a place is on.
- * @param {number} place */
+/** @param {number} place @returns the face that a place is on */
 const faceAt = (place) => FACE_LETTERS[Math.floor(place / 9)];
 
 /** The places of the piece that a place belongs to, in the order in which its faces are named.
  * @param {number} place */
 const placesOf = (place) => pieceAt(place).sort((one, other) => NAMED_FIRST.indexOf(faceAt(one)) - NAMED_FIRST.indexOf(faceAt(other)));
 
-/** What a piece is called by its faces, such as `UF`.
- * @param {number} place of one of its stickers */
+/** @param {number} place of one of its stickers @returns what a piece is called by its faces, such as `UF` */
 export const nameOfPiece = (place) => placesOf(place).map(faceAt).join("");
 
 /** One place of each edge, and then of each corner. */
@@ -26,8 +24,7 @@ export const PIECES = [2, 3].flatMap((count) =>
     return places.length === count && places[0] === place;
   }));
 
-/** The two faces of an axis in words.
- * @param {string} axis */
+/** @param {string} axis @returns the two faces of an axis in words */
 const eitherOf = (axis) => axis.replace("/", " or ");
 
 /** Which of some faces is of the first axis that has one of them.
@@ -61,11 +58,9 @@ function cornerOriented(faces, colours, axis) {
   return `bad for DR ${axis}: its ${colours[at]} belongs on ${eitherOf(axis)}, and is on ${faces[at]}`;
 }
 
-/**
- * Why a piece is good or bad.
+/** Why a piece is good or bad.
  * @param {string} letters of the cube @param {number} place of one of its stickers @param {string} choice what is marked, such as `EO F/B`,
- * or "" for each axis
- */
+ * or "" for each axis */
 export function whyOf(letters, place, choice) {
   const places = placesOf(place);
   const [faces, colours] = [places.map(faceAt), places.map((each) => letters[each])];

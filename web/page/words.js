@@ -1,8 +1,7 @@
 // Sentences: why a line can't be read, with a mark at the place in the text that was typed, why there is no answer, and the page's title.
 import { EngineMissing, NissyFault } from "../module/faults.js";
-import { MOST_CANDIDATES } from "./address.js";
+import { MOST_CANDIDATES, MOST_MOVES } from "./address.js";
 import { element } from "./element.js";
-import { MOST_MOVES } from "./lines.js";
 import { bracketed, openSteps, stateOf, stepNamed, titleOf } from "./steps.js";
 
 export const MOST_ARE_KEPT = `${MOST_CANDIDATES} lines are kept, and there can be no more: remove one of them first.`;
@@ -12,12 +11,10 @@ const PAGE_NAME = "nissy";
 const TOO_MANY = `more than ${MOST_MOVES} moves`;
 const MOST_SIGNS = 40;
 
-/** What is said of an engine that failed.
- * @param {string} message */
+/** @param {string} message @returns what is said of an engine that failed */
 export const engineFails = (message) => `The engine doesn't work here. ${message}`;
 
-/** Why there is no answer.
- * @param {Error & {text?: string}} fault */
+/** @param {Error & {text?: string}} fault @returns why there is no answer */
 export function unanswered(fault) {
   if (fault instanceof EngineMissing) return engineFails(fault.message);
   const words = fault.text ?? fault.message;
@@ -25,8 +22,7 @@ export function unanswered(fault) {
   return `The scramble and the moves after it can't be read together: they have ${TOO_MANY}.`;
 }
 
-/** What tells the tabs of pages apart.
- * @param {import("./address.js").State} state */
+/** @param {import("./address.js").State} state @returns what tells the tabs of pages apart */
 export function titleOfPage({ scramble, parts }) {
   // no sign that turns the direction of a text, or that isn't seen
   const plain = scramble.replace(/[\p{Cc}\p{Cf}\u2028\u2029]/gu, " ").trim();
@@ -35,8 +31,10 @@ export function titleOfPage({ scramble, parts }) {
   return `${words.slice(0, MOST_SIGNS)}${words.length > MOST_SIGNS ? "…" : ""} – ${PAGE_NAME}`;
 }
 
-/** Why a step can't be listed, or "".
- * @param {string} name of the step @param {string[]} reached */
+/** @param {string[]} leftOut @returns what is said of what was left out of a text, or "" */
+export const wordsOfLeftOut = (leftOut) => (leftOut.length === 0 ? "" : `Left out: ${leftOut.join(", ")}.`);
+
+/** @param {string} name of the step @param {string[]} reached @returns why a step can't be listed, or "" */
 export function whyNotListed(name, reached) {
   if (openSteps(reached).some((step) => step.name === name)) return "";
   const step = stepNamed(name);
@@ -51,25 +49,21 @@ const LONGEST_WORD = 12;
  * @param {string} text */
 const visible = (text) => text.replace(/\s/g, " ").replace(/[\p{Cc}\p{Cf}]/gu, "\uFFFD");
 
-/** The word that stands at a place, up to a blank or a bracket.
- * @param {string} line @param {number} place */
+/** @param {string} line @param {number} place @returns the word that stands at a place, up to a blank or a bracket */
 function wordAt(line, place) {
   const word = [.../^[^\s()]*/.exec(line.slice(place))[0]];
   return visible(word.slice(0, LONGEST_WORD).join("")) + (word.length > LONGEST_WORD ? "…" : "");
 }
 
-/**
- * A move that ends as no move does, such as `R1` or `F-1`, if it stands at a place: all of it, and its letters.
- * @param {string} line @param {number} place of the first sign that can't be read @returns {{word: string, letters: string} | null}
- */
+/** A move that ends as no move does, such as `R1` or `F-1`, if it stands at a place: all of it, and its letters.
+ * @param {string} line @param {number} place of the first sign that can't be read @returns {{word: string, letters: string} | null} */
 function oddMove(line, place) {
   const begin = /([UDRLFB]w?|[MESudrlfbxyz])['2]?$/.exec(line.slice(0, place));
   const isOdd = /^(?:[-+*^'0-9]|i(?!\p{L}))/u.test(line.slice(place));
   return begin && isOdd ? { word: begin[0] + wordAt(line, place), letters: begin[1] } : null;
 }
 
-/** Why a line is no line of moves from a place on.
- * @param {string} line @param {number} place */
+/** @param {string} line @param {number} place @returns why a line is no line of moves from a place on */
 function sentenceOfMove(line, place) {
   const odd = oddMove(line, place);
   if (odd === null) return `“${wordAt(line, place)}” is no move.`;
@@ -77,7 +71,7 @@ function sentenceOfMove(line, place) {
 }
 
 /** The engine's words as a solver reads them.
- * @param {NissyFault} fault @param {string} line what the engine read */
+ * @param {import("../module/faults.js").FaultParts} fault @param {string} line what the engine read */
 function sentenceOf(fault, line) {
   const place = (fault.character ?? 1) - 1;
   const sentences = {
@@ -112,20 +106,16 @@ function marked(text, place) {
   return element("pre", { "aria-hidden": "true", tabindex: -1 }, line, `\n${" ".repeat([...before].length)}^`);
 }
 
-/**
- * Where a fault is in the text that was typed, or null.
- * @param {import("./pasted.js").PlainLine} plain @param {Error | null} fault @param {string} text @returns {number | null}
- */
+/** Where a fault is in the text that was typed, or null.
+ * @param {import("../module/written.js").PlainLine} plain @param {Error | null} fault @param {string} text @returns {number | null} */
 export function placeOfFault({ places }, fault, text) {
   if (!(fault instanceof NissyFault) || fault.character === null) return null;
   return places[fault.character - 1] ?? text.length;
 }
 
-/**
- * Shows a fault under its field, or takes the last one away.
- * @param {HTMLElement} where @param {HTMLElement} field @param {import("./pasted.js").PlainLine} plain what the engine read
- * @param {Error | null} fault @param {string} text what was typed
- */
+/** Shows a fault under its field, or takes the last one away.
+ * @param {HTMLElement} where @param {HTMLElement} field @param {import("../module/written.js").PlainLine} plain what the engine read
+ * @param {Error | null} fault @param {string} text what was typed */
 export function showFault(where, field, plain, fault, text) {
   where.hidden = fault === null;
   where.replaceChildren();

@@ -1,29 +1,56 @@
-// The script of the page's workers: the engine's calls, or, in one that finder.js names so, the search for the best of one axis.
+// The script of the page's workers: all that the page asks, each by its name, of the engine that is at hand there.
 import { continuations } from "../module/best-search.js";
+import { NissyFault } from "../module/faults.js";
+import { textIn } from "../module/natives.js";
 import { Nissy } from "../module/nissy.js";
-import { serve, serveBy } from "../module/serve.js";
-import { madeBy } from "../module/ways.js";
+import { serveBy } from "../module/serve.js";
+import { readAddressed, readByHand, readWritten } from "./lines.js";
+import { rowsOfList } from "./lists.js";
+import { examine, framesOf, offersOf, reductionsOf, walkKept } from "./position.js";
 
+/** @typedef {import("../module/steps.js").Step} Step */
+
+const SCRAMBLE_TURNS = "25";
+const STREAM = "1";
 /** How many rows of one axis are told, besides those that are as good as the last: no more are kept of all. */
 const MOST_TOLD_OF_AXIS = 10_000;
 
-/** @typedef {import("../module/steps.js").Step} Step */
-/** @typedef {{id: number, orientation: Step, question: import("./finder.js").Question}} Search */
-/** @typedef {{id: number, steps: Step[]}} TablesWanted the steps whose tables are wanted */
+/** @param {Nissy} nissy @param {{seed: string}} asked @returns the scramble of a seed, or null if it is none */
+function scrambleOf(nissy, { seed }) {
+  // a word can't hold a zero byte
+  const { status, out } = nissy.run(["scramble", seed.replaceAll("\0", "?"), STREAM, SCRAMBLE_TURNS, "1"]);
+  return status === 0 ? textIn(out).trim() : null;
+}
 
-/** @param {import("../module/serve.js").Port} port the worker itself */
-function serveFinder(port) {
-  serveBy(port, (module) => Nissy.load(module), (nissy, /** @type {Search | TablesWanted} */ message) => {
-    if ("steps" in message) {
-      for (const step of message.steps) nissy.count(step, "");
-      return;
-    }
-    const { id, orientation, question: { now, parts, reached, slack, isAll } } = message;
-    const position = { lines: now, made: madeBy(nissy, parts) };
-    const wish = { slack, isAll, most: MOST_TOLD_OF_AXIS };
-    for (const each of continuations(nissy, position, reached, [orientation], wish)) port.postMessage({ id, found: each });
-    port.postMessage({ id, found: null });
-  });
+/** The best of one axis, which are told as they are found.
+ * @param {Nissy} nissy @param {{orientation: Step, question: import("./finder.js").Question}} asked
+ * @param {(found: import("../module/best-search.js").Found) => void} tell */
+function bestOfAxis(nissy, { orientation, question: { position, reached, slack, isAll } }, tell) {
+  const wish = { slack, isAll, most: MOST_TOLD_OF_AXIS };
+  for (const found of continuations(nissy, position, reached, [orientation], wish)) tell(found);
+}
+
+/** Has the tables of a step built.
+ * @param {Nissy} nissy @param {{step: Step}} asked */
+function build(nissy, { step }) {
+  nissy.count(step, "");
+}
+
+export const ANSWERS = {
+  bestOfAxis, build, examine, framesOf, offersOf, readAddressed, readByHand, readWritten, reductionsOf, rowsOfList, scrambleOf, walkKept,
+};
+
+/** @typedef {typeof ANSWERS} Answers */
+
+/** What is asked, or what is at fault in the lines of it.
+ * @param {() => any} ask @returns {{value: any} | {fault: import("../module/faults.js").FaultParts}} */
+function replyOf(ask) {
+  try {
+    return { value: ask() };
+  } catch (fault) {
+    if (fault instanceof NissyFault) return { fault: fault.parts() };
+    throw fault;
+  }
 }
 
 /** @type {any} a worker, and no window */
@@ -32,5 +59,7 @@ const worker = self;
 worker.addEventListener("unhandledrejection", ({ reason }) => {
   throw reason;
 });
-if (worker.name === "finder") serveFinder(worker);
-else serve(worker);
+serveBy(worker, (module) => Nissy.load(module), (nissy, { id, request: { call, about } }) => {
+  const tell = (progress) => worker.postMessage({ id, progress });
+  worker.postMessage({ id, reply: replyOf(() => ANSWERS[call](nissy, about, tell)) });
+});

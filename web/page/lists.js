@@ -1,0 +1,102 @@
+// The rows of a list, by the engine at hand: a step's solutions, twins as one, each with the cases after it; or a step split over both
+// sides, a few moves on one side, and the rest on the other, of which the fewest moves in all are found first.
+import { FACES_OF, stepNamed } from "../module/best-steps.js";
+import { turnsOfFace } from "../module/merging.js";
+import { mergeTwins, withoutEarlier } from "../module/twins.js";
+import { countOf, leastOf, totalsWith } from "../module/ways.js";
+import { joined, otherSide } from "./steps.js";
+
+/** @typedef {import("../module/nissy.js").Nissy} Nissy */
+/** @typedef {import("./address.js").List} List */
+/** @typedef {import("./steps.js").Lines} Lines */
+/** @typedef {import("../module/twins.js").Twins & {total?: number, cases?: Record<string, string>, begin?: import("./steps.js").Part,
+ * line?: string}} Entry a solution, with all moves and the cases after it where these are known; where it is split `length` is that of all
+ * its moves, `begin` are those on the other side, and `line` is the cube after these */
+/** @typedef {{entries: Entry[], all: number, left: number, whole: boolean}} Rows `all`: how many solutions there are, and `left`: without
+ * those that reach the step before their last move */
+
+/** How many solutions a list may have, and of how many the cases are asked for. */
+const MOST_LISTED = 1_000_000;
+export const MOST_WITH_CASES = 50_000;
+const LONGEST_AFTER = 20;
+/** How many solutions of one beginning are listed, and of all together. */
+const MOST_OF_ONE = 2000;
+const MOST_OF_ALL = 20_000;
+
+/** Whether a turn may follow another one: not of the same face, and of opposite faces in one order alone.
+ * @param {string | undefined} last @param {string} turn */
+function mayFollow(last, turn) {
+  if (last === undefined) return true;
+  const axis = Object.values(FACES_OF).find((faces) => faces.includes(last[0]));
+  return !axis.includes(turn[0]) || axis.indexOf(last[0]) < axis.indexOf(turn[0]);
+}
+
+/** @param {string} step its name @param {number} count @returns {string[][]} the beginnings of a step with so many moves */
+function beginningsWith(step, count) {
+  if (count === 0) return [[]];
+  const turns = [..."UDRLFB"].flatMap((face) => turnsOfFace(face, stepNamed(step)));
+  return beginningsWith(step, count - 1).flatMap((before) =>
+    turns.filter((turn) => mayFollow(before.at(-1), turn)).map((turn) => [...before, turn]));
+}
+
+/** The least length after some beginnings, tried from none on, so that the longer ones are never searched; null if there is none.
+ * @param {Nissy} nissy @param {import("./steps.js").OfferedStep} step @param {{line: string}[]} beginnings */
+function leastAfter(nissy, { name }, beginnings) {
+  const limits = Array.from({ length: LONGEST_AFTER + 1 }, (_, limit) => limit);
+  return limits.find((limit) => beginnings.some(({ line }) => leastOf(nissy, name, line, limit) !== null)) ?? null;
+}
+
+/** The solutions of a step with some moves on the other side, those with the fewest moves in all, and longer ones by a slack.
+ * @param {Nissy} nissy @param {List} list @param {Lines} now the cube @returns {{solutions: Entry[], whole: boolean}} */
+function splitSolutions(nissy, { step, side, slack, split }, now) {
+  const beginnings = beginningsWith(step, split).map((turns) => turns.join(" ")).map((moves) => (
+    { begin: { side: otherSide(side), moves }, line: joined(nissy.invert(moves), now[side]) }));
+  const least = leastAfter(nissy, stepNamed(step), beginnings);
+  if (least === null) return { solutions: [], whole: true };
+  const limit = Math.min(LONGEST_AFTER, least + slack);
+  const found = nissy.solveAll(step, beginnings.map(({ line }) => line), { limit, slack, most: MOST_OF_ONE });
+  const solutions = beginnings.flatMap((each, at) =>
+    found[at].map(({ moves, length }) => ({ ...each, moves, length: length + split, others: [] })));
+  // no moves on this side are no split
+  const wanted = solutions.filter(({ moves }) => moves !== "").sort((one, two) => one.length - two.length);
+  const whole = wanted.length <= MOST_OF_ALL && found.every((each) => each.length < MOST_OF_ONE);
+  return { solutions: wanted.slice(0, MOST_OF_ALL), whole };
+}
+
+/** The solutions of a step on one side that are at most so many moves longer than the shortest, and whether these are all.
+ * @param {Nissy} nissy @param {List} list @param {Lines} now the cube @returns {{solutions: Entry[], whole: boolean}} */
+function ownSolutions(nissy, { step, side, slack }, now) {
+  const found = nissy.solve(step, now[side], { slack, most: MOST_LISTED + 1 });
+  const solutions = found.slice(0, MOST_LISTED).map(({ moves, length }) => ({ moves, length, others: [] }));
+  return { solutions, whole: found.length <= MOST_LISTED };
+}
+
+/** Tells of solutions all moves with each, if moves were made before, and puts those with the fewest first.
+ * @param {Nissy} nissy @param {Entry[]} solutions @param {import("../module/ways.js").Position} position
+ * @param {import("./steps.js").Side} side */
+function withTotals(nissy, solutions, position, side) {
+  if (countOf(position) === 0 || solutions.length > MOST_WITH_CASES) return solutions;
+  const totals = totalsWith(nissy, position, side, solutions);
+  const counted = solutions.map((each, at) => ({ ...each, total: totals[at] }));
+  return counted.sort((one, other) => one.total - other.total || one.length - other.length);
+}
+
+/** @param {Nissy} nissy @param {{list: List, position: import("../module/ways.js").Position}} asked @returns {Rows} */
+export function rowsOfList(nissy, { list, position }) {
+  const now = position.lines;
+  const isSplit = list.split > 0;
+  const { solutions, whole } = (isSplit ? splitSolutions : ownSolutions)(nissy, list, now);
+  const isEach = list.isAll || isSplit;
+  const wanted = isEach ? solutions : withoutEarlier(solutions);
+  const left = isSplit ? wanted : withTotals(nissy, wanted, position, list.side);
+  /** @type {Entry[]} */
+  const entries = isEach ? left : mergeTwins(left, list.step);
+  if (stepNamed(list.step).needs === null) {
+    const first = entries.slice(0, MOST_WITH_CASES);
+    const facts = nissy.factsAll(first.map(({ moves, line = now[list.side] }) => joined(line, moves)));
+    first.forEach((entry, at) => {
+      entry.cases = facts[at].cases;
+    });
+  }
+  return { entries, all: solutions.length, left: left.length, whole };
+}
