@@ -28,7 +28,8 @@ STAND = """const holder = document.getElementById(arguments[0]);
     window.stood = rowsNow();
     getSelection().selectAllChildren(stood[0].querySelector('.take'));
     window.taken = 0;
-    new MutationObserver((changes) => changes.forEach(({ removedNodes }) => { window.taken += removedNodes.length; }))
+    const hasRow = (node) => node instanceof Element && (node.matches('.take') || node.querySelector('.take') !== null);
+    new MutationObserver((changes) => changes.forEach(({ removedNodes }) => { window.taken += [...removedNodes].filter(hasRow).length; }))
         .observe(holder, { childList: true, subtree: true })"""
 STOOD = """const isSelected = getSelection().containsNode(stood[0].querySelector('.take').firstChild, true);
     return [stood.filter((row, at) => row === rowsNow()[at]).length, isSelected, taken]"""
