@@ -128,6 +128,8 @@ def main() -> None:
         for what, one, other in zip(names, found[browser], found[here[0]]):
             compare(tally, browser, here[0], one, other, what)
     tally.holds("there are browsers to compare", len(here) > 1)
+    # those of a scramble; of less than a net it is said how many stickers there are
+    tally.equal("browsers without nets", [name for name in here if "stickers" in str(found[name][1]["nets"])], [])
     tally.end()
 
 
