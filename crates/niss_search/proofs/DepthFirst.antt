@@ -5,8 +5,7 @@ use Rattle.niss_search.proofs.Words.{suc, cond, range_with_len, ◌++◌, zero, 
 use Rattle.niss_search.proofs.Words.{leb, sum_by, sum_by-cons, nat_le, looks, all_canonical, canonical_extensions, le-leb, lt-leb, add-one}
 use Rattle.niss_search.proofs.Words.{up_to, is_looked_at, Space, after_all, All-contains, All-contains_itself, All-filter, leb-true, Part}
 use Rattle.niss_search.proofs.Words.{beyond, length-append, only_looks, then_part, for_each, fold-append, leb-false, take_at, append-nil}
-use Rattle.niss_search.proofs.Words.{GoalCoordinates, positions, distance_at, Step}
-use Rattle.niss_search.proofs.Words.{below_at, beyond_at, deepening}
+use Rattle.niss_search.proofs.Words.{GoalCoordinates, positions, distance_at, Step, below_at, beyond_at, deepening}
 use Rattle.niss_search.proofs.ListLemmas.{flat_map-none, filter-flat_map, sum_by-flat_map, flat_map-flat_map, sum_by-map, sum_by-swap}
 use Rattle.niss_search.proofs.ListLemmas.{sum_by-shift, sum_by-none, sum_by-one, in-range}
 use Rattle.std.proofs.lemmas.List.Folds.{flat_map-map, map_fixed}

@@ -1,17 +1,13 @@
 -- A descent part by part: what it does at a position is what it does after each turn that may follow, one after another;
 -- and how a sink goes through parts.
 use Rattle.niss_search.specs.Budgets.{IsTaken}
-use Rattle.niss_search.proofs.Words.{OnErr, OnOk}
-use Rattle.niss_search.proofs.Words.{◌≡◌, arith, length, ◌+◌, ◌<◌, ℕ, ap, ◌∙◌, sym, ◌≤◌, [], List, refl, true, ◌-◌, ◌∷◌, Bool, Turn, false}
-use Rattle.niss_search.proofs.Words.{suc, ◌++◌, zero, may_follow, last_turn, filter}
-use Rattle.niss_search.proofs.Words.{sum_by-cons, looks, le-leb, lt-leb}
-use Rattle.niss_search.proofs.Words.{Part}
-use Rattle.niss_search.proofs.Words.{beyond, length-append, only_looks, then_part, for_each}
-use Rattle.niss_search.proofs.Words.{turns_of, get_or, map, subst, GoalCoordinates, distance_at, Step, inl, inr, All}
-use Rattle.niss_search.proofs.Words.{position_after, take, drop, flat_map-append, Follower, no_turn, sum_by-append, Err, GoesThrough, Ok}
-use Rattle.niss_search.proofs.Words.{Result, progress_at, below_at, beyond_at, All-head, All-tail, ap₂, Descends, Progress}
-use Rattle.niss_search.proofs.Words.{EndedIn, WentInto, StoppedIn, StopsIn, WentThrough, map-append, AreFar, IsNextNear, drop_more}
-use Rattle.niss_search.proofs.Words.{length-take-le, take-append-drop}
+use Rattle.niss_search.proofs.Words.{OnErr, OnOk, ◌≡◌, arith, length, ◌+◌, ◌<◌, ℕ, ap, ◌∙◌, sym, ◌≤◌, [], List, refl, true, ◌-◌, ◌∷◌, Bool}
+use Rattle.niss_search.proofs.Words.{Turn, false, suc, ◌++◌, zero, may_follow, last_turn, filter, sum_by-cons, le-leb, lt-leb, Part, beyond}
+use Rattle.niss_search.proofs.Words.{length-append, only_looks, then_part, for_each, turns_of, get_or, map, subst, GoalCoordinates}
+use Rattle.niss_search.proofs.Words.{distance_at, Step, inl, inr, All, position_after, take, drop, flat_map-append, Follower, no_turn}
+use Rattle.niss_search.proofs.Words.{sum_by-append, Err, GoesThrough, Ok, Result, progress_at, below_at, beyond_at, All-head, All-tail, ap₂}
+use Rattle.niss_search.proofs.Words.{Descends, Progress, EndedIn, WentInto, StoppedIn, StopsIn, WentThrough, map-append, AreFar, IsNextNear}
+use Rattle.niss_search.proofs.Words.{drop_more, length-take-le, take-append-drop}
 
 -- what stands in a list of followers past its end
 abbrev pub no_follower : Follower
