@@ -1,4 +1,4 @@
-use Rattle.niss_shell.proofs.Names.{Ok, Some, refl, sym, ◌∙◌, string_bytes}
+use Rattle.niss_shell.proofs.Names.{Ok, refl, sym, ◌∙◌, string_bytes}
 use Rattle.niss_shell.proofs.WordsLemmas.{named_command, parses_by}
 use Rattle.niss_shell.specs.declared.command.Command.TheVariants as command
 use Rattle.niss_shell.proofs.command.parse_words.Goals as goal
