@@ -6,6 +6,7 @@
 #include "nissy.hpp"
 #include "nissy_ways.hpp"
 
+#include <functional>
 #include <iterator>
 #include <set>
 #include <tuple>
@@ -48,6 +49,14 @@ struct continuation {
     std::string dr_case;           // that of the reduction before its moves, such as "4c4e"
 };
 
+// How `best` searches: `slack` and `most` as it says, and how many positions its searches look at together at most.
+struct best_search {
+    std::int64_t slack = 0;
+    std::uint64_t most = 20, nodes = NISSY_ALL;
+    // called between searches with how many orientations are done, and of how many, 0 until that is known; what it throws ends the call
+    std::function<void(std::size_t, std::size_t)> progress = {};
+};
+
 // What the search shares. Its names are no part of the interface.
 namespace continuing {
 
@@ -72,11 +81,11 @@ struct candidate {
     axis_step step;
     int least = NEVER, most = NEVER;
 
-    // Widens the bounds by a cube after one of the twins. If a reduction merges with its orientation alone, a twin of that has a shorter one,
-    // so this isn't looked at.
-    void add(const cube &before, const cube &after, const tables &by) {
+    // Widens the bounds by a cube after one of the twins, on each side of which the reduction has this least length. If a reduction merges
+    // with its orientation alone, a twin of that has a shorter one, so this isn't looked at.
+    void add(const cube &before, const cube &after, const std::array<std::optional<int>, 2> &on_sides) {
         for (const std::size_t on : {NORMAL, INVERSE}) {
-            const std::optional<int> length = by.count(after.lines[on], {20, 0, 1}).length;
+            const std::optional<int> length = on_sides[on];
             if (!length) continue;
             const int total = after.count_made() + *length;
             most = std::min(most, total);
@@ -92,26 +101,26 @@ inline int total_with(const cube &from, std::size_t on, const solution &one) {
 }
 
 // The first of a step's shortest solutions on a side with which there are fewest moves in all.
-inline way best_way(const cube &from, std::size_t on, const axis_step &step) {
+inline way best_way(searches &by, const cube &from, std::size_t on, const axis_step &step) {
     way best = {NEVER, std::nullopt, ""};
-    for (const solution &one : tables(step.name).solve(from.lines[on]))
+    for (const solution &one : by.solve(step, from.lines[on]))
         if (const int total = total_with(from, on, one); total < best.total) best = {total, one.length, one.moves};
     return best;
 }
 
 // The best way on a side after any of the twins, and after which.
-inline std::pair<std::size_t, way> best_on(const candidate &one, std::size_t on) {
+inline std::pair<std::size_t, way> best_on(searches &by, const candidate &one, std::size_t on) {
     std::pair<std::size_t, way> best = {0, {NEVER, std::nullopt, ""}};
     for (std::size_t at = 0; at < one.twins->cubes.size(); at++) {
-        way found = best_way(one.twins->cubes[at], on, one.step);
+        way found = best_way(by, one.twins->cubes[at], on, one.step);
         if (std::tie(found.total, found.length) < std::tie(best.second.total, best.second.length)) best = {at, std::move(found)};
     }
     return best;
 }
 
 // How many moves there are in all.
-inline int total_of(const candidate &one) {
-    return one.least == one.most ? one.most : std::min(best_on(one, NORMAL).second.total, best_on(one, INVERSE).second.total);
+inline int total_of(searches &by, const candidate &one) {
+    return one.least == one.most ? one.most : std::min(best_on(by, one, NORMAL).second.total, best_on(by, one, INVERSE).second.total);
 }
 
 // Moves as a line, those on the inverse side in brackets.
@@ -125,9 +134,9 @@ inline std::string written(std::size_t on, const std::string &moves, std::size_t
 constexpr side side_of(std::size_t on) { return on == NORMAL ? side::normal : side::inverse; }
 
 // A candidate with its moves, the reduction on the side of the orientation if the other one isn't better.
-inline continuation continued(const candidate &one, const start &from, const std::string &dr_case) {
+inline continuation continued(searches &by, const candidate &one, const start &from, const std::string &dr_case) {
     const auto &[step, own, moves, cubes] = *one.twins;
-    const std::array<std::pair<std::size_t, way>, 2> ways = {best_on(one, NORMAL), best_on(one, INVERSE)};
+    const std::array<std::pair<std::size_t, way>, 2> ways = {best_on(by, one, NORMAL), best_on(by, one, INVERSE)};
     const std::size_t on = ways[own].second.total <= ways[1 - own].second.total ? own : 1 - own;
     const auto &[at, found] = ways[on];
     texts others = last_turns_of_others(moves, moves[at], step);
@@ -139,9 +148,9 @@ inline continuation continued(const candidate &one, const start &from, const std
 }
 
 // The orientations on a side.
-inline std::vector<twins> orientations_on(const cube &from, std::size_t on, const axis_step &step, std::int64_t slack) {
+inline std::vector<twins> orientations_on(searches &by, const cube &from, std::size_t on, const axis_step &step, std::int64_t slack) {
     std::vector<twins> found;
-    for (std::vector<solution> &group : grouped(reaching(from.lines[on], step, slack), step)) {
+    for (std::vector<solution> &group : grouped(reaching(by, from.lines[on], step, slack), step)) {
         twins each = {step, on, std::move(group), {}};
         const auto after = [&](const solution &one) { return from.after(on, one.moves); };
         std::transform(each.moves.begin(), each.moves.end(), std::back_inserter(each.cubes), after);
@@ -151,8 +160,8 @@ inline std::vector<twins> orientations_on(const cube &from, std::size_t on, cons
 }
 
 // The orientations on an axis, the shortest first.
-inline std::vector<twins> orientations(const cube &from, const axis_step &step, std::int64_t slack) {
-    std::vector<twins> found = orientations_on(from, NORMAL, step, slack), others = orientations_on(from, INVERSE, step, slack);
+inline std::vector<twins> orientations(searches &by, const cube &from, const axis_step &step, std::int64_t slack) {
+    std::vector<twins> found = orientations_on(by, from, NORMAL, step, slack), others = orientations_on(by, from, INVERSE, step, slack);
     found.insert(found.end(), std::make_move_iterator(others.begin()), std::make_move_iterator(others.end()));
     const auto is_shorter = [](const twins &one, const twins &other) { return one.moves[0].length < other.moves[0].length; };
     std::stable_sort(found.begin(), found.end(), is_shorter);
@@ -160,10 +169,11 @@ inline std::vector<twins> orientations(const cube &from, const axis_step &step, 
 }
 
 // A candidate of twins that go on from a cube.
-inline candidate candidate_of(const cube &before, const twins &each, const axis_step &step) {
+inline candidate candidate_of(searches &by, const cube &before, const twins &each, const axis_step &step) {
     candidate found = {&each, step};
-    const tables by(step.name);
-    for (const cube &after : each.cubes) found.add(before, after, by);
+    const tables of_step(step.name);
+    for (const cube &after : each.cubes)
+        found.add(before, after, {by.least_length(of_step, after.lines[NORMAL]), by.least_length(of_step, after.lines[INVERSE])});
     return found;
 }
 
@@ -185,37 +195,52 @@ struct judged {
 };
 
 // The candidates of an axis, both reductions after each of the orientations.
-inline void add_candidates(std::vector<candidate> &to, const cube &before, const std::vector<twins> &every, const oriented_steps &steps) {
+inline void add_candidates(std::vector<candidate> &to, searches &by, const cube &before, const std::vector<twins> &every,
+                           const oriented_steps &steps) {
     for (const twins &each : every) {
-        to.push_back(candidate_of(before, each, steps.reductions[0]));
-        to.push_back(candidate_of(before, each, steps.reductions[1]));
+        to.push_back(candidate_of(by, before, each, steps.reductions[0]));
+        to.push_back(candidate_of(by, before, each, steps.reductions[1]));
+        by.go_on(each.cubes.size());
     }
 }
 
 // Those that may be among the first `most`: as many have no more moves in all than the bound, and one that can't come down to it is left out.
-inline std::vector<judged> judged_best(const std::vector<candidate> &candidates, std::uint64_t most) {
+inline std::vector<judged> judged_best(searches &by, const std::vector<candidate> &candidates, std::uint64_t most) {
     std::vector<int> numbers;
     std::transform(candidates.begin(), candidates.end(), std::back_inserter(numbers), [](const candidate &one) { return one.most; });
     const int enough = nth_least(std::move(numbers), most);
     std::vector<judged> found;
     for (const candidate &one : candidates)
-        if (one.least <= enough) found.push_back({one, total_of(one), facts(one.twins->cubes[0].lines[NORMAL]).axes[one.step.axis]});
+        if (one.least <= enough) found.push_back({one, total_of(by, one), facts(one.twins->cubes[0].lines[NORMAL]).axes[one.step.axis]});
     return found;
 }
 
-// The best orientations, each with a reduction.
-inline std::vector<continuation> oriented(const start &from, std::int64_t slack, std::uint64_t most) {
-    std::array<std::vector<twins>, 3> every;
+// How many orientations there are.
+inline std::size_t count_of(const std::array<std::vector<twins>, 3> &every) {
+    std::size_t count = 0;
+    for (const std::vector<twins> &on_axis : every)
+        for (const twins &each : on_axis) count += each.cubes.size();
+    return count;
+}
+
+// All orientations with both reductions after each.
+inline std::vector<candidate> candidates_of(searches &by, const cube &before, const std::array<std::vector<twins>, 3> &every) {
+    by.begin(count_of(every));
     std::vector<candidate> candidates;
-    for (std::size_t axis = 0; axis < every.size(); axis++) {
-        every[axis] = orientations(from.cube, STEPS_BY_AXIS[axis].eo, slack);
-        add_candidates(candidates, from.cube, every[axis], STEPS_BY_AXIS[axis]);
-    }
-    std::vector<judged> found = judged_best(candidates, most);
+    for (std::size_t axis = 0; axis < every.size(); axis++) add_candidates(candidates, by, before, every[axis], STEPS_BY_AXIS[axis]);
+    return candidates;
+}
+
+// The best orientations, each with a reduction.
+inline std::vector<continuation> oriented(searches &by, const start &from, std::int64_t slack, std::uint64_t most) {
+    std::array<std::vector<twins>, 3> every;
+    const auto on_axis = [&](const oriented_steps &steps) { return orientations(by, from.cube, steps.eo, slack); };
+    std::transform(STEPS_BY_AXIS.begin(), STEPS_BY_AXIS.end(), every.begin(), on_axis);
+    std::vector<judged> found = judged_best(by, candidates_of(by, from.cube, every), most);
     std::stable_sort(found.begin(), found.end(), [](const judged &one, const judged &other) { return one.rank() < other.rank(); });
     found.erase(found.begin() + static_cast<std::ptrdiff_t>(std::min<std::uint64_t>(most, found.size())), found.end());
     std::vector<continuation> rows;
-    const auto row = [&from](const judged &each) { return continued(each.one, from, each.facts.dr_case()); };
+    const auto row = [&](const judged &each) { return continued(by, each.one, from, each.facts.dr_case()); };
     std::transform(found.begin(), found.end(), std::back_inserter(rows), row);
     return rows;
 }
@@ -227,8 +252,8 @@ struct reductions {
     lengths least;
 };
 
-inline reductions reductions_of(const cube &from, const axis_step &step, std::int64_t slack) {
-    reductions found = {step, {reaching(from.lines[NORMAL], step, slack), reaching(from.lines[INVERSE], step, slack)}, {}};
+inline reductions reductions_of(searches &by, const cube &from, const axis_step &step, std::int64_t slack) {
+    reductions found = {step, {reaching(by, from.lines[NORMAL], step, slack), reaching(by, from.lines[INVERSE], step, slack)}, {}};
     const auto least = [](const std::vector<solution> &all) { return all.empty() ? std::nullopt : std::optional<int>(all[0].length); };
     found.least = {least(found.solutions[NORMAL]), least(found.solutions[INVERSE])};
     return found;
@@ -265,9 +290,9 @@ inline void add_reduced(std::vector<ranked> &to, const start &from, const reduct
 }
 
 // Both reductions that may follow an orientation which holds, in the order of their sides.
-inline void add_reductions(std::vector<ranked> &to, const start &from, const oriented_steps &steps, std::int64_t slack) {
+inline void add_reductions(std::vector<ranked> &to, searches &by, const start &from, const oriented_steps &steps, std::int64_t slack) {
     for (const axis_step &step : steps.reductions) {
-        const reductions all = reductions_of(from.cube, step, slack);
+        const reductions all = reductions_of(by, from.cube, step, slack);
         add_reduced(to, from, all, NORMAL);
         add_reduced(to, from, all, INVERSE);
     }
@@ -284,7 +309,7 @@ inline std::vector<continuation> best_of(std::vector<ranked> all, std::uint64_t 
 }
 
 // What may follow a cube.
-inline std::vector<continuation> continuations(const start &from, std::int64_t slack, std::uint64_t most) {
+inline std::vector<continuation> continuations(searches &by, const start &from, std::int64_t slack, std::uint64_t most) {
     const std::vector<std::string> held = facts(from.cube.lines[NORMAL]).holds();
     const auto holds = [&](const axis_step &step) { return std::find(held.begin(), held.end(), step.name) != held.end(); };
     std::vector<ranked> found;
@@ -293,9 +318,12 @@ inline std::vector<continuation> continuations(const start &from, std::int64_t s
         if (std::any_of(steps.reductions.begin(), steps.reductions.end(), holds)) return {};
         if (!holds(steps.eo)) continue;
         is_oriented = true;
-        add_reductions(found, from, steps, slack);
+        add_reductions(found, by, from, steps, slack);
     }
-    return is_oriented ? best_of(std::move(found), most) : oriented(from, slack, most);
+    if (!is_oriented) return oriented(by, from, slack, most);
+    by.begin(found.size());
+    by.go_on(found.size());
+    return best_of(std::move(found), most);
 }
 
 } // namespace continuing
@@ -306,18 +334,24 @@ inline std::vector<continuation> continuations(const start &from, std::int64_t s
 //
 // Moves of `so_far` in brackets are made on the inverse side. All moves count, those so far too, once they are merged on each side. The order
 // is by these, by the moves of the first step, and by the pieces of the case. `most` is how many are returned. Each unit of slack makes this
-// many times as long and as large, and nothing bounds it.
-inline std::vector<continuation> best(std::string_view scramble, std::string_view so_far = {}, std::int64_t slack = 0,
-                                      std::uint64_t most = 20) {
-    detail::turns(slack, "slack");
+// many times as long and as large; a call whose searches would look at more than `nodes` positions together throws a cut.
+inline std::vector<continuation> best(std::string_view scramble, std::string_view so_far, const best_search &which) {
+    detail::turns(which.slack, "slack");
     const nissy_check_answer read = nissy_check(detail::bytes(scramble), scramble.size(), detail::bytes(so_far), so_far.size());
     detail::end_unless_read(read.status, read.fault, read.column, {}, read.line == 1 ? "scramble, " : "moves so far, ");
+    continuing::searches by(which.nodes, which.progress);
     try {
-        return continuing::continuations(continuing::start_of(scramble, so_far), slack, most);
+        return continuing::continuations(by, continuing::start_of(scramble, so_far), which.slack, which.most);
     } catch (const fault &found) {
         // each was read by itself, so they are too long together
         throw fault(found.code(), 0, std::string(found.text()), "moves so far, ");
     }
+}
+
+// The same without a bound.
+inline std::vector<continuation> best(std::string_view scramble, std::string_view so_far = {}, std::int64_t slack = 0,
+                                      std::uint64_t most = 20) {
+    return best(scramble, so_far, best_search{slack, most});
 }
 
 } // namespace nissy

@@ -4,6 +4,7 @@
 
 #include "nissy.hpp"
 
+#include <functional>
 #include <iterator>
 #include <limits>
 #include <unordered_map>
@@ -168,11 +169,57 @@ inline bool is_reached_earlier(const solution &one, int least, const std::unorde
     return false;
 }
 
+// Is told how many are done, and of how many, or 0 until that is known.
+using progress = std::function<void(std::size_t, std::size_t)>;
+
+// The searches of a call: how many positions they may look at together, and who is told how far the call is.
+class searches {
+public:
+    searches(std::uint64_t nodes, const progress &told) : nodes_(nodes), told_(told) {}
+
+    // Tells how many there are.
+    void begin(std::size_t count) {
+        all_ = count;
+        go_on(0);
+    }
+
+    // Tells that so many more are done.
+    void go_on(std::size_t count) {
+        done_ += count;
+        if (told_) told_(done_, all_);
+    }
+
+    // A step's solutions.
+    std::vector<solution> solve(const axis_step &step, const std::string &line, std::int64_t slack = 0) {
+        go_on(0);
+        found all = tables(step.name).find(line, {20, slack, NISSY_ALL, left()});
+        spend(all.count);
+        return std::move(all.solutions);
+    }
+
+    // A step's least length.
+    std::optional<int> least_length(const tables &by, const std::string &line) {
+        const count first = by.count(line, {20, 0, 1, left()});
+        spend(first);
+        return first.length;
+    }
+
+private:
+    std::uint64_t left() const { return nodes_ == NISSY_ALL ? NISSY_ALL : nodes_ - looked_; }
+
+    void spend(const count &last) {
+        looked_ += last.nodes;
+        if (last.is_cut) throw cut(looked_);
+    }
+
+    std::uint64_t nodes_, looked_ = 0;
+    const progress &told_;
+    std::size_t done_ = 0, all_ = 0;
+};
+
 // The solutions of a step on a side, without those in which it is reached before their last turn.
-inline std::vector<solution> reaching(const std::string &line, const axis_step &step, std::int64_t slack) {
-    search which;
-    which.slack = slack;
-    const std::vector<solution> all = tables(step.name).solve(line, which);
+inline std::vector<solution> reaching(searches &by, const std::string &line, const axis_step &step, std::int64_t slack) {
+    const std::vector<solution> all = by.solve(step, line, slack);
     std::unordered_set<std::string_view> known;
     const auto moves = [](const solution &one) { return std::string_view(one.moves); };
     std::transform(all.begin(), all.end(), std::inserter(known, known.end()), moves);

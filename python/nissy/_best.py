@@ -8,10 +8,9 @@ from ._continuations import Continuation, Lengths, Orientation, Reduction, Side
 from ._facts import Axis, Case, check, facts, facts_all
 from ._given import Step, Text, bytes_of, number_of
 from ._lines import MOST_WORD
-from ._searches import solve
 from ._twins import grouped, last_turns, without_earlier
 from ._values import Fault, LineFault, Solution, raising
-from ._ways import NORMAL, SIDES, Cube, Start, Way, best_way, bounds, least_lengths, read, totals, turns_of
+from ._ways import NORMAL, SIDES, Cube, Progress, Searches, Start, Way, best_way, bounds, read, totals, turns_of
 
 _NAMES: Tuple[Side, Side] = ("normal", "inverse")
 # the orientations, and the reductions that may follow each, with their axes
@@ -20,6 +19,8 @@ _REDUCTIONS: Dict[Step, Dict[Step, Axis]] = {
     "eorl": {"drud-eorl": "ud", "drfb-eorl": "fb"},
     "eoud": {"drrl-eoud": "rl", "drfb-eoud": "fb"}}
 _MOST_SLACK = 20
+# so many groups of twins go on before the caller is told
+_BATCH = 256
 
 
 class _Twins(NamedTuple):
@@ -44,18 +45,18 @@ class _Candidate(NamedTuple):
         """The axis of the reduction."""
         return _REDUCTIONS[self.twins.step][self.step]
 
-    def best_on(self, side: int) -> Tuple[int, Way]:
+    def best_on(self, searches: Searches, side: int) -> Tuple[int, Way]:
         """Returns the best way on a side after any of the twins, and after which."""
-        ways = [(at, best_way(cube, side, self.step)) for at, cube in enumerate(self.twins.cubes)]
+        ways = [(at, best_way(searches, cube, side, self.step)) for at, cube in enumerate(self.twins.cubes)]
         return min(ways, key=lambda found: found[1][:2])
 
-    def total(self) -> int:
+    def total(self, searches: Searches) -> int:
         """Returns how many moves there are in all."""
-        return self.most if self.least == self.most else min(self.best_on(side)[1].total for side in SIDES)
+        return self.most if self.least == self.most else min(self.best_on(searches, side)[1].total for side in SIDES)
 
-    def continuation(self, start: Start, case: Case) -> Continuation:
+    def continuation(self, searches: Searches, start: Start, case: Case) -> Continuation:
         """Returns it with its moves, on the side of the orientation if the other one isn't better."""
-        (step, own, twins, _), best = self.twins, [self.best_on(side) for side in SIDES]
+        (step, own, twins, _), best = self.twins, [self.best_on(searches, side) for side in SIDES]
         side = own if best[own][1].total <= best[1 - own][1].total else 1 - own
         at, (total, _, moves) = best[side]
         others = tuple(start.named(own, last_turns(each, step)) for each in twins[:at] + twins[at + 1:])
@@ -70,33 +71,35 @@ def _written(*parts: Tuple[int, str]) -> str:
     return line.replace(") (", " ")
 
 
-def _reaching(cube: Cube, side: int, step: Step, slack: int) -> List[Solution]:
+def _reaching(searches: Searches, cube: Cube, side: int, step: Step, slack: int) -> List[Solution]:
     """Returns a step's solutions on a side, without those in which it is reached before their last turn."""
-    return without_earlier(solve(step, cube.lines[side], slack=slack))
+    return without_earlier(searches.solve(step, cube.lines[side], slack))
 
 
-def _orientations(cube: Cube, step: Step, slack: int) -> List[_Twins]:
+def _orientations(searches: Searches, cube: Cube, step: Step, slack: int) -> List[_Twins]:
     """Returns the orientations on an axis, the shortest first."""
-    groups = [(side, twins) for side in SIDES for twins in grouped(_reaching(cube, side, step, slack), step)]
+    groups = [(side, twins) for side in SIDES for twins in grouped(_reaching(searches, cube, side, step, slack), step)]
     groups.sort(key=lambda group: group[1][0].length)
     return [_Twins(step, side, twins, [cube.after(side, moves) for moves in twins]) for side, twins in groups]
 
 
-def _candidates(cube: Cube, every: List[_Twins], step: Step) -> List[_Candidate]:
+def _candidates(searches: Searches, cube: Cube, every: List[_Twins], step: Step) -> List[_Candidate]:
     """Returns a reduction after each of the twins on an axis, which go on from a cube."""
-    lengths = iter(least_lengths(step, [after for twins in every for after in twins.cubes]))
-    found = []
+    lengths = searches.least_lengths(step, [line for twins in every for after in twins.cubes for line in after.lines])
+    on_sides, found = zip(lengths, lengths), []
     for twins in every:
-        on_each = [bounds(cube, after, step, on_sides) for after, on_sides in zip(twins.cubes, lengths)]
+        on_each = [bounds(cube, after, step, next(on_sides)) for after in twins.cubes]
         found.append(_Candidate(twins, step, min(least for least, _ in on_each), min(most for _, most in on_each)))
     return found
 
 
-def _on_axis(cube: Cube, step: Step, slack: int) -> Iterator[_Candidate]:
+def _on_axis(searches: Searches, cube: Cube, every: List[_Twins]) -> Iterator[_Candidate]:
     """Yields the orientations of an axis, the shortest first, each with both reductions."""
-    every = _orientations(cube, step, slack)
-    for both in zip(*(_candidates(cube, every, reduction) for reduction in _REDUCTIONS[step])):
-        yield from both
+    for first in range(0, len(every), _BATCH):
+        batch = every[first:first + _BATCH]
+        for both in zip(*(_candidates(searches, cube, batch, reduction) for reduction in _REDUCTIONS[batch[0].step])):
+            yield from both
+        searches.go_on(sum(len(twins.cubes) for twins in batch))
 
 
 def _nth_least(numbers: Iterable[int], nth: int) -> int:
@@ -104,24 +107,26 @@ def _nth_least(numbers: Iterable[int], nth: int) -> int:
     return max(nsmallest(nth, numbers), default=-1)
 
 
-def _oriented(start: Start, slack: int, most: int) -> List[Continuation]:
+def _oriented(searches: Searches, start: Start, slack: int, most: int) -> List[Continuation]:
     """Returns the best of the orientations with a reduction after each."""
-    candidates = [each for step in _REDUCTIONS for each in _on_axis(start.cube, step, slack)]
+    axes = [_orientations(searches, start.cube, step, slack) for step in _REDUCTIONS]
+    searches.begin(sum(len(twins.cubes) for every in axes for twins in every))
+    candidates = [each for every in axes for each in _on_axis(searches, start.cube, every)]
     # as many as are asked for have no more moves in all than this, so one that can't come down to it is left out
     enough = _nth_least((each.most for each in candidates), most)
-    counted = [(each.total(), each) for each in candidates if each.least <= enough]
+    counted = [(each.total(searches), each) for each in candidates if each.least <= enough]
     enough = _nth_least((total for total, _ in counted), most)
     kept = [(total, each) for total, each in counted if total <= enough]
     seen = raising(facts_all([each.twins.cubes[0].lines[NORMAL] for _, each in kept]))
     cased = [(total, each, it.case[each.axis]) for (total, each), it in zip(kept, seen)]
     cased.sort(key=lambda row: (row[0], row[1].twins.moves[0].length, row[2].corners + row[2].edges))
-    return [each.continuation(start, case) for _, each, case in cased[:most]]
+    return [each.continuation(searches, start, case) for _, each, case in cased[:most]]
 
 
-def _reductions(start: Start, step: Step, axis: Axis, slack: int) -> Iterator[Continuation]:
+def _reductions(searches: Searches, start: Start, step: Step, axis: Axis, slack: int) -> Iterator[Continuation]:
     """Yields the reductions of a step, which may start."""
     cube = start.cube
-    case, found = facts(cube.lines[NORMAL]).case[axis], [_reaching(cube, side, step, slack) for side in SIDES]
+    case, found = facts(cube.lines[NORMAL]).case[axis], [_reaching(searches, cube, side, step, slack) for side in SIDES]
     lengths = Lengths(*(solutions[0].length if solutions else None for solutions in found))
     for side, solutions in enumerate(found):
         counted = dict(zip(solutions, totals(cube, side, solutions)))
@@ -132,10 +137,12 @@ def _reductions(start: Start, step: Step, axis: Axis, slack: int) -> Iterator[Co
             yield Continuation(counted[moves], _written((side, dr.moves)), None, dr, case)
 
 
-def _reduced(start: Start, held: Iterable[Step], slack: int, most: int) -> List[Continuation]:
+def _reduced(searches: Searches, start: Start, held: Iterable[Step], slack: int, most: int) -> List[Continuation]:
     """Returns the best reductions after orientations that hold. Moves that keep two of them are there once."""
     found = [(axis, row) for orientation in held for step, axis in _REDUCTIONS[orientation].items()
-             for row in _reductions(start, step, axis, slack)]
+             for row in _reductions(searches, start, step, axis, slack)]
+    searches.begin(len(found))
+    searches.go_on(len(found))
     found.sort(key=lambda pair: (pair[1].total, pair[1].dr.length, pair[1].case.corners + pair[1].case.edges))
     rows: Dict[Tuple[Axis, str], Continuation] = {}
     for axis, row in found:
@@ -143,31 +150,38 @@ def _reduced(start: Start, held: Iterable[Step], slack: int, most: int) -> List[
     return list(rows.values())[:most]
 
 
-def best(scramble: Text, so_far: Text = "", *, slack: int = 0, most: Optional[int] = 20) -> List[Continuation]:
+def best(scramble: Text, so_far: Text = "", *, slack: int = 0, most: Optional[int] = 20, nodes: Optional[int] = None,
+         progress: Optional[Progress] = None) -> List[Continuation]:
     """What may follow a scramble and the moves so far, the best first, up to a domino reduction: each orientation on three axes and both
     sides, up to `slack` moves longer than the shortest of its axis and side, and after it the reduction on each of two axes with the fewest
     moves in all, on the better side. If an orientation holds, the reductions, up to `slack` longer; if a reduction is reached, nothing.
 
     Moves of `so_far` in brackets are made on the inverse side. All moves count, those so far too, once they are merged on each side. The
     order is by these, then by the moves of the first step, then by the pieces of the case. No more than `most` are returned, or all if it is
-    None. Each unit of slack makes this many times as long and as large, and nothing bounds it.
+    None. Each unit of slack makes this many times as long and as large.
 
-    Raises LineFault with `line` 1 for the scramble and 2 for the moves so far, and Fault if both have too many moves together."""
+    With `nodes` its searches look at no more than so many positions together: if they would look at more, Cut is raised. `progress` is called
+    between searches with how many orientations are done, and of how many, None until that is known; what it raises ends the call.
+
+    Raises LineFault with `line` 1 for the scramble and 2 for the moves so far, Fault if both have too many moves together, and Cut."""
     given = bytes_of(scramble, "the scramble"), bytes_of(so_far, "the line so far")
     longer = number_of(slack, "the slack", _MOST_SLACK)
     count = MOST_WORD if most is None else number_of(most, "most", MOST_WORD)
+    looks = None if nodes is None else number_of(nodes, "nodes", MOST_WORD)
+    if progress is not None and not callable(progress):
+        raise TypeError(f"the progress is a function or None, not {type(progress).__name__}")
     check(*given)
     try:
-        return _continuations(read(given[0].decode(), given[1].decode()), longer, count)
+        return _continuations(Searches(looks, progress), read(given[0].decode(), given[1].decode()), longer, count)
     except LineFault as fault:
         # each was read by itself, so they are too long together
         raise Fault(fault.text, 2) from None
 
 
-def _continuations(start: Start, slack: int, most: int) -> List[Continuation]:
+def _continuations(searches: Searches, start: Start, slack: int, most: int) -> List[Continuation]:
     """Returns what may follow a cube, the best first."""
     reached = facts(start.cube.lines[NORMAL]).holds
     if any(step in reached for reductions in _REDUCTIONS.values() for step in reductions):
         return []
     held = [step for step in _REDUCTIONS if step in reached]
-    return _reduced(start, held, slack, most) if held else _oriented(start, slack, most)
+    return _reduced(searches, start, held, slack, most) if held else _oriented(searches, start, slack, most)

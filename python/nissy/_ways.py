@@ -3,18 +3,76 @@ were made before them on the same side."""
 from __future__ import annotations
 
 import re
-from typing import Dict, Iterable, List, NamedTuple, Optional, Sequence, Tuple
+from typing import Callable, Dict, Iterator, List, NamedTuple, Optional, Sequence, Tuple
 
 from ._facts import facts
 from ._given import Step
 from ._lines import cleanup, invert, unniss
-from ._searches import count_all, solve
+from ._searches import Tables, count_all, solve
 from ._twins import FACES
-from ._values import Solution, raising
+from ._values import Count, Cut, Solution, Solutions, raising
 
 NORMAL, INVERSE = SIDES = (0, 1)
 NEVER = 10_000
 """More moves than there can be in all."""
+Progress = Callable[[int, Optional[int]], object]
+"""Is told how many are done, and of how many, or None until that is known."""
+
+
+class Searches:
+    """The searches of a call: how many positions they may look at together, any number if it is None, and who is told how far the call is."""
+
+    __slots__ = ("_looked", "_nodes", "_told", "_done", "_all")
+
+    def __init__(self, nodes: Optional[int], told: Optional[Progress]) -> None:
+        self._nodes, self._told = nodes, told
+        self._looked = self._done = 0
+        self._all: Optional[int] = None
+
+    def begin(self, count: int) -> None:
+        """Tells how many there are."""
+        self._all = count
+        self.go_on(0)
+
+    def go_on(self, count: int) -> None:
+        """Tells that so many more are done."""
+        self._done += count
+        if self._told is not None:
+            self._told(self._done, self._all)
+
+    def solve(self, step: Step, line: str, slack: int = 0) -> Solutions:
+        """Returns a step's solutions."""
+        self.go_on(0)
+        try:
+            found = solve(step, line, slack=slack, nodes=self._left())
+        except Cut as cut:
+            raise self._cut(cut.count) from None
+        self._looked += found.nodes
+        return found
+
+    def least_lengths(self, step: Step, lines: Sequence[str]) -> Iterator[Optional[int]]:
+        """Yields a step's least length on each line. With a bound each is asked for by itself, since the next one may look at what it leaves."""
+        counts = raising(count_all(step, lines, most=1)) if self._nodes is None else map(self._first_of(Tables(step)), lines)
+        return (count.length for count in counts)
+
+    def _first_of(self, tables: Tables) -> Callable[[str], Count]:
+        """Returns what counts until the first solution of a line."""
+        def count_first(line: str) -> Count:
+            count = tables.count(line, most=1, nodes=self._left(), partial=True)
+            if count.cut:
+                raise self._cut(count)
+            self._looked += count.nodes
+            return count
+
+        return count_first
+
+    def _left(self) -> Optional[int]:
+        """Returns at how many positions the next search may look."""
+        return None if self._nodes is None else self._nodes - self._looked
+
+    def _cut(self, last: Count) -> Cut:
+        """Returns the cut of them all, after the last one was cut."""
+        return Cut(Count(None, 0, self._looked + last.nodes, True))
 
 
 class Cube(NamedTuple):
@@ -76,13 +134,6 @@ def read(scramble: str, so_far: str) -> Start:
     return Start(Cube((line, invert(line)), (normal, invert(_home(before)[0]))), names)
 
 
-def least_lengths(step: Step, cubes: Iterable[Cube]) -> List[Tuple[Optional[int], Optional[int]]]:
-    """Returns a step's least length on each side of each cube."""
-    lines = [line for cube in cubes for line in cube.lines]
-    lengths = [count.length for count in raising(count_all(step, lines, most=1))]
-    return list(zip(lengths[::2], lengths[1::2]))
-
-
 def _most_saved(made: str, step: Step) -> int:
     """Returns how many moves a reduction can save at most since its first turns merge with the last ones that are made on its side, or take
     them back."""
@@ -125,8 +176,8 @@ class Way(NamedTuple):
     moves: str
 
 
-def best_way(cube: Cube, side: int, step: Step) -> Way:
+def best_way(searches: Searches, cube: Cube, side: int, step: Step) -> Way:
     """Returns the first of a step's shortest solutions on a side with which there are fewest moves in all."""
-    solutions = solve(step, cube.lines[side])
+    solutions = searches.solve(step, cube.lines[side])
     ways = [Way(total, moves.length, moves) for total, moves in zip(totals(cube, side, solutions), solutions)]
     return min(ways, key=lambda way: way.total, default=Way(NEVER, None, ""))

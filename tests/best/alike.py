@@ -15,14 +15,16 @@ HERE = os.path.dirname(os.path.abspath(__file__))
 sys.path[:0] = [os.path.join(HERE, ".."), os.path.join(HERE, "..", "..", "python")]
 
 import nissy  # noqa: E402
-from questions import Question, drawn  # noqa: E402
+from questions import Drawing, Question, drawn  # noqa: E402
 from tally import Tally  # noqa: E402
 
 
 def answer(question: Question) -> object:
     """What Python answers, as JSON has it."""
     try:
-        rows = nissy.best(question.scramble, question.so_far, slack=question.slack, most=question.most)
+        rows = nissy.best(question.scramble, question.so_far, slack=question.slack, most=question.most, nodes=question.nodes)
+    except nissy.Cut:
+        return "cut"
     except nissy.Fault as fault:
         return {"line": fault.line, "column": getattr(fault, "column", None), "text": fault.text}
     return [dataclasses.asdict(row) for row in rows]
@@ -39,6 +41,30 @@ def answers_of(command: List[str], questions: List[Question]) -> List[str]:
     return subprocess.run(command, input=asked, stdout=subprocess.PIPE, check=True, encoding="utf-8").stdout.splitlines()
 
 
+def least_bound(question: Question) -> int:
+    """The least number of nodes with which Python answers and isn't cut."""
+    low, high = 0, 1024
+    while answer(question._replace(nodes=high)) == "cut":
+        low, high = high, 2 * high
+    while high - low > 1:
+        middle = (low + high) // 2
+        low, high = (middle, high) if answer(question._replace(nodes=middle)) == "cut" else (low, middle)
+    return high
+
+
+def bounds(tally: Tally, caller: str, seed: int) -> None:
+    """The least bound with which there is an answer is the same in Python and C++, which search alike; JavaScript has none."""
+    draw = Drawing(seed)
+    scrambles = [draw.scramble() for _ in range(3)]
+    questions = [Question("U R F"), Question("R U", "", 1), Question(scrambles[0]), Question(scrambles[1], draw.both_sides(), 0, 200),
+                 Question(scrambles[2], draw.orientation(scrambles[2]), 1), Question(" ".join(draw.turns(3)), "", 1, 1)]
+    least = [(question, least_bound(question)) for question in questions]
+    asked = [question._replace(nodes=bound - short) for question, bound in least for short in (1, 0)]
+    got = answers_of([caller], asked)
+    tally.equal("one less is cut", got[::2], ['"cut"'] * len(questions))
+    tally.equal("the least bound is none", got[1::2], [written(question) for question in questions])
+
+
 def main() -> None:
     """All questions, by each caller."""
     tally, (seed, count) = Tally(), map(int, sys.argv[1:3])
@@ -53,6 +79,8 @@ def main() -> None:
         tally.equal(f"how many answers there are in {name}", len(got), len(wanted))
         for question, ours, theirs in zip(questions, wanted, got):
             tally.equal(f"{question} in {name}", theirs, ours)
+    if sys.argv[3:4] not in ([], ["-"]):
+        bounds(tally, sys.argv[3], seed)
     tally.holds("some have rows", sum(line.startswith("[{") for line in wanted) > count / 2)
     tally.holds("some have none", "[]" in wanted)
     tally.end()

@@ -1,5 +1,5 @@
-/* Answers each question of standard input by nissy_best.hpp: a scramble, the moves so far, the slack and how many are asked for, with tabs
-   between them. The answer is a line of JSON. */
+/* Answers each question of standard input by nissy_best.hpp: a scramble, the moves so far, the slack, how many are asked for and the bound, with
+   tabs between them. The answer is a line of JSON. */
 #include "nissy_best.hpp"
 
 #include <iostream>
@@ -40,10 +40,12 @@ std::string row(const nissy::continuation &it) {
                          named("dr", "{" + listed(reduction) + "}"), named("case", quoted(it.dr_case))}) + "}";
 }
 
-std::string answer(const std::string &scramble, const std::string &so_far, const std::string &slack, const std::string &most) {
+std::string answer(const std::string &scramble, const std::string &so_far, const nissy::best_search &which) {
     std::vector<std::string> rows;
     try {
-        for (const nissy::continuation &it : nissy::best(scramble, so_far, std::stoll(slack), std::stoull(most))) rows.push_back(row(it));
+        for (const nissy::continuation &it : nissy::best(scramble, so_far, which)) rows.push_back(row(it));
+    } catch (const nissy::cut &) {
+        return quoted("cut");
     } catch (const nissy::fault &fault) {
         const bool is_first = std::string_view(fault.what()).find("scramble, ") != std::string_view::npos;
         const std::string column = fault.column() ? std::to_string(fault.column()) : "null";
@@ -57,10 +59,11 @@ std::string answer(const std::string &scramble, const std::string &so_far, const
 int main() {
     for (std::string line; std::getline(std::cin, line);) {
         std::istringstream question(line);
-        std::string scramble, so_far, slack, most;
-        std::getline(question, scramble, '\t'), std::getline(question, so_far, '\t'), std::getline(question, slack, '\t');
-        std::getline(question, most, '\t');
-        std::cout << answer(scramble, so_far, slack, most) << std::endl;
+        std::string scramble, so_far;
+        nissy::best_search which;
+        std::getline(question, scramble, '\t'), std::getline(question, so_far, '\t');
+        question >> which.slack >> which.most >> which.nodes;
+        std::cout << answer(scramble, so_far, which) << std::endl;
     }
     return 0;
 }

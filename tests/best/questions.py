@@ -18,6 +18,7 @@ class Question(NamedTuple):
     so_far: str = ""
     slack: int = 0
     most: int = 20
+    nodes: int = 2**64 - 1
 
     def as_line(self) -> str:
         """It as the callers in other languages read it."""

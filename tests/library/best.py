@@ -13,7 +13,7 @@ import pickle
 import sys
 import typing
 from pathlib import Path
-from typing import Any, Optional, Tuple
+from typing import Any, List, Optional, Tuple
 
 TOP = Path(__file__).resolve().parents[2]
 sys.path[:0] = [str(TOP / "python"), str(TOP / "tests")]
@@ -49,6 +49,40 @@ def many(tally: Tally) -> None:
     tally.holds("a slack makes it no longer", nissy.best(SCRAMBLE, slack=1)[0].total <= rows[0].total)
 
 
+def bounded(tally: Tally) -> None:
+    """One bound is for all searches of a call: under the least one that suffices there is a cut."""
+    cuts, least, rows = [], 0, nissy.best("U R F")
+    while least < 10_000:
+        try:
+            tally.equal("the same rows at the least bound", nissy.best("U R F", nodes=least), rows)
+            break
+        except nissy.Cut as cut:
+            cuts.append(cut.count.cut and cut.count.nodes <= least)
+        least += 1
+    # an orientation alone has looked at more before it ends
+    tally.holds("the least bound", nissy.count("eofb", "U R F").nodes < least < 10_000)
+    tally.holds("each cut tells at how many positions it looked", all(cuts) and len(cuts) == least)
+    tally.equal("a greater bound", (nissy.best("U R F", nodes=least + 1), nissy.best("U R F", nodes=2**64 - 1)), (rows, rows))
+    tally.equal("a reduction is reached without a search", nissy.best("U R F", "F' R", nodes=0), [])
+
+
+def progress(tally: Tally) -> None:
+    """The progress goes from none to all, and what it raises ends the call."""
+    pairs: List[Tuple[int, Optional[int]]] = []
+    rows = nissy.best("U R F L D", progress=lambda done, every: pairs.append((done, every)))
+    tally.equal("the same rows", rows, nissy.best("U R F L D"))
+    tally.equal("it begins with none", pairs[0], (0, None))
+    tally.equal("it never goes back", [done for done, _ in pairs], sorted(done for done, _ in pairs))
+    tally.holds("it ends with all", 0 < pairs[-1][0] == pairs[-1][1])
+
+    def stop(done: int, _: Optional[int]) -> None:
+        if done > 0:
+            raise InterruptedError
+
+    for line in ("U R F L D", "R U"):
+        tally.holds(f"what it raises, of {line}", raised(InterruptedError, lambda: nissy.best(line, progress=stop)))
+
+
 def values(tally: Tally) -> None:
     """Rows are values: copied, hashed, written as JSON."""
     row = nissy.best(SCRAMBLE, "R (U')")[0]
@@ -78,7 +112,8 @@ def faults(tally: Tally) -> None:
     for given in wrong:
         tally.holds(f"{given}", raised(TypeError, lambda: untyped.best(*given)))
     for name, value, kind in (("slack", 21, ValueError), ("slack", -1, ValueError), ("most", -1, ValueError), ("slack", "1", TypeError),
-                              ("most", 1.5, TypeError), ("slack", None, TypeError)):
+                              ("most", 1.5, TypeError), ("slack", None, TypeError), ("nodes", -1, ValueError), ("nodes", "1", TypeError),
+                              ("progress", 1, TypeError)):
         tally.holds(f"{name} {value}", raised(kind, lambda: untyped.best("R", **{name: value})))
     tally.equal("what is said", str(raised(TypeError, lambda: untyped.best("R", 3))), "the line so far is a str or bytes, not int")
 
@@ -86,7 +121,7 @@ def faults(tally: Tally) -> None:
 def main() -> None:
     """All of it."""
     tally = Tally()
-    for part in (told, many, values, faults):
+    for part in (told, many, bounded, progress, values, faults):
         part(tally)
     tally.end()
 

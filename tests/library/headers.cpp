@@ -80,6 +80,41 @@ void rows_are_counted() {
     holds(nissy::best(scramble, "", 1).at(0).total <= all[0].total, "a slack makes it no longer", scramble);
 }
 
+// One bound is for all searches of a call: under the least one that suffices there is a cut.
+void continuations_are_bounded() {
+    const auto with = [](std::uint64_t nodes) { return nissy::best("U R F", "", {0, 20, nodes}); };
+    const auto is_cut = [&](std::uint64_t nodes) {
+        try {
+            return with(nodes).empty();
+        } catch (const nissy::cut &thrown) {
+            return thrown.nodes <= nodes;
+        }
+    };
+    const std::size_t rows = nissy::best("U R F").size();
+    std::uint64_t least = 0;
+    while (least < 10'000 && is_cut(least)) least++;
+    // an orientation alone has looked at more before it ends
+    holds(least > nissy::tables("eofb").count("U R F").nodes && least < 10'000, "the least bound", "U R F");
+    for (const std::uint64_t nodes : {least, least + 1, NISSY_ALL - 1, NISSY_ALL}) holds(with(nodes).size() == rows, "all rows", "U R F");
+    holds(nissy::best("U R F", "F' R", {0, 20, 0}).empty(), "a reduction is reached without a search", "U R F");
+}
+
+// The progress goes from none to all, and what it throws ends the call.
+void progress_is_told() {
+    std::vector<std::pair<std::size_t, std::size_t>> told;
+    nissy::best_search which;
+    which.progress = [&](std::size_t done, std::size_t all) { told.push_back({done, all}); };
+    nissy::best("U R F L D", "", which);
+    holds(told.size() > 7 && told.front() == std::make_pair(std::size_t{0}, std::size_t{0}), "it begins with none", "U R F L D");
+    holds(std::is_sorted(told.begin(), told.end()), "it never goes back", "U R F L D");
+    holds(told.back().first > 0 && told.back().first == told.back().second, "it ends with all", "U R F L D");
+    which.progress = [](std::size_t done, std::size_t) {
+        if (done > 0) throw std::domain_error("enough");
+    };
+    throws<std::domain_error>([&] { nissy::best("U R F L D", "", which); }, "U R F L D");
+    throws<std::domain_error>([&] { nissy::best("R U", "", which); }, "R U");
+}
+
 // Solutions one after another are those of a list.
 void solutions_follow() {
     const nissy::tables tables("eofb"), reduction("dr-eofb");
@@ -118,6 +153,8 @@ int main() {
     names_are_told();
     continuations_are_told();
     rows_are_counted();
+    continuations_are_bounded();
+    progress_is_told();
     solutions_follow();
     faults_are_thrown();
     return ended();
