@@ -8,7 +8,7 @@ import { REDUCTIONS, isSide, stepNamed } from "./steps.js";
 /** @typedef {{parts: Part[], note: string, next: string}} Candidate `next`: the reduction that it was kept with, or "" */
 /** @typedef {{scramble: string, parts: Part[], side: import("./steps.js").Side, list: List | null, kept: Candidate[]}} State */
 
-export const LONGEST_ADDRESS = 20000;
+const LONGEST_ADDRESS = 20000;
 // 256 moves, each of as many signs as one may have and in brackets, are half of it
 export const LONGEST_SCRAMBLE = 4096;
 export const GREATEST_SLACK = 3;
@@ -38,7 +38,7 @@ function escaped(text) {
 }
 
 /** @param {string} text @returns a text as the one line that the engine reads of it */
-export const oneLine = (text) => text.replace(/[\r\n]/g, " ");
+const oneLine = (text) => text.replace(/[\r\n]/g, " ");
 
 const spelled = (text) => decodeURIComponent(text.replace(/_/g, "%20").replace(/-/g, "'"));
 

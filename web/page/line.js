@@ -16,7 +16,7 @@ const UNKNOWN = "…";
 const NO_MOVES = "No moves yet";
 
 /** @param {Part[]} parts @returns {Part[]} the parts without their last move */
-export function withoutLastMove(parts) {
+function withoutLastMove(parts) {
   const { side, moves } = parts.at(-1);
   const left = moves.split(" ").slice(0, -1).join(" ");
   return left === "" ? parts.slice(0, -1) : [...parts.slice(0, -1), { side, moves: left }];

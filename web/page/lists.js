@@ -17,7 +17,7 @@ import { joined, otherSide } from "./steps.js";
 
 /** How many solutions a list may have, and of how many the cases are asked for. */
 const MOST_LISTED = 1_000_000;
-export const MOST_WITH_CASES = 50_000;
+const MOST_WITH_CASES = 50_000;
 const LONGEST_AFTER = 20;
 /** How many solutions of one beginning are listed, and of all together. */
 const MOST_OF_ONE = 2000;

@@ -36,7 +36,7 @@ function build(nissy, { step }) {
   nissy.count(step, "");
 }
 
-export const ANSWERS = {
+const ANSWERS = {
   bestOfAxis, build, examine, framesOf, offersOf, readAddressed, readByHand, readWritten, reductionsOf, rowsOfList, scrambleOf, walkKept,
 };
 
