@@ -10,7 +10,10 @@ import { twinKey } from "./twins.js";
  * @typedef {import("./sides.js").OnSides<Kept>} OnSides
  */
 
-/** @typedef {Part & {length: number, place: number[]}} Sided a solution on its side, and its place among all: by sides, and within its list */
+/**
+ * @typedef {Part & {length: number, place: number[]}} Sided a solution on its side, and its place among all: by sides,
+ * and within its list
+ */
 
 /**
  * The least length of a reduction on each side, and all moves with it.
@@ -18,8 +21,8 @@ import { twinKey } from "./twins.js";
  */
 
 /**
- * The reduction that follows an orientation: the side on which it is best, its ways after any of the twins, and its own ones, after the
- * twin that is shown.
+ * The reduction that follows an orientation: the side on which it is best, its ways after any of the twins, and its own
+ * ones, after the twin that is shown.
  * @typedef {Ways & {step: Step, side: Side, own: Ways}} Next
  */
 
@@ -38,7 +41,8 @@ import { twinKey } from "./twins.js";
  */
 
 /**
- * The order of rows: by all moves, by those of the part, by how far the case is, an edge being as far as a corner, and then by their place.
+ * The order of rows: by all moves, by those of the part, by how far the case is, an edge being as far as a corner, and
+ * then by their place.
  * @param {Row} one
  * @param {Row} other
  */
@@ -85,7 +89,8 @@ function sortedInto(rows, added) {
 }
 
 /**
- * The best of the rows that are added, in their order, each once: if two orientations hold, a reduction may follow each of them.
+ * The best of the rows that are added, in their order, each once: if two orientations hold, a reduction may follow each
+ * of them.
  * @template {Row} Each
  */
 export class BestRows {
@@ -169,7 +174,10 @@ export class Bound {
   }
 }
 
-/** How many orientations, twins as one, are tried before rows are told: few at first, so that some are there soon, and never very many. */
+/**
+ * How many orientations, twins as one, are tried before rows are told: few at first, so that some are there soon, and
+ * never very many.
+ */
 const BATCHES = [100, 500];
 
 /**

@@ -1,5 +1,6 @@
-// The search for the best continuations of a cube: before an orientation each orientation on both sides, with each reduction that may
-// follow it; after one its reductions. It has the engine at hand, and tells of rows as it finds them.
+// The search for the best continuations of a cube: before an orientation each orientation on both sides, with each
+// reduction that may follow it; after one its reductions. It has the engine at hand, and tells of rows as it finds
+// them.
 import { Bound, batchesOf, twinsOf } from "./best-rows.js";
 import { ORIENTATIONS, reductionsAfter } from "./best-steps.js";
 import { SIDES, otherSide } from "./sides.js";
@@ -17,12 +18,16 @@ import { afterPart, isWithin, totalWith, wayTo } from "./ways.js";
 /** @typedef {import("./ways.js").Way} Way */
 
 /**
- * How much is looked for: how many moves longer than the shortest of its side an orientation may be, whether all of them are wanted, twins
- * and those in which it was reached before the last move too, and how many rows are kept, besides those as good as the last of them.
+ * How much is looked for: how many moves longer than the shortest of its side an orientation may be, whether all of
+ * them are wanted, twins and those in which it was reached before the last move too, and how many rows are kept,
+ * besides those as good as the last of them.
  * @typedef {{slack: number, isAll: boolean, most: number}} Wish
  */
 
-/** @typedef {{done: number, all: number | null, rows: Row[], isCut: boolean}} Found `all`: null until it is known; `rows`: new ones alone */
+/**
+ * @typedef {{done: number, all: number | null, rows: Row[], isCut: boolean}} Found `all`: null until it is known;
+ * `rows`: new ones alone
+ */
 /** @typedef {{part: Sided, after: Position}} Tried an orientation, and what is there after it */
 
 /** As many solutions of a step as are looked at on a side. */
@@ -45,7 +50,8 @@ function onSides(nissy, step, { lines }, { slack, isAll }) {
 }
 
 /**
- * The orientations of a search that are this much longer than the shortest; those of no slack come first, since they are there at once.
+ * The orientations of a search that are this much longer than the shortest; those of no slack come first, since they
+ * are there at once.
  * @param {Nissy} nissy
  * @param {StepOnAxis} orientation
  * @param {Position} position
@@ -85,10 +91,14 @@ function caseOf(nissy, { lines }, { axis }) {
  */
 const placeOf = (step) => STEPS.indexOf(step);
 
-/** @typedef {{orientation: StepOnAxis, key: string, twins: Tried[]}} Group orientations that are twins, and what they are known by */
+/**
+ * @typedef {{orientation: StepOnAxis, key: string, twins: Tried[]}} Group orientations that are twins, and what they
+ * are known by
+ */
 
 /**
- * The row of twins with a reduction: the moves are those of the twin that goes on best, on their own side if the other one isn't better.
+ * The row of twins with a reduction: the moves are those of the twin that goes on best, on their own side if the other
+ * one isn't better.
  * @param {Nissy} nissy
  * @param {Group} group
  * @param {StepOnAxis} reduction
@@ -159,7 +169,10 @@ const groupsOf = (nissy, position, orientations, wish) => orientations
 /** @param {{group: Sided[]}[]} groups how many orientations are in these */
 const sizeOf = (groups) => groups.reduce((sum, { group }) => sum + group.length, 0);
 
-/** @typedef {{orientation: StepOnAxis, key: string, group: Sided[]}} Untried orientations that are twins, before they are tried */
+/**
+ * @typedef {{orientation: StepOnAxis, key: string, group: Sided[]}} Untried orientations that are twins, before they
+ * are tried
+ */
 /** @typedef {{bound: Bound, done: number}} Going how far a search is */
 
 /**
@@ -196,7 +209,8 @@ function* groupsFound(nissy, position, groups, going, isLast) {
 }
 
 /**
- * Finds the orientations on some axes with their reductions: the shortest first, since these are there at once, and then the longer ones.
+ * Finds the orientations on some axes with their reductions: the shortest first, since these are there at once, and
+ * then the longer ones.
  * @param {Nissy} nissy
  * @param {Position} position
  * @param {readonly StepOnAxis[]} orientations

@@ -1,8 +1,12 @@
-// The steps that lead to a domino reduction: an orientation of the edges on an axis, and after it a reduction on one of the other two.
+// The steps that lead to a domino reduction: an orientation of the edges on an axis, and after it a reduction on one of
+// the other two.
 
 /** @typedef {import("./facts.js").Axis} Axis */
 /** @typedef {import("./steps.js").Step} Step */
-/** @typedef {{name: Step, axis: Axis, needs: Step | null}} StepOnAxis of a reduction `needs` is the orientation that it keeps */
+/**
+ * @typedef {{name: Step, axis: Axis, needs: Step | null}} StepOnAxis of a reduction `needs` is the orientation that it
+ * keeps
+ */
 
 /** @type {readonly Axis[]} */
 export const AXES = ["fb", "rl", "ud"];

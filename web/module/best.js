@@ -1,4 +1,5 @@
-// The best continuations of a scramble and the moves so far, as values: the rows of the search, each with the moves of its reduction.
+// The best continuations of a scramble and the moves so far, as values: the rows of the search, each with the moves of
+// its reduction.
 import { ORIENTATIONS } from "./best-steps.js";
 import { BestRows } from "./best-rows.js";
 import { continuations } from "./best-search.js";
@@ -22,13 +23,14 @@ import { afterPart, leastOf, totalWith } from "./ways.js";
  */
 
 /**
- * An orientation: its moves on one side, and the last turns of those that differ in the direction of these alone, its twins.
+ * An orientation: its moves on one side, and the last turns of those that differ in the direction of these alone, its
+ * twins.
  * @typedef {{step: Step, side: Side, moves: string, length: number, twins: string[]}} BestOrientation
  */
 
 /**
- * A reduction: its moves on one side, and the least length on each side, null if there is none of at most 20 turns. It has twins only if it
- * follows no orientation of its row.
+ * A reduction: its moves on one side, and the least length on each side, null if there is none of at most 20 turns. It
+ * has twins only if it follows no orientation of its row.
  * @typedef {BestOrientation & {lengths: OnSides<number | null>}} BestReduction
  */
 
@@ -44,7 +46,10 @@ import { afterPart, leastOf, totalWith } from "./ways.js";
 
 /** @typedef {Row & {shown: BestRow}} RowWithMoves a row of the search, and what callers see of it */
 
-/** @typedef {{done: number, all: number | null}} BestProgress how many were tried, and of how many, null until that is known */
+/**
+ * @typedef {{done: number, all: number | null}} BestProgress how many were tried, and of how many, null until that is
+ * known
+ */
 /** @typedef {(progress: BestProgress) => void} TellProgress */
 
 /** @typedef {(moves: string) => string} Naming of moves by the letters that they have after a turn of the whole cube */
@@ -68,14 +73,16 @@ function cleanedIn(nissy, line) {
  */
 function namingAfter(nissy, rotation) {
   if (rotation === "") return (moves) => moves;
-  const letterOf = (/** @type {string} */ face) => movesIn(nissy.invert(nissy.cleanup(nissy.invert(joined(face, rotation)))))[0][0];
+  const turned = (/** @type {string} */ face) => nissy.invert(nissy.cleanup(nissy.invert(joined(face, rotation))));
+  const letterOf = (/** @type {string} */ face) => movesIn(turned(face))[0][0];
   const letters = new Map([..."UDRLFB"].map((face) => [face, letterOf(face)]));
   return (moves) => moves.replace(/[UDRLFB]/g, (face) => String(letters.get(face)));
 }
 
 /**
- * The cube on both sides, where its axes are those of the normal side's centres. A turn of the whole cube that is left at the end of the normal
- * side renames what follows there; on the inverse side it stands before all moves, and renames none.
+ * The cube on both sides, where its axes are those of the normal side's centres. A turn of the whole cube that is left
+ * at the end of the normal side renames what follows there; on the inverse side it stands before all moves, and renames
+ * none.
  * @param {Nissy} nissy
  * @param {string} scramble
  * @param {string} soFar
@@ -147,7 +154,8 @@ function rowsAfter(nissy, { scramble, slack, most, axes }, soFar, tell) {
   const held = ORIENTATIONS.filter(({ name }) => holds.includes(name));
   const asked = (held.length > 0 ? held : ORIENTATIONS).map(({ name }) => name).filter((name) => axes.includes(name));
   const best = new BestRows(most);
-  for (const { done, all, rows: added } of continuations(nissy, start.position, holds, asked, { slack, isAll: false, most })) {
+  const wish = { slack, isAll: false, most };
+  for (const { done, all, rows: added } of continuations(nissy, start.position, holds, asked, wish)) {
     best.add(added);
     tell({ done, all });
   }

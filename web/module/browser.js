@@ -14,7 +14,8 @@ const place = () => new URL(SCRIPT, import.meta.url).href;
 let importing = null;
 
 /**
- * Where a script of the page's own stands that imports one of another origin, from which browsers start no worker. It serves each start.
+ * Where a script of the page's own stands that imports one of another origin, from which browsers start no worker. It
+ * serves each start.
  * @param {string} href
  */
 function importedFrom(href) {
@@ -43,10 +44,11 @@ function workersBy(made) {
 /** The engine in a worker. */
 export class NissyWorker extends WorkerCalls {
   /**
-   * Starts the engine. Rejects with `NoWebAssembly` if the host runs none, and with `EngineMissing` if the worker can't be started.
+   * Starts the engine. Rejects with `NoWebAssembly` if the host runs none, and with `EngineMissing` if the worker can't
+   * be started.
    * @param {ModuleSource | Promise<ModuleSource>} source
-   * @param {() => Worker} [made] makes a worker that runs `nissy/worker-script`, of which a bundle has a copy; without it the script that stands
-   * beside this file is run
+   * @param {() => Worker} [made] makes a worker that runs `nissy/worker-script`, of which a bundle has a copy; without
+   * it the script that stands beside this file is run
    * @returns {Promise<NissyWorker>}
    */
   static async start(source, made = besideThis) {

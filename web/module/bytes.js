@@ -22,8 +22,8 @@ const SHORT = 4_096;
 export const isBytes = (value) => kindOf(value) === "Uint8Array";
 
 /**
- * The bytes of a text: those of UTF-8 for a string, and of an array of bytes a copy. Anything else is refused: an object that says of
- * itself how long it is could reach what another caller left in the memory.
+ * The bytes of a text: those of UTF-8 for a string, and of an array of bytes a copy. Anything else is refused: an
+ * object that says of itself how long it is could reach what another caller left in the memory.
  * @param {unknown} text
  * @param {string} what it is, for the error
  * @returns {Uint8Array}
@@ -37,8 +37,8 @@ export function bytesOf(text, what) {
 }
 
 /**
- * A line as it is handed on: a short string, or bytes of which nobody else has any. One of too many bytes is refused here, since the module's
- * memory keeps the size that it once had.
+ * A line as it is handed on: a short string, or bytes of which nobody else has any. One of too many bytes is refused
+ * here, since the module's memory keeps the size that it once had.
  * @param {unknown} line
  * @param {string} what it is, for the error
  * @returns {Text}
@@ -48,7 +48,8 @@ export function takenLine(line, what) {
   if (isString && line.length <= SHORT) return line;
   // a unit of a string takes a byte at least
   const bytes = isString && line.length > MOST_INPUT ? null : bytesOf(line, what);
-  if (bytes === null || lengthOf(bytes) > MOST_INPUT) throw new RangeError(`${what} has more bytes than the engine reads`);
+  const isLong = bytes === null || lengthOf(bytes) > MOST_INPUT;
+  if (isLong) throw new RangeError(`${what} has more bytes than the engine reads`);
   return bytes;
 }
 
@@ -106,7 +107,8 @@ export function stringOf(value, what) {
  */
 export function wholeNumber(value, what, most) {
   if (typeof value !== "number") throw new TypeError(`${what} is no number`);
-  if (!Number.isSafeInteger(value) || value < 0 || value > most) throw new RangeError(`${what} is no whole number from 0 to ${most}`);
+  const isWithin = Number.isSafeInteger(value) && value >= 0 && value <= most;
+  if (!isWithin) throw new RangeError(`${what} is no whole number from 0 to ${most}`);
   return value;
 }
 

@@ -5,7 +5,9 @@
 var OLDEST = 18;
 
 if (parseInt(process.versions.node, 10) < OLDEST) {
-  process.stderr.write("nissy: this is node " + process.versions.node + ", and nissy needs node " + OLDEST + " or a later one\n");
+  process.stderr.write(
+    "nissy: this is node " + process.versions.node + ", and nissy needs node " + OLDEST + " or a later one\n"
+  );
   process.exitCode = 3;
 } else {
   require("./command-start.cjs");

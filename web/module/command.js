@@ -83,7 +83,8 @@ function run(engine, words, input, first = 1) {
  * @param {Uint8Array} line
  */
 function requestOf({ command, step, limit, slack }, line) {
-  return command === "count" ? countRequest(step, line, { limit }) : solveRequest(step, line, { limit, slack, most: MOST_AT_ONCE });
+  if (command === "count") return countRequest(step, line, { limit });
+  return solveRequest(step, line, { limit, slack, most: MOST_AT_ONCE });
 }
 
 /**
@@ -151,7 +152,8 @@ function searchLines(engine, words, search) {
 }
 
 /**
- * Does what the words say. If they read lines, they write nothing for an input without any; of the others only no scrambles write nothing.
+ * Does what the words say. If they read lines, they write nothing for an input without any; of the others only no
+ * scrambles write nothing.
  * @param {Engine} engine
  * @param {string[]} words
  */
@@ -169,7 +171,8 @@ async function started() {
     return await Engine.start(readFileSync(new URL("./nissy.wasm", import.meta.url)));
   } catch (error) {
     const { message } = /** @type {Error} */ (error);
-    const why = error instanceof NoWebAssembly ? "this node runs no WebAssembly" : `nissy.wasm can't be loaded: ${message}`;
+    const isOfNode = error instanceof NoWebAssembly;
+    const why = isOfNode ? "this node runs no WebAssembly" : `nissy.wasm can't be loaded: ${message}`;
     throw new Stop(STATUS.stopped, `nissy: ${why}\n`);
   }
 }

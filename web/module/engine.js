@@ -15,7 +15,9 @@ import { compiled } from "./source.js";
 /** @typedef {import("./replies.js").Reply} Reply */
 
 /** What the module calls each rewriting. */
-const REWRITINGS = { invert: "nissy_invert", unniss: "nissy_unniss", cleanup: "nissy_cleanup", facelets: "nissy_facelets" };
+const REWRITINGS = {
+  invert: "nissy_invert", unniss: "nissy_unniss", cleanup: "nissy_cleanup", facelets: "nissy_facelets",
+};
 
 /**
  * @param {Instance} instance

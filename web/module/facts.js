@@ -1,9 +1,12 @@
-// What is told of lines without a search, as values: where the bad pieces of a cube stand, and whether a solution solves a scramble.
+// What is told of lines without a search, as values: where the bad pieces of a cube stand, and whether a solution
+// solves a scramble.
 import { frozen } from "./natives.js";
 import { STEPS } from "./steps.js";
 
 /** The places of the edges and of the corners: place i is bit i of the module's masks. */
-export const EDGE_PLACES = /** @type {const} */ (["UR", "UF", "UL", "UB", "DR", "DF", "DL", "DB", "FR", "FL", "BL", "BR"]);
+export const EDGE_PLACES = /** @type {const} */ ([
+  "UR", "UF", "UL", "UB", "DR", "DF", "DL", "DB", "FR", "FL", "BL", "BR",
+]);
 export const CORNER_PLACES = /** @type {const} */ (["URF", "UFL", "ULB", "UBR", "DFR", "DLF", "DBL", "DRB"]);
 
 /** What forms of moves there are that the WCA's notation hasn't: form i is bit i of the module's mask. */
@@ -15,8 +18,8 @@ export const FORMS = /** @type {const} */ (["slices", "lower-case", "brackets", 
 /** @typedef {typeof CORNER_PLACES[number]} CornerPlace */
 
 /**
- * A form of moves that the WCA's notation hasn't: M, E or S; a lower-case letter for a turn of an outer block; brackets; U+2019 in place of ';
- * and 2' for a half turn.
+ * A form of moves that the WCA's notation hasn't: M, E or S; a lower-case letter for a turn of an outer block;
+ * brackets; U+2019 in place of '; and 2' for a half turn.
  * @typedef {typeof FORMS[number]} Form
  */
 
@@ -32,10 +35,11 @@ export const FORMS = /** @type {const} */ (["slices", "lower-case", "brackets", 
  * @property {number} moves as written: turns of faces and outer blocks count one each, slice turns two, rotations none
  * @property {number} cleanMoves how many face turns the line's one sequence has once it is cleaned
  * @property {OnEachAxis<readonly EdgePlace[]>} badEdges the places of the edges that aren't oriented on the axis
- * @property {OnEachAxis<readonly CornerPlace[]>} badCorners those of the corners whose sticker of the axis's two faces is on another face
+ * @property {OnEachAxis<readonly CornerPlace[]>} badCorners those of the corners whose sticker of the axis's two faces
+ * is on another face
  * @property {OnEachAxis<readonly EdgePlace[]>} misplacedEdges those of the edges on the wrong side of the axis's slice
- * @property {OnEachAxis<string>} cases the case of a domino reduction on the axis as solvers write it: `4c4e` has four bad corners and four
- * misplaced edges
+ * @property {OnEachAxis<string>} cases the case of a domino reduction on the axis as solvers write it: `4c4e` has four
+ * bad corners and four misplaced edges
  * @property {readonly Step[]} holds the steps that the cube has reached
  */
 
@@ -48,14 +52,21 @@ export const FORMS = /** @type {const} */ (["slices", "lower-case", "brackets", 
  * @property {readonly Form[]} forms the forms that it has and that the WCA's notation hasn't
  */
 
-/** @typedef {{badEdges: number, badCorners: number, misplacedEdges: number}} Masks which places of an axis have bad pieces */
+/**
+ * @typedef {{badEdges: number, badCorners: number, misplacedEdges: number}} Masks which places of an axis have bad
+ * pieces
+ */
 
 /**
  * What the module says of a cube; `holds` is a mask of the steps.
- * @typedef {{status: 0, solved: boolean, moves: number, cleanMoves: number, holds: number, masks: OnEachAxis<Masks>}} SeenFacts
+ * @typedef {{status: 0, solved: boolean, moves: number, cleanMoves: number, holds: number, masks: OnEachAxis<Masks>}}
+ * SeenFacts
  */
 
-/** @typedef {{status: 0, solved: boolean, moves: number, cleanMoves: number, forms: number}} SeenCheck what the module says of a solution */
+/**
+ * @typedef {{status: 0, solved: boolean, moves: number, cleanMoves: number, forms: number}} SeenCheck what the module
+ * says of a solution
+ */
 
 /**
  * Reads masks: the names whose bits are 1, in an array that each caller gets for this mask, and none can change.
@@ -83,7 +94,8 @@ const formsIn = maskReader(FORMS);
 const onEachAxis = ({ fb, rl, ud }, told) => ({ fb: told(fb), rl: told(rl), ud: told(ud) });
 
 /** @param {Masks} ofAxis */
-const caseInWords = ({ badCorners, misplacedEdges }) => `${cornersIn(badCorners).length}c${edgesIn(misplacedEdges).length}e`;
+const caseInWords = ({ badCorners, misplacedEdges }) =>
+  `${cornersIn(badCorners).length}c${edgesIn(misplacedEdges).length}e`;
 
 /** @param {SeenFacts} seen @returns {Facts} */
 export const factsOf = ({ solved, moves, cleanMoves, holds, masks }) => ({

@@ -1,10 +1,11 @@
 // What calls throw beside a `TypeError` for a value of another type and a `RangeError` for one out of its range.
 
 /**
- * Where a fault is: `column`, in bytes of UTF-8 from 1, and `character`, the same in characters as JavaScript counts them, both null if it
- * isn't at one place; `step`, which can't begin at the line's cube, null if the line can't be read, and `start`, the step that would have to
- * hold before that one; `line`, of many, from 1, null if there was one.
- * @typedef {{column: number | null, character: number | null, step: string | null, start: string | null, line: number | null}} FaultPlace
+ * Where a fault is: `column`, in bytes of UTF-8 from 1, and `character`, the same in characters as JavaScript counts
+ * them, both null if it isn't at one place; `step`, which can't begin at the line's cube, null if the line can't be
+ * read, and `start`, the step that would have to hold before that one; `line`, of many, from 1, null if there was one.
+ * @typedef {{column: number | null, character: number | null, step: string | null, start: string | null, line: number |
+ * null}} FaultPlace
  */
 
 /** @typedef {FaultPlace & {text: string}} FaultParts a fault as a plain value */
@@ -56,7 +57,8 @@ export class NissyFault extends Error {
 export class SearchCut extends Error {
   /**
    * @param {import("./replies.js").Count} count what it had counted until then
-   * @param {import("./replies.js").Solution[] | null} found the solutions that it had found, with which its list begins; null of a count
+   * @param {import("./replies.js").Solution[] | null} found the solutions that it had found, with which its list
+   * begins; null of a count
    * @param {number | null} line of many, from 1; null if there was one
    */
   constructor(count, found, line = null) {
@@ -81,7 +83,8 @@ export class SearchCut extends Error {
 export class NoWebAssembly extends Error {
   constructor() {
     super(
-      "This browser runs no WebAssembly. Each one of the last years does, but not where it was switched off, as in Safari's Lockdown Mode.",
+      "This browser runs no WebAssembly. Each one of the last years does, but not where it was switched off, as in "
+        + "Safari's Lockdown Mode.",
     );
     this.name = "NoWebAssembly";
   }

@@ -5,14 +5,22 @@ import { InstanceMemory, aligned } from "./memory.js";
 import { lengthOf, wide } from "./natives.js";
 import { STATUS } from "./replies.js";
 
-/** @typedef {{[name: string]: any}} Exports what the module exports: addresses, lengths and numbers of 64 bits are wide there */
+/**
+ * @typedef {{[name: string]: any}} Exports what the module exports: addresses, lengths and numbers of 64 bits are wide
+ * there
+ */
 
 const NEEDED = ["memory", "__heap_base", "nissy_run"];
 
 export class Instance {
   /** @type {Exports} */ #exports;
-  /** @type {{[step: string]: number}} where the tables of each step are: no step has what some script gave to all objects */ #tables;
-  /** whether a call began that didn't return: what the module has in its memory is then in no order */ #isBroken = false;
+  /**
+   * Where the tables of each step are: no step has what some script gave to all objects.
+   * @type {{[step: string]: number}}
+   */
+  #tables;
+  /** Whether a call began that didn't return: what the module has in its memory is then in no order. */
+  #isBroken = false;
   /** @type {InstanceMemory} */ memory;
   /** where answers are written */ answer;
   /** where memory begins in which nothing stays after a call */ free;

@@ -16,8 +16,8 @@ export const ERROR_ROOM = 128;
 export const ANSWER = 48;
 
 /**
- * How many bytes a column has, and an address, a length or a great number. Small ones such as a status or a yes or no have one, masks and
- * numbers of moves two.
+ * How many bytes a column has, and an address, a length or a great number. Small ones such as a status or a yes or no
+ * have one, masks and numbers of moves two.
  */
 export const COLUMN = 4;
 export const LONG = 8;

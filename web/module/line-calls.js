@@ -1,4 +1,5 @@
-// The calls of the module on one line each, and those that read none: what goes into its memory, and what the answer is read as.
+// The calls of the module on one line each, and those that read none: what goes into its memory, and what the answer is
+// read as.
 import { MOST_WIDE, characterAt } from "./bytes.js";
 import { LINE_ANSWER, LINE_ROOM, SEARCH_ANSWER, SOLUTION } from "./layout.js";
 import { aligned, roomFor } from "./memory.js";
@@ -83,7 +84,8 @@ export function rewritten(instance, name, line) {
 /**
  * A call that writes a line and reads none.
  * @param {Instance} instance
- * @param {(exports: Exports, answer: bigint, out: bigint, room: bigint) => undefined} write is told where the answer and the line go
+ * @param {(exports: Exports, answer: bigint, out: bigint, room: bigint) => undefined} write is told where the answer
+ * and the line go
  * @returns {LineReply}
  */
 export function written(instance, write) {
@@ -110,10 +112,13 @@ function solvedIn(instance, { step, line, limit, slack, most, nodes, after }, ro
   // not by lists that are gone through, which may be some script's own
   instance.call(({ nissy_solve: solve, nissy_solve_after: solveAfter }) =>
     (after === undefined
-      ? solve(wide(answer), wide(tables), wide(free), wide(length), limit, slack, bound(most), bound(nodes), wide(out), wide(room))
+      ? solve(
+        wide(answer), wide(tables), wide(free), wide(length), limit, slack, bound(most), bound(nodes), wide(out),
+        wide(room),
+      )
       : solveAfter(
-        wide(answer), wide(tables), wide(free), wide(length), wide(behind), wide(afterLength), limit, slack, bound(most), bound(nodes),
-        wide(out), wide(room),
+        wide(answer), wide(tables), wide(free), wide(length), wide(behind), wide(afterLength), limit, slack,
+        bound(most), bound(nodes), wide(out), wide(room),
       )));
   const head = headAt(memory, answer);
   if (head.status !== STATUS.done && head.status !== STATUS.cut) return refusal(instance, head, line, step);
@@ -127,8 +132,9 @@ function solvedIn(instance, { step, line, limit, slack, most, nodes, after }, ro
  */
 export function solved(instance, request) {
   const wanted = request.most * SOLUTION;
+  const isLarger = (/** @type {number} */ next) => next < SOLUTION_ROOMS.length && SOLUTION_ROOMS[next - 1] < wanted;
   let reply = solvedIn(instance, request, SOLUTION_ROOMS[0]);
-  for (let next = 1; reply.status === STATUS.room && next < SOLUTION_ROOMS.length && SOLUTION_ROOMS[next - 1] < wanted; next += 1) {
+  for (let next = 1; reply.status === STATUS.room && isLarger(next); next += 1) {
     reply = solvedIn(instance, request, SOLUTION_ROOMS[next]);
   }
   return reply;
@@ -147,7 +153,8 @@ export function counted(instance, { step, line, limit, slack, most, nodes }) {
   instance.call(({ nissy_count: count }) =>
     count(wide(answer), wide(tables), wide(free), wide(length), limit, slack, bound(most), bound(nodes)));
   const head = headAt(memory, answer);
-  return head.status === STATUS.done || head.status === STATUS.cut ? countAt(memory, answer) : refusal(instance, head, line, step);
+  const isCounted = head.status === STATUS.done || head.status === STATUS.cut;
+  return isCounted ? countAt(memory, answer) : refusal(instance, head, line, step);
 }
 
 /**
@@ -175,7 +182,8 @@ export function checked(instance, { scramble, solution }) {
   memory.reach(behind + roomFor(solution));
   const length = memory.putLine(free, scramble);
   const solutionLength = memory.putLine(behind, solution);
-  instance.call(({ nissy_check: check }) => check(wide(answer), wide(free), wide(length), wide(behind), wide(solutionLength)));
+  instance.call(({ nissy_check: check }) =>
+    check(wide(answer), wide(free), wide(length), wide(behind), wide(solutionLength)));
   const head = headAt(memory, answer);
   const { line, ...told } = checkAt(memory, answer);
   return head.status === STATUS.done ? told : { ...refusal(instance, head, line === 1 ? scramble : solution), line };

@@ -26,7 +26,8 @@ const LINE_FEED = 10;
 const hasLineFeed = (line) => (typeof line === "string" ? line.includes("\n") : line.includes(LINE_FEED));
 
 /**
- * Where the piece ends that begins with this line: it has a line, and none with a line feed, which would be two to the module.
+ * Where the piece ends that begins with this line: it has a line, and none with a line feed, which would be two to the
+ * module.
  * @param {Text[]} lines
  * @param {number} begin
  */
@@ -64,11 +65,13 @@ function putLines(memory, at, lines) {
 }
 
 /**
- * What is asked of a piece by one call of the module: how many bytes an answer has, how one with a value is read, and the call.
+ * What is asked of a piece by one call of the module: how many bytes an answer has, how one with a value is read, and
+ * the call.
  * @typedef {object} Question
  * @property {number} bytes
  * @property {(memory: InstanceMemory, at: number) => OneReply} read
- * @property {(exports: Exports, answer: bigint, text: bigint, length: bigint, answers: bigint, room: bigint) => undefined} ask
+ * @property {(exports: Exports, answer: bigint, text: bigint, length: bigint, answers: bigint, room: bigint) =>
+ * undefined} ask
  */
 
 /** @type {Question} */
@@ -87,7 +90,9 @@ const countsBy = (tables, { limit, slack, most, nodes }) => ({
   bytes: SEARCH_ANSWER.bytes,
   read: countAt,
   ask: (exports, answer, text, length, answers, room) =>
-    exports.nissy_count_lines(answer, wide(tables), text, length, limit, slack, bound(most), bound(nodes), answers, room),
+    exports.nissy_count_lines(
+      answer, wide(tables), text, length, limit, slack, bound(most), bound(nodes), answers, room,
+    ),
 });
 
 /**
@@ -104,14 +109,17 @@ function answerPiece(instance, { bytes, read, ask }, lines, step) {
   memory.reach(lines.reduce((end, line) => end + roomFor(line) + 1, text));
   const length = putLines(memory, text, lines);
   instance.call((exports) => ask(exports, wide(answer), wide(text), wide(length), wide(free), wide(lines.length)));
-  if (instance.answered(LINES_ANSWER.lines) !== lines.length) throw new Error("the module took other lines than it was given");
+  const isWhole = instance.answered(LINES_ANSWER.lines) === lines.length;
+  if (!isWhole) throw new Error("the module took other lines than it was given");
   const told = lines.map((_, at) => {
     const place = free + at * bytes;
     return hasValue(memory.byte(place + HEAD.status)) ? read(memory, place) : headAt(memory, place);
   });
   // all of them are read before the module is asked for the words of a fault, which it writes over them
   return told.map((each, at) =>
-    (hasValue(each.status) ? /** @type {OneReply} */ (each) : refusal(instance, /** @type {Head} */ (each), lines[at], step)));
+    (hasValue(each.status)
+      ? /** @type {OneReply} */ (each)
+      : refusal(instance, /** @type {Head} */ (each), lines[at], step)));
 }
 
 /**
@@ -132,8 +140,8 @@ export function answerLine(instance, request) {
 }
 
 /**
- * What is asked of many lines at once, or null if each has to be asked by itself: the module has no such call, or the first fault, or the
- * first search that is cut, ends all, so that what is behind it isn't searched.
+ * What is asked of many lines at once, or null if each has to be asked by itself: the module has no such call, or the
+ * first fault, or the first search that is cut, ends all, so that what is behind it isn't searched.
  * @param {Instance} instance
  * @param {AllRequest} request
  * @returns {Question | null}

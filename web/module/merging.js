@@ -1,10 +1,11 @@
-// Moves that merge: a step's first turns may turn the faces that were turned last on its side, and then count less. Which beginnings of a
-// step merge is told here; whether a shortest one begins so is asked of the engine, without a list of them all.
+// Moves that merge: a step's first turns may turn the faces that were turned last on its side, and then count less.
+// Which beginnings of a step merge is told here; whether a shortest one begins so is asked of the engine, without a
+// list of them all.
 import { AXES, FACES_OF, stepNamed } from "./best-steps.js";
 
 /**
- * Turns with which moves after a line may begin: how many, how many moves the line and they save together, and what merges before them,
- * once the last turns are taken back.
+ * Turns with which moves after a line may begin: how many, how many moves the line and they save together, and what
+ * merges before them, once the last turns are taken back.
  * @typedef {{moves: string, count: number, saved: number, before: string[]}} Merger
  */
 
@@ -36,7 +37,8 @@ function lastOfAxis(made) {
 }
 
 /**
- * The turns of a face that keep what a step starts from: a reduction keeps its orientation, so the two faces of that have half turns alone.
+ * The turns of a face that keep what a step starts from: a reduction keeps its orientation, so the two faces of that
+ * have half turns alone.
  * @param {string} face
  * @param {StepOnAxis} step
  */
@@ -51,7 +53,8 @@ const MOST_BEFORE = 254;
 /** @typedef {{next: string, isBack: boolean}} Merging a turn, and whether it takes one back */
 
 /**
- * The beginnings of a step that merge with the end of a clean line on its side; none after a line that has no room for them.
+ * The beginnings of a step that merge with the end of a clean line on its side; none after a line that has no room for
+ * them.
  * @param {string[]} made
  * @param {string} name of the step
  * @param {string} line of the cube

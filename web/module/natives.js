@@ -1,5 +1,6 @@
-// What the host has of its own, as it was when this was loaded. A script that later puts something else in its place, or says how arrays are
-// copied or gone through, changes nothing of where a call writes and what it reads: so it shows no call what another left in the memory.
+// What the host has of its own, as it was when this was loaded. A script that later puts something else in its place,
+// or says how arrays are copied or gone through, changes nothing of where a call writes and what it reads: so it shows
+// no call what another left in the memory.
 
 const ofFunctions = Function.prototype;
 const ofTypedArrays = Object.getPrototypeOf(Uint8Array.prototype);

@@ -1,19 +1,23 @@
 /**
- * nissy in a page, or wherever JavaScript runs: moves and searches of the 3x3x3 cube, by the proved engine as WebAssembly.
+ * nissy in a page, or wherever JavaScript runs: moves and searches of the 3x3x3 cube, by the proved engine as
+ * WebAssembly.
  *
  *     import { Nissy } from "./nissy.js";
  *     const nissy = await Nissy.load(fetch("nissy.wasm"));
  *     nissy.solve("eofb", "R U F"); // [{ moves: "F", length: 1 }, { moves: "F'", length: 1 }]
  *
- * A call ends before it returns: a long search belongs into a worker, as `NissyWorker` of browser.js and of node.js has one.
+ * A call ends before it returns: a long search belongs into a worker, as `NissyWorker` of browser.js and of node.js has
+ * one.
  */
 import { bestRows } from "./best.js";
 import { Engine } from "./engine.js";
 import { NoWebAssembly } from "./faults.js";
-import { allOf, checkIn, countIn, factsIn, lineIn, linesIn, outputLinesIn, shownIn, solutionsIn, tokensIn } from "./replies.js";
 import {
-  allRequest, bestRequest, checkRequest, countRequest, factsRequest, lineRequest, runRequest, scrambleRequest, scramblesRequest,
-  solutionsRequest, solveRequest, stepsRequest,
+  allOf, checkIn, countIn, factsIn, lineIn, linesIn, outputLinesIn, shownIn, solutionsIn, tokensIn,
+} from "./replies.js";
+import {
+  allRequest, bestRequest, checkRequest, countRequest, factsRequest, lineRequest, runRequest, scrambleRequest,
+  scramblesRequest, solutionsRequest, solveRequest, stepsRequest,
 } from "./requests.js";
 import { progressOf } from "./signals.js";
 import { solutionsBy } from "./solutions.js";
@@ -68,12 +72,13 @@ export const NoWideMemory = NoWebAssembly;
  */
 
 /**
- * The engine, loaded. The tables of a step are built when it is asked for the first time, and stay in the module's memory.
+ * The engine, loaded. The tables of a step are built when it is asked for the first time, and stay in the module's
+ * memory.
  *
- * Each call throws a `TypeError` if it is given something of another type, and a `RangeError` for a number out of its range, a step that
- * isn't there, or if the host has no memory for the call. A call that reads a line throws `NissyFault` if it can't be read, and a search
- * `SearchCut` if it would look at more positions than it may. After a call
- * that broke off the next one starts the module anew, or throws `EngineMissing` if that can't be done.
+ * Each call throws a `TypeError` if it is given something of another type, and a `RangeError` for a number out of its
+ * range, a step that isn't there, or if the host has no memory for the call. A call that reads a line throws
+ * `NissyFault` if it can't be read, and a search `SearchCut` if it would look at more positions than it may. After a
+ * call that broke off the next one starts the module anew, or throws `EngineMissing` if that can't be done.
  */
 export class Nissy {
   /** @type {Engine} */ #engine;
@@ -164,7 +169,8 @@ export class Nissy {
    * The same of many lines, up to the first fault, which says in which; or with each fault in its place.
    * @template {string} Name
    * @template {Wanted & Many} [Options={}]
-   * @param {StepName<Name>} step @param {readonly Text[]} lines @param {Options} [options] @returns {Told<Solutions, Options>[]}
+   * @param {StepName<Name>} step @param {readonly Text[]} lines @param {Options} [options]
+   * @returns {Told<Solutions, Options>[]}
    */
   solveAll(step, lines, options) {
     const request = allRequest(() => solveRequest(step, "", options), lines, options);
@@ -185,7 +191,8 @@ export class Nissy {
    * The same of many lines, up to the first fault, which says in which; or with each fault in its place.
    * @template {string} Name
    * @template {Wanted & Many} [Options={}]
-   * @param {StepName<Name>} step @param {readonly Text[]} lines @param {Options} [options] @returns {Told<Count, Options>[]}
+   * @param {StepName<Name>} step @param {readonly Text[]} lines @param {Options} [options]
+   * @returns {Told<Count, Options>[]}
    */
   countAll(step, lines, options) {
     const request = allRequest(() => countRequest(step, "", options), lines, options);
@@ -193,8 +200,8 @@ export class Nissy {
   }
 
   /**
-   * What is seen of the cube after a line's moves without a search: whether it is solved, how many moves the line counts, the bad pieces and
-   * the case on each axis, and which steps hold.
+   * What is seen of the cube after a line's moves without a search: whether it is solved, how many moves the line
+   * counts, the bad pieces and the case on each axis, and which steps hold.
    * @param {Text} line
    * @returns {Facts}
    */
@@ -213,8 +220,8 @@ export class Nissy {
   }
 
   /**
-   * Whether a solution solves a scramble, how many moves it counts, and which forms it has that the WCA's notation hasn't. The `line` of a
-   * fault is 1 for the scramble and 2 for the solution.
+   * Whether a solution solves a scramble, how many moves it counts, and which forms it has that the WCA's notation
+   * hasn't. The `line` of a fault is 1 for the scramble and 2 for the solution.
    * @param {Text} scramble @param {Text} solution @returns {Check}
    */
   check(scramble, solution) {
@@ -222,8 +229,9 @@ export class Nissy {
   }
 
   /**
-   * What may follow a scramble and the moves so far, the best first: each shortest orientation on either side with each reduction that may
-   * follow it, or the reductions, if an orientation holds. There are none after a reduction. A fault is told as `check` tells it.
+   * What may follow a scramble and the moves so far, the best first: each shortest orientation on either side with each
+   * reduction that may follow it, or the reductions, if an orientation holds. There are none after a reduction. A fault
+   * is told as `check` tells it.
    * @param {Text} scramble @param {BestWanted & Followed} [options] @returns {BestRow[]}
    */
   best(scramble, options) {
@@ -248,15 +256,16 @@ export class Nissy {
 
   /**
    * `count` scrambles of one seed, at most 10,000, of which `scramble` gives the first.
-   * @param {number | bigint} state @param {number | bigint} stream @param {number} length @param {number} count @returns {string[]}
+   * @param {number | bigint} state @param {number | bigint} stream @param {number} length @param {number} count
+   * @returns {string[]}
    */
   scrambles(state, stream, length, count) {
     return outputLinesIn(this.#answer(scramblesRequest(state, stream, length, count)));
   }
 
   /**
-   * Does what the program does with these words after its name, and `input` as its standard input. What the program reports is in the
-   * answer. A word with a zero byte throws a `RangeError`.
+   * Does what the program does with these words after its name, and `input` as its standard input. What the program
+   * reports is in the answer. A word with a zero byte throws a `RangeError`.
    * @param {readonly Text[]} words the words of a command
    * @param {Text} [input] what the program reads if its words don't give it
    * @param {number} [room] if it is given, the output has room for so many bytes, and the run is made once

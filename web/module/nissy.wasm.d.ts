@@ -1,3 +1,4 @@
-// What the import of the module is depends on the bundler: its bytes, its address as a string, or what they are compiled to.
+// What the import of the module is depends on the bundler: its bytes, its address as a string, or what they are
+// compiled to.
 declare const module: any;
 export default module;

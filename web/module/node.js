@@ -44,7 +44,8 @@ export const loadNissy = async (source = besideThis()) => Nissy.load(source);
 /** The engine in a thread. */
 export class NissyWorker extends WorkerCalls {
   /**
-   * Starts the engine, by the module beside this file if no other is given. Rejects with `EngineMissing` if the thread can't be started.
+   * Starts the engine, by the module beside this file if no other is given. Rejects with `EngineMissing` if the thread
+   * can't be started.
    * @param {ModuleSource | Promise<ModuleSource>} [source]
    * @returns {Promise<NissyWorker>}
    */
@@ -56,7 +57,8 @@ export class NissyWorker extends WorkerCalls {
 /** Engines in several threads, which share many lines. */
 export class NissyPool extends WorkerPool {
   /**
-   * Starts engines, by the module beside this file if no other is given. Rejects with `EngineMissing` if the threads can't be started.
+   * Starts engines, by the module beside this file if no other is given. Rejects with `EngineMissing` if the threads
+   * can't be started.
    * @param {number} workers how many
    * @param {ModuleSource | Promise<ModuleSource>} [source]
    * @returns {Promise<NissyPool>}

@@ -6,7 +6,9 @@ import { endsAll } from "./replies.js";
 /** @typedef {import("./replies.js").OneReply} OneReply */
 /** @typedef {import("./requests.js").AllRequest} AllRequest */
 
-/** The most lines of a piece, and how many pieces each worker has at least, so that none waits long for the last one. */
+/**
+ * The most lines of a piece, and how many pieces each worker has at least, so that none waits long for the last one.
+ */
 const MOST_LINES = 256;
 const PIECES = 4;
 

@@ -1,4 +1,5 @@
-// Several workers that share many lines: these go to them in pieces, and the answers come back in the order of the lines.
+// Several workers that share many lines: these go to them in pieces, and the answers come back in the order of the
+// lines.
 import { BestRows } from "./best-rows.js";
 import { ORIENTATIONS } from "./best-steps.js";
 import { wholeNumber } from "./bytes.js";
@@ -59,8 +60,8 @@ const sumOf = (each) => ({
  * Asks a worker of the next piece that none has, until there is none.
  * @param {WorkerQueue} queue
  * @param {Pieces} pieces
- * @param {{signal: AbortSignal, tell: TellProgress, whole: (replies: OneReply[]) => void}} ways `whole` is told all replies once they are there:
- * those behind a fault aren't waited for
+ * @param {{signal: AbortSignal, tell: TellProgress, whole: (replies: OneReply[]) => void}} ways `whole` is told all
+ * replies once they are there: those behind a fault aren't waited for
  */
 async function workOn(queue, pieces, { signal, tell, whole }) {
   for (let at = pieces.next(); at !== null; at = pieces.next()) {
@@ -70,7 +71,10 @@ async function workOn(queue, pieces, { signal, tell, whole }) {
   }
 }
 
-/** Engines in several workers. What `Nissy` throws, the promises of their calls are rejected with; so is each whose worker ends. */
+/**
+ * Engines in several workers. What `Nissy` throws, the promises of their calls are rejected with; so is each whose
+ * worker ends.
+ */
 export class WorkerPool {
   /** @type {WorkerQueue[]} */ #queues;
   /** @type {Set<Going>} */ #going = new Set();
@@ -87,7 +91,8 @@ export class WorkerPool {
   }
 
   /**
-   * Starts engines. Rejects with `NoWebAssembly` if the host runs none, and with `EngineMissing` if the workers can't be started.
+   * Starts engines. Rejects with `NoWebAssembly` if the host runs none, and with `EngineMissing` if the workers can't
+   * be started.
    * @param {number} workers
    * @param {ModuleSource | Promise<ModuleSource>} source
    * @param {NewWorker} newWorker
@@ -110,21 +115,25 @@ export class WorkerPool {
   /**
    * @template {string} Name
    * @template {Wanted & Many & Followed & Stoppable} [Options={}]
-   * @param {StepName<Name>} step @param {readonly Text[]} lines @param {Options & Followed} [options] @returns {Promise<Told<Solutions, Options>[]>}
+   * @param {StepName<Name>} step @param {readonly Text[]} lines @param {Options & Followed} [options]
+   * @returns {Promise<Told<Solutions, Options>[]>}
    */
   async solveAll(step, lines, options) {
     const request = allRequest(() => solveRequest(step, "", options), lines, options);
-    return allOf(await this.#answerAll(request, options), request, (/** @type {any} */ reply) => solutionsIn(reply, request.each));
+    const replies = await this.#answerAll(request, options);
+    return allOf(replies, request, (/** @type {any} */ reply) => solutionsIn(reply, request.each));
   }
 
   /**
    * @template {string} Name
    * @template {Wanted & Many & Followed & Stoppable} [Options={}]
-   * @param {StepName<Name>} step @param {readonly Text[]} lines @param {Options & Followed} [options] @returns {Promise<Told<Count, Options>[]>}
+   * @param {StepName<Name>} step @param {readonly Text[]} lines @param {Options & Followed} [options]
+   * @returns {Promise<Told<Count, Options>[]>}
    */
   async countAll(step, lines, options) {
     const request = allRequest(() => countRequest(step, "", options), lines, options);
-    return allOf(await this.#answerAll(request, options), request, (/** @type {any} */ reply) => countIn(reply, request.each));
+    const replies = await this.#answerAll(request, options);
+    return allOf(replies, request, (/** @type {any} */ reply) => countIn(reply, request.each));
   }
 
   /**

@@ -45,7 +45,9 @@ export const factsAt = (memory, at) => ({
   },
 });
 
-/** @param {InstanceMemory} memory @param {number} at @returns {SeenCheck & {line: number}} and which line has a fault */
+/**
+ * @param {InstanceMemory} memory @param {number} at @returns {SeenCheck & {line: number}} and which line has a fault
+ */
 export const checkAt = (memory, at) => ({
   status: STATUS.done,
   line: memory.byte(at + CHECK_ANSWER.line),

@@ -31,13 +31,14 @@ import { tokensOf } from "./tokens.js";
  */
 
 /**
- * How many solutions there are: the least length, null if there are none, and at how many positions the search looked. If the search was
- * cut, `cut` is there, and the numbers are those of what it found until then.
+ * How many solutions there are: the least length, null if there are none, and at how many positions the search looked.
+ * If the search was cut, `cut` is there, and the numbers are those of what it found until then.
  * @typedef {{length: number | null, solutions: number, nodes: number, cut?: true}} Count
  */
 
 /**
- * A line that can't be read: the number of its fault, where that is, in bytes and in characters, and the program's words for it.
+ * A line that can't be read: the number of its fault, where that is, in bytes and in characters, and the program's
+ * words for it.
  * @typedef {{status: 1, fault: 1 | 2 | 3 | 4 | 5, column: number, character: number, text: string}} LineFault
  */
 
@@ -53,11 +54,17 @@ import { tokensOf } from "./tokens.js";
 
 /** @typedef {LineFault | StartFault | Refused} NoValue how a call on a line ended that has no value */
 /** @typedef {{status: 0, out: string} | NoValue} LineReply of a call that writes */
-/** @typedef {{status: 0 | 5, least: number, more: boolean, solutions: number, nodes: number}} SeenCount of a search that may be cut */
+/**
+ * @typedef {{status: 0 | 5, least: number, more: boolean, solutions: number, nodes: number}} SeenCount of a search that
+ * may be cut
+ */
 /** @typedef {SeenCount | NoValue} CountReply */
 /** @typedef {SeenCount & {out: string} | NoValue} SolveReply */
 /** @typedef {SeenFacts | NoValue} FactsReply */
-/** @typedef {SeenCheck | NoValue & {line: number}} CheckReply of which `line` is the line at fault: 1, the scramble, or 2, the solution */
+/**
+ * @typedef {SeenCheck | NoValue & {line: number}} CheckReply of which `line` is the line at fault: 1, the scramble, or
+ * 2, the solution
+ */
 /** @typedef {Answer | LineReply | CountReply | SolveReply | FactsReply | CheckReply} OneReply */
 /** @typedef {OneReply | OneReply[] | import("./best.js").BestReply} Reply */
 
@@ -116,7 +123,9 @@ function withValue(reply) {
 /** @param {LineReply} reply @returns {string} */
 export const lineIn = (reply) => withValue(reply).out;
 
-/** @param {{line: import("./bytes.js").Text}} request of a line that was read @returns {import("./tokens.js").Token[]} */
+/**
+ * @param {{line: import("./bytes.js").Text}} request of a line that was read @returns {import("./tokens.js").Token[]}
+ */
 export const tokensIn = ({ line }) => tokensOf(typeof line === "string" ? line : textIn(line));
 
 /** @param {string} text @returns {string[]} its lines, each of which a line feed ends */
@@ -132,8 +141,8 @@ export function outputLinesIn({ status, out, err }) {
 }
 
 /**
- * The solutions, of which each has a line such as `F B' (2)`, or `(0)` if no move is needed. There may be millions, so no string is made of
- * a line.
+ * The solutions, of which each has a line such as `F B' (2)`, or `(0)` if no move is needed. There may be millions, so
+ * no string is made of a line.
  * @param {string} out
  * @returns {Solutions}
  */
@@ -218,7 +227,8 @@ function inLine(error, line) {
  */
 
 /**
- * The replies for many lines, each read by itself. What is thrown of one has its number, and so has what is told in its place.
+ * The replies for many lines, each read by itself. What is thrown of one has its number, and so has what is told in its
+ * place.
  * @template Read, Value
  * @param {Read[]} replies
  * @param {{faults: Telling}} asked

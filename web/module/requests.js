@@ -8,41 +8,52 @@ import { hasOwn } from "./natives.js";
 /** @typedef {{call: "run", words: Uint8Array, input: Uint8Array, room: number | undefined}} RunRequest */
 /** @typedef {{call: Rewriting, line: Text}} LineRequest */
 /** @typedef {"throw" | "value"} Telling whether something is thrown, or told in the place of an answer */
-/** @typedef {{step: string, line: Text, limit: number, slack: number, most: number, nodes: number, cut: Telling}} Search */
+/**
+ * @typedef {{step: string, line: Text, limit: number, slack: number, most: number, nodes: number, cut: Telling}} Search
+ */
 /** @typedef {Search & {call: "count"}} CountRequest */
-/** @typedef {Search & {call: "solve", after?: string}} SolveRequest `after`: the solution behind which the list begins */
+/**
+ * @typedef {Search & {call: "solve", after?: string}} SolveRequest `after`: the solution behind which the list begins
+ */
 /** @typedef {{call: "facts", line: Text}} FactsRequest */
 /** @typedef {{call: "check", scramble: Text, solution: Text}} CheckRequest */
-/** @typedef {{call: "best", scramble: Text, soFar: Text, slack: number, most: number, axes: readonly Step[]}} BestRequest */
+/**
+ * @typedef {{call: "best", scramble: Text, soFar: Text, slack: number, most: number, axes: readonly Step[]}}
+ * BestRequest
+ */
 /** @typedef {{call: "scramble", state: bigint, stream: bigint, length: number}} ScrambleRequest */
 /** @typedef {{call: "steps"}} StepsRequest */
 /** @typedef {CountRequest | SolveRequest | FactsRequest} OfEach what many lines may be asked */
 /** @typedef {RunRequest | LineRequest | OfEach | CheckRequest | ScrambleRequest | StepsRequest} OneRequest */
-/** @typedef {{call: "all", each: OfEach, lines: Text[], faults: Telling}} AllRequest what is asked of each line, whose own line is none */
+/**
+ * @typedef {{call: "all", each: OfEach, lines: Text[], faults: Telling}} AllRequest what is asked of each line, whose
+ * own line is none
+ */
 /** @typedef {OneRequest | AllRequest} Request what an engine is asked */
 /** @typedef {Request | BestRequest} Asked what a worker is asked */
 /** @typedef {import("./steps.js").Step} Step */
 
 /**
- * How far a step is searched: `limit`, the most turns of a solution, 20 at most and if it isn't given; `slack`, how many turns more than
- * the shortest a solution may have, none if it isn't given; `most`, after how many solutions the search ends, after all if it isn't given;
- * `nodes`, at how many positions it looks at most, at as many as there are if it isn't given. A search that would look at more is cut:
- * `cut` says whether `SearchCut` is thrown, as it is if it isn't given, or what was found until then returned.
+ * How far a step is searched: `limit`, the most turns of a solution, 20 at most and if it isn't given; `slack`, how
+ * many turns more than the shortest a solution may have, none if it isn't given; `most`, after how many solutions the
+ * search ends, after all if it isn't given; `nodes`, at how many positions it looks at most, at as many as there are if
+ * it isn't given. A search that would look at more is cut: `cut` says whether `SearchCut` is thrown, as it is if it
+ * isn't given, or what was found until then returned.
  * @typedef {{limit?: number, slack?: number, most?: number, nodes?: number, cut?: Telling}} Wanted
  */
 
 /** @typedef {Wanted} Within what `Wanted` was called for counts while they had fewer options */
 
 /**
- * What is asked of many lines; `faults` says whether the first fault is thrown, as it is if it isn't given, or each in the place of the
- * line's answer.
+ * What is asked of many lines; `faults` says whether the first fault is thrown, as it is if it isn't given, or each in
+ * the place of the line's answer.
  * @typedef {{faults?: Telling}} Many
  */
 
 /**
- * What is wanted of the best continuations: `soFar`, the moves that were made after the scramble, those in brackets on its inverse, none if
- * it isn't given; `slack`, how many turns longer than the shortest of its side an orientation may be, none if it isn't given; `most`, how
- * many rows, 20 if it isn't given.
+ * What is wanted of the best continuations: `soFar`, the moves that were made after the scramble, those in brackets on
+ * its inverse, none if it isn't given; `slack`, how many turns longer than the shortest of its side an orientation may
+ * be, none if it isn't given; `most`, how many rows, 20 if it isn't given.
  * @typedef {{soFar?: Text, slack?: number, most?: number}} BestWanted
  */
 
@@ -58,7 +69,8 @@ const MOST_SCRAMBLES = 10_000;
 const MOST_OF_TURN = 3;
 
 /**
- * An option, read once. It is one only if it is the object's own: what objects inherit may be what some script gave to all of them.
+ * An option, read once. It is one only if it is the object's own: what objects inherit may be what some script gave to
+ * all of them.
  * @param {unknown} options
  * @param {string} name
  * @param {unknown} [otherwise] what it is if it isn't given

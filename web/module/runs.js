@@ -9,8 +9,8 @@ import { STATUS } from "./replies.js";
 /** @typedef {import("./requests.js").RunRequest} RunRequest */
 
 /**
- * How many bytes are lent for the tables of a run at first: those of any step fit, so that a page takes the same memory from call to call.
- * Longer words take more.
+ * How many bytes are lent for the tables of a run at first: those of any step fit, so that a page takes the same memory
+ * from call to call. Longer words take more.
  */
 const FIRST_LENT = 3 * 1_048_576;
 const MOST_LENT = 1_024 * 1_048_576;
@@ -66,7 +66,8 @@ function runOnce(instance, { words, input }, room, lent) {
   memory.putRoom(lending, block, lent);
   instance.call(({ nissy_run: run }) =>
     run(
-      wide(answer), wide(lending), wide(wordsAt), wide(wordsLength), wide(inputAt), wide(inputLength), wide(out), wide(room),
+      wide(answer), wide(lending), wide(wordsAt), wide(wordsLength), wide(inputAt), wide(inputLength), wide(out),
+      wide(room),
       wide(err), wide(ERROR_ROOM),
     ));
   if (memory.number(lending + ROOM.size, LONG) !== lent) {

@@ -29,7 +29,8 @@ const buffersOf = (reply) => ["out", "err"].flatMap((name) => /** @type {any} */
  * @template Started
  * @param {Port} port
  * @param {(module: any) => Promise<Started>} start
- * @param {(started: Started, question: any) => void} answer posts the answers to a later message; what it throws is posted as an error
+ * @param {(started: Started, question: any) => void} answer posts the answers to a later message; what it throws is
+ * posted as an error
  */
 export function serveBy(port, start, answer) {
   /** @type {Promise<Started> | null} */

@@ -1,4 +1,5 @@
-// Moves on both sides: on the scramble, the normal side, and on its inverse. In a line those on the inverse side stand in brackets.
+// Moves on both sides: on the scramble, the normal side, and on its inverse. In a line those on the inverse side stand
+// in brackets.
 
 /** @typedef {"normal" | "inverse"} Side */
 /** @typedef {{side: Side, moves: string}} Part some moves of a line, all on one side */

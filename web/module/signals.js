@@ -1,5 +1,5 @@
-// The signals by which callers give calls up, and what they are told of the progress. However many calls have the same signal, a worker listens
-// to it once.
+// The signals by which callers give calls up, and what they are told of the progress. However many calls have the same
+// signal, a worker listens to it once.
 import { Stopped } from "./faults.js";
 import { optionOf } from "./requests.js";
 

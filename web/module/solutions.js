@@ -1,11 +1,15 @@
-// Solutions one after another, without a list of them: they are asked for in pieces, each by the last one of the piece before it.
+// Solutions one after another, without a list of them: they are asked for in pieces, each by the last one of the piece
+// before it.
 import { solutionsIn } from "./replies.js";
 
 /** @typedef {import("./replies.js").Solution} Solution */
 /** @typedef {import("./replies.js").SolveReply} SolveReply */
 /** @typedef {import("./requests.js").SolveRequest} SolveRequest */
 
-/** How many are asked for at first, so that the first ones are there soon, and at most at once; each piece has more than the last one. */
+/**
+ * How many are asked for at first, so that the first ones are there soon, and at most at once; each piece has more than
+ * the last one.
+ */
 const FIRST_OF_PIECES = 64;
 const MOST_OF_PIECE = 16_384;
 const GROWTH_OF_PIECES = 4;
@@ -37,7 +41,8 @@ class ListPieces {
     const solutions = solutionsIn(reply, this.#request);
     this.#isOver = !("more" in reply && reply.more);
     const last = solutions[solutions.length - 1];
-    this.#request = { ...this.#request, most: Math.min(GROWTH_OF_PIECES * this.#request.most, MOST_OF_PIECE), after: last?.moves };
+    const most = Math.min(GROWTH_OF_PIECES * this.#request.most, MOST_OF_PIECE);
+    this.#request = { ...this.#request, most, after: last?.moves };
     return solutions;
   }
 }

@@ -8,7 +8,8 @@ import { NoWebAssembly } from "./faults.js";
  */
 
 /**
- * The kind of an object by its own name for it, which is the same in each realm: there are as many classes of a name as realms.
+ * The kind of an object by its own name for it, which is the same in each realm: there are as many classes of a name as
+ * realms.
  * @param {unknown} value
  */
 const tagOf = (value) => Object.prototype.toString.call(value).slice("[object ".length, -1);

@@ -10,7 +10,8 @@ export const STEPS = /** @type {const} */ ([
 /** @typedef {typeof STEPS[number]} Step the name of a step */
 
 /**
- * What calls take as a step: tsc refuses a literal that names none, and a string that it doesn't know is judged by the call.
+ * What calls take as a step: tsc refuses a literal that names none, and a string that it doesn't know is judged by the
+ * call.
  * @template {string} Name
  * @typedef {Name & (string extends Name ? string : Name extends Step ? string : never)} StepName
  */

@@ -21,7 +21,8 @@ const STICKERS = new Map([
 ]);
 
 /**
- * The stickers of some places: the numbers of their letters in what `facelets` returns, from 0, those of a place in the order of its name.
+ * The stickers of some places: the numbers of their letters in what `facelets` returns, from 0, those of a place in the
+ * order of its name.
  * @param {readonly (EdgePlace | CornerPlace)[]} places
  * @returns {number[]}
  */

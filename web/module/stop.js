@@ -47,6 +47,7 @@ export class Stop extends Error {
    * @param {number} lines
    */
   after(lines) {
-    return new Stop(this.status, this.text.replace(/^nissy: line (\d+)/, (_, number) => `nissy: line ${Number(number) + lines}`));
+    const moved = (/** @type {string} */ _, /** @type {string} */ number) => `nissy: line ${Number(number) + lines}`;
+    return new Stop(this.status, this.text.replace(/^nissy: line (\d+)/, moved));
   }
 }

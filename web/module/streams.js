@@ -1,5 +1,5 @@
-// The streams of the command, read and written at once: node's own streams lose the rest of a short write to a file, and take a folder for
-// an empty input.
+// The streams of the command, read and written at once: node's own streams lose the rest of a short write to a file,
+// and take a folder for an empty input.
 import { readSync, writeSync } from "node:fs";
 
 /** How long the first rest lasts before a stream that isn't ready is tried again, and the longest, in milliseconds. */
@@ -9,7 +9,8 @@ const LONGEST_REST = 16;
 const nobody = new Int32Array(new SharedArrayBuffer(4));
 
 /**
- * Does what may find that its stream isn't ready, and then tries again: npm and other programs in node hand on streams that don't wait.
+ * Does what may find that its stream isn't ready, and then tries again: npm and other programs in node hand on streams
+ * that don't wait.
  * @param {() => number} attempt
  * @returns {number}
  */

@@ -8,7 +8,8 @@ import { frozen } from "./natives.js";
  * @typedef {object} Token
  * @property {string} text the move in the WCA's notation for moves, such as `Rw2` or `U'`; a lower-case `r` is `Rw`
  * @property {CubeAxis} axis about what it turns: `x` goes through L and R, `y` through D and U, `z` through B and F
- * @property {readonly number[]} layers which layers it turns: -1 is that of L, D or B, 0 the middle one, 1 that of R, U or F
+ * @property {readonly number[]} layers which layers it turns: -1 is that of L, D or B, 0 the middle one, 1 that of R, U
+ * or F
  * @property {number} quarters by how many: 1, 2 or -1, clockwise as one looks at R, U or F
  * @property {boolean} inverse whether it stands in brackets, and so is a move on the inverse scramble
  */
@@ -30,7 +31,8 @@ const SUFFIXES = new Map([[1, ""], [2, "2"], [-1, "'"]]);
  * @returns {[string, Turned][]}
  */
 function movesOfAxis(axis, near, far, { slice, way }) {
-  const turned = (/** @type {number[]} */ layers, /** @type {1 | -1} */ ofLayers) => ({ axis, layers: frozen(layers), way: ofLayers });
+  const turned = (/** @type {number[]} */ layers, /** @type {1 | -1} */ ofLayers) =>
+    ({ axis, layers: frozen(layers), way: ofLayers });
   return [
     [near, turned([1], 1)], [far, turned([-1], -1)], [`${near}w`, turned([0, 1], 1)], [`${far}w`, turned([-1, 0], -1)],
     [slice, turned([0], way)], [axis, turned([-1, 0, 1], 1)],

@@ -1,5 +1,5 @@
-// Twins: solutions of one step that differ in the direction of their last quarter turns alone. The same holds after each, and all have one
-// case. And solutions in which the step was reached before their last move.
+// Twins: solutions of one step that differ in the direction of their last quarter turns alone. The same holds after
+// each, and all have one case. And solutions in which the step was reached before their last move.
 import { AXES, FACES_OF, lastAxisOf, stepNamed } from "./best-steps.js";
 
 /** @typedef {import("./replies.js").Solution} Solution */
@@ -73,11 +73,12 @@ export function mergeTwins(solutions, step) {
  * @param {string} one
  * @param {string} other
  */
-const areOfOneAxis = (one, other) => AXES.some((axis) => FACES_OF[axis].includes(one) && FACES_OF[axis].includes(other));
+const areOfOneAxis = (one, other) =>
+  AXES.some((axis) => FACES_OF[axis].includes(one) && FACES_OF[axis].includes(other));
 
 /**
- * The beginnings of a line that have fewer moves, but at least so many; of two turns of opposite faces, which may change places, each may
- * come first.
+ * The beginnings of a line that have fewer moves, but at least so many; of two turns of opposite faces, which may
+ * change places, each may come first.
  * @param {string} moves
  * @param {number} length
  * @param {number} least
@@ -88,7 +89,8 @@ function* beginningsOf(moves, length, least) {
     const cut = Math.max(0, moves.lastIndexOf(" ", end - 1));
     const before = moves.lastIndexOf(" ", cut - 1) + 1;
     yield moves.slice(0, cut);
-    if (cut > 0 && areOfOneAxis(moves[before], moves[cut + 1])) yield moves.slice(0, before) + moves.slice(cut + 1, end);
+    const mayChange = cut > 0 && areOfOneAxis(moves[before], moves[cut + 1]);
+    if (mayChange) yield moves.slice(0, before) + moves.slice(cut + 1, end);
     end = cut;
   }
 }

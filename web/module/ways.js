@@ -1,5 +1,5 @@
-// Ways from a cube to a step: the cube on both sides with the moves that were made there, the least length of the step, and all moves with
-// it, once those of each side are merged.
+// Ways from a cube to a step: the cube on both sides with the moves that were made there, the least length of the step,
+// and all moves with it, once those of each side are merged.
 import { AXES, FACES_OF } from "./best-steps.js";
 import { mergersOf, movesIn } from "./merging.js";
 import { SIDES, joined, movesOn, otherSide } from "./sides.js";
@@ -19,7 +19,10 @@ import { SIDES, joined, movesOn, otherSide } from "./sides.js";
  * @typedef {{lines: OnSides<string>, made: OnSides<string[]>}} Position
  */
 
-/** @typedef {{length: number | null, total: number}} Way the least length of a step on a side, if it has one, and all moves with it */
+/**
+ * @typedef {{length: number | null, total: number}} Way the least length of a step on a side, if it has one, and all
+ * moves with it
+ */
 
 /** The most turns of a solution that the engine looks for. */
 const MOST_SEARCHED = 20;
@@ -76,7 +79,8 @@ export function afterPart(nissy, { lines, made }, { side, moves }) {
  * @param {number} limit
  */
 export function leastOf(nissy, step, line, limit) {
-  return limit < 0 ? null : (nissy.solve(step, line, { limit: Math.min(MOST_SEARCHED, limit), most: 1 })[0]?.length ?? null);
+  if (limit < 0) return null;
+  return nissy.solve(step, line, { limit: Math.min(MOST_SEARCHED, limit), most: 1 })[0]?.length ?? null;
 }
 
 /**
@@ -103,7 +107,8 @@ function mostSaved(nissy, step, line, made, length) {
  * @param {Step} step
  * @returns {number}
  */
-const mostMerged = (made, step) => Math.max(0, ...mergersOf(made, step, "").map(({ saved, before }) => saved + mostMerged(before, step)));
+const mostMerged = (made, step) =>
+  Math.max(0, ...mergersOf(made, step, "").map(({ saved, before }) => saved + mostMerged(before, step)));
 
 /**
  * The best way to a step on a side: of its shortest solutions there one that merges most.
@@ -133,7 +138,8 @@ export function wayTo(nissy, step, position, side, length = leastOf(nissy, step,
  */
 export function isWithin(nissy, step, position, bound) {
   const left = bound - 1 - countOf(position);
-  return SIDES.some((side) => leastOf(nissy, step, position.lines[side], left + mostMerged(position.made[side], step)) !== null);
+  const mostOn = (/** @type {Side} */ side) => left + mostMerged(position.made[side], step);
+  return SIDES.some((side) => leastOf(nissy, step, position.lines[side], mostOn(side)) !== null);
 }
 
 /**
@@ -142,7 +148,8 @@ export function isWithin(nissy, step, position, bound) {
  * @param {Position} position
  * @param {Part} part
  */
-export const totalWith = (nissy, { made }, { side, moves }) => made[otherSide(side)].length + mergedWith(nissy, made[side], moves).length;
+export const totalWith = (nissy, { made }, { side, moves }) =>
+  made[otherSide(side)].length + mergedWith(nissy, made[side], moves).length;
 
 /**
  * All moves with each of some solutions that may follow on a side.

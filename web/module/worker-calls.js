@@ -1,5 +1,7 @@
 // Calls of an engine in a worker as promises, one after another.
-import { allOf, bestIn, checkIn, countIn, factsIn, lineIn, linesIn, outputLinesIn, shownIn, solutionsIn, tokensIn } from "./replies.js";
+import {
+  allOf, bestIn, checkIn, countIn, factsIn, lineIn, linesIn, outputLinesIn, shownIn, solutionsIn, tokensIn,
+} from "./replies.js";
 import {
   allRequest, bestRequest, checkRequest, countRequest, factsRequest, lineRequest, optionOf, runRequest, scrambleRequest,
   scramblesRequest, solutionsRequest, solveRequest, stepsRequest,
@@ -40,8 +42,8 @@ import { WorkerQueue } from "./worker-queue.js";
  */
 
 /**
- * The engine in a worker. Its calls are those of `Nissy`, and what these throw, the promises are rejected with. Each may be given up by an
- * `AbortSignal`: the tables of the steps are built anew after a call that ran.
+ * The engine in a worker. Its calls are those of `Nissy`, and what these throw, the promises are rejected with. Each
+ * may be given up by an `AbortSignal`: the tables of the steps are built anew after a call that ran.
  */
 export class WorkerCalls {
   /** @type {WorkerQueue} */ #queue;
@@ -56,7 +58,8 @@ export class WorkerCalls {
   }
 
   /**
-   * Starts an engine. Rejects with `NoWebAssembly` if the host runs none, and with `EngineMissing` if the worker can't be started.
+   * Starts an engine. Rejects with `NoWebAssembly` if the host runs none, and with `EngineMissing` if the worker can't
+   * be started.
    * @param {ModuleSource | Promise<ModuleSource>} source
    * @param {NewWorker} newWorker
    * @returns {Promise<WorkerCalls>}
@@ -117,11 +120,13 @@ export class WorkerCalls {
   /**
    * @template {string} Name
    * @template {Wanted & Many & Stoppable} [Options={}]
-   * @param {StepName<Name>} step @param {readonly Text[]} lines @param {Options} [options] @returns {Promise<Told<Solutions, Options>[]>}
+   * @param {StepName<Name>} step @param {readonly Text[]} lines @param {Options} [options]
+   * @returns {Promise<Told<Solutions, Options>[]>}
    */
   async solveAll(step, lines, options) {
     const request = allRequest(() => solveRequest(step, "", options), lines, options);
-    return allOf(await this.#queue.answer(request, options), request, (/** @type {any} */ reply) => solutionsIn(reply, request.each));
+    const replies = await this.#queue.answer(request, options);
+    return allOf(replies, request, (/** @type {any} */ reply) => solutionsIn(reply, request.each));
   }
 
   /**
@@ -136,11 +141,13 @@ export class WorkerCalls {
   /**
    * @template {string} Name
    * @template {Wanted & Many & Stoppable} [Options={}]
-   * @param {StepName<Name>} step @param {readonly Text[]} lines @param {Options} [options] @returns {Promise<Told<Count, Options>[]>}
+   * @param {StepName<Name>} step @param {readonly Text[]} lines @param {Options} [options]
+   * @returns {Promise<Told<Count, Options>[]>}
    */
   async countAll(step, lines, options) {
     const request = allRequest(() => countRequest(step, "", options), lines, options);
-    return allOf(await this.#queue.answer(request, options), request, (/** @type {any} */ reply) => countIn(reply, request.each));
+    const replies = await this.#queue.answer(request, options);
+    return allOf(replies, request, (/** @type {any} */ reply) => countIn(reply, request.each));
   }
 
   /** @param {Text} line @param {Stoppable} [options] @returns {Promise<Facts>} */
@@ -195,7 +202,10 @@ export class WorkerCalls {
     return outputLinesIn(await this.#queue.answer(scramblesRequest(state, stream, length, count), options));
   }
 
-  /** @param {readonly Text[]} words @param {Text} [input] @param {Stoppable & {room?: number}} [options] @returns {Promise<Answer>} */
+  /**
+   * @param {readonly Text[]} words @param {Text} [input] @param {Stoppable & {room?: number}} [options]
+   * @returns {Promise<Answer>}
+   */
   async run(words, input, options = {}) {
     return this.#queue.answer(runRequest(words, input, optionOf(options, "room")), options);
   }

@@ -1,5 +1,5 @@
-// The queue of a worker: what is asked of it, one after another. What runs is stopped by ending the worker, and the next request starts
-// another.
+// The queue of a worker: what is asked of it, one after another. What runs is stopped by ending the worker, and the
+// next request starts another.
 import { EngineMissing, Stopped } from "./faults.js";
 import { hasOwn } from "./natives.js";
 import { Signals, reasonOf, signalOf } from "./signals.js";
@@ -23,11 +23,13 @@ import { Signals, reasonOf, signalOf } from "./signals.js";
 
 /**
  * Starts a worker whose messages are taken, and of which it is told that it failed.
- * @typedef {(took: (data: Answered | Unanswered | Progressed) => void, failed: (message: string) => void) => Sent} NewWorker
+ * @typedef {(took: (data: Answered | Unanswered | Progressed) => void, failed: (message: string) => void) => Sent}
+ * NewWorker
  */
 
 /**
- * @typedef {{id: number, request: Asked, followed: TellProgress, answered: (reply: any) => void, refused: (reason: unknown) => void}} Call
+ * @typedef {{id: number, request: Asked, followed: TellProgress, answered: (reply: any) => void, refused: (reason:
+ * unknown) => void}} Call
  */
 
 /**
@@ -49,7 +51,8 @@ export function listenedTo(made, place) {
     worker.addEventListener("error", (event) => {
       event.preventDefault();
       // browsers have no message for a script that can't be had
-      failed(event.message || `the worker's script, or one that it imports, can't be loaded${place ? ` from ${place()}` : ""}`);
+      const from = place ? ` from ${place()}` : "";
+      failed(event.message || `the worker's script, or one that it imports, can't be loaded${from}`);
     });
     return worker;
   };

@@ -1,5 +1,6 @@
-// Reads text as solvers write it: what is no move but is written beside moves becomes a blank or an apostrophe, or is left out. What comes
-// of it is a line of the engine's grammar, or it is at fault there. Each sign of the line knows its place in the text.
+// Reads text as solvers write it: what is no move but is written beside moves becomes a blank or an apostrophe, or is
+// left out. What comes of it is a line of the engine's grammar, or it is at fault there. Each sign of the line knows
+// its place in the text.
 
 /**
  * A text as one line: `places` has the place in the text of each of its signs, and `leftOut` names what it hasn't.
@@ -7,8 +8,8 @@
  */
 
 /**
- * A text that has a scramble and steps after it, each a line of text: those of the solution, and of candidates beside it. So many lines of
- * prose stood `before` the scramble.
+ * A text that has a scramble and steps after it, each a line of text: those of the solution, and of candidates beside
+ * it. So many lines of prose stood `before` the scramble.
  * @typedef {{scramble: string, steps: string[], candidates: {steps: string[], note: string}[], before: number}} Fmc
  */
 
@@ -97,20 +98,22 @@ const candidateOf = (block) => ({
 });
 
 /**
- * Text with moves on several lines, as solvers write a solution: the scramble, then a step a line with a comment or a label; blocks after a
- * blank line are candidates. The only one is the solution itself, if nothing stands between it and the scramble. Prose before the scramble
- * is left out. Null if the text isn't of this form.
+ * Text with moves on several lines, as solvers write a solution: the scramble, then a step a line with a comment or a
+ * label; blocks after a blank line are candidates. The only one is the solution itself, if nothing stands between it
+ * and the scramble. Prose before the scramble is left out. Null if the text isn't of this form.
  * @param {string} text
  * @returns {Fmc | null}
  */
 export function readFmc(text) {
   const all = text.split("\n");
   const begin = Math.max(all.findIndex((line) => !isProse(line)), 0);
-  const blocks = all.slice(begin).join("\n").split(/\n[^\S\n]*\n/).map(linesOfBlock).filter((block) => block.length > 0);
+  const texts = all.slice(begin).join("\n").split(/\n[^\S\n]*\n/);
+  const blocks = texts.map(linesOfBlock).filter((block) => block.length > 0);
   if (!blocks.flat().slice(1).some((line) => line.includes("//") || line.search(LABEL) >= 0)) return null;
   const [[scramble, ...first], ...others] = blocks;
   const candidates = others.map(candidateOf).filter(({ steps }) => steps.length > 0);
   const own = first.filter(isMoves);
   const before = linesOfBlock(all.slice(0, begin).join("\n")).length;
-  return { scramble, steps: own.length === 0 && candidates.length === 1 ? candidates[0].steps : own, candidates, before };
+  const steps = own.length === 0 && candidates.length === 1 ? candidates[0].steps : own;
+  return { scramble, steps, candidates, before };
 }
