@@ -54,7 +54,7 @@ struct best_search {
     std::int64_t slack = 0;
     std::uint64_t most = 20, nodes = NISSY_ALL;
     // called between searches with how many orientations are done, and of how many, 0 until that is known; what it throws ends the call
-    std::function<void(std::size_t, std::size_t)> progress = {};
+    nissy::progress progress = {};
 };
 
 // What the search shares. Its names are no part of the interface.

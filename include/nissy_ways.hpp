@@ -1,4 +1,5 @@
-// What nissy_best.hpp searches by: a cube on both sides, twins, and the moves that merge. Its names are no part of the interface.
+// What nissy_best.hpp searches by: a cube on both sides, twins, and the moves that merge. Its names but `progress` are no part of the
+// interface.
 #ifndef NISSY_WAYS_HPP
 #define NISSY_WAYS_HPP
 
@@ -9,6 +10,13 @@
 #include <limits>
 #include <unordered_map>
 #include <unordered_set>
+
+namespace nissy {
+
+// Is told how many are done, and of how many, or 0 until that is known.
+using progress = std::function<void(std::size_t, std::size_t)>;
+
+} // namespace nissy
 
 namespace nissy::continuing {
 
@@ -168,9 +176,6 @@ inline bool is_reached_earlier(const solution &one, int least, const std::unorde
     }
     return false;
 }
-
-// Is told how many are done, and of how many, or 0 until that is known.
-using progress = std::function<void(std::size_t, std::size_t)>;
 
 // The searches of a call: how many positions they may look at together, and who is told how far the call is.
 class searches {
