@@ -1,13 +1,15 @@
 """What is seen of a cube without a search, and whether a solution solves a scramble."""
 from __future__ import annotations
 
+import struct
 import sys
 from functools import lru_cache
-from typing import Any, Callable, Dict, FrozenSet, Iterable, Iterator, List, NamedTuple, Tuple, TypeVar, Union
+from itertools import starmap
+from typing import Any, Callable, Dict, FrozenSet, Iterable, Iterator, NamedTuple, Tuple, TypeVar, Union
 
 from . import _library, _rooms
 from ._given import Step, Text, bytes_of
-from ._library import FACTS_ANSWER
+from ._library import DONE, FACTS_ANSWER
 from ._lines import fault_of, steps
 from ._many import Asking, Piece, in_pieces
 from ._values import Fault
@@ -26,6 +28,7 @@ _FORMS = ("slices", "lower_case", "brackets", "apostrophe", "half_prime")
 _AXES: Tuple[Axis, ...] = ("fb", "rl", "ud")
 # where the numbers of the axes begin in the struct, and how many each has
 _FIRST, _EACH = 6, 6
+_EACH_ANSWER = struct.Struct(f"{FACTS_ANSWER.size}s")
 Named = TypeVar("Named")
 Value = TypeVar("Value")
 
@@ -202,10 +205,12 @@ def _ask(piece: Piece) -> bytes:
     return told
 
 
-def _told(piece: Piece, told: bytes) -> List[Union[Facts, Fault]]:
-    """Returns the facts of the lines of a piece, or why there are none."""
+def _told(piece: Piece, told: bytes) -> Iterable[Union[Facts, Fault]]:
+    """Returns the facts of the lines of a piece, or why there are none; each is made when it is taken."""
     size = FACTS_ANSWER.size
-    return [_fault(piece, told, at) if told[at] else Facts(told[at:at + size]) for at in range(0, len(told), size)]
+    if told[::size].count(DONE) == len(piece.lines):
+        return starmap(Facts, _EACH_ANSWER.iter_unpack(told))
+    return (_fault(piece, told, at) if told[at] else Facts(told[at:at + size]) for at in range(0, len(told), size))
 
 
 def _fault(piece: Piece, told: bytes, at: int) -> Fault:

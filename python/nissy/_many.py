@@ -12,6 +12,8 @@ Value = TypeVar("Value")
 
 # the most lines of a piece: an ordinary room has an answer to each
 _MOST_LINES = 16_384
+# so many lines are worth a piece of their own
+_LEAST_LINES = 1024
 _MOST_BYTES = 1 << 22
 _MOST_THREADS = 1024
 # A piece takes so many seconds or more, if there are lines enough, and at most twice as many: in between Python hears of signals. Threads
@@ -34,7 +36,7 @@ class Piece(NamedTuple):
 class Asking(Generic[Value]):
     """How a piece is asked: in a first part that may run in a thread of its own, and in a second one that gives the answers."""
 
-    def __init__(self, ask: Callable[[Piece], Any], told: Callable[[Piece, Any], List[Value]]) -> None:
+    def __init__(self, ask: Callable[[Piece], Any], told: Callable[[Piece, Any], Iterable[Value]]) -> None:
         self.ask, self.told = ask, told
 
     def timed(self, piece: Piece) -> Tuple[Any, float]:
@@ -46,9 +48,10 @@ class Asking(Generic[Value]):
 class _Taking:
     """Takes lines in pieces. What ends them before their end is kept until those before it are answered."""
 
-    def __init__(self, lines: Iterator[Text], short: float) -> None:
+    def __init__(self, lines: Iterator[Text], short: float, count: int = 0, threads: int = 1) -> None:
         self._lines, self._short = lines, short
         self._size, self._next = 1, 1
+        self._count, self._threads = count, threads
         self.error: Optional[Exception] = None
 
     def __iter__(self) -> Iterator[Piece]:
@@ -62,15 +65,20 @@ class _Taking:
         """Returns the next lines."""
         lines: List[Text] = []
         try:
-            # one by one, so what came before an exception is there
-            for line in islice(self._lines, self._size):
-                lines.append(line)
+            # what came before an exception is there
+            lines.extend(islice(self._lines, self._most()))
         except Exception as error:
             self.error = error
         text = self._text(lines)
         piece = Piece(self._next, lines, text)
         self._next += len(lines)
         return piece
+
+    def _most(self) -> int:
+        """Returns how many lines come next at most. If it is known how many there are, those that are left are shared by the threads, so that
+        none works long at the last piece alone."""
+        left = self._count - self._next + 1
+        return min(self._size, max(_LEAST_LINES, left // (2 * self._threads))) if self._count else self._size
 
     def _text(self, lines: List[Text]) -> bytes:
         """Returns lines as one text. Of those that are no lines, the first one and all behind it are taken off."""
@@ -105,7 +113,7 @@ def in_pieces(lines: Iterable[Text], asking: Asking[Value], threads: int) -> Ite
     each = each_of(lines, "the lines")
     if number_of(threads, "threads", _MOST_THREADS, 1) == 1:
         return _in_turn(_Taking(each, _SHORT), asking)
-    return _side_by_side(_Taking(each, _SHORT_OF_THREADS), asking, threads)
+    return _side_by_side(_shared(lines, each, threads), asking, threads)
 
 
 def one_by_one(lines: Iterable[Text], ask: Callable[[int, bytes], Value], threads: int) -> Iterator[Value]:
@@ -121,7 +129,13 @@ def one_by_one(lines: Iterable[Text], ask: Callable[[int, bytes], Value], thread
     def found(_: Piece, values: List[Value]) -> List[Value]:
         return values
 
-    return _side_by_side(_Taking(each, _SHORT_OF_THREADS), Asking(of_piece, found), threads)
+    return _side_by_side(_shared(lines, each, threads), Asking(of_piece, found), threads)
+
+
+def _shared(lines: Iterable[Text], each: Iterator[Text], threads: int) -> _Taking:
+    """Returns what takes lines for threads. How many there are is asked of a list or a tuple alone: that of another kind may say anything."""
+    count = len(lines) if type(lines) in (list, tuple) else 0  # type: ignore[arg-type]
+    return _Taking(each, _SHORT_OF_THREADS, count, threads)
 
 
 def _each(lines: Iterator[Text], ask: Callable[[int, bytes], Value]) -> Iterator[Value]:
@@ -155,7 +169,7 @@ def _side_by_side(taking: _Taking, asking: Asking[Value], threads: int) -> Itera
     from concurrent.futures import Future, ThreadPoolExecutor
     asked: Deque[Tuple[Piece, Future[Tuple[Any, float]]]] = deque()
 
-    def first() -> List[Value]:
+    def first() -> Iterable[Value]:
         piece, future = asked.popleft()
         told, seconds = future.result()
         taking.took(piece, seconds)
