@@ -9,8 +9,11 @@ import json
 import os
 import subprocess
 import sys
-from typing import List
+from typing import Callable, List
 
+CUT = '"cut"'
+# half of the first that is tried, and more than the searches of any question here look at
+FIRST_BOUND, MOST_BOUND = 512, 1 << 40
 HERE = os.path.dirname(os.path.abspath(__file__))
 sys.path[:0] = [os.path.join(HERE, ".."), os.path.join(HERE, "..", "..", "python")]
 
@@ -41,28 +44,32 @@ def answers_of(command: List[str], questions: List[Question]) -> List[str]:
     return subprocess.run(command, input=asked, stdout=subprocess.PIPE, check=True, encoding="utf-8").stdout.splitlines()
 
 
-def least_bound(question: Question) -> int:
-    """The least number of nodes with which Python answers and isn't cut."""
-    low, high = 0, 1024
-    while answer(question._replace(nodes=high)) == "cut":
-        low, high = high, 2 * high
-    while high - low > 1:
-        middle = (low + high) // 2
-        low, high = (middle, high) if answer(question._replace(nodes=middle)) == "cut" else (low, middle)
-    return high
+def least_bounds(questions: List[Question], answers: Callable[[List[Question]], List[str]]) -> List[int]:
+    """The least number of nodes with which each question is answered and isn't cut. All are asked together."""
+    # by the first number one is cut, and not by the second
+    found = {question: (0, MOST_BOUND) for question in questions}
+    while True:
+        between = {question: 2 * max(low, FIRST_BOUND) if high == MOST_BOUND else (low + high) // 2
+                   for question, (low, high) in found.items() if high - low > 1}
+        if not between:
+            return [high for _, high in found.values()]
+        said = answers([question._replace(nodes=nodes) for question, nodes in between.items()])
+        for (question, nodes), it in zip(between.items(), said):
+            low, high = found[question]
+            found[question] = (nodes, high) if it == CUT else (low, nodes)
 
 
-def bounds(tally: Tally, caller: str, seed: int) -> None:
-    """The least bound with which there is an answer is the same in Python and C++, which search alike; JavaScript has none."""
+def bounds(tally: Tally, name: str, command: List[str], seed: int) -> None:
+    """With the least bound there is the answer of Python, and with one less none. It is that of Python in C++, which searches alike."""
     draw = Drawing(seed)
     scrambles = [draw.scramble() for _ in range(3)]
     questions = [Question("U R F"), Question("R U", "", 1), Question(scrambles[0]), Question(scrambles[1], draw.both_sides(), 0, 200),
                  Question(scrambles[2], draw.orientation(scrambles[2]), 1), Question(" ".join(draw.turns(3)), "", 1, 1)]
-    least = [(question, least_bound(question)) for question in questions]
-    asked = [question._replace(nodes=bound - short) for question, bound in least for short in (1, 0)]
-    got = answers_of([caller], asked)
-    tally.equal("one less is cut", got[::2], ['"cut"'] * len(questions))
-    tally.equal("the least bound is none", got[1::2], [written(question) for question in questions])
+    least = least_bounds(questions, lambda asked: list(map(written, asked)) if name == "C++" else answers_of(command, asked))
+    asked = [question._replace(nodes=bound - short) for question, bound in zip(questions, least) for short in (1, 0)]
+    got = answers_of(command, asked)
+    tally.equal(f"one less is cut in {name}", got[::2], [CUT] * len(questions))
+    tally.equal(f"the least bound is none in {name}", got[1::2], [written(question) for question in questions])
 
 
 def main() -> None:
@@ -79,8 +86,7 @@ def main() -> None:
         tally.equal(f"how many answers there are in {name}", len(got), len(wanted))
         for question, ours, theirs in zip(questions, wanted, got):
             tally.equal(f"{question} in {name}", theirs, ours)
-    if sys.argv[3:4] not in ([], ["-"]):
-        bounds(tally, sys.argv[3], seed)
+        bounds(tally, name, command, seed)
     tally.holds("some have rows", sum(line.startswith("[{") for line in wanted) > count / 2)
     tally.holds("some have none", "[]" in wanted)
     tally.end()

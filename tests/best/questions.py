@@ -78,6 +78,8 @@ def drawn(seed: int, count: int) -> Iterator[Question]:
         lambda: Question(draw.scramble(), "", 1, draw.choice((20, 300))),
         lambda: Question(*draw.choice(((draw.scramble(), draw.choice(FAULTS)), (draw.choice(FAULTS), "R")))),
         lambda: Question(" ".join(draw.turns(draw.choice((130, 240, 252)))), " ".join(draw.turns(draw.choice((0, 20, 130))))),
+        # too few for any search of such a scramble, and more than all need
+        lambda: Question(draw.scramble(), draw.choice(("", draw.both_sides())), 0, 20, draw.choice((0, 1, 50, 10**9, 2**53 - 1))),
     ]
     for at in range(count):
         # a longer slack takes seconds

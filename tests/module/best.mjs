@@ -4,7 +4,8 @@
 //     node tests/module/best.mjs MODULE
 //
 // The last line is `N passed, M failed`, and the status is 1 where M isn't 0.
-import { Nissy } from "../../web/module/nissy.js";
+import { NissyPool, NissyWorker } from "../../web/module/node.js";
+import { Nissy, SearchCut } from "../../web/module/nissy.js";
 import { ended, moduleBytes, same, thrown } from "./tally.mjs";
 
 const nissy = await Nissy.load(moduleBytes);
@@ -46,6 +47,8 @@ async function tryWrong() {
   }
   for (const wrong of [-1, 21, 0.5, Number.NaN]) same(`a slack of ${wrong}`, (await thrown(() => nissy.best("R", { slack: wrong })))[0], "RangeError");
   for (const wrong of [-1, 0.5, Number.NaN]) same(`${wrong} rows`, (await thrown(() => nissy.best("R", { most: wrong })))[0], "RangeError");
+  for (const wrong of [-1, 0.5, Number.NaN, 2 ** 53]) same(`${wrong} nodes`, (await thrown(() => nissy.best("R", { nodes: wrong })))[0], "RangeError");
+  for (const wrong of [null, "1", 1n]) same(`nodes of another type: ${wrong}`, (await thrown(() => nissy.best("R", { nodes: wrong })))[0], "TypeError");
   same("no options", (await thrown(() => nissy.best("R", null)))[0], "TypeError");
   same("what the caller throws", await thrown(() => nissy.best("R U F2 L D", { onProgress: () => { throw new RangeError("enough"); } })), ["RangeError", "enough"]);
 }
@@ -68,9 +71,48 @@ function tryMost(scramble) {
     nissy.best(scramble, { soFar: "R (U)" }));
 }
 
+/** What a call throws, or null. */
+const caught = (call) => Promise.resolve().then(call).then(() => null, (error) => error);
+
+/** A bound is for all searches of a call: under the least one that suffices there is a cut, also by a worker. */
+async function tryBounds() {
+  const rows = nissy.best("U R F");
+  const cuts = [];
+  for (let nodes = 0; nodes < 10_000; nodes += 1) {
+    const cut = await caught(() => nissy.best("U R F", { nodes }));
+    if (cut === null) break;
+    cuts.push(cut);
+  }
+  const least = cuts.length;
+  same("an orientation alone has looked at more before it ends", least > nissy.count("eofb", "U R F").nodes && least < 10_000, true);
+  same("each is a cut", cuts.every((cut) => cut instanceof SearchCut && cut.found === null && cut.line === null), true);
+  same("within its bound", cuts.every(({ count }, nodes) => count.nodes <= nodes && count.length === null && count.solutions === 0), true);
+  for (const nodes of [least, least + 1, Number.MAX_SAFE_INTEGER, Infinity, undefined]) same(`${nodes} nodes`, nissy.best("U R F", { nodes }), rows);
+  same("a reduction is reached without a search", nissy.best("R", { soFar: "R U2", nodes: 0 }), []);
+  const worker = await NissyWorker.start(moduleBytes);
+  same("rows by a worker", await worker.best("U R F", { nodes: least }), rows);
+  same("a cut by a worker", (await caught(() => worker.best("U R F", { nodes: least - 1 }))).message, cuts[least - 1].message);
+  worker.end();
+}
+
+/** In a pool each axis has the bound by itself, and all have it together. */
+async function tryPoolBounds() {
+  const [pool, rows] = [await NissyPool.start(2, moduleBytes), nissy.best("U R F")];
+  let least = 0;
+  while (least < 10_000 && (await caught(() => pool.best("U R F", { nodes: least }))) instanceof SearchCut) least += 1;
+  same("the least bound of a pool", least > nissy.count("eofb", "U R F").nodes && least < 10_000, true);
+  same("rows by a pool", await pool.best("U R F", { nodes: least }), rows);
+  const { count, found } = await caught(() => pool.best("U R F", { nodes: least - 1 }));
+  same("all were looked at together", [count, found], [{ length: null, solutions: 0, nodes: least }, null]);
+  same("a fault before a cut", (await caught(() => pool.best("R", { soFar: "q", nodes: 0 }))).line, 2);
+  pool.end();
+}
+
 tryKnown();
 await tryWrong();
 const scramble = nissy.scramble(20261127, 1, 25);
 tryMost(scramble);
 tryProgress(scramble);
+await tryBounds();
+await tryPoolBounds();
 ended();

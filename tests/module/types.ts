@@ -63,7 +63,7 @@ export async function bounded(nissy: Nissy, worker: NissyWorker, step: string): 
 
 export async function followed(nissy: Nissy, worker: NissyWorker, bytes: Uint8Array, signal: AbortSignal): Promise<string> {
   const onProgress = (done: number, all: number | null): boolean => done === all;
-  const rows: BestRow[] = nissy.best("R U F", { soFar: "(R)", slack: 1, most: 5, onProgress });
+  const rows: BestRow[] = nissy.best("R U F", { soFar: "(R)", slack: 1, most: 5, nodes: 1_000, onProgress });
   const [{ line, total, eo, dr }] = await worker.best(bytes, { signal, onProgress });
   const lengths: (number | null)[] = [dr.lengths.normal, dr.lengths.inverse];
   const tokens: Token[] = [...nissy.tokens(line), ...(await worker.tokens(line, { signal }))];

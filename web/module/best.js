@@ -3,7 +3,7 @@
 import { ORIENTATIONS } from "./best-steps.js";
 import { BestRows } from "./best-rows.js";
 import { continuations } from "./best-search.js";
-import { NissyFault } from "./faults.js";
+import { NissyFault, SearchCut } from "./faults.js";
 import { movesIn } from "./merging.js";
 import { textIn } from "./natives.js";
 import { SIDES, bracketed, joined, movesOfSides } from "./sides.js";
@@ -88,7 +88,7 @@ function namingAfter(nissy, rotation) {
  * @param {string} soFar
  * @returns {Start}
  */
-function startOf(nissy, scramble, soFar) {
+function startAfter(nissy, scramble, soFar) {
   const moves = movesOfSides(soFar);
   const undone = nissy.invert(moves.inverse);
   const before = cleanedIn(nissy, joined(undone, nissy.unniss(scramble)));
@@ -148,7 +148,7 @@ function shownOf(nissy, { position, named }, { total, step, part, length, next, 
  * @returns {RowWithMoves[]}
  */
 function rowsAfter(nissy, { scramble, slack, most, axes }, soFar, tell) {
-  const start = startOf(nissy, typeof scramble === "string" ? scramble : textIn(scramble), soFar);
+  const start = startAfter(nissy, typeof scramble === "string" ? scramble : textIn(scramble), soFar);
   const { holds } = nissy.facts(start.position.lines.normal);
   if (holds.some((step) => step.startsWith("dr"))) return [];
   const held = ORIENTATIONS.filter(({ name }) => holds.includes(name));
@@ -181,20 +181,22 @@ export function bestRows(nissy, request, tell) {
   }
 }
 
-/** @typedef {{rows: RowWithMoves[]} | {fault: import("./faults.js").FaultParts}} BestReply what a worker sends */
+/** @typedef {{rows: RowWithMoves[]} | {fault: import("./faults.js").FaultParts} | {isCut: true}} BestTold */
+/** @typedef {BestTold & {nodes: number}} BestReply what a worker sends, and at how many positions its searches looked */
 
 /**
  * The same as a plain value.
  * @param {Nissy} nissy
  * @param {BestRequest} request
  * @param {TellProgress} tell
- * @returns {BestReply}
+ * @returns {BestTold}
  */
-export function bestReply(nissy, request, tell) {
+export function bestTold(nissy, request, tell) {
   try {
     return { rows: bestRows(nissy, request, tell) };
   } catch (fault) {
     if (fault instanceof NissyFault) return { fault: fault.parts() };
+    if (fault instanceof SearchCut) return { isCut: true };
     throw fault;
   }
 }

@@ -79,6 +79,12 @@ export class SearchCut extends Error {
   }
 }
 
+/**
+ * The cut of several searches together, which tells of none of them.
+ * @param {number} nodes at how many positions they looked
+ */
+export const cutOfAll = (nodes) => new SearchCut({ length: null, solutions: 0, nodes }, null);
+
 /** This host runs no module at all. */
 export class NoWebAssembly extends Error {
   constructor() {

@@ -10,6 +10,7 @@
  * one.
  */
 import { bestRows } from "./best.js";
+import { Bounded } from "./bounded.js";
 import { Engine } from "./engine.js";
 import { NoWebAssembly } from "./faults.js";
 import {
@@ -81,9 +82,9 @@ export const NoWideMemory = NoWebAssembly;
  * call that broke off the next one starts the module anew, or throws `EngineMissing` if that can't be done.
  */
 export class Nissy {
-  /** @type {Engine} */ #engine;
+  /** @type {import("./bounded.js").Answering} */ #engine;
 
-  /** @param {Engine} engine */
+  /** @param {import("./bounded.js").Answering} engine */
   constructor(engine) {
     this.#engine = engine;
   }
@@ -235,7 +236,9 @@ export class Nissy {
    * @param {Text} scramble @param {BestWanted & Followed} [options] @returns {BestRow[]}
    */
   best(scramble, options) {
-    return shownIn(bestRows(this, bestRequest(scramble, options), progressOf(options)));
+    const request = bestRequest(scramble, options);
+    const tell = progressOf(options);
+    return shownIn(bestRows(new Nissy(new Bounded(this.#engine, request.nodes)), request, tell));
   }
 
   /**

@@ -3,7 +3,7 @@
 import { BestRows } from "./best-rows.js";
 import { ORIENTATIONS } from "./best-steps.js";
 import { wholeNumber } from "./bytes.js";
-import { Stopped } from "./faults.js";
+import { Stopped, cutOfAll } from "./faults.js";
 import { Pieces } from "./pieces.js";
 import { allOf, bestIn, countIn, factsIn, shownIn, solutionsIn } from "./replies.js";
 import { allRequest, bestRequest, countRequest, factsRequest, solveRequest, stepsRequest } from "./requests.js";
@@ -55,6 +55,17 @@ const sumOf = (each) => ({
   done: each.reduce((sum, { done }) => sum + done, 0),
   all: each.reduce((/** @type {number | null} */ sum, { all }) => (sum === null || all === null ? null : sum + all), 0),
 });
+
+/**
+ * The rows of all axes.
+ * @param {BestReply[]} replies
+ * @param {number} nodes at how many positions they may look together
+ */
+function rowsWithin(replies, nodes) {
+  const looked = replies.reduce((sum, reply) => sum + reply.nodes, 0);
+  if (looked > nodes || replies.some((reply) => "isCut" in reply)) throw cutOfAll(looked);
+  return replies.flatMap(bestIn);
+}
 
 /**
  * Asks a worker of the next piece that none has, until there is none.
@@ -162,7 +173,7 @@ export class WorkerPool {
       Promise.all(requests.map((request, at) => this.#queues[at % this.size].answer(request, { signal }, follow(at)))));
     /** @type {BestRows<import("./best.js").RowWithMoves>} */
     const best = new BestRows(requests[0].most);
-    best.add(replies.flatMap(bestIn));
+    best.add(rowsWithin(replies, requests[0].nodes));
     return shownIn(best.rows);
   }
 

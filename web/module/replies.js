@@ -1,7 +1,7 @@
 // Reads what the engine writes as values, or throws what is wrong.
 import { eachOf } from "./bytes.js";
 import { checkOf, factsOf } from "./facts.js";
-import { NissyFault, SearchCut } from "./faults.js";
+import { NissyFault, SearchCut, cutOfAll } from "./faults.js";
 import { textIn } from "./natives.js";
 import { tokensOf } from "./tokens.js";
 
@@ -200,6 +200,7 @@ export function bestIn(reply) {
 /** @param {import("./best.js").RowWithMoves[]} rows @returns {import("./best.js").BestRow[]} */
 export const shownIn = (rows) => rows.map(({ shown }) => shown);
 
+  if ("isCut" in reply) throw cutOfAll(reply.nodes);
 /**
  * Whether the reply for a line of many ends the call, so that no line behind it is answered.
  * @param {import("./requests.js").AllRequest} asked

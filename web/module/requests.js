@@ -17,10 +17,8 @@ import { hasOwn } from "./natives.js";
  */
 /** @typedef {{call: "facts", line: Text}} FactsRequest */
 /** @typedef {{call: "check", scramble: Text, solution: Text}} CheckRequest */
-/**
- * @typedef {{call: "best", scramble: Text, soFar: Text, slack: number, most: number, axes: readonly Step[]}}
- * BestRequest
- */
+/** @typedef {{slack: number, most: number, nodes: number, axes: readonly Step[]}} BestWithin */
+/** @typedef {BestWithin & {call: "best", scramble: Text, soFar: Text}} BestRequest */
 /** @typedef {{call: "scramble", state: bigint, stream: bigint, length: number}} ScrambleRequest */
 /** @typedef {{call: "steps"}} StepsRequest */
 /** @typedef {CountRequest | SolveRequest | FactsRequest} OfEach what many lines may be asked */
@@ -53,8 +51,10 @@ import { hasOwn } from "./natives.js";
 /**
  * What is wanted of the best continuations: `soFar`, the moves that were made after the scramble, those in brackets on
  * its inverse, none if it isn't given; `slack`, how many turns longer than the shortest of its side an orientation may
- * be, none if it isn't given; `most`, how many rows, 20 if it isn't given.
- * @typedef {{soFar?: Text, slack?: number, most?: number}} BestWanted
+ * be, none if it isn't given; `most`, how many rows, 20 if it isn't given; `nodes`, at how many positions all its
+ * searches look together at most, at as many as there are if it isn't given: `SearchCut` is thrown before they look at
+ * more. In a pool each axis is searched up to this bound, so the cut may come behind it.
+ * @typedef {{soFar?: Text, slack?: number, most?: number, nodes?: number}} BestWanted
  */
 
 /** The most turns of a search. */
@@ -170,6 +170,7 @@ export const bestRequest = (scramble, options = {}, axes = ALL_AXES) => ({
   soFar: takenLine(optionOf(options, "soFar", ""), "the moves so far"),
   slack: wholeNumber(optionOf(options, "slack", 0), "the slack", MOST_TURNS),
   most: boundOf(options, "most", "the greatest number of rows", MOST_TOLD),
+  nodes: boundOf(options, "nodes", "the greatest number of nodes"),
   axes,
 });
 

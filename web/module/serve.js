@@ -1,5 +1,6 @@
 // The engine's side of a worker: the first message brings the module, and each later one is answered.
-import { bestReply } from "./best.js";
+import { bestTold } from "./best.js";
+import { Bounded } from "./bounded.js";
 import { Engine } from "./engine.js";
 import { Nissy } from "./nissy.js";
 
@@ -52,13 +53,25 @@ export function serveBy(port, start, answer) {
 }
 
 /**
+ * What a worker sends of the best continuations.
+ * @param {Engine} engine
+ * @param {import("./requests.js").BestRequest} request
+ * @param {import("./best.js").TellProgress} tell
+ * @returns {import("./best.js").BestReply}
+ */
+function bestReply(engine, request, tell) {
+  const bounded = new Bounded(engine, request.nodes);
+  return { ...bestTold(new Nissy(bounded), request, tell), nodes: bounded.looked };
+}
+
+/**
  * Has an engine answer what comes through a port.
  * @param {Port} port
  */
 export function serve(port) {
   serveBy(port, (module) => Engine.start(module), (engine, /** @type {Question} */ { id, request }) => {
     const tell = (/** @type {import("./best.js").BestProgress} */ progress) => port.postMessage({ id, progress });
-    const reply = request.call === "best" ? bestReply(new Nissy(engine), request, tell) : engine.answer(request);
+    const reply = request.call === "best" ? bestReply(engine, request, tell) : engine.answer(request);
     port.postMessage({ id, reply }, buffersOf(reply));
   });
 }
