@@ -27,8 +27,7 @@ LIBRARY_FILES := \
 	$(BUILD)/libnissy.a:@lib/libnissy.a \
 	$(BUILD)/$(SONAME):@lib/$(SONAME) \
 	$(BUILD)/libnissy.so:@lib/libnissy.so \
-	include/nissy.h:include/nissy.h \
-	$(foreach file,$(notdir $(wildcard include/*.hpp)),include/$(file):include/$(file)) \
+	$(foreach file,$(notdir $(wildcard include/*.h include/*.hpp)),include/$(file):include/$(file)) \
 	include/nissy.pc:@lib/pkgconfig/nissy.pc \
 	packaging/cmake/nissy-config.cmake:@lib/cmake/nissy/nissy-config.cmake \
 	packaging/cmake/nissy-config-version.cmake:@lib/cmake/nissy/nissy-config-version.cmake \

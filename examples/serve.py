@@ -10,7 +10,6 @@ With the port 0 the system chooses one. The port is printed once the server list
 from __future__ import annotations
 
 import json
-import re
 import sys
 from http.server import BaseHTTPRequestHandler, ThreadingHTTPServer
 from typing import Any, Callable, Dict, List, Tuple, cast
@@ -20,15 +19,12 @@ import nissy
 
 # the positions of a search, some milliseconds, and the solutions that an answer shows
 MOST_NODES, MOST_SHOWN = 1_000_000, 20
-# the moves of a line that can be read, as they are written, and its brackets; and those that the WCA's notation has
-WRITTEN = re.compile(r"[()]|[A-Za-z]w?(?:2['\u2019]?|['\u2019])?")
-BY_WCA = re.compile(r"(?:[UDRLFB]w?|[xyz])[2']?")
 Answer = Dict[str, Any]
 
 
 def foreign(line: str) -> List[Answer]:
     """The moves and brackets of a line that are no WCA notation, each with its place in characters, from 1."""
-    return [{"text": it.group(), "character": it.start() + 1} for it in WRITTEN.finditer(line) if not BY_WCA.fullmatch(it.group())]
+    return [{"text": it.text, "character": it.character} for it in nissy.form_places(line)]
 
 
 def check(asked: Dict[str, str]) -> Answer:

@@ -1,10 +1,19 @@
-// nissy for C++17 and later: the names of the places and forms that facts and verdicts have as bits. Header alone, over nissy.hpp.
+// nissy for C++17 and later: the names of the places and forms that facts and verdicts have as bits, where a line has
+// such forms, and which step has to hold before another. Header alone, over nissy.hpp, which says what is thrown.
 #ifndef NISSY_NAMES_HPP
 #define NISSY_NAMES_HPP
 
 #include "nissy.hpp"
+#include "nissy_forms.h"
 
 namespace nissy {
+
+// A move or a bracket of a line that the WCA's notation for solutions hasn't.
+struct form_place {
+    std::string text;   // as it is written
+    unsigned forms;     // its forms of nissy_form, added
+    std::size_t column; // in bytes, from 1
+};
 
 namespace detail {
 
@@ -32,6 +41,27 @@ inline std::vector<std::string> corner_names(const std::bitset<8> &places) {
 // The forms of a verdict, as the library for Python names them.
 inline std::vector<std::string> form_names(unsigned forms) {
     return detail::chosen<5>(forms, {"slices", "lower_case", "brackets", "apostrophe", "half_prime"});
+}
+
+// Where a line has such forms: those of its places together are those of a verdict.
+inline std::vector<form_place> form_places(std::string_view line) {
+    // it throws what is wrong with the line
+    facts(line);
+    std::vector<form_place> places;
+    const std::uint8_t *const bytes = detail::bytes(line);
+    const auto behind = [=](std::size_t passed) { return nissy_next_form_place(bytes, line.size(), passed); };
+    for (nissy_form_place it = behind(0); it.forms; it = behind(it.last))
+        places.push_back({std::string(line.substr(it.column - 1, it.last - it.column + 1)), it.forms, it.column});
+    return places;
+}
+
+// The step that has to hold before this one: the orientation that a reduction keeps, and none before an orientation.
+inline std::optional<std::string> start_of(std::string_view step) {
+    std::string out(NISSY_LINE_ROOM, '\0');
+    const nissy_line_answer answer = nissy_start(detail::bytes(step), step.size(), detail::bytes(out), out.size());
+    if (answer.status != NISSY_DONE) throw std::invalid_argument("nissy: no step has this name: " + std::string(step));
+    out.resize(answer.length);
+    return out.empty() ? std::nullopt : std::optional<std::string>(out);
 }
 
 } // namespace nissy

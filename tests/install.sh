@@ -49,8 +49,7 @@ $(find docs/words -name '*.svg' -printf '644 share/doc/nissy/words/%f %p\n')
 644 share/zsh/site-functions/_nissy completions/_nissy"
 if [ $library = yes ]; then
     wanted="$wanted
-644 include/nissy.h include/nissy.h
-$(find include -name '*.hpp' -printf '644 %p %p\n')
+$(find include \( -name '*.h' -o -name '*.hpp' \) -printf '644 %p %p\n')
 644 lib/cmake/nissy/nissy-config-version.cmake packaging/cmake/nissy-config-version.cmake
 644 lib/cmake/nissy/nissy-config.cmake packaging/cmake/nissy-config.cmake
 644 lib/libnissy.a build/libnissy.a

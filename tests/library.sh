@@ -103,6 +103,8 @@ read_strictly() { # COMPILER HEADER: callers have warnings of their own, and it 
 by_compiler() { # COMPILER
     local compiler=$1 standard header test
     holds "nissy.h is C++98 too, by $compiler" "$compiler" -std=c++98 "${strict[@]}" -x c++ -fsyntax-only include/nissy.h
+    # named beside an empty file, since not all of its functions are called in it
+    holds "so is nissy_forms.h, by $compiler" "$compiler" -std=c++98 "${strict[@]}" -include nissy_forms.h -x c++ -fsyntax-only /dev/null
     holds "nissy.hpp tells C++14 that it is for C++17, by $compiler" tells_older "$compiler"
     for header in include/*.hpp; do holds "$header is read without further warnings, by $compiler" read_strictly "$compiler" "$header"; done
     for standard in c++17 c++20; do

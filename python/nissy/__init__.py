@@ -27,21 +27,22 @@ from ._facts import Axis as Axis, Case, Check, Facts, Pieces, check, facts, fact
 from ._given import Step as Step, Text as Text
 from ._library import DONE, FAULT, MOST_INPUT, STOPPED, USAGE
 from ._lines import cleanup, facelets, invert, scramble, steps, unniss, version
+from ._places import start_of
 from ._runs import run, scrambles
 from ._searches import Tables, count, count_all, near, solutions, solve, solve_all
-from ._tokens import Token, tokens
+from ._tokens import FormPlace, Token, form_places, tokens
 from ._values import Answer, Count, Cut, Fault, LineFault, Solution, Solutions, StartFault, raising
 
 __all__ = ["DONE", "FAULT", "MOST_INPUT", "STOPPED", "USAGE", "Answer", "Case", "Check", "Continuation", "Count", "Cut", "Facts", "Fault",
-           "Lengths", "LineFault", "Orientation", "Pieces", "Reduction", "Solution", "Solutions", "StartFault", "Tables", "Token", "best",
-           "check", "cleanup", "count", "count_all", "facelets", "facts", "facts_all", "invert", "near", "raising", "run", "scramble",
-           "scrambles", "solutions", "solve", "solve_all", "steps", "tokens", "unniss"]
+           "FormPlace", "Lengths", "LineFault", "Orientation", "Pieces", "Reduction", "Solution", "Solutions", "StartFault", "Tables",
+           "Token", "best", "check", "cleanup", "count", "count_all", "facelets", "facts", "facts_all", "form_places", "invert", "near",
+           "raising", "run", "scramble", "scrambles", "solutions", "solve", "solve_all", "start_of", "steps", "tokens", "unniss"]
 
 __version__ = version()
 del version
 
 # what others see of these, as in a traceback or in what was pickled, is named by the package
-for _public in (Answer, Case, Check, Continuation, Count, Cut, Facts, Fault, Lengths, LineFault, Orientation, Pieces, Reduction, Solution,
-                Solutions, StartFault, Tables, Token):
+for _public in (Answer, Case, Check, Continuation, Count, Cut, Facts, Fault, FormPlace, Lengths, LineFault, Orientation, Pieces, Reduction,
+                Solution, Solutions, StartFault, Tables, Token):
     _public.__module__ = __name__
 del _public

@@ -4,12 +4,12 @@ from __future__ import annotations
 import ctypes
 import os
 import threading
-from typing import Dict, Optional
+from typing import Any, Dict, Optional
 
 from . import _library
 from ._given import Step
 from ._library import DONE, KeptTables
-from ._lines import steps
+from ._lines import start_of as _start_of, steps
 
 
 class Place:
@@ -59,3 +59,9 @@ def place_of(step: Step) -> Place:
     if step not in _places:
         raise ValueError(f"no step has this name; the steps are {', '.join(_places)}")
     return _places[step]
+
+
+def start_of(step: Step) -> Optional[Step]:
+    """The step that has to hold before this one: the orientation that a reduction keeps, None before an orientation."""
+    start: Any = _start_of(place_of(step).step)
+    return start or None

@@ -1,4 +1,4 @@
-"""The moves of a line one by one, for those who draw or count them."""
+"""The moves of a line one by one, for those who draw or count them, and those that the WCA's notation hasn't."""
 from __future__ import annotations
 
 import re
@@ -43,6 +43,19 @@ class Token(NamedTuple):
     """Whether it stands in brackets, and so is a move on the inverse scramble."""
 
 
+class FormPlace(NamedTuple):
+    """A move or a bracket of a line that the WCA's notation for solutions hasn't."""
+
+    text: str
+    """As it is written."""
+    forms: Tuple[str, ...]
+    """Its forms, as Check names them."""
+    column: int
+    """Where it begins, in bytes of UTF-8 from 1."""
+    character: int
+    """The same in characters."""
+
+
 def tokens(line: Text) -> List[Token]:
     """The moves of a line as they are written, one after another. Raises LineFault."""
     data, inverse, found = bytes_of(line, "the line"), False, []
@@ -57,3 +70,20 @@ def tokens(line: Text) -> List[Token]:
         quarters = _QUARTERS[suffix]
         found.append(Token(name + _SUFFIXES[quarters], axis, layers, 2 if quarters == 2 else way * quarters, inverse))
     return found
+
+
+def _forms_of(item: str) -> Tuple[str, ...]:
+    """Returns the forms of a move or a bracket."""
+    has = {"slices": item[0] in "MES", "lower_case": item[0] in "udrlfb", "brackets": item in "()", "apostrophe": item[-1] == "\u2019",
+           "half_prime": item[-2:] in ("2'", "2\u2019")}
+    return tuple(form for form, there in has.items() if there)
+
+
+def form_places(line: Text) -> List[FormPlace]:
+    """Where a line has forms that the WCA's notation for solutions hasn't: those of its places together are the `forms` of `check`. Raises
+    LineFault."""
+    data = bytes_of(line, "the line")
+    unniss(data)
+    text = data.decode()
+    items = ((it, _forms_of(it.group())) for it in _ITEM.finditer(text))
+    return [FormPlace(it.group(), forms, len(text[:it.start()].encode()) + 1, it.start() + 1) for it, forms in items if forms]

@@ -1,10 +1,10 @@
 #!/usr/bin/env python3
-"""Drawn calls without a search, in Python and in C++, beside the independent model: lines rewritten, their moves, what is seen of them, and
-solutions checked, a part of them damaged.
+"""Drawn calls without a search, in Python and in C++, beside the independent model: lines rewritten, their moves, where these have forms, what
+is seen of them, and solutions checked, a part of them damaged.
 
     tests/library/beside_model.py SEED COUNT [CALLER]
 
-COUNT lines are drawn, with seven calls each. CALLER is a program made of caller.cpp: it makes the calls in C++ too. The library is that of
+COUNT lines are drawn, with eight calls each. CALLER is a program made of caller.cpp: it makes the calls in C++ too. The library is that of
 NISSY_LIBRARY. The last line is `N passed, M failed`, by kinds of calls, and the status is 1 where M isn't 0.
 """
 import os
@@ -21,7 +21,7 @@ import nissy
 from cube import LAYERS, Move
 from drawing import Drawing
 from model import rewritten
-from notation import ReadFault, read, word_of
+from notation import ITEM, ReadFault, read, word_of
 from tally import Tally
 
 AXES: Tuple[nissy.Axis, ...] = ("fb", "rl", "ud")
@@ -65,6 +65,12 @@ def check_of_model(scramble: bytes, solution: bytes) -> str:
     return f"{bad_pieces.is_solution(scramble, solution):d} {seen.moves} {seen.clean_moves} {','.join(bad_pieces.forms(solution))}"
 
 
+def form_places_of_model(line: bytes) -> str:
+    """Where a line that is spelled has forms, each move and bracket cut out by the model and judged by itself."""
+    items = ((it, () if it.group().isspace() else bad_pieces.forms(b"(" if it.group() == b")" else it.group())) for it in ITEM.finditer(line))
+    return " ".join(f"{it.start() + 1}/{it.group().decode()}/{','.join(forms)}" for it, forms in items if forms)
+
+
 def of_model(call: str, lines: List[bytes]) -> str:
     """What the model answers."""
     if call == "check":
@@ -75,6 +81,8 @@ def of_model(call: str, lines: List[bytes]) -> str:
         return fault_of(fault.kind, fault.column)
     if call == "facts":
         return facts_of_model(lines[0])
+    if call == "form_places":
+        return form_places_of_model(lines[0])
     if call == "tokens":
         # sorted, since the model keeps the two parts of a line alone
         return " ".join([token_of_model(move, False) for move in normal] + [token_of_model(move, True) for move in bracketed])
@@ -107,9 +115,17 @@ def check_of_python(scramble: bytes, solution: bytes) -> str:
     return f"{it.solved:d} {it.moves} {it.clean_moves} {','.join(it.forms)}"
 
 
+def form_places_of_python(line: bytes) -> str:
+    """Where a line has forms in Python."""
+    places = nissy.form_places(line)
+    if any(it.column != len(line.decode()[:it.character - 1].encode()) + 1 for it in places):
+        return f"another character: {places}"
+    return " ".join(f"{it.column}/{it.text}/{','.join(it.forms)}" for it in places)
+
+
 PYTHON: Dict[str, Callable[..., str]] = {
     "invert": nissy.invert, "unniss": nissy.unniss, "cleanup": nissy.cleanup, "facelets": nissy.facelets, "facts": facts_of_python,
-    "tokens": tokens_of_python, "check": check_of_python}
+    "tokens": tokens_of_python, "form_places": form_places_of_python, "check": check_of_python}
 
 
 def of_python(call: str, lines: List[bytes]) -> str:

@@ -1,5 +1,6 @@
 /* Makes the calls of nissy.hpp that standard input asks for, one on each line, and answers each on a line: beside_program.py and
    beside_model.py compare them. Texts come and go as hexadecimal digits behind an `=`. */
+#include "nissy_names.hpp"
 #include "nissy_tokens.hpp"
 
 #include <iostream>
@@ -108,6 +109,17 @@ std::string moves_of(std::string_view line) {
     return text;
 }
 
+// Where the line has forms that the WCA's notation hasn't.
+std::string forms_of(std::string_view line) {
+    std::string text;
+    for (const nissy::form_place &it : nissy::form_places(line)) {
+        std::string names;
+        for (const std::string &name : nissy::form_names(it.forms)) names += (names.empty() ? "" : ",") + name;
+        text += (text.empty() ? "" : " ") + std::to_string(it.column) + "/" + it.text + "/" + names;
+    }
+    return text;
+}
+
 std::string called(const std::string &call, std::istream &asked) {
     if (call == "solve" || call == "count") return searched(call, asked);
     if (call == "scrambles") return drawn(asked);
@@ -117,6 +129,7 @@ std::string called(const std::string &call, std::istream &asked) {
     if (call == "check") return checked(line.view(), exact(other).view());
     if (call == "facts") return seen(line.view());
     if (call == "tokens") return moves_of(line.view());
+    if (call == "form_places") return forms_of(line.view());
     if (call == "invert") return nissy::invert(line.view());
     if (call == "unniss") return nissy::unniss(line.view());
     if (call == "cleanup") return nissy::cleanup(line.view());

@@ -3,6 +3,7 @@
 
        facts [few]      `few` takes no longest input */
 #include "faults.h"
+#include "nissy_forms.h"
 #include "searches.h"
 #include "stickers.h"
 
@@ -102,6 +103,24 @@ static const struct checked {
 static void is_fault(nissy_check_answer got, int line, int fault, unsigned column, const char *of) {
     holds(got.status == NISSY_FAULT && got.line == line && got.fault == fault && got.column == column, "its fault", of);
     holds(!got.solved && !got.moves && !got.clean_moves && !got.forms, "nothing else", of);
+}
+
+/* Where lines have forms that the WCA's notation hasn't, each as `column text forms|`. */
+static void forms_have_places(void) {
+    static const char *const LINES[][2] = {
+#include "forms.inc"
+    };
+    for (size_t at = 0; at < sizeof LINES / sizeof *LINES; at++) {
+        guarded line = copied(LINES[at][0], strlen(LINES[at][0]));
+        char told[256] = "";
+        size_t passed = 0;
+        for (nissy_form_place it; (it = nissy_next_form_place(line.bytes, line.size, passed)).forms; passed = it.last)
+            snprintf(told + strlen(told), sizeof told - strlen(told), "%zu %.*s %u|", it.column, (int)(it.last - it.column + 1),
+                     LINES[at][0] + it.column - 1, it.forms);
+        holds(strcmp(told, LINES[at][1]) == 0, "where its forms are", LINES[at][0]);
+        let_go(line);
+    }
+    holds(nissy_next_form_place(NULL, 0, 0).forms == 0, "a null line has none", "nissy_next_form_place");
 }
 
 static void solutions_are_checked(void) {
@@ -236,6 +255,7 @@ int main(int count, char **words) {
     (void)words;
     lines_are_judged();
     places_are_told();
+    forms_have_places();
     solutions_are_checked();
     most_moves_are_judged();
     judges_lines();

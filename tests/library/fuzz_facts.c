@@ -4,6 +4,8 @@
 
    It is compiled as fuzz.c is, and its words are the same. */
 #include "questions.h"
+
+#include "nissy_forms.h"
 #include "stickers.h"
 
 enum { MOST_LINES = 48 };
@@ -17,7 +19,7 @@ static unsigned moves_written(text line) {
 }
 
 static int forms_written(text line) {
-    static const char *const FORMS[][8] = {{"M", "E", "S"}, {"u", "d", "r", "l", "f", "b"}, {"("}, {"\xe2"}, {"2'", "2\xe2"}};
+    static const char *const FORMS[][8] = {{"M", "E", "S"}, {"u", "d", "r", "l", "f", "b"}, {"(", ")"}, {"\xe2"}, {"2'", "2\xe2"}};
     int forms = 0;
     for (int form = 0; form < 5; form++)
         for (int at = 0; FORMS[form][at]; at++)
@@ -64,6 +66,25 @@ static int joins(text scramble, text solution, char *letters) {
     return nissy_facelets(joined, one.length + 1 + other.length, (uint8_t *)letters, STICKERS).status;
 }
 
+/* Each place that is found has its own forms, and behind the one before; what is left once they are taken out has none. What the
+   line says may be anything. */
+static unsigned forms_found(slice read, int is_read) {
+    static uint8_t left[2 * BLOCK];
+    text rest = {left, read.size, sizeof left};
+    unsigned forms = 0;
+    size_t passed = 0;
+    memcpy(left, read.bytes, read.size);
+    for (nissy_form_place it; (it = nissy_next_form_place(read.bytes, read.size, passed)).forms; passed = it.last) {
+        text own = {left + it.column - 1, it.last - it.column + 1, 0};
+        is_so(it.column > passed && it.last >= it.column && it.last <= read.size, "where it is");
+        is_so(!is_read || it.forms == (unsigned)forms_written(own), "its own forms");
+        memset(own.bytes, ' ', own.size);
+        forms |= it.forms;
+    }
+    is_so(!is_read || forms_written(rest) == 0, "no form has another place");
+    return forms;
+}
+
 /* A solution of a line: another one, or, more often, its inverse, now and then with a rotation behind it. */
 static void try_check(text scramble) {
     static uint8_t bytes[2 * BLOCK], letters[STICKERS];
@@ -79,6 +100,7 @@ static void try_check(text scramble) {
     refused_at = 0;
     is_so(made == 0, "a check takes no memory");
     was_read(first, scramble), was_read(second, solution);
+    unsigned found = forms_found(second, other.status == NISSY_DONE);
     int line = one.status ? 1 : other.status ? 2 : 0;
     is_so(is.status == (line == 1 ? one : other).status && is.line == line, "the status of a check, and its line");
     is_so(is.fault == (line == 1 ? one : other).fault && is.column == (line == 1 ? one : other).column, "its fault");
@@ -87,7 +109,7 @@ static void try_check(text scramble) {
         return;
     }
     is_so(is.moves == other.moves && is.clean_moves == other.clean_moves, "the moves of a solution");
-    is_so(is.forms == forms_written(solution), "the forms of a solution");
+    is_so(is.forms == forms_written(solution) && is.forms == found, "the forms of a solution, and those of its places");
     if (joins(scramble, solution, (char *)letters) == NISSY_DONE) is_so(is.solved == is_solved_by((char *)letters), "whether it solves");
 }
 

@@ -1,4 +1,4 @@
-/* The headers beside nissy.hpp: the moves of a line, solutions one after another, the best continuations, and names. */
+/* The headers beside nissy.hpp: the moves of a line, solutions one after another, the best continuations, names, and places of forms. */
 #include "nissy_best.hpp"
 #include "nissy_names.hpp"
 #include "nissy_solutions.hpp"
@@ -53,6 +53,28 @@ void names_are_told() {
         {"M", "slices"}, {"u", "lower_case"}, {"(U)", "brackets"}, {"U\xe2\x80\x99", "apostrophe"}, {"U2'", "half_prime"}};
     for (const auto &[line, form] : forms) holds(nissy::form_names(nissy::check("", line).forms) == names{form}, "its form", line);
     holds(nissy::form_names(nissy::check("", "(M2' u\xe2\x80\x99)").forms).size() == 5, "all forms", "(M2' u’)");
+}
+
+// Where lines have forms that the WCA's notation hasn't, and what has to hold before each step: those of tests/calls.tsv.
+void forms_have_places() {
+    static const char *const LINES[][2] = {
+#include "forms.inc"
+    };
+    for (const auto &[line, wanted] : LINES) {
+        std::string told;
+        for (const auto &[text, forms, column] : nissy::form_places(line)) told += std::to_string(column) + " " + text + " " + std::to_string(forms) + "|";
+        holds(told == wanted, "where its forms are", line);
+    }
+    for (const fault_row &row : UNREAD) throws<nissy::fault>([&] { nissy::form_places(row.line); }, row.line);
+}
+
+void steps_have_starts() {
+    static const char *const STEPS[][2] = {
+#include "starts.inc"
+    };
+    for (const auto &[step, start] : STEPS) holds(nissy::start_of(step).value_or("") == start, "what has to hold before it", step);
+    holds(!nissy::start_of("eo").has_value(), "it begins anywhere", "eo");
+    for (const char *none : {"htr", "", "eofb ", "EOFB"}) throws<std::invalid_argument>([&] { nissy::start_of(none); }, none);
 }
 
 // Rows that a person can tell: one turn from a reduction, and one from an orientation.
@@ -151,6 +173,8 @@ void faults_are_thrown() {
 int main() {
     moves_are_told();
     names_are_told();
+    forms_have_places();
+    steps_have_starts();
     continuations_are_told();
     rows_are_counted();
     continuations_are_bounded();

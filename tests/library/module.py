@@ -80,7 +80,8 @@ def names():
     wanted = {"invert", "unniss", "cleanup", "facelets", "run", "Answer", "LineFault", "MOST_INPUT", "DONE", "FAULT", "USAGE", "STOPPED",
               "solve", "solve_all", "near", "count", "count_all", "scramble", "scrambles", "steps", "Tables", "Solution", "Count",
               "StartFault", "Fault", "Cut", "Solutions", "raising", "facts", "facts_all", "check", "Facts", "Check", "Case", "Pieces",
-              "tokens", "Token", "solutions", "best", "Continuation", "Orientation", "Reduction", "Lengths"}
+              "tokens", "Token", "solutions", "best", "Continuation", "Orientation", "Reduction", "Lengths", "form_places", "FormPlace",
+              "start_of"}
     holds("an import of all brings what the module is for, and no more", set(brought) == wanted)
 
 

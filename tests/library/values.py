@@ -101,9 +101,33 @@ def without_lines(tally: Tally) -> None:
     tally.holds("the version is that of the header", f'#define NISSY_VERSION "{nissy.__version__}"' in header)
 
 
+def forms(tally: Tally) -> None:
+    """Where lines have forms that the WCA's notation hasn't."""
+    names = ("slices", "lower_case", "brackets", "apostrophe", "half_prime")
+    for line, wanted in shared.rows("forms"):
+        places = nissy.form_places(line)
+        told = [f"{it.column} {it.text} {sum(1 << names.index(form) for form in it.forms)}" for it in places]
+        tally.equal(f"form_places({line!r})", "|".join(told), wanted)
+        tally.holds("the characters are there", all(line[it.character - 1:].startswith(it.text) for it in places))
+        tally.equal("the same of bytes", nissy.form_places(line.encode()), places)
+        tally.equal("all of them", {form for it in places for form in it.forms}, set(nissy.check("", line).forms))
+
+
+def starts(tally: Tally) -> None:
+    """What has to hold before each step."""
+    for step, start in STEPS.items():
+        tally.equal(f"before {step}", untyped.start_of(step), start or None)
+    for wrong in ("htr", "", "eofb ", "EOFB"):
+        tally.holds(f"{wrong!r} is no step", raised(ValueError, lambda: untyped.start_of(wrong)))
+    for none in (None, 3, b"eofb"):
+        tally.holds(f"nor is {none!r}", raised(TypeError, lambda: untyped.start_of(none)))
+
+
 def faults(tally: Tally) -> None:
     """Lines with a fault, and steps that may not start."""
     for line, column, text in FAULTS:
+        fault = raised(nissy.LineFault, lambda: nissy.form_places(line))
+        tally.holds(f"form_places refuses {line!r}", fault and (fault.column, fault.text, fault.line) == (column, text, None))
         for call in (untyped.solve, untyped.count):
             fault = raised(nissy.LineFault, lambda: call("eofb", line))
             tally.holds(f"{call.__name__} refuses {line!r}", fault and (fault.column, fault.text, fault.line) == (column, text, None))
@@ -314,7 +338,7 @@ def rooms(tally: Tally) -> None:
 def main() -> None:
     """All of it."""
     tally = Tally()
-    for part in (solutions, counts, without_lines, faults, wrong_types, numbers, liars, of_classes, iterables, copies, rooms):
+    for part in (solutions, counts, without_lines, forms, starts, faults, wrong_types, numbers, liars, of_classes, iterables, copies, rooms):
         part(tally)
     tally.end()
 

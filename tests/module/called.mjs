@@ -1,6 +1,6 @@
 // Calls by their names with what is wanted, and values of other types at each place of each call: for `Nissy`, and for what has the same
 // calls as promises.
-import { NissyFault } from "../../web/module/nissy.js";
+import { NissyFault, startOf } from "../../web/module/nissy.js";
 import { callsOf, partsOf, textOf } from "./tables.mjs";
 import { fingerprint, same, thrown } from "./tally.mjs";
 import { DETACHED, WRONG } from "./values.mjs";
@@ -25,7 +25,12 @@ const ROWS = [
   ]],
   ["no moves of a line", ["tokens", " ()"], []],
   ["the steps", ["steps"], STEPS],
+  ["the characters of a form", ["formPlaces", "U\u2019 M"], [
+    { text: "U\u2019", forms: ["apostrophe"], column: 1, character: 1 }, { text: "M", forms: ["slices"], column: 6, character: 4 },
+  ]],
 ];
+
+const FORMS = ["slices", "lower-case", "brackets", "apostrophe", "half-prime"];
 
 // a call, and the fault that it throws: text, column, step, what would have to hold before it, and message
 const FAULTS = [
@@ -52,10 +57,25 @@ function* sharedRows() {
   }
 }
 
+/** Where lines have forms that the WCA's notation hasn't, and what has to hold before each step. */
+async function tryForms(nissy) {
+  for (const [field, wanted] of callsOf("forms")) {
+    const line = textOf(field);
+    const places = await nissy.formPlaces(line);
+    const bits = (forms) => forms.reduce((sum, form) => sum + (1 << FORMS.indexOf(form)), 0);
+    same(`the forms of ${line}`, places.map(({ column, text, forms }) => `${column} ${text} ${bits(forms)}`), partsOf(textOf(wanted)));
+    same(`their characters in ${line}`, places.map(({ text, character }) => line.startsWith(text, character - 1)), places.map(() => true));
+    same(`all of them in ${line}`, FORMS.filter((form) => places.some(({ forms }) => forms.includes(form))), [...(await nissy.check("", line)).forms]);
+  }
+  for (const [step, start] of callsOf("step")) same(`before ${step}`, startOf(step), start === "" ? null : start);
+  same("no step", await thrown(() => startOf("htr")), ["RangeError", 'there is no step of the name "htr"']);
+  same("a step of another type", await thrown(() => startOf(3)), ["TypeError", "the step is no string"]);
+}
+
 /** Lines with a fault by each call that reads one, as in `FAULTS`. */
 function* sharedFaults() {
   for (const [line, column, text] of callsOf("fault")) {
-    for (const call of [["invert"], ["unniss"], ["cleanup"], ["facelets"], ["solve", "eofb"], ["count", "eofb"]]) {
+    for (const call of [["invert"], ["unniss"], ["cleanup"], ["facelets"], ["formPlaces"], ["solve", "eofb"], ["count", "eofb"]]) {
       yield [[...call, textOf(line)], text, Number(column), null, null, `column ${column}: ${text}`];
     }
   }
@@ -76,6 +96,7 @@ async function faultOf(nissy, call, given) {
 
 /** Rows, by `Nissy` or by what has the same calls as promises. */
 export async function tryRows(nissy) {
+  await tryForms(nissy);
   for (const [what, [call, ...given], wanted] of [...ROWS, ...sharedRows()]) same(what, await nissy[call](...given), wanted);
   for (const [[call, ...given], ...wanted] of [...FAULTS, ...sharedFaults()]) {
     const fault = await faultOf(nissy, call, given);
@@ -234,7 +255,7 @@ const WITHOUT = (...kinds) => WRONG.filter(([, value]) => !kinds.includes(typeof
 
 /** What each place of a call is called, how it is filled, and which values it doesn't take, with the words that refuse them. */
 const PLACES = [
-  ...["invert", "unniss", "cleanup", "facelets"].map((call) => [call, "the line", (value) => [value], WRONG, NO_TEXT]),
+  ...["invert", "unniss", "cleanup", "facelets", "formPlaces"].map((call) => [call, "the line", (value) => [value], WRONG, NO_TEXT]),
   ...["solve", "count"].flatMap((call) => [
     [call, "the line", (value) => ["eofb", value], WRONG, NO_TEXT],
     [call, "the step", (value) => [value, "F"], [...WRONG, ["bytes", Uint8Array.of(0x65)]], "is no string"],

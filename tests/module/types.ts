@@ -1,7 +1,8 @@
 // A caller in TypeScript, who is told of what is wrong: tests/module.sh has tsc read this beside the types of the module.
 import {
-  isStep, loadNissy, Nissy, NissyFault, NissyPool, NissyWorker, plainLine, readFmc, SearchCut, stickersOf, VERSION, type BestRow, type Check,
-  type Count, type EdgePlace, type Facts, type Fmc, type Form, type PlainLine, type Solution, type Solutions, type Step, type Token,
+  isStep, loadNissy, Nissy, NissyFault, NissyPool, NissyWorker, plainLine, readFmc, SearchCut, startOf, stickersOf, VERSION, type BestRow,
+  type Check, type Count, type EdgePlace, type Facts, type Fmc, type Form, type FormPlace, type PlainLine, type Solution, type Solutions,
+  type Step, type Token,
 } from "./node.js";
 import { NissyPool as NissyPoolOfBrowsers, NissyWorker as NissyWorkerOfBrowsers } from "./browser.js";
 import type { CountReply, LineFault, LineReply, StartFault } from "./replies.js";
@@ -48,7 +49,9 @@ export function judged(nissy: Nissy): string {
   const steps: Step[] = [...holds, ...nissy.steps()];
   const { cleanMoves, forms }: Check = nissy.check("R", "R'");
   const names: readonly Form[] = forms;
-  return [solved, moves, cleanMoves, places, cases.ud, steps, names].join(" ");
+  const where: FormPlace[] = nissy.formPlaces("M");
+  const [start, further]: (Step | null)[] = [startOf("dr-eofb"), startOf(steps[0])];
+  return [solved, moves, cleanMoves, places, cases.ud, steps, names, where[0].forms, where[0].column, start, further].join(" ");
 }
 
 export async function bounded(nissy: Nissy, worker: NissyWorker, step: string): Promise<number> {
@@ -121,6 +124,10 @@ export function wrong(nissy: Nissy, worker: NissyWorker): void {
   nissy.solve(1, "R");
   // @ts-expect-error a step has one of thirteen names
   nissy.solve("eofx", "R");
+  // @ts-expect-error also where it is asked what has to hold before it
+  startOf("eofx");
+  // @ts-expect-error nothing may have to hold
+  startOf("dr-eofb").trim();
   // @ts-expect-error a cut is told in one of two ways
   nissy.solve("eofb", "R", { cut: "values" });
   // @ts-expect-error faults in the place of counts are told by the type

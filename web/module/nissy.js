@@ -14,7 +14,7 @@ import { Bounded } from "./bounded.js";
 import { Engine } from "./engine.js";
 import { NoWebAssembly } from "./faults.js";
 import {
-  allOf, checkIn, countIn, factsIn, lineIn, linesIn, outputLinesIn, shownIn, solutionsIn, tokensIn,
+  allOf, checkIn, countIn, factsIn, formPlacesIn, lineIn, linesIn, outputLinesIn, shownIn, solutionsIn, tokensIn,
 } from "./replies.js";
 import {
   allRequest, bestRequest, checkRequest, countRequest, factsRequest, lineRequest, runRequest, scrambleRequest,
@@ -25,7 +25,7 @@ import { solutionsBy } from "./solutions.js";
 
 export { EngineMissing, NissyFault, NoWebAssembly, SearchCut, Stopped } from "./faults.js";
 export { CORNER_PLACES, EDGE_PLACES } from "./facts.js";
-export { STEPS, isStep } from "./steps.js";
+export { STEPS, isStep, startOf } from "./steps.js";
 export { stickersOf } from "./stickers.js";
 export { plainLine, readFmc } from "./written.js";
 
@@ -48,6 +48,7 @@ export { plainLine, readFmc } from "./written.js";
 /** @typedef {import("./replies.js").Solution} Solution */
 /** @typedef {import("./replies.js").Solutions} Solutions */
 /** @typedef {import("./requests.js").Many} Many */
+/** @typedef {import("./tokens.js").FormPlace} FormPlace */
 /** @typedef {import("./tokens.js").Token} Token */
 /** @typedef {import("./requests.js").Request} Request */
 /** @typedef {import("./requests.js").Wanted} Wanted */
@@ -135,6 +136,18 @@ export class Nissy {
     // a line that is no line of moves is refused
     lineIn(this.#answer(request));
     return tokensIn(request);
+  }
+
+  /**
+   * Where a line has forms that the WCA's notation for solutions hasn't: those of its places together are the `forms`
+   * of `check`.
+   * @param {Text} line
+   * @returns {FormPlace[]}
+   */
+  formPlaces(line) {
+    const request = lineRequest("unniss", line);
+    lineIn(this.#answer(request));
+    return formPlacesIn(request);
   }
 
   /**

@@ -3,7 +3,7 @@ import { eachOf } from "./bytes.js";
 import { checkOf, factsOf } from "./facts.js";
 import { NissyFault, SearchCut, cutOfAll } from "./faults.js";
 import { textIn } from "./natives.js";
-import { tokensOf } from "./tokens.js";
+import { formPlacesOf, tokensOf } from "./tokens.js";
 
 /**
  * What a run returns.
@@ -128,6 +128,12 @@ export const lineIn = (reply) => withValue(reply).out;
  */
 export const tokensIn = ({ line }) => tokensOf(typeof line === "string" ? line : textIn(line));
 
+/**
+ * @param {{line: import("./bytes.js").Text}} request of a line that was read
+ * @returns {import("./tokens.js").FormPlace[]}
+ */
+export const formPlacesIn = ({ line }) => formPlacesOf(typeof line === "string" ? line : textIn(line));
+
 /** @param {string} text @returns {string[]} its lines, each of which a line feed ends */
 const linesOf = (text) => text.split("\n").slice(0, -1);
 
@@ -194,13 +200,13 @@ export function checkIn(reply) {
 /** @param {import("./best.js").BestReply} reply */
 export function bestIn(reply) {
   if ("fault" in reply) throw new NissyFault(reply.fault.text, reply.fault);
+  if ("isCut" in reply) throw cutOfAll(reply.nodes);
   return reply.rows;
 }
 
 /** @param {import("./best.js").RowWithMoves[]} rows @returns {import("./best.js").BestRow[]} */
 export const shownIn = (rows) => rows.map(({ shown }) => shown);
 
-  if ("isCut" in reply) throw cutOfAll(reply.nodes);
 /**
  * Whether the reply for a line of many ends the call, so that no line behind it is answered.
  * @param {import("./requests.js").AllRequest} asked

@@ -22,3 +22,16 @@ export const STEPS = /** @type {const} */ ([
  * @returns {name is Step}
  */
 export const isStep = (name) => STEPS.some((step) => step === name);
+
+/**
+ * The step that has to hold before another one: the orientation that a reduction keeps, null before an orientation.
+ * @template {string} Name
+ * @param {StepName<Name>} step
+ * @returns {Step | null}
+ */
+export function startOf(step) {
+  if (typeof step !== "string") throw new TypeError("the step is no string");
+  if (!isStep(step)) throw new RangeError(`there is no step of the name ${JSON.stringify(step)}`);
+  const start = step.slice(step.indexOf("-") + 1);
+  return isStep(start) && start !== step ? start : null;
+}

@@ -1,4 +1,5 @@
-// The moves of a line one by one, for those who draw or count them.
+// The moves of a line one by one, for those who draw or count them, and those that the WCA's notation hasn't.
+import { FORMS } from "./facts.js";
 import { frozen } from "./natives.js";
 
 /** @typedef {"x" | "y" | "z"} CubeAxis */
@@ -12,6 +13,17 @@ import { frozen } from "./natives.js";
  * or F
  * @property {number} quarters by how many: 1, 2 or -1, clockwise as one looks at R, U or F
  * @property {boolean} inverse whether it stands in brackets, and so is a move on the inverse scramble
+ */
+
+/** @typedef {import("./facts.js").Form} Form */
+
+/**
+ * A move or a bracket of a line that the WCA's notation for solutions hasn't.
+ * @typedef {object} FormPlace
+ * @property {string} text as it is written
+ * @property {readonly Form[]} forms its forms
+ * @property {number} column where it begins, in bytes of UTF-8 from 1
+ * @property {number} character the same in characters as JavaScript counts them
  */
 
 /** A bracket, or a move: its letters, and what is behind them. */
@@ -71,4 +83,37 @@ export function tokensOf(line) {
     else inverse = bracket === "(";
   }
   return tokens;
+}
+
+/** How many bytes more than characters the typographic apostrophe has in UTF-8, the one sign of a line that has any. */
+const FURTHER_BYTES = 2;
+
+/**
+ * Whether a move or a bracket has a form.
+ * @type {Record<Form, (item: string) => boolean>}
+ */
+const HAS = {
+  slices: (item) => "MES".includes(item[0]),
+  "lower-case": (item) => "udrlfb".includes(item[0]),
+  brackets: (item) => "()".includes(item),
+  apostrophe: (item) => item.endsWith("\u2019"),
+  "half-prime": (item) => item.endsWith("2'") || item.endsWith("2\u2019"),
+};
+
+/**
+ * Where a line that the engine has read has forms that the WCA's notation for solutions hasn't.
+ * @param {string} line
+ * @returns {FormPlace[]}
+ */
+export function formPlacesOf(line) {
+  /** @type {FormPlace[]} */
+  const places = [];
+  let further = 0;
+  for (const { 0: text, index } of line.matchAll(ITEM)) {
+    const forms = FORMS.filter((form) => HAS[form](text));
+    const character = Number(index) + 1;
+    if (forms.length > 0) places.push({ text, forms: frozen(forms), column: character + further, character });
+    if (HAS.apostrophe(text)) further += FURTHER_BYTES;
+  }
+  return places;
 }

@@ -1,6 +1,7 @@
 // Calls of an engine in a worker as promises, one after another.
 import {
-  allOf, bestIn, checkIn, countIn, factsIn, lineIn, linesIn, outputLinesIn, shownIn, solutionsIn, tokensIn,
+  allOf, bestIn, checkIn, countIn, factsIn, formPlacesIn, lineIn, linesIn, outputLinesIn, shownIn, solutionsIn,
+  tokensIn,
 } from "./replies.js";
 import {
   allRequest, bestRequest, checkRequest, countRequest, factsRequest, lineRequest, optionOf, runRequest, scrambleRequest,
@@ -26,6 +27,7 @@ import { WorkerQueue } from "./worker-queue.js";
 /** @typedef {import("./signals.js").Followed} Followed */
 /** @typedef {import("./signals.js").Stoppable} Stoppable */
 /** @typedef {import("./source.js").ModuleSource} ModuleSource */
+/** @typedef {import("./tokens.js").FormPlace} FormPlace */
 /** @typedef {import("./tokens.js").Token} Token */
 /** @typedef {import("./worker-queue.js").NewWorker} NewWorker */
 /** @typedef {import("./worker-queue.js").Sent} Sent */
@@ -91,6 +93,13 @@ export class WorkerCalls {
     const request = lineRequest("unniss", line);
     lineIn(await this.#queue.answer(request, options));
     return tokensIn(request);
+  }
+
+  /** @param {Text} line @param {Stoppable} [options] @returns {Promise<FormPlace[]>} */
+  async formPlaces(line, options) {
+    const request = lineRequest("unniss", line);
+    lineIn(await this.#queue.answer(request, options));
+    return formPlacesIn(request);
   }
 
   /** @param {Text} line @param {Stoppable} [options] @returns {Promise<string>} */
