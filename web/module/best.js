@@ -182,7 +182,7 @@ export function bestRows(nissy, request, tell) {
 }
 
 /** @typedef {{rows: RowWithMoves[]} | {fault: import("./faults.js").FaultParts} | {isCut: true}} BestTold */
-/** @typedef {BestTold & {nodes: number}} BestReply what a worker sends, and at how many positions its searches looked */
+/** @typedef {BestTold & {nodes: number}} BestReply what a worker sends: also at how many positions it looked */
 
 /**
  * The same as a plain value.

@@ -93,9 +93,13 @@ const formsIn = maskReader(FORMS);
  */
 const onEachAxis = ({ fb, rl, ud }, told) => ({ fb: told(fb), rl: told(rl), ud: told(ud) });
 
+/** The cases by how many corners and edges they have, since a text of its own for each line takes longer. */
+const CASES = Array.from({ length: CORNER_PLACES.length + 1 }, (_, corners) =>
+  Array.from({ length: EDGE_PLACES.length + 1 }, (__, edges) => `${corners}c${edges}e`));
+
 /** @param {Masks} ofAxis */
 const caseInWords = ({ badCorners, misplacedEdges }) =>
-  `${cornersIn(badCorners).length}c${edgesIn(misplacedEdges).length}e`;
+  CASES[cornersIn(badCorners).length][edgesIn(misplacedEdges).length];
 
 /** @param {SeenFacts} seen @returns {Facts} */
 export const factsOf = ({ solved, moves, cleanMoves, holds, masks }) => ({

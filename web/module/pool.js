@@ -4,7 +4,7 @@ import { BestRows } from "./best-rows.js";
 import { ORIENTATIONS } from "./best-steps.js";
 import { wholeNumber } from "./bytes.js";
 import { Stopped, cutOfAll } from "./faults.js";
-import { Pieces } from "./pieces.js";
+import { Pieces, valueOf } from "./pieces.js";
 import { allOf, bestIn, countIn, factsIn, shownIn, solutionsIn } from "./replies.js";
 import { allRequest, bestRequest, countRequest, factsRequest, solveRequest, stepsRequest } from "./requests.js";
 import { Signals, progressOf, reasonOf, signalOf } from "./signals.js";
@@ -18,7 +18,6 @@ import { WorkerQueue } from "./worker-queue.js";
 /** @typedef {import("./bytes.js").Text} Text */
 /** @typedef {import("./facts.js").Facts} Facts */
 /** @typedef {import("./replies.js").Count} Count */
-/** @typedef {import("./replies.js").OneReply} OneReply */
 /** @typedef {import("./replies.js").Solutions} Solutions */
 /** @typedef {import("./requests.js").AllRequest} AllRequest */
 /** @typedef {import("./requests.js").Asked} Asked */
@@ -71,14 +70,16 @@ function rowsWithin(replies, nodes) {
  * Asks a worker of the next piece that none has, until there is none.
  * @param {WorkerQueue} queue
  * @param {Pieces} pieces
- * @param {{signal: AbortSignal, tell: TellProgress, whole: (replies: OneReply[]) => void}} ways `whole` is told all
- * replies once they are there: those behind a fault aren't waited for
+ * @param {{signal: AbortSignal, tell: TellProgress, whole: (told: unknown[]) => void}} ways `whole` is told what is
+ * said of all lines once it is there: what is behind a fault isn't waited for
  */
 async function workOn(queue, pieces, { signal, tell, whole }) {
   for (let at = pieces.next(); at !== null; at = pieces.next()) {
-    pieces.take(at, await queue.answer(pieces.requestOf(at), { signal }));
+    const begun = performance.now();
+    const answer = await queue.answer(pieces.requestOf(at), { signal });
+    pieces.take(at, answer, performance.now() - begun);
     tell(pieces.progress());
-    if (pieces.areWhole()) whole(pieces.replies());
+    if (pieces.areWhole()) whole(pieces.told());
   }
 }
 
@@ -131,8 +132,7 @@ export class WorkerPool {
    */
   async solveAll(step, lines, options) {
     const request = allRequest(() => solveRequest(step, "", options), lines, options);
-    const replies = await this.#answerAll(request, options);
-    return allOf(replies, request, (/** @type {any} */ reply) => solutionsIn(reply, request.each));
+    return this.#answerAll(request, options, (reply) => solutionsIn(reply, request.each));
   }
 
   /**
@@ -143,8 +143,7 @@ export class WorkerPool {
    */
   async countAll(step, lines, options) {
     const request = allRequest(() => countRequest(step, "", options), lines, options);
-    const replies = await this.#answerAll(request, options);
-    return allOf(replies, request, (/** @type {any} */ reply) => countIn(reply, request.each));
+    return this.#answerAll(request, options, (reply) => countIn(reply, request.each));
   }
 
   /**
@@ -153,7 +152,7 @@ export class WorkerPool {
    */
   async factsAll(lines, options) {
     const request = allRequest(() => factsRequest(""), lines, options);
-    return allOf(await this.#answerAll(request, options), request, (/** @type {any} */ reply) => factsIn(reply));
+    return this.#answerAll(request, options, factsIn);
   }
 
   /**
@@ -191,16 +190,19 @@ export class WorkerPool {
   /**
    * Asks the workers of many lines, each of the next piece that none has.
    * @param {AllRequest} request
-   * @param {Followed & Stoppable} [options]
-   * @returns {Promise<any[]>} the replies in the order of the lines, up to the first that ends the call
+   * @param {(Followed & Stoppable) | undefined} options
+   * @param {(reply: any) => unknown} one reads a reply
+   * @returns {Promise<any[]>} what is told in the order of the lines
    */
-  #answerAll(request, options) {
+  async #answerAll(request, options, one) {
     const tell = progressOf(options);
-    const pieces = new Pieces(request, this.size);
-    return this.#together(options, (signal) => new Promise((resolve, reject) => {
+    const pieces = new Pieces(request, this.size, one);
+    /** @type {unknown[]} */
+    const told = await this.#together(options, (signal) => new Promise((resolve, reject) => {
       const ways = { signal, tell, whole: resolve };
       for (const queue of this.#queues) workOn(queue, pieces, ways).catch(reject);
     }));
+    return allOf(told, request, valueOf);
   }
 
   /**

@@ -24,8 +24,8 @@ import { hasOwn } from "./natives.js";
 /** @typedef {CountRequest | SolveRequest | FactsRequest} OfEach what many lines may be asked */
 /** @typedef {RunRequest | LineRequest | OfEach | CheckRequest | ScrambleRequest | StepsRequest} OneRequest */
 /**
- * @typedef {{call: "all", each: OfEach, lines: Text[], faults: Telling}} AllRequest what is asked of each line, whose
- * own line is none
+ * @typedef {{call: "all", each: OfEach, lines: Text[], faults: Telling, isPacked?: boolean}} AllRequest what is asked
+ * of each line, whose own line is none; `isPacked`: a worker sends the replies as numbers
  */
 /** @typedef {OneRequest | AllRequest} Request what an engine is asked */
 /** @typedef {Request | BestRequest} Asked what a worker is asked */

@@ -3,13 +3,16 @@ import { bestTold } from "./best.js";
 import { Bounded } from "./bounded.js";
 import { Engine } from "./engine.js";
 import { Nissy } from "./nissy.js";
+import { packed } from "./packing.js";
 
+/** @typedef {import("./packing.js").PackedReplies} PackedReplies */
+/** @typedef {import("./replies.js").OneReply} OneReply */
 /** @typedef {import("./replies.js").Reply} Reply */
 /** @typedef {import("./requests.js").Asked} Asked */
 /** @typedef {{module: WebAssembly.Module | ArrayBuffer | Uint8Array}} Beginning the first message */
 /** @typedef {{id: number, request: Asked}} Question each later one */
 /** @typedef {{id: number, progress: import("./best.js").BestProgress}} Progressed what comes before some answers */
-/** @typedef {{id: number, reply: Reply}} Answered */
+/** @typedef {{id: number, reply: Reply | PackedReplies}} Answered */
 /** @typedef {{id: number, error: {name: string, message: string}}} Unanswered */
 
 /**
@@ -72,6 +75,11 @@ export function serve(port) {
   serveBy(port, (module) => Engine.start(module), (engine, /** @type {Question} */ { id, request }) => {
     const tell = (/** @type {import("./best.js").BestProgress} */ progress) => port.postMessage({ id, progress });
     const reply = request.call === "best" ? bestReply(engine, request, tell) : engine.answer(request);
+    if (request.call === "all" && request.isPacked) {
+      const answer = packed(request.each.call, /** @type {OneReply[]} */ (reply));
+      port.postMessage({ id, reply: answer }, [answer.numbers]);
+      return;
+    }
     port.postMessage({ id, reply }, buffersOf(reply));
   });
 }
