@@ -7,7 +7,8 @@ use Rattle.niss_search.proofs.Words.{all_canonical, canonical_extensions, least_
 use Rattle.niss_search.proofs.Words.{length-map, look_bound, sum_by-le-sum_by, count_by-le-length, count_of_length, sum_by-le, BoundIsSmall}
 use Rattle.niss_search.proofs.Words.{length-filter, pow-suc, ◌∙◌, sym, refl, B, D, F, Face, L, R, U, face_may_follow, last_turn-push}
 use Rattle.niss_search.proofs.Words.{turn_order, CountRecurrence, PartHasNoMore, StepBoundIsLess, StepTurnsInOrder, goes_first, map, not}
-use Rattle.niss_search.proofs.Words.{true, ◌-◌, ◌/◌, no_turn, choice, filter_passes, mul-le-mul_right, choices, lit<, false}
+use Rattle.niss_search.proofs.Words.{true, ◌-◌, ◌/◌, ◌%◌, no_turn, choice, filter_passes, mul-le-mul_right, choices, lit<, false}
+use Rattle.niss_moves.specs.Indices.{face_index}
 use Rattle.std.proofs.Math.Nat.{pow-le-pow_right}
 use Rattle.std.proofs.lemmas.List.Filters.{sum_by-filter_both}
 use Rattle.niss_search.proofs.ListLemmas.{sum_by-same}
@@ -162,6 +163,17 @@ count_after R = refl
 count_after L = refl
 count_after F = refl
 count_after B = refl
+
+-- the share of a word among the turns that may follow one: 12 of 18 after a face with an odd number, else 15
+pub picked : (w : ℕ) (t : Turn) → w * 15 / 4294967296 - (w * 15 / 4294967296 - w * 12 / 4294967296) * (face_index t.face % 2) ≡ w * length (choices (Some t)) / 4294967296
+picked w t = rw (count_after t.face) (by-face w t.face) where
+  by-face : (w : ℕ) (f : Face) → w * 15 / 4294967296 - (w * 15 / 4294967296 - w * 12 / 4294967296) * (face_index f % 2) ≡ w * cond {A = ℕ} (goes_first f) 15 12 / 4294967296
+  by-face w U = omega arith
+  by-face w D = omega arith
+  by-face w R = omega arith
+  by-face w L = omega arith
+  by-face w F = omega arith
+  by-face w B = omega arith
 
 some : (first : Bool) → 0 < cond {A = ℕ} first 15 12
 some true = lit< tt

@@ -110,8 +110,12 @@ module _ (law : EntriesTurn) (alt : Alternative) (level : ℕ) (small : level < 
             subst (λ (y : ℕ). slice_index xs y < 21) (law.back alt.goal i t l) (extended j (law.below alt.goal i t l) at (inverse_turn t) (law.inverses alt.step t m))
 
 module _ (alt : Alternative) (level : ℕ) (xs : List ℕ) (f : IsFilling alt level xs) where
+  -- an entry whose byte is the level is at it
+  pub at_level : (k : ℕ) → k < count_for alt.goal → level < 20 → slice_index xs k ≡ level → entry_distance alt k ≡ level
+  at_level k l small e = sym ((f.bytes k l).met (λ far. absurd (omega (arith, e)))) ∙ e
+
   -- an entry whose byte isn't the level isn't at it
-  away : (k : ℕ) → k < count_for alt.goal → slice_index xs k ≢ level → entry_distance alt k ≢ level
+  pub away : (k : ℕ) → k < count_for alt.goal → slice_index xs k ≢ level → entry_distance alt k ≢ level
   away k l n e = n ((f.bytes k l).near (omega arith) ∙ e)
 
   module _ (from to : ℕ) (within : to ≤ count_for alt.goal) (none : (k : ℕ) → from ≤ k → k < to → slice_index xs k ≢ level) where

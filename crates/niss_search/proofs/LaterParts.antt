@@ -1,7 +1,8 @@
 -- The sequences that come after one, turn by turn and length by length, and what a search for them says of a cube.
 use Rattle.niss_search.proofs.Words.{◌≡◌, arith, length, ◌+◌, ◌<◌, ℕ, ap, ◌∙◌, sym, ◌≤◌, [], List, refl, true, false, ◌-◌, ◌∷◌, Bool, Turn}
 use Rattle.niss_search.proofs.Words.{cond, suc, range_with_len, ◌++◌, flat_map, filter, drop, take, get_or, append_assoc, append-nil}
-use Rattle.niss_search.proofs.Words.{may_follow, last_turn}
+use Rattle.niss_search.proofs.Words.{may_follow, last_turn, turn_place, no_turn, length-drop, ◌==◌, nat_lt, eqb_tells}
+use Rattle.niss_search.proofs.Words.{eq-eqb, ne_eqb, lt-ltb, inl, inr}
 use Rattle.niss_search.proofs.Words.{Part, only_looks, then_part, for_each, later, later_at, below_at, beyond_at, by_place}
 use Rattle.niss_search.proofs.Words.{later_turn_at, all_later, comes_after, looks, deepening, positions}
 use Rattle.niss_search.proofs.Words.{distance_at, Step, GoalCoordinates, turns_of, up_to}
@@ -103,6 +104,22 @@ module _ (step : Step) (x : List GoalCoordinates) (p : List Turn) where
     passed-room some near = omega (arith, ap (λ (q : Part). q.looks) (later_at-split some near))
 
 -- What is done of the later ones, length by length.
+-- behind a turn that isn't before the other: what is due at this one, or after it
+by_place-later : (first place : ℕ) (same later : Part) → first ≤ place → cond (first == place) same (cond (nat_lt first place) later (only_looks 0)) ≡ cond (place == first) same later
+by_place-later first place same later h = elim (eqb_tells first place) [
+  | inl e ↦ rw (e.0, eq-eqb place first (sym e.1)) refl
+  | inr e ↦ rw (e.0, ne_eqb place first (λ q. e.1 (sym q)), lt-ltb first place (omega (arith, e.1))) refl
+]
+
+pub later_turn-goes_on : (step : Step) (x : List GoalCoordinates) (p ts rest : List Turn) (u : Turn) (place first : ℕ) → place ≡ turn_place u → first ≡ turn_place (get_or ts 0 no_turn) → may_follow (last_turn p) u ≡ true → first ≤ place → rest ≡ drop 1 ts
+    → later_turn_at step x p ts u ≡ cond (place == first) (later_at step (position_after x u) (p ++ u ∷ []) rest) (below_at step (position_after x u) (p ++ u ∷ []) (length rest))
+later_turn-goes_on step x p ts rest u place first at_place at_first follows least behind =
+    let size : length rest ≡ length ts - 1 = omega (arith, ap length behind, length-drop 1 ts) in
+    let same = λ (qs : List Turn). later_at step (position_after x u) (p ++ u ∷ []) qs in
+    let later = λ (k : ℕ). below_at step (position_after x u) (p ++ u ∷ []) k in
+    let due = by_place-later first place (same rest) (later (length rest)) least in
+    rw follows (rw (← at_place, ← at_first, ← behind, ← size) due)
+
 module _ (step : Step) (x : List GoalCoordinates) (ts : List Turn) where
   abbrev one_length : ℕ → Part
   one_length = deepening (positions step) (distance_at step) x

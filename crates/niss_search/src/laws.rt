@@ -69,7 +69,6 @@ pub fn distance_is_shortest()
 {}
 
 /// What of a cube depends on its position alone.
-#[tactic(auto, using(crate::proofs::LookLemmas::positions_follow_cubes))]
 pub fn positions_follow_cubes()
     ensures { PositionsFollowCubes }
 {

@@ -9,7 +9,6 @@ use rand_core::utils::NextWord;
 use rand_pcg::Lcg64Xsh32;
 
 /// The index that a word picks among the turns that may follow the last one.
-#[tactic(auto, using(crate::proofs::Bounds::count_after))]
 fn choice_index(last: Option<Turn>, word: u32) -> usize
     ensures { result ≡ word * length (choices last) / 2 ^ 32 }
 {

@@ -78,7 +78,6 @@ impl<A: Allocator> Tables<A> {
     ghost use Rattle.niss_search.specs.KindOfStep.{IsOfStep};
 
     /// `build` over any allocator, for a caller that has a heap of its own, or that refuses growths.
-    #[tactic(auto, using(crate::proofs::FillLemmas::ticks_at_most))]
     pub fn build_in(alloc: A, step: Step, meter: &mut Meter) -> Result<Tables<A>, OutOfMemory>
     where
         A: Copy,

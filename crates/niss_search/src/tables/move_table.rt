@@ -39,7 +39,6 @@ impl<A: Allocator> Model for MoveTable<A> {
 
 impl<A: Allocator> MoveTable<A> {
     /// The table of a coordinate on an axis, 36 bytes for each of its ranks.
-    #[tactic(auto, using(crate::proofs::Bounds::few_turns))]
     pub fn build_in(
         alloc: A,
         coordinate: Coordinate,

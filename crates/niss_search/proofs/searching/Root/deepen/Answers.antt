@@ -1,4 +1,4 @@
-use Rattle.niss_search.proofs.Words.{◌≡◌, sym, ap, err_from_is_err_and, Part}
+use Rattle.niss_search.proofs.Words.{◌≡◌, arith, sym, ap, err_from_is_err_and, Part}
 use Rattle.niss_search.proofs.DepthFirst.{below_at-start}
 use Rattle.niss_search.proofs.searching.Root.deepen.Goals as goal
 
@@ -18,3 +18,6 @@ returns-clause-delivers g c =
     let back : c.sink-1.given.0 ≡ c.begin-after.new.self.sink.now = c.sink-1.given.1 (sym c.begin-after.ensures.keeps.same_sink) in
     let went = rw (c.requires.empty, below_at-start c.args.self.now.tables.now c.args.self.now.position.now c.args.length, c.replace-held.ensures.value, c.in_ok-ended.was) at c.begin-after.ensures.makes in
     rw back went
+
+pub returns-clause-counted : goal.returns-clause-counted
+returns-clause-counted g c = omega (arith, c.begin-after.ensures.keeps.counted, c.replace-held.ensures.value)

@@ -1,7 +1,7 @@
-use Rattle.niss_search.proofs.Words.{◌+◌, ◌-◌, ◌≤◌, ◌∙◌, arith, length, range_with_len, for_each, err_from_is_err_and, positions, distance_at}
+use Rattle.niss_search.proofs.Words.{◌≡◌, ◌+◌, ◌-◌, ◌≤◌, ◌∙◌, arith, length, range_with_len, for_each, err_from_is_err_and, positions, distance_at}
 use Rattle.niss_search.proofs.Words.{deepening}
-use Rattle.niss_search.proofs.DescentParts.{StopsIn-before}
-use Rattle.niss_search.proofs.LaterParts.{later_at-small, all_later-start, goes-on_later, stops_later, room_later}
+use Rattle.niss_search.proofs.DescentParts.{StopsIn-before, GoesThrough-looks}
+use Rattle.niss_search.proofs.LaterParts.{later_at-small, all_later-none, all_later-is, all_later-start, goes-on_later, stops_later, room_later}
 use Rattle.niss_search.proofs.searching.Root.deepen_later.Goals as goal
 
 pub deepen_after-requires-clause-meter : goal.deepen_after-requires-clause-meter
@@ -56,3 +56,16 @@ loop-length-preserved g c =
       counted = omega (arith, inv.counted, c.in_ok-solutions-2.ensures.counted);
       went = goes-on_later step c.args.self.now.position.now c.args.after.now c.loop-length.length inv.went inv.from went;
     }
+
+pub returns-then-after-from-clause-delivers : goal.returns-then-after-from-clause-delivers
+returns-then-after-from-clause-delivers g c =
+    rw (all_later-none c.args.self.now.tables.now c.args.self.now.position.now c.args.after.now c.args.path.now.limit (omega arith))
+    (GoesThrough-looks 0 c.args.meter.now c.args.meter.now 0 c.args.sink.now (omega arith))
+
+pub returns-clause-delivers : goal.returns-clause-delivers
+returns-clause-delivers g c =
+    let inv = c.loop-length.invariant in
+    let n = c.args.path.now.limit in
+    let end : c.loop-length.length ≡ n + 1 = omega arith in
+    let within : length c.args.after.now ≤ n = omega (arith, inv.from) in
+    rw (all_later-is c.args.self.now.tables.now c.args.self.now.position.now c.args.after.now n within, ← end) inv.went

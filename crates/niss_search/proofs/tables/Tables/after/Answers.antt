@@ -10,3 +10,9 @@ pub returns-clause-position : goal.returns-clause-position
 returns-clause-position g c =
     let e = c.requires.position.0 in
     ((λ q. turned c.args.turn (e q)), returns-clause-turned g c e c.requires.position.1)
+
+pub position_after-requires : goal.position_after-requires
+position_after-requires g c = record { position = c.requires.position; of_step = c.requires.of_step }
+
+pub returns-clause-value : goal.returns-clause-value
+returns-clause-value g c = c.position_after.ensures

@@ -14,3 +14,9 @@ returns-clause-value g c = λ e h.
 pub returns-clause-zero : goal.returns-clause-zero
 returns-clause-zero g c = λ e h.
     rw c.look_by_kind.ensures.value (distance-reached-cube c.positions_follow_cubes.ensures c.args.self.now e c.args.position.now h)
+
+pub returns-clause-tick : goal.returns-clause-tick
+returns-clause-tick g c = c.look_by_kind.ensures.tick
+
+pub returns-clause-of_position : goal.returns-clause-of_position
+returns-clause-of_position g c = c.look_by_kind.ensures.value

@@ -1,7 +1,7 @@
 use Rattle.niss_search.proofs.Words.{◌≡◌, arith, length, ◌+◌, ◌<◌, ℕ, ap, ◌∙◌, sym, ◌≤◌, turns_of, ◌*◌, range_with_len, count_by}
-use Rattle.niss_search.proofs.Words.{entry_distance, count_for, ◌==◌, ◌^◌, IsExtended, mul-le-mul, eq-eqb, mul-add, below_more}
+use Rattle.niss_search.proofs.Words.{entry_distance, count_for, ◌==◌, ◌^◌, IsExtended, mul-le-mul, eq-eqb, mul-add, below_more, nat_tests}
 use Rattle.niss_search.proofs.Bounds.{turns_of-length}
-use Rattle.niss_search.proofs.FillLemmas.{filled-next, count-to, count-past, count-range-le, extended-to, skipped}
+use Rattle.niss_search.proofs.FillLemmas.{filled-next, count-to, count-past, count-range-le, extended-to, skipped, at_level, away}
 use Rattle.niss_search.proofs.tables.fill.extend_level.Goals as goal
 
 pub extend-requires-clause-meter : goal.extend-requires-clause-meter
@@ -13,6 +13,15 @@ extend-requires-clause-meter g c =
     let few : count + 1 ≤ count_for alt.goal = omega (arith, count-range-le p c.loop-entry.from, inv.filling.size, c.in-Some.ensures.found) in
     let room : c.loop-entry.meter + length (turns_of alt.step) < 2 ^ 128 = omega (arith, inv.ticks, c.requires.meter, mul-le-mul (turns_of-length alt.step) few) in
     rw (c.advance_to.ensures.moves ∙ inv.moves) room
+
+pub extend-requires-clause-at_level : goal.extend-requires-clause-at_level
+extend-requires-clause-at_level g c =
+    let inv = c.loop-entry.invariant in
+    let alt = (g.M.GoalMoves.alternative c.args.moves.now) in
+    let found = c.in-Some.ensures.found in
+    let in_range : c.in-Some.entry < count_for alt.goal = omega (arith, inv.filling.size, found) in
+    let small = c.requires.small in
+    rw (c.advance_to.ensures.moves ∙ inv.moves) (at_level alt c.args.level c.loop-entry.distances inv.filling c.in-Some.entry in_range small found.2)
 
 pub loop-entry-preserved : goal.loop-entry-preserved
 loop-entry-preserved g c =
@@ -27,7 +36,7 @@ loop-entry-preserved g c =
     let small : level < 20 = c.requires.small in
     let in_range : entry < count_for alt.goal = omega (arith, inv.filling.size, found) in
     let byte = found.2 in
-    let at : entry_distance alt entry ≡ level = sym ((inv.filling.bytes entry in_range).met (λ e. absurd (omega arith))) ∙ byte in
+    let at : entry_distance alt entry ≡ level = at_level alt level xs inv.filling entry in_range small byte in
     let turns = length (turns_of alt.step) in
     let p = λ (x : ℕ). entry_distance alt x == level in
     let within : entry ≤ count_for alt.goal = omega arith in
@@ -62,3 +71,10 @@ returns-clause-ticks g c =
     let skip = skipped alt c.args.level c.loop-entry.distances inv.filling c.loop-entry.from (count_for alt.goal) (omega arith) (λ k low high. none k low (omega (arith, inv.filling.size))) in
     let same = count-to (λ x. entry_distance alt x == c.args.level) c.loop-entry.from (count_for alt.goal) (omega (arith, inv.filling.size)) skip in
     inv.ticks ∙ ap (λ n. c.args.meter.now + length (turns_of alt.step) * n) (sym same)
+
+pub returns-clause-none : goal.returns-clause-none
+returns-clause-none g c = λ none_tried i inside.
+    let inv = c.loop-entry.invariant in
+    let alt = (g.M.GoalMoves.alternative c.args.moves.now) in
+    let start : c.loop-entry.from ≡ 0 = grind (arith, nat_tests, none_tried) in
+    away alt c.args.level c.loop-entry.distances inv.filling i inside (c.in_default.ensures.none i (omega (arith, start)) (omega (arith, inv.filling.size)))

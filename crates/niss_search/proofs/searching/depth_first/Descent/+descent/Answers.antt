@@ -1,5 +1,5 @@
 use Rattle.niss_search.proofs.Words.{◌≡◌, arith, length, ◌+◌, ◌<◌, ◌∙◌, sym, ◌≤◌, [], refl, ◌-◌, ◌∷◌, ◌++◌, get_or, subst, suc}
-use Rattle.niss_search.proofs.Words.{distance_at, position_after, ◌^◌, IsFollower, beyond_at, progress_of, Path, All-drop, take_rest, at_limit}
+use Rattle.niss_search.proofs.Words.{distance_at, position_after, ◌^◌, IsFollower, beyond_at, progress_of, Path, All-drop, take_rest, at_limit, length-append}
 use Rattle.std.proofs.lemmas.List.{length-drop}
 use Rattle.niss_search.proofs.DescentParts.{no_follower, beyond_at-end, Remains-all, Remains-room}
 use Rattle.niss_search.proofs.DescentParts.{Descends-take, Remains-cut, Remains-room_next, Remains-next, Remains-stops, Remains-far}
@@ -115,3 +115,43 @@ extend-returns-then-left-eq0-clause-makes g t c =
     (Descends-take (at_limit g.K.Sink.took path.limit) (at_limit g.K.Sink.refused path.limit) g.B.Budget.is_cut (g.B.Budget.bound c.args.budget.now)
     c.take.result c.taken.result c.args.meter c.args.self.now.count c.args.self.now.sink.now c.take.new.self path.turns
     c.taken.ensures c.take.ensures.ok c.take.ensures.err)
+
+pub follow-extend-below-requires : goal.follow-extend-below-requires
+follow-extend-below-requires g t c κs within =
+    let step = c.args.tables.now.step in
+    let x = g.S.StateSpace.seen c.args.tables.now.space c.args.state in
+    let path = c.args.self.now.path.now in
+    let pushed : Path = record { limit = path.limit; turns = path.turns ++ c.args.turn ∷ [] } in
+    let Room : Path → Type 0 = λ q. length q.turns + c.args.left ≤ q.limit in
+    let Metered : Path → Type 0 = λ q. c.args.meter + (beyond_at step x q.turns c.args.left).looks < 2 ^ 128 in
+    let room : Room pushed = omega (arith, c.requires.room, length-append path.turns (c.args.turn ∷ [])) in (
+      omega arith,
+      (
+        within.0,
+        (
+          within.1.0,
+          (
+            within.1.1.0,
+            (
+              within.1.1.1.0,
+              (
+                within.1.1.1.1.0,
+                (
+                  within.1.1.1.1.1,
+                  (
+                    c.requires.near,
+                    (
+                      subst Room (sym c.push.ensures) room,
+                      (subst Metered (sym c.push.ensures) c.requires.meter, (c.requires.budget, c.requires.count)),
+                    ),
+                  ),
+                ),
+              ),
+            ),
+          ),
+        ),
+      ),
+    )
+
+pub follow-returns-clause-makes : goal.follow-returns-clause-makes
+follow-returns-clause-makes g t c = rw c.push.ensures at c.extend-below.ensures.makes

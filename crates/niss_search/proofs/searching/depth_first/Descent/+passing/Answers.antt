@@ -1,7 +1,9 @@
 use Rattle.niss_search.proofs.Words.{◌≡◌, ◌+◌, ◌<◌, ◌≤◌, ◌^◌, ◌∙◌, sym, arith, length, get_or, drop, subst, Ok, Err, Bool, Contains}
+use Rattle.niss_search.proofs.Words.{cond, ◌==◌, ◌-◌, ◌++◌, ◌∷◌, [], true, List, ap, take, take_rest, length-drop, length-append, may_follow, last_turn, Part, GoalCoordinates, position_after}
+use Rattle.niss_search.proofs.Words.{Descends, at_limit, below_at}
 use Rattle.niss_search.proofs.Words.{Contains-get_or, nat_tests, later_at, turns_of, no_turn, later_turn_at, distance_at, progress_of, Path, for_each}
 use Rattle.niss_search.proofs.DescentParts.{StopsIn-cut, StopsIn-before, GoesThrough-looks, Descends-then}
-use Rattle.niss_search.proofs.LaterParts.{later_at-none, later_at-some, later_at-far, later_at-near, later_at-split, passed-more, passed-room}
+use Rattle.niss_search.proofs.LaterParts.{later_turn-goes_on, later_at-none, later_at-some, later_at-far, later_at-near, later_at-split, passed-more, passed-room}
 use Rattle.niss_search.proofs.searching.depth_first.Descent.+passing.Goals as goal
 
 pub pass-returns-then-is_empty-clause-makes : goal.pass-returns-then-is_empty-clause-makes
@@ -140,3 +142,68 @@ pass-returns-clause-makes g t c =
     let some : 0 < length after = grind (arith, nat_tests, c.if-is_empty.ensures) in
     let near : distance_at step x ≤ length after = omega (arith, c.look.ensures.of_position, c.from.ensures) in
     rw (later_at-near step x p after some near, sym end) inv.went
+
+pub pass_turn-go_on-below-requires : goal.pass_turn-go_on-below-requires
+pass_turn-go_on-below-requires g t c κs within =
+    let step = c.args.tables.now in
+    let after = c.args.after.now in
+    let path = c.args.self.now.path.now in
+    let turn = c.args.turn in
+    let rest = take (length after - 1) (drop 1 after) in
+    let behind : rest ≡ drop 1 after = take_rest after 1 in
+    let size : length rest + 1 ≡ length after = omega (arith, ap length behind, length-drop 1 after, c.requires.some) in
+    let place = c.turn_place-place.result in
+    let first = c.turn_place-first.result in
+    let follows : may_follow (last_turn path.turns) turn ≡ true = rw c.last.ensures at (sym c.allowed.ensures.rule ∙ c.if-not-allowed.false) in
+    let part = later_turn-goes_on step c.args.position.now path.turns after rest turn place first c.turn_place-place.ensures c.turn_place-first.ensures follows c.if-place-first.false behind in
+    let Room : Path → Type 0 = λ q. length q.turns + length rest ≤ q.limit in
+    let goes_on = λ (q : Path) (y : List GoalCoordinates). (cond (place == first) (later_at step y q.turns rest) (below_at step y q.turns (length rest))).looks in
+    let pushed : Path = record { limit = path.limit; turns = path.turns ++ turn ∷ [] } in
+    let room : Room pushed = omega (arith, c.requires.room, size, length-append path.turns (turn ∷ [])) in
+    let looked : c.args.meter + goes_on pushed (position_after c.args.position.now turn) < 2 ^ 128 = subst (λ (s : Part). c.args.meter + s.looks < 2 ^ 128) part c.requires.meter in
+    let metered = subst (λ (y : List GoalCoordinates). c.args.meter + goes_on pushed y < 2 ^ 128) (sym c.after-position.ensures.value) looked in (
+      omega (arith, size),
+      (
+        within.0,
+        (
+          within.1.0,
+          (
+            within.1.1.0,
+            (
+              within.1.1.1.0,
+              (
+                within.1.1.1.1,
+                (
+                  c.after-position.ensures.position,
+                  (
+                    omega (arith, size, c.requires.few),
+                    (
+                      subst Room (sym c.push.ensures) room,
+                      (
+                        subst (λ (q : Path). c.args.meter + goes_on q c.after-position.result < 2 ^ 128) (sym c.push.ensures) metered,
+                        (c.requires.budget, c.requires.count),
+                      ),
+                    ),
+                  ),
+                ),
+              ),
+            ),
+          ),
+        ),
+      ),
+    )
+
+pub pass_turn-returns-clause-makes : goal.pass_turn-returns-clause-makes
+pass_turn-returns-clause-makes g t c =
+    let step = c.args.tables.now in
+    let after = c.args.after.now in
+    let path = c.args.self.now.path.now in
+    let turn = c.args.turn in
+    let rest = take (length after - 1) (drop 1 after) in
+    let behind : rest ≡ drop 1 after = take_rest after 1 in
+    let follows : may_follow (last_turn path.turns) turn ≡ true = rw c.last.ensures at (sym c.allowed.ensures.rule ∙ c.if-not-allowed.false) in
+    let part = later_turn-goes_on step c.args.position.now path.turns after rest turn c.turn_place-place.result c.turn_place-first.result c.turn_place-place.ensures c.turn_place-first.ensures follows c.if-place-first.false behind in
+    let makes = rw (c.push.ensures, c.after-position.ensures.value) at c.go_on-below.ensures.makes in
+    subst (λ (s : Part). Descends (at_limit g.K.Sink.took path.limit) (at_limit g.K.Sink.refused path.limit) s
+    (progress_of c.args.meter c.args.self.now) (progress_of c.go_on-below.result.0 c.go_on-below.new.self)
+    g.B.Budget.is_cut (g.B.Budget.bound c.args.budget.now) c.go_on-below.result.1) (sym part) makes
