@@ -1,11 +1,13 @@
-// Finds the best continuations, each axis by an engine of its own: what they find is one list, sorted by all moves, those made counted too.
+// Finds the best continuations, each axis by an engine of its own: what they find is one list, by all moves in all.
 import { BestRows } from "../module/best-rows.js";
 import { ORIENTATIONS, stateOf, stepNamed } from "./steps.js";
 
 /** @typedef {import("./calls.js").Calls} Calls */
-/** @typedef {import("../module/best-rows.js").Next & {marks: string, case: string}} Next the reduction that follows, and what it reaches */
-/** @typedef {Omit<import("../module/best-rows.js").Row, "next"> & {state: string, next: Next | null}} Row with what its part reaches */
-/** @typedef {{position: import("../module/ways.js").Position, reached: string[], slack: number, isAll: boolean}} Question */
+/** @typedef {import("../module/best-rows.js").Next & {marks: string, case: string}} Next a reduction and what it
+ * reaches */
+/** @typedef {Omit<import("../module/best-rows.js").Row, "next"> & {state: string, next: Next | null}} Row */
+/** @typedef {import("../module/ways.js").Position} Position */
+/** @typedef {{position: Position, reached: string[], slack: number, isAll: boolean}} Question */
 /** @typedef {{done: number, all: number | null, rows: Row[], isCut: boolean}} Progress of new rows alone, or of all */
 
 /** How many rows are kept. */
@@ -17,8 +19,8 @@ const farness = ({ next, far }) => (next === null ? 0 : far);
 /** @param {Row} one @param {Row} other */
 export const byCase = (one, other) => farness(one) - farness(other);
 
-/** @param {import("../module/best-rows.js").Row} row @returns {Row} a row with what it reaches in the page's words, and the lengths after
- * the moves that it shows */
+/** @param {import("../module/best-rows.js").Row} row
+ * @returns {Row} a row with what it reaches in the page's words, and the lengths after the moves that it shows */
 function rowInWords(row) {
   const next = row.next && { ...row.next, ...row.next.own, marks: stateOf(stepNamed(row.next.step)), case: row.case };
   return { ...row, state: stateOf(stepNamed(row.step)), next };
@@ -53,13 +55,14 @@ export class Found {
 
   /** @returns {Progress} of all */
   progress() {
-    const sum = (name) => this.#counts.reduce((all, each) => (all === null || each[name] === null ? null : all + each[name]), 0);
+    const plus = (one, other) => (one === null || other === null ? null : one + other);
+    const sum = (name) => this.#counts.reduce((all, each) => plus(all, each[name]), 0);
     return { done: sum("done"), all: sum("all"), rows: this.#best.rows, isCut: this.#isCut };
   }
 }
 
 /** Finds the best of one axis.
- * @param {Calls[]} finders one an axis @param {import("./steps.js").OfferedStep} orientation of the axis @param {Question} question
+ * @param {Calls[]} finders one an axis @param {import("./steps.js").OfferedStep} orientation @param {Question} question
  * @param {(found: Progress) => void} tell told of some after the other */
 export function findOnAxis(finders, orientation, question, tell) {
   const finder = finders[ORIENTATIONS.indexOf(orientation)];

@@ -37,7 +37,8 @@ function build(nissy, { step }) {
 }
 
 const ANSWERS = {
-  bestOfAxis, build, examine, framesOf, offersOf, readAddressed, readByHand, readWritten, reductionsOf, rowsOfList, scrambleOf, walkKept,
+  bestOfAxis, build, examine, framesOf, offersOf, readAddressed, readByHand, readWritten, reductionsOf, rowsOfList,
+  scrambleOf, walkKept,
 };
 
 /** @typedef {typeof ANSWERS} Answers */
