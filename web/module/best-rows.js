@@ -147,22 +147,25 @@ export function twinsOf(list, step, isAll) {
 /** Counts rows by their moves, and says from how many on a row can't be kept, since as many are better. */
 export class Bound {
   #most;
-  /** @type {number[]} */ #counts = [];
 
-  /** @param {number} most how many rows are kept */
-  constructor(most) {
+  /**
+   * @param {number} most how many rows are kept
+   * @param {number[]} [totals] how many rows of each number of moves there are
+   */
+  constructor(most, totals = []) {
     this.#most = most;
+    this.totals = totals;
   }
 
   /** @param {Row[]} rows */
   add(rows) {
-    for (const { total } of rows) if (total !== Infinity) this.#counts[total] = (this.#counts[total] ?? 0) + 1;
+    for (const { total } of rows) if (total !== Infinity) this.totals[total] = (this.totals[total] ?? 0) + 1;
   }
 
   get() {
     let seen = 0;
-    for (let total = 0; total < this.#counts.length; total += 1) {
-      seen += this.#counts[total] ?? 0;
+    for (let total = 0; total < this.totals.length; total += 1) {
+      seen += this.totals[total] ?? 0;
       if (seen >= this.#most) return total + 1;
     }
     return Infinity;

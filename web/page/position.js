@@ -2,7 +2,7 @@
 // steps may follow, and what follows a row of the best.
 import { firstOf } from "../module/best.js";
 import { NissyFault } from "../module/faults.js";
-import { afterPart, countOf, madeBy, totalsWith, wayTo } from "../module/ways.js";
+import { Lengths, afterPart, countOf, madeBy, totalsWith, wayTo } from "../module/ways.js";
 import { readScramble } from "./lines.js";
 import { SIDES, bracketed, caseOfStep, isReduced, offeredAmong, openSteps, stateOf, stepNamed } from "./steps.js";
 
@@ -81,7 +81,7 @@ export function framesOf(nissy, { scramble, parts }) {
 function offerOf(nissy, step, position) {
   const [normal, inverse] = SIDES.map((side) => {
     const count = nissy.count(step.name, position.lines[side]);
-    const { total } = wayTo(nissy, step.name, position, side, count.length);
+    const { total } = wayTo(new Lengths(nissy), step.name, position, side, count.length);
     // where the best saves nothing none does
     const isEach = total >= countOf(position) + count.length;
     const all = isEach ? [] : totalsWith(nissy, position, side, nissy.solve(step.name, position.lines[side]));
