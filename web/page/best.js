@@ -7,7 +7,7 @@ import { announce, announceLater, counted, part, setBusy, tell } from "./element
 import {
   Filters, NOT_MOVES, caseAtMost, chosen, offerChoices, offerLastTurns, offerMoves, withTurns,
 } from "./filter.js";
-import { byCase, findContinuations } from "./finder.js";
+import { byCase, findContinuations, goingOn } from "./finder.js";
 import { FurtherSearch } from "./further.js";
 import { ShownReductions } from "./reductions.js";
 import { addRows, refreshRows, roveWithin, showRows, takeNamed } from "./rows.js";
@@ -199,10 +199,18 @@ export class BestContinuations {
     this.#newer = null;
     this.#tellNewer(0);
     this.#question = { ...this.#question, slack: Number(part("best-slack").value), isAll: part("best-all").checked };
-    const known = this.#found.get(nameOfSearch(this.#question));
-    if (!known) return void this.#find(this.#question);
+    const known = this.#found.get(nameOfSearch(this.#question)) ?? this.#shorter(this.#question);
+    if (!known || known.slack < this.#question.slack) return void this.#find(this.#question, known);
     this.#show(known);
     this.#goFurther();
+  }
+
+  /** What was found of fewer moves more, as far as it was wanted; or nothing.
+   * @param {Question} question */
+  #shorter({ slack, ...question }) {
+    const names = Array.from({ length: slack }, (_, less) => nameOfSearch({ ...question, slack: less }));
+    const isWithin = (found) => question.reached.length === 0 && found?.slack <= slack;
+    return names.map((name) => this.#found.get(name)).filter(isWithin).sort((one, other) => other.slack - one.slack)[0];
   }
 
   /** Goes on by itself from what was found, if it may. */
@@ -264,16 +272,17 @@ export class BestContinuations {
     (first ? takeNamed(this.#body, first.key) : part("best-heading")).focus({ preventScroll: true });
   }
 
-  /** @param {Question} question */
-  async #find(question) {
+  /** @param {Question} question @param {Further} [known] what was found of fewer moves more */
+  async #find(question, known) {
     const isStill = () => question === this.#question;
     const { slack } = question;
+    const asked = known ? goingOn(question, known.slack, known) : question;
     this.#progress = null;
     this.#showRows([]);
     this.#working(true);
     part("best-note").textContent = LOOKING_FOR_BEST;
     try {
-      await findContinuations(this.#finders, question, (progress) => isStill() && this.#show({ ...progress, slack }));
+      await findContinuations(this.#finders, asked, (found) => isStill() && this.#show({ ...found, slack }), known);
       if (!isStill()) return;
       this.#keep(question, this.#progress);
       this.#goFurther();

@@ -1,6 +1,6 @@
 // Longer orientations, which nobody asked for: one move longer, and then two. They are looked for while the page is
 // seen and waits for nothing else, by workers that leave half of the processor to whatever is asked meanwhile.
-import { Found, findOnAxis } from "./finder.js";
+import { Found, findOnAxis, goingOn } from "./finder.js";
 import { ORIENTATIONS } from "./steps.js";
 
 /** @typedef {import("./finder.js").Question} Question */
@@ -38,12 +38,12 @@ export class FurtherSearch {
   }
 
   /** Goes on from what was found.
-   * @param {Question} question @param {Pick<Further, "rows" | "isCut">} before what it found */
+   * @param {Question} question @param {import("./finder.js").Progress} before what it found */
   begin(question, before) {
     this.stop();
     if (question.reached.length > 0 || question.slack >= FURTHEST) return;
     this.#search = {
-      question: { ...question, slack: question.slack + 1 },
+      question: { ...goingOn(question, question.slack, before), slack: question.slack + 1 },
       found: new Found(ORIENTATIONS.length, before),
       left: ORIENTATIONS.map((_, at) => at),
       running: new Set(),

@@ -25,9 +25,9 @@ function scrambleOf(nissy, { seed }) {
 /** The best of one axis, which are told as they are found.
  * @param {Nissy} nissy @param {{orientation: Step, question: import("./finder.js").Question}} asked
  * @param {(found: import("../module/best-search.js").Found) => void} tell */
-function bestOfAxis(nissy, { orientation, question: { position, reached, slack, isAll } }, tell) {
-  const wish = { slack, isAll, most: MOST_TOLD_OF_AXIS };
-  for (const found of continuations(nissy, position, reached, [orientation], wish)) tell(found);
+function bestOfAxis(nissy, { orientation, question }, tell) {
+  const wish = { ...question, most: MOST_TOLD_OF_AXIS };
+  for (const found of continuations(nissy, question.position, question.reached, [orientation], wish)) tell(found);
 }
 
 /** Has the tables of a step built.
