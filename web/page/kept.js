@@ -187,7 +187,8 @@ export class KeptCandidates {
     part("kept-left").hidden = count === 0;
     const words = `${counted(count, "line")} ${count === 1 ? "was" : "were"} removed.`;
     part("kept-left-words").textContent = count === 0 ? "" : words;
-    part("kept").classList.toggle("empty", this.#candidates.length === 0 && count === 0);
+    // not by :has, which would lay a style on all of the page whenever a part of it changes
+    part("kept").parentElement.classList.toggle("none-kept", this.#candidates.length === 0 && count === 0);
     // what is hidden can't keep the focus
     if (isFocused && count === 0) part("kept-heading").focus({ preventScroll: true });
   }

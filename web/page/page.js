@@ -300,11 +300,13 @@ export class Page {
   async #showList() {
     const { list } = this.#state;
     if (list && !this.#cube) return;
-    this.#nets.follow(list ? stateOf(stepNamed(list.step)) : "");
+    if (!list) this.#nets.follow("");
     const name = list ? [this.#turn, list.step, list.side, list.slack, list.isAll, list.split ?? 0].join(" ") : "";
     const isShown = await this.#list.show(name, list, list && this.#cube.position);
     if (!isShown) return;
     if (this.#nextFocus.take("list")) this.#list.focus();
+    // the rows come first, since marks lay a style on each sticker
+    this.#nets.follow(stateOf(stepNamed(list.step)));
     this.#goBack();
   }
 
