@@ -37,10 +37,12 @@ import { twinKey } from "./twins.js";
  * @property {string} key what the row is known by
  */
 
+/** @typedef {Pick<Row, "total" | "length" | "far" | "place" | "key">} Ranked what rows are put in order by */
+
 /**
  * The order of rows: by all moves, by those of the part, by how far the case is, an edge being as far as a corner, and then by their place.
- * @param {Row} one
- * @param {Row} other
+ * @param {Ranked} one
+ * @param {Ranked} other
  */
 export function byTotal(one, other) {
   const judged = one.total - other.total || one.length - other.length || one.far - other.far;
@@ -51,7 +53,7 @@ export function byTotal(one, other) {
 
 /**
  * The place of a row among sorted ones.
- * @template {Row} Each
+ * @template {Ranked} Each
  * @param {Each[]} rows
  * @param {Each} row
  * @param {number} from a place that it isn't before
@@ -68,7 +70,7 @@ function placeAmong(rows, row, from) {
 
 /**
  * Two sorted lists as one. No row of the first is compared with the next one, since thousands stay as they are.
- * @template {Row} Each
+ * @template {Ranked} Each
  * @param {Each[]} rows
  * @param {Each[]} added
  */
@@ -86,7 +88,7 @@ function sortedInto(rows, added) {
 
 /**
  * The best of the rows that are added, in their order, each once: if two orientations hold, a reduction may follow each of them.
- * @template {Row} Each
+ * @template {Ranked} Each
  */
 export class BestRows {
   #most;
@@ -157,7 +159,7 @@ export class Bound {
     this.totals = totals;
   }
 
-  /** @param {Row[]} rows */
+  /** @param {Ranked[]} rows */
   add(rows) {
     for (const { total } of rows) if (total !== Infinity) this.totals[total] = (this.totals[total] ?? 0) + 1;
   }

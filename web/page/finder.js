@@ -1,10 +1,10 @@
 // Finds the best continuations, each axis by an engine of its own: what they find is one list, by all moves in all.
 import { BestRows, Bound } from "../module/best-rows.js";
-import { ORIENTATIONS, stateOf, stepNamed } from "./steps.js";
+import { ORIENTATIONS } from "./steps.js";
 
 /** @typedef {import("./calls.js").Calls} Calls */
-/** @typedef {import("../module/best-rows.js").Next & {marks: string, case: string}} Next a reduction and what it
- * reaches */
+/** @typedef {Omit<import("../module/best-rows.js").Next, "own"> & {marks: string, case: string}} Next a reduction and
+ * what it reaches */
 /** @typedef {Omit<import("../module/best-rows.js").Row, "next"> & {state: string, next: Next | null}} Row */
 /** @typedef {import("../module/ways.js").Position} Position */
 /** @typedef {{position: Position, reached: string[], slack: number, isAll: boolean, from?: number, totals?: number[]}}
@@ -23,13 +23,6 @@ const farness = ({ next, far }) => (next === null ? 0 : far);
 
 /** @param {Row} one @param {Row} other */
 export const byCase = (one, other) => farness(one) - farness(other);
-
-/** @param {import("../module/best-rows.js").Row} row
- * @returns {Row} a row with what it reaches in the page's words, and the lengths after the moves that it shows */
-function rowInWords(row) {
-  const next = row.next && { ...row.next, ...row.next.own, marks: stateOf(stepNamed(row.next.step)), case: row.case };
-  return { ...row, state: stateOf(stepNamed(row.step)), next };
-}
 
 /** A question about what is longer than what was found.
  * @param {Question} question @param {number} known by how much longer that is @param {Progress} before */
@@ -58,7 +51,7 @@ export class Found {
    * @param {number} at its place @param {Progress} found */
   take(at, found) {
     this.#counts[at] = found;
-    this.#best.add(found.rows.map(rowInWords));
+    this.#best.add(found.rows);
     this.#isCut ||= found.isCut || this.#best.isCut;
   }
 
