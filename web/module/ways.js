@@ -95,8 +95,12 @@ export class Lengths {
    * @param {string[]} lines
    */
   ask(step, lines) {
-    const counts = this.nissy.countAll(step, lines, { most: 1 });
-    this.#known.set(step, new Map(lines.map((line, at) => [line, counts[at].length])));
+    const known = new Map();
+    this.nissy.countAll(step, lines, { most: 1, faults: "value" }).forEach((count, at) => {
+      // what is wrong with a line is thrown where it is needed
+      if (!(count instanceof Error)) known.set(lines[at], count.length);
+    });
+    this.#known.set(step, known);
   }
 
   /**
