@@ -8,8 +8,8 @@ import { ORIENTATIONS } from "./steps.js";
 /** @typedef {Omit<import("../module/best-rows.js").Row, "next"> & {state: string, next: Next | null}} Row */
 /** @typedef {import("../module/ways.js").Position} Position */
 /** @typedef {{position: Position, reached: string[], slack: number, isAll: boolean, from?: number, totals?: number[]}}
- * Question `from`: by how much longer at least, if shorter ones are known; `totals`: how many of those there are of each
- * number of moves */
+ * Question `from`: by how much longer at least, if shorter ones are known; `totals`: how many of those have how many
+ * moves */
 /** @typedef {{done: number, all: number | null, rows: Row[], isCut: boolean}} Progress of new rows alone, or of all */
 
 /** How many rows are kept. */

@@ -14,7 +14,7 @@ import { Seen, WayBack, dropAddress, keepPlace, placeIn, writeState } from "./pl
 import { ScrambleField } from "./scramble.js";
 import { SolutionList } from "./solutions.js";
 import { ORIENTATIONS, bracketed, isReduced, stateOf, stepNamed } from "./steps.js";
-import { StepTable, offersAt } from "./table.js";
+import { StepTable, cubeWithOffers } from "./table.js";
 import {
   awaitAnswer, isBare, keepInView, listenToKeys, setUsable, showBeginning, showStart, star, waitsForAnswers,
 } from "./view.js";
@@ -187,7 +187,7 @@ export class Page {
     this.#cube = null;
     this.#readiness.stop();
     this.#calls.drop();
-    const asked = this.#calls.ask("examine", { text: plainLine(scramble).line, parts });
+    const asked = cubeWithOffers(this.#calls, { text: plainLine(scramble).line, parts });
     // what is wrong is said where it is waited for
     asked.catch(() => {});
     document.title = titleOfPage(this.#state);
@@ -212,18 +212,16 @@ export class Page {
   }
 
   /** @param {number} turn of which the engine's answers are shown as they come
-   * @param {Promise<import("./position.js").Examined | import("./position.js").Unexamined>} asked the first of them */
+   * @param {ReturnType<typeof cubeWithOffers>} asked the first of them */
   async #answer(turn, asked) {
-    const cube = await asked;
+    const { cube, portions } = await asked;
     if (turn !== this.#turn) return;
     const fault = "unread" in cube ? new NissyFault(cube.unread.text, cube.unread) : null;
     this.#scramble.judge(fault, "read" in cube ? cube.read : null);
     showBeginning(this.#state);
     if ("unread" in cube) return setUsable(false);
-    const offers = await offersAt(this.#calls, cube.walk);
-    if (turn !== this.#turn) return;
     this.#showCube(cube);
-    await this.#showOffers(turn, offers);
+    await this.#showOffers(turn, portions);
     if (turn !== this.#turn) return;
     this.#showAnswered();
     this.#readiness.begin(this.#cube.reached, part("choices").hidden, () => this.#best.isWorking());

@@ -4,7 +4,7 @@ import { firstOf } from "../module/best.js";
 import { NissyFault } from "../module/faults.js";
 import { Lengths, afterPart, countOf, madeBy, totalsWith, wayTo } from "../module/ways.js";
 import { readScramble } from "./lines.js";
-import { SIDES, bracketed, caseOfStep, isReduced, offeredAmong, openSteps, stateOf, stepNamed } from "./steps.js";
+import { SIDES, bracketed, caseOfStep, inGroups, isReduced, offeredAmong, openSteps, stateOf } from "./steps.js";
 
 /** @typedef {import("../module/facts.js").Facts} Facts */
 /** @typedef {import("../module/nissy.js").Nissy} Nissy */
@@ -55,7 +55,7 @@ function viewsOf(nissy, { lines }) {
 /** @typedef {{unread: import("../module/faults.js").FaultParts}} Unexamined what is at fault in the scramble */
 
 /** @param {Nissy} nissy @param {{text: string, parts: Part[]}} typed @returns {Examined | Unexamined} */
-export function examine(nissy, { text, parts }) {
+function examined(nissy, { text, parts }) {
   let read = null;
   try {
     read = readScramble(nissy, text);
@@ -90,8 +90,17 @@ function offerOf(nissy, step, position) {
   return { step, normal, inverse };
 }
 
-/** @param {Nissy} nissy @param {{steps: string[], position: Position}} asked */
-export const offersOf = (nissy, { steps, position }) => steps.map((name) => offerOf(nissy, stepNamed(name), position));
+/** A scramble with some parts, and then each group of steps that may follow: told one after another, since the tables
+ * of a group may still have to be built.
+ * @param {Nissy} nissy @param {{text: string, parts: Part[]}} typed
+ * @param {(told: Examined | Unexamined | Offer[]) => void} tell */
+export function examine(nissy, typed, tell) {
+  const cube = examined(nissy, typed);
+  tell(cube);
+  if ("unread" in cube) return;
+  const { now, reached } = cube.walk;
+  for (const steps of inGroups(openSteps(reached.at(-1)))) tell(steps.map((step) => offerOf(nissy, step, now)));
+}
 
 /** @typedef {{state: string, case: string, lengths: (number | null)[], total: number, side: Side}} Next
  * `lengths`: on each side; `total`: in all, on the side where it is least */

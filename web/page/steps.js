@@ -36,6 +36,12 @@ export const openSteps = (reached) =>
   [...ORIENTATIONS, ...REDUCTIONS]
     .filter(({ name, needs }) => !reached.includes(name) && (needs === null || reached.includes(needs)));
 
+/** Steps in groups: orientations, and then reductions, if there are any.
+ * @param {OfferedStep[]} steps */
+export const inGroups = (steps) => [false, true]
+  .map((isReduction) => steps.filter(({ needs }) => (needs !== null) === isReduction))
+  .filter((group) => group.length > 0);
+
 /** The steps that the page offers among those that hold.
  * @param {readonly import("../module/steps.js").Step[]} held */
 export const offeredAmong = (held) => held.filter((name) => stepNamed(name));

@@ -1,9 +1,10 @@
 // The table of the steps that may follow: a row for each, with what solvers choose by, and a cell for each side with
 // the least length, all moves, and how many solutions there are; what is reached; and the looks, in a table of theirs.
 import { counted, element, part } from "./element.js";
-import { SIDES, caseOfStep, isReduced, openSteps, stateOf, statesOf, titleOf } from "./steps.js";
+import { SIDES, caseOfStep, inGroups, isReduced, openSteps, stateOf, statesOf, titleOf } from "./steps.js";
 
 /** @typedef {import("./position.js").Offer} Offer */
+/** @typedef {import("./position.js").Examined | import("./position.js").Unexamined} Told */
 /** @typedef {import("./steps.js").Side} Side */
 /** @typedef {{facts: import("../module/facts.js").Facts, made: number, reached: string[]}} Cube */
 
@@ -20,28 +21,37 @@ function wordsOf({ length, total, solutions, best }, made) {
 /** How long the page waits for all offers, to show them together with the cube. */
 const SOON = 50;
 
-/** Steps in groups: orientations, and then reductions, where there are some.
- * @param {import("./steps.js").OfferedStep[]} steps */
-const inGroups = (steps) => [false, true]
-  .map((isReduction) => steps.filter(({ needs }) => (needs !== null) === isReduction))
-  .filter((group) => group.length > 0);
+/** Asks for a cube, which is told first, and for the groups of steps that may follow: two at most.
+ * @param {import("./calls.js").Calls} calls @param {{text: string, parts: import("./steps.js").Part[]}} typed
+ * @returns {[Promise<Told>, ...Promise<Offer[]>[]]} */
+function askedOf(calls, typed) {
+  const acts = [];
+  const told = [0, 1, 2].map(() => new Promise((settle, refuse) => acts.push({ settle, refuse })));
+  // what is wrong is said where it is waited for
+  for (const each of told) each.catch(() => {});
+  let at = 0;
+  calls.ask("examine", typed, (each) => acts[at++].settle(each))
+    .catch((fault) => acts.forEach(({ refuse }) => refuse(fault)));
+  return /** @type {any} */ (told);
+}
 
 /**
- * Asks for the steps that may follow, each with its counts on both sides, in portions: all groups in one if they are
- * there soon, since what is shown by itself is laid out and painted by itself, at more than most counts; else each.
- * @param {import("./calls.js").Calls} calls @param {import("./position.js").Walk} walk
- * @returns {Promise<Promise<Offer[][]>[]>}
+ * The cube, and the steps that may follow, each with its counts on both sides, in portions: all groups in one if they
+ * are there soon, since what is shown by itself is laid out and painted by itself, at more than most counts; else each.
+ * They come by one question, so that none waits for the page.
+ * @param {Parameters<typeof askedOf>} asked @returns {Promise<{cube: Told, portions: Promise<Offer[][]>[]}>}
  */
-export async function offersAt(calls, { reached, now: position }) {
-  const names = inGroups(openSteps(reached.at(-1))).map((group) => group.map(({ name }) => name));
-  const groups = names.map((steps) => calls.ask("offersOf", { steps, position }));
-  const all = Promise.all(groups);
+export async function cubeWithOffers(...asked) {
+  const [first, ...groups] = askedOf(...asked);
+  const cube = await first;
+  const count = "unread" in cube ? 0 : inGroups(openSteps(cube.walk.reached.at(-1))).length;
+  const offers = groups.slice(0, count);
+  const all = Promise.all(offers);
   const late = new Promise((tell) => setTimeout(tell, SOON, false));
   const isSoon = await Promise.race([all.then(() => true, () => false), late]);
-  const portions = isSoon ? [all] : groups.map((group) => group.then((offers) => [offers]));
-  // what is wrong is said where they are waited for
-  for (const portion of [...groups, ...portions]) portion.catch(() => {});
-  return portions;
+  const portions = isSoon ? [all] : offers.map((group) => group.then((each) => [each]));
+  for (const portion of portions) portion.catch(() => {});
+  return { cube, portions };
 }
 
 /** A step that is still to be counted. */

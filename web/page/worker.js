@@ -6,7 +6,7 @@ import { Nissy } from "../module/nissy.js";
 import { serveBy } from "../module/serve.js";
 import { readAddressed, readByHand, readWritten } from "./lines.js";
 import { rowsOfList } from "./lists.js";
-import { examine, framesOf, offersOf, reductionsOf, walkKept } from "./position.js";
+import { examine, framesOf, reductionsOf, walkKept } from "./position.js";
 import { stateOf, stepNamed } from "./steps.js";
 
 /** @typedef {import("../module/steps.js").Step} Step */
@@ -49,8 +49,8 @@ function build(nissy, { step }) {
 }
 
 const ANSWERS = {
-  bestOfAxis, build, examine, framesOf, offersOf, readAddressed, readByHand, readWritten, reductionsOf, rowsOfList,
-  scrambleOf, walkKept,
+  bestOfAxis, build, examine, framesOf, readAddressed, readByHand, readWritten, reductionsOf, rowsOfList, scrambleOf,
+  walkKept,
 };
 
 /** @typedef {typeof ANSWERS} Answers */
