@@ -10,13 +10,18 @@ from wanted import SIDES, TITLES, Position
 
 CUT = 10_000
 SHOWN = 168
-# keeps what each worker is asked
+# keeps what each worker is asked, and the steps that it counted beside a cube
 LISTEN = """window.asked = [];
     const { postMessage } = Worker.prototype;
+    const heard = new WeakSet();
+    const told = ({ data: { progress } }) => {
+        for (const { step } of Array.isArray(progress) ? progress : []) window.asked.push(`count ${step.name}`);
+    };
     Worker.prototype.postMessage = function (...words) {
         const [{ request }] = words;
-        const counted = { build: ({ step }) => [step], offersOf: ({ steps }) => steps }[request?.call] ?? (() => []);
-        for (const step of counted(request?.about)) window.asked.push(`count ${step}`);
+        if (!heard.has(this)) this.addEventListener("message", told);
+        heard.add(this);
+        if (request?.call === "build") window.asked.push(`count ${request.about.step}`);
         if (request?.call === "bestOfAxis") window.asked.push("best");
         postMessage.apply(this, words);
     };"""

@@ -62,6 +62,8 @@ def goes_on(tally: Tally, browser: Browser) -> None:
     tally.equal("all are tried", done, all_of_them)
     found = shows_all(browser)
     tally.equal("by all moves", [int(row[0]) for row in found], sorted(int(row[0]) for row in found))
+    # by a page that has found none of them yet
+    begins(browser, WORSE)
     browser.choose("best-slack", "2")
     browser.wait_best()
     # of those that are as good as the last another one may be shown

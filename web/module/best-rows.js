@@ -11,8 +11,9 @@ import { twinKey } from "./twins.js";
  */
 
 /**
- * @typedef {Part & {length: number, place: number[]}} Sided a solution on its side, and its place among all: by sides,
- * and within its list
+ * @typedef {Part & {length: number, place: number[], isLonger: boolean}} Sided a solution on its side, its place among
+ * all: by sides, and within its list; and whether it goes on after the step was reached, so that only what follows it
+ * on the other side is anything new
  */
 
 /**
@@ -40,11 +41,13 @@ import { twinKey } from "./twins.js";
  * @property {string} key what the row is known by
  */
 
+/** @typedef {Pick<Row, "total" | "length" | "far" | "place" | "key">} Ranked what rows are put in order by */
+
 /**
  * The order of rows: by all moves, by those of the part, by how far the case is, an edge being as far as a corner, and
  * then by their place.
- * @param {Row} one
- * @param {Row} other
+ * @param {Ranked} one
+ * @param {Ranked} other
  */
 export function byTotal(one, other) {
   const judged = one.total - other.total || one.length - other.length || one.far - other.far;
@@ -55,7 +58,7 @@ export function byTotal(one, other) {
 
 /**
  * The place of a row among sorted ones.
- * @template {Row} Each
+ * @template {Ranked} Each
  * @param {Each[]} rows
  * @param {Each} row
  * @param {number} from a place that it isn't before
@@ -72,7 +75,7 @@ function placeAmong(rows, row, from) {
 
 /**
  * Two sorted lists as one. No row of the first is compared with the next one, since thousands stay as they are.
- * @template {Row} Each
+ * @template {Ranked} Each
  * @param {Each[]} rows
  * @param {Each[]} added
  */
@@ -91,7 +94,7 @@ function sortedInto(rows, added) {
 /**
  * The best of the rows that are added, in their order, each once: if two orientations hold, a reduction may follow each
  * of them.
- * @template {Row} Each
+ * @template {Ranked} Each
  */
 export class BestRows {
   #most;
@@ -152,22 +155,25 @@ export function twinsOf(list, step, isAll) {
 /** Counts rows by their moves, and says from how many on a row can't be kept, since as many are better. */
 export class Bound {
   #most;
-  /** @type {number[]} */ #counts = [];
 
-  /** @param {number} most how many rows are kept */
-  constructor(most) {
+  /**
+   * @param {number} most how many rows are kept
+   * @param {number[]} [totals] how many rows of each number of moves there are
+   */
+  constructor(most, totals = []) {
     this.#most = most;
+    this.totals = totals;
   }
 
-  /** @param {Row[]} rows */
+  /** @param {Ranked[]} rows */
   add(rows) {
-    for (const { total } of rows) if (total !== Infinity) this.#counts[total] = (this.#counts[total] ?? 0) + 1;
+    for (const { total } of rows) if (total !== Infinity) this.totals[total] = (this.totals[total] ?? 0) + 1;
   }
 
   get() {
     let seen = 0;
-    for (let total = 0; total < this.#counts.length; total += 1) {
-      seen += this.#counts[total] ?? 0;
+    for (let total = 0; total < this.totals.length; total += 1) {
+      seen += this.totals[total] ?? 0;
       if (seen >= this.#most) return total + 1;
     }
     return Infinity;

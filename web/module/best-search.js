@@ -5,12 +5,13 @@ import { Bound, batchesOf, twinsOf } from "./best-rows.js";
 import { ORIENTATIONS, reductionsAfter } from "./best-steps.js";
 import { SIDES, otherSide } from "./sides.js";
 import { STEPS } from "./steps.js";
-import { lastTurnsOf, withoutEarlier } from "./twins.js";
-import { afterPart, isWithin, totalWith, wayTo } from "./ways.js";
+import { lastTurnsOf, longerAmong } from "./twins.js";
+import { Lengths, afterPart, isWithin, totalWith, wayTo } from "./ways.js";
 
 /** @typedef {import("./best-rows.js").Row} Row */
 /** @typedef {import("./best-rows.js").Sided} Sided */
 /** @typedef {import("./best-steps.js").StepOnAxis} StepOnAxis */
+/** @typedef {import("./facts.js").Facts} Facts */
 /** @typedef {import("./nissy.js").Nissy} Nissy */
 /** @typedef {import("./sides.js").Side} Side */
 /** @typedef {import("./steps.js").Step} Step */
@@ -18,10 +19,16 @@ import { afterPart, isWithin, totalWith, wayTo } from "./ways.js";
 /** @typedef {import("./ways.js").Way} Way */
 
 /**
- * How much is looked for: how many moves longer than the shortest of its side an orientation may be, whether all of
- * them are wanted, twins and those in which it was reached before the last move too, and how many rows are kept,
- * besides those as good as the last of them.
- * @typedef {{slack: number, isAll: boolean, most: number}} Wish
+ * How much is looked for: how many moves longer than the shortest of its side an orientation may be, and at least is,
+ * none if it isn't given; whether all of them are wanted, twins and those that go on after it was reached too; and how
+ * many rows are kept, besides those as good as the last of them: if some are there already, how many of each number of
+ * moves.
+ * @typedef {{slack: number, from?: number, isAll: boolean, most: number, totals?: number[]}} Wish
+ */
+
+/**
+ * What is looked for together: from how much longer on, and up to that.
+ * @typedef {{from: number, slack: number, isAll: boolean}} Stage
  */
 
 /**
@@ -44,23 +51,23 @@ const MOST_SOLUTIONS = 1_000_000;
 function onSides(nissy, step, { lines }, { slack, isAll }) {
   return SIDES.map((side, sideAt) => {
     const solutions = nissy.solve(step, lines[side], { slack, most: MOST_SOLUTIONS });
-    const kept = isAll ? solutions : withoutEarlier(solutions);
-    return kept.map(({ moves, length }, at) => ({ side, moves, length, place: [sideAt, at] }));
+    const isLonger = isAll ? () => false : longerAmong(solutions);
+    return solutions.map((each, at) => (
+      { side, moves: each.moves, length: each.length, place: [sideAt, at], isLonger: isLonger(each) }));
   });
 }
 
 /**
- * The orientations of a search that are this much longer than the shortest; those of no slack come first, since they
- * are there at once.
+ * The orientations of a search that are this much longer than the shortest.
  * @param {Nissy} nissy
  * @param {StepOnAxis} orientation
  * @param {Position} position
- * @param {{slack: number, isAll: boolean}} wish
+ * @param {Stage} stage
  * @returns {Sided[]}
  */
-function orientationsOf(nissy, { name }, position, wish) {
-  const sides = onSides(nissy, name, position, wish).map((list) => {
-    const least = (list[0]?.length ?? 0) + (wish.slack === 0 ? 0 : 1);
+function orientationsOf(nissy, { name }, position, stage) {
+  const sides = onSides(nissy, name, position, stage).map((list) => {
+    const least = (list[0]?.length ?? 0) + stage.from;
     // no moves are the same on both sides
     return list.filter(({ side, moves, length }) => length >= least && (side === "normal" || moves !== ""));
   });
@@ -75,15 +82,12 @@ function orientationsOf(nissy, { name }, position, wish) {
 const byWay = (one, other) => one.total - other.total || Number(one.length) - Number(other.length);
 
 /**
- * The case of a reduction at a position, the same on both sides, and how many pieces it has.
- * @param {Nissy} nissy
- * @param {Position} position
+ * The case of a reduction, the same on both sides, and how many pieces it has.
+ * @param {Facts} facts
  * @param {StepOnAxis} reduction
  */
-function caseOf(nissy, { lines }, { axis }) {
-  const { badCorners, misplacedEdges, cases } = nissy.facts(lines.normal);
-  return { case: cases[axis], far: badCorners[axis].length + misplacedEdges[axis].length };
-}
+const caseOf = ({ badCorners, misplacedEdges, cases }, { axis }) => (
+  { case: cases[axis], far: badCorners[axis].length + misplacedEdges[axis].length });
 
 /**
  * The place of a step among all.
@@ -92,30 +96,32 @@ function caseOf(nissy, { lines }, { axis }) {
 const placeOf = (step) => STEPS.indexOf(step);
 
 /**
- * @typedef {{orientation: StepOnAxis, key: string, twins: Tried[]}} Group orientations that are twins, and what they
- * are known by
+ * Orientations that are twins, what they are known by, and what is seen after them, which is the same of cases.
+ * @typedef {{orientation: StepOnAxis, key: string, twins: Tried[], facts: Facts}} Group
  */
 
 /**
  * The row of twins with a reduction: the moves are those of the twin that goes on best, on their own side if the other
- * one isn't better.
- * @param {Nissy} nissy
+ * one isn't better. Those that go on after the orientation was reached have a row if the other side is better: on their
+ * own, what they go on with belongs to the reduction after a shorter one.
+ * @param {Lengths} lengths
  * @param {Group} group
  * @param {StepOnAxis} reduction
- * @returns {Row}
+ * @returns {Row | null} null if there is none
  */
-function rowOf(nissy, { orientation: { name }, key, twins }, reduction) {
+function rowOf(lengths, { orientation: { name }, key, twins, facts }, reduction) {
   const ways = twins.map((twin) => ({
     twin,
-    normal: wayTo(nissy, reduction.name, twin.after, "normal"),
-    inverse: wayTo(nissy, reduction.name, twin.after, "inverse"),
+    normal: wayTo(lengths, reduction.name, twin.after, "normal"),
+    inverse: wayTo(lengths, reduction.name, twin.after, "inverse"),
   }));
   const bestOn = (/** @type {Side} */ each) => ways.slice().sort((one, other) => byWay(one[each], other[each]))[0];
   const [normal, inverse] = SIDES.map((each) => bestOn(each)[each]);
   const totals = { normal: normal.total, inverse: inverse.total };
-  const { side: own, place } = twins[0].part;
+  const { side: own, place, isLonger } = twins[0].part;
   const side = totals[otherSide(own)] < totals[own] ? otherSide(own) : own;
-  const { twin: { part, after }, ...shown } = bestOn(side);
+  if (isLonger && side === own) return null;
+  const { twin: { part }, ...shown } = bestOn(side);
   return {
     total: totals[side],
     step: name,
@@ -128,7 +134,7 @@ function rowOf(nissy, { orientation: { name }, key, twins }, reduction) {
         totals: { normal: shown.normal.total, inverse: shown.inverse.total },
       },
     },
-    ...caseOf(nissy, after, reduction),
+    ...caseOf(facts, reduction),
     others: twins.filter((twin) => twin.part !== part).map((twin) => lastTurnsOf(twin.part.moves, name)),
     place: [placeOf(name), ...place, placeOf(reduction.name)],
     key: `${key}.${reduction.name}`,
@@ -139,30 +145,35 @@ function rowOf(nissy, { orientation: { name }, key, twins }, reduction) {
 const isRow = (row) => row !== null;
 
 /**
- * The rows of twins, one for each reduction. One with as many moves as the bound is left out.
- * @param {Nissy} nissy
+ * The rows of twins, one at most for each reduction. One with as many moves as the bound is left out.
+ * @param {Lengths} lengths
  * @param {Group} group
  * @param {number} bound
  * @returns {(Row | null)[]} null for one that is left out
  */
-const rowsOf = (nissy, group, bound) => reductionsAfter(group.orientation.name).map((reduction) => {
-  if (bound === Infinity) return rowOf(nissy, group, reduction);
-  if (!group.twins.some(({ after }) => isWithin(nissy, reduction.name, after, bound))) return null;
-  const row = rowOf(nissy, group, reduction);
-  return row.total < bound ? row : null;
-});
+function rowsOf(lengths, group, bound) {
+  const { side, isLonger } = group.twins[0].part;
+  const sides = isLonger ? [otherSide(side)] : SIDES;
+  const mayBeWithin = (/** @type {StepOnAxis} */ { name }) =>
+    group.twins.some(({ after }) => isWithin(lengths, name, after, bound, sides));
+  return reductionsAfter(group.orientation.name).flatMap((reduction) => {
+    if (bound !== Infinity && !mayBeWithin(reduction)) return [null];
+    const row = rowOf(lengths, group, reduction);
+    return row === null ? [] : [row.total < bound ? row : null];
+  });
+}
 
 /**
  * The groups of the orientations on some axes that are this much longer than the shortest, the shortest groups first.
  * @param {Nissy} nissy
  * @param {Position} position
  * @param {readonly StepOnAxis[]} orientations
- * @param {{slack: number, isAll: boolean}} wish
+ * @param {Stage} stage
  */
-const groupsOf = (nissy, position, orientations, wish) => orientations
+const groupsOf = (nissy, position, orientations, stage) => orientations
   .flatMap((orientation) => {
-    const list = orientationsOf(nissy, orientation, position, wish);
-    return twinsOf(list, orientation.name, wish.isAll).map((each) => ({ ...each, orientation }));
+    const list = orientationsOf(nissy, orientation, position, stage);
+    return twinsOf(list, orientation.name, stage.isAll).map((each) => ({ ...each, orientation }));
   })
   .sort((one, other) => one.group[0].length - other.group[0].length);
 
@@ -176,16 +187,34 @@ const sizeOf = (groups) => groups.reduce((sum, { group }) => sum + group.length,
 /** @typedef {{bound: Bound, done: number}} Going how far a search is */
 
 /**
- * The rows of some groups.
+ * Asks for the least lengths of the reductions that may follow some positions, on both sides.
+ * @param {Lengths} lengths
+ * @param {StepOnAxis} orientation that holds there
+ * @param {Position[]} positions
+ */
+function askAfter(lengths, { name }, positions) {
+  const lines = positions.flatMap(({ lines: { normal, inverse } }) => [normal, inverse]);
+  if (lines.length > 0) reductionsAfter(name).forEach((reduction) => lengths.ask(reduction.name, lines));
+}
+
+/**
+ * The rows of some groups, of all of which the engine is asked at once.
  * @param {Nissy} nissy
  * @param {Position} position
  * @param {Untried[]} batch
  * @param {number} bound
  */
-const rowsOfBatch = (nissy, position, batch, bound) => batch.flatMap(({ orientation, key, group }) => {
-  const twins = group.map((part) => ({ part, after: afterPart(nissy, position, part) }));
-  return rowsOf(nissy, { orientation, key, twins }, bound);
-});
+function rowsOfBatch(nissy, position, batch, bound) {
+  const lengths = new Lengths(nissy);
+  const tried = batch.map(({ orientation, key, group }) => (
+    { orientation, key, twins: group.map((part) => ({ part, after: afterPart(nissy, position, part) })) }));
+  ORIENTATIONS.forEach((orientation) => {
+    const own = tried.filter((each) => each.orientation === orientation);
+    askAfter(lengths, orientation, own.flatMap(({ twins }) => twins.map(({ after }) => after)));
+  });
+  const facts = nissy.factsAll(tried.map(({ twins }) => twins[0].after.lines.normal));
+  return tried.flatMap((group, at) => rowsOf(lengths, { ...group, facts: facts[at] }, bound));
+}
 
 /**
  * Tries groups, and tells of their rows batch by batch.
@@ -217,10 +246,10 @@ function* groupsFound(nissy, position, groups, going, isLast) {
  * @param {Wish} wish
  * @returns {Generator<Found>}
  */
-function* orientationsFound(nissy, position, orientations, { slack: wanted, isAll, most }) {
-  const going = { bound: new Bound(most), done: 0 };
-  for (const slack of wanted === 0 ? [0] : [0, wanted]) {
-    const groups = groupsOf(nissy, position, orientations, { slack, isAll });
+function* orientationsFound(nissy, position, orientations, { slack: wanted, from: least = 0, isAll, most, totals }) {
+  const going = { bound: new Bound(most, totals), done: 0 };
+  for (const [from, slack] of least > 0 || wanted === 0 ? [[least, wanted]] : [[0, 0], [1, wanted]]) {
+    const groups = groupsOf(nissy, position, orientations, { from, slack, isAll });
     yield* groupsFound(nissy, position, groups, going, slack === wanted);
   }
 }
@@ -229,12 +258,11 @@ function* orientationsFound(nissy, position, orientations, { slack: wanted, isAl
  * The row of a reduction with its twins, of which the best is shown.
  * @param {Nissy} nissy
  * @param {Position} position
- * @param {StepOnAxis} reduction
+ * @param {{reduction: StepOnAxis, known: {case: string, far: number}}} reached
  * @param {Sided[]} group
  * @returns {Row}
  */
-function rowOfReduction(nissy, position, reduction, group) {
-  const { name, axis, needs } = reduction;
+function rowOfReduction(nissy, position, { reduction: { name, axis, needs }, known }, group) {
   const totals = group.map((part) => totalWith(nissy, position, part));
   const total = Math.min(...totals);
   const best = group[totals.indexOf(total)];
@@ -245,7 +273,7 @@ function rowOfReduction(nissy, position, reduction, group) {
     part: { side, moves },
     length,
     next: null,
-    ...caseOf(nissy, position, reduction),
+    ...known,
     others: group.filter((each) => each !== best).map((each) => lastTurnsOf(each.moves, name)),
     place: [placeOf(/** @type {Step} */ (needs)), placeOf(name), ...group[0].place],
     key: `${side}.${moves}.${axis}`,
@@ -261,9 +289,12 @@ function rowOfReduction(nissy, position, reduction, group) {
  * @returns {Generator<Found>}
  */
 function* reductionsFound(nissy, position, orientations, wish) {
+  const facts = nissy.facts(position.lines.normal);
   const rows = orientations.flatMap(({ name }) => reductionsAfter(name)).flatMap((reduction) => {
-    const groups = twinsOf(onSides(nissy, reduction.name, position, wish).flat(), reduction.name, wish.isAll);
-    return groups.map(({ group }) => rowOfReduction(nissy, position, reduction, group));
+    const solutions = onSides(nissy, reduction.name, position, wish).flat().filter(({ isLonger }) => !isLonger);
+    const groups = twinsOf(solutions, reduction.name, wish.isAll);
+    const reached = { reduction, known: caseOf(facts, reduction) };
+    return groups.map(({ group }) => rowOfReduction(nissy, position, reached, group));
   });
   yield { done: rows.length, all: rows.length, rows, isCut: false };
 }

@@ -153,6 +153,7 @@ function rowsAfter(nissy, { scramble, slack, most, axes }, soFar, tell) {
   if (holds.some((step) => step.startsWith("dr"))) return [];
   const held = ORIENTATIONS.filter(({ name }) => holds.includes(name));
   const asked = (held.length > 0 ? held : ORIENTATIONS).map(({ name }) => name).filter((name) => axes.includes(name));
+  /** @type {BestRows<Row>} */
   const best = new BestRows(most);
   const wish = { slack, isAll: false, most };
   for (const { done, all, rows: added } of continuations(nissy, start.position, holds, asked, wish)) {

@@ -2,11 +2,12 @@
 // Which beginnings of a step merge is told here; whether a shortest one begins so is asked of the engine, without a
 // list of them all.
 import { AXES, FACES_OF, stepNamed } from "./best-steps.js";
+import { joined } from "./sides.js";
 
 /**
- * Turns with which moves after a line may begin: how many, how many moves the line and they save together, and what
- * merges before them, once the last turns are taken back.
- * @typedef {{moves: string, count: number, saved: number, before: string[]}} Merger
+ * Turns with which moves after a line may begin: how many, the line with them, how many moves both save together, and
+ * what merges before them, once the last turns are taken back.
+ * @typedef {{count: number, after: string, saved: number, before: string[]}} Merger
  */
 
 /** @typedef {import("./best-steps.js").StepOnAxis} StepOnAxis */
@@ -19,6 +20,14 @@ const POWERS = ["", "2", "'"];
  * @returns {string[]}
  */
 export const movesIn = (clean) => clean.match(/[UDRLFB][2']?/g) ?? [];
+
+/**
+ * Whether a line has more moves than so many. A short one isn't looked through: a move has a letter, and a blank stands
+ * before the next one.
+ * @param {string} line
+ * @param {number} most
+ */
+export const hasMore = (line, most) => line.length > 2 * most && movesIn(line).length > most;
 
 /**
  * How many quarter turns a turn has, clockwise.
@@ -50,7 +59,17 @@ export function turnsOfFace(face, { needs }) {
 /** How many moves a line may have before two more are tried. */
 const MOST_BEFORE = 254;
 
-/** @typedef {{next: string, isBack: boolean}} Merging a turn, and whether it takes one back */
+/**
+ * What is left of a turn with another of its face behind it: nothing if that takes it back.
+ * @param {string} turn
+ * @param {string} next
+ */
+function mergedTurn(turn, next) {
+  const quarters = (quartersOf(turn) + quartersOf(next)) % 4;
+  return quarters === 0 ? [] : [turn[0] + POWERS[quarters - 1]];
+}
+
+/** @typedef {{moves: string[], left: string[]}} Merging some turns, and what is left of those before them */
 
 /**
  * The beginnings of a step that merge with the end of a clean line on its side; none after a line that has no room for
@@ -61,22 +80,26 @@ const MOST_BEFORE = 254;
  * @returns {Merger[]}
  */
 export function mergersOf(made, name, line) {
-  if (made.length === 0 || movesIn(line).length > MOST_BEFORE) return [];
+  if (made.length === 0 || hasMore(line, MOST_BEFORE)) return [];
   const group = lastOfAxis(made);
-  /** @type {Merging[][]} */
-  let ways = [[]];
+  /** @type {Merging[]} */
+  let ways = [{ moves: [], left: [] }];
   for (const turn of group) {
-    const isBack = (/** @type {string} */ next) => (quartersOf(turn) + quartersOf(next)) % 4 === 0;
-    const added = turnsOfFace(turn[0], stepNamed(name)).map((next) => ({ next, isBack: isBack(next) }));
-    ways = ways.flatMap((way) => [way, ...added.map((each) => [...way, each])]);
+    const turns = turnsOfFace(turn[0], stepNamed(name));
+    ways = ways.flatMap(({ moves, left }) => [
+      { moves, left: [...left, turn] },
+      ...turns.map((next) => ({ moves: [...moves, next], left: [...left, ...mergedTurn(turn, next)] })),
+    ]);
   }
-  return ways.filter((way) => way.length > 0).map((way) => {
-    const back = way.filter(({ isBack }) => isBack).length;
-    return {
-      moves: way.map(({ next }) => next).join(" "),
-      count: way.length,
-      saved: way.length + back,
-      before: back === group.length ? made.slice(0, -back) : [],
-    };
-  });
+  const last = group.join(" ");
+  // twins have one line then, and the engine is asked once
+  const afterAll = line.endsWith(last)
+    ? (/** @type {Merging} */ { left }) => joined(line.slice(0, -last.length).trimEnd(), ...left)
+    : (/** @type {Merging} */ { moves }) => joined(line, ...moves);
+  return ways.filter(({ moves }) => moves.length > 0).map((way) => ({
+    count: way.moves.length,
+    after: afterAll(way),
+    saved: way.moves.length + group.length - way.left.length,
+    before: way.left.length === 0 ? made.slice(0, -group.length) : [],
+  }));
 }

@@ -96,17 +96,26 @@ function* beginningsOf(moves, length, least) {
 }
 
 /**
+ * What tells of each of some solutions whether the step is reached before its last move.
+ * @param {readonly Solution[]} solutions all, from the shortest on
+ * @returns {(solution: Solution) => boolean}
+ */
+export function longerAmong(solutions) {
+  const least = solutions[0]?.length ?? 0;
+  if (solutions[solutions.length - 1]?.length === least) return () => false;
+  const known = new Set(solutions.map(({ moves }) => moves));
+  return ({ moves, length }) => {
+    for (const beginning of beginningsOf(moves, length, least)) if (known.has(beginning)) return true;
+    return false;
+  };
+}
+
+/**
  * The solutions in which the step isn't reached before the last move.
  * @template {Solution} Each
  * @param {Each[]} solutions all, from the shortest on
  */
 export function withoutEarlier(solutions) {
-  const least = solutions[0]?.length ?? 0;
-  if (solutions[solutions.length - 1]?.length === least) return solutions;
-  const known = new Set(solutions.map(({ moves }) => moves));
-  return solutions.filter(({ moves, length }) => {
-    if (length === least) return true;
-    for (const beginning of beginningsOf(moves, length, least)) if (known.has(beginning)) return false;
-    return true;
-  });
+  const isLonger = longerAmong(solutions);
+  return solutions.filter((each) => !isLonger(each));
 }

@@ -1,7 +1,7 @@
 // Ways from a cube to a step: the cube on both sides with the moves that were made there, the least length of the step,
 // and all moves with it, once those of each side are merged.
 import { AXES, FACES_OF } from "./best-steps.js";
-import { mergersOf, movesIn } from "./merging.js";
+import { hasMore, mergersOf, movesIn } from "./merging.js";
 import { SIDES, joined, movesOn, otherSide } from "./sides.js";
 
 /** @typedef {import("./nissy.js").Nissy} Nissy */
@@ -83,20 +83,56 @@ export function leastOf(nissy, step, line, limit) {
   return nissy.solve(step, line, { limit: Math.min(MOST_SEARCHED, limit), most: 1 })[0]?.length ?? null;
 }
 
+/** The least lengths of steps: those after many lines are asked of the engine at once, and are known then. */
+export class Lengths {
+  nissy;
+  /** @type {Map<string, Map<string, number | null>>} by steps, and by lines */ #known = new Map();
+
+  /** @param {Nissy} nissy */
+  constructor(nissy) {
+    this.nissy = nissy;
+  }
+
+  /**
+   * Asks for a step after many lines.
+   * @param {Step} step
+   * @param {string[]} lines
+   */
+  ask(step, lines) {
+    const known = new Map();
+    this.nissy.countAll(step, lines, { most: 1, faults: "value" }).forEach((count, at) => {
+      // what is wrong with a line is thrown where it is needed
+      if (!(count instanceof Error)) known.set(lines[at], count.length);
+    });
+    this.#known.set(step, known);
+  }
+
+  /**
+   * The least length of a step after a line, or null if it is more than a limit.
+   * @param {Step} step
+   * @param {string} line
+   * @param {number} [limit]
+   */
+  after(step, line, limit = MOST_SEARCHED) {
+    const known = this.#known.get(step)?.get(line);
+    if (known === undefined) return leastOf(this.nissy, step, line, limit);
+    return known !== null && known <= limit ? known : null;
+  }
+}
+
 /**
  * How many moves a shortest solution of a length may save, since it merges with what is made on its side.
- * @param {Nissy} nissy
+ * @param {Lengths} lengths
  * @param {Step} step
  * @param {string} line
  * @param {string[]} made
  * @param {number} length
  * @returns {number}
  */
-function mostSaved(nissy, step, line, made, length) {
-  const saved = mergersOf(made, step, line).map(({ moves, count, saved: own, before }) => {
-    const after = `${line} ${moves}`;
-    if (leastOf(nissy, step, after, length - count) === null) return 0;
-    return own + mostSaved(nissy, step, after, before, length - count);
+function mostSaved(lengths, step, line, made, length) {
+  const saved = mergersOf(made, step, line).map(({ after, count, saved: own, before }) => {
+    if (lengths.after(step, after, length - count) === null) return 0;
+    return own + mostSaved(lengths, step, after, before, length - count);
   });
   return Math.max(0, ...saved);
 }
@@ -112,34 +148,36 @@ const mostMerged = (made, step) =>
 
 /**
  * The best way to a step on a side: of its shortest solutions there one that merges most.
- * @param {Nissy} nissy
+ * @param {Lengths} lengths
  * @param {Step} step
  * @param {Position} position
  * @param {Side} side
  * @param {number | null} [length] the least one there, if it is known
  * @returns {Way}
  */
-export function wayTo(nissy, step, position, side, length = leastOf(nissy, step, position.lines[side], MOST_SEARCHED)) {
-  const [line, made] = [position.lines[side], position.made[side]];
+export function wayTo(lengths, step, position, side, length = lengths.after(step, position.lines[side])) {
+  const [line, made, { nissy }] = [position.lines[side], position.made[side], lengths];
   if (length === null) return { length, total: Infinity };
-  if (movesIn(line).length > MOST_ASKED_BEHIND) {
+  if (hasMore(line, MOST_ASKED_BEHIND)) {
     const totals = nissy.solve(step, line).map(({ moves }) => totalWith(nissy, position, { side, moves }));
     return { length, total: Math.min(...totals) };
   }
-  return { length, total: countOf(position) + length - mostSaved(nissy, step, line, made, length) };
+  return { length, total: countOf(position) + length - mostSaved(lengths, step, line, made, length) };
 }
 
 /**
- * Whether a step may be had with fewer moves in all than a bound; one that can't isn't looked for further.
- * @param {Nissy} nissy
+ * Whether a step may be had on one of some sides with fewer moves in all than a bound; one that can't isn't looked for
+ * further.
+ * @param {Lengths} lengths
  * @param {Step} step
  * @param {Position} position
  * @param {number} bound
+ * @param {readonly Side[]} sides
  */
-export function isWithin(nissy, step, position, bound) {
+export function isWithin(lengths, step, position, bound, sides) {
   const left = bound - 1 - countOf(position);
   const mostOn = (/** @type {Side} */ side) => left + mostMerged(position.made[side], step);
-  return SIDES.some((side) => leastOf(nissy, step, position.lines[side], mostOn(side)) !== null);
+  return sides.some((side) => lengths.after(step, position.lines[side], mostOn(side)) !== null);
 }
 
 /**

@@ -1,12 +1,12 @@
-// The state of the page in its address, after the #, so that it can be kept and sent. What an address says is checked piece by piece:
-// each piece becomes a part of the state, or is left out and named.
+// The state of the page in its address, after the #, so that it can be kept and sent. What an address says is checked
+// piece by piece: each piece becomes a part of the state, or is left out and named.
 import { REDUCTIONS, isSide, stepNamed } from "./steps.js";
 
 /** @typedef {import("./steps.js").Part} Part */
 /** @typedef {{step: string, side: import("./steps.js").Side, slack: number, isAll: boolean, split?: number}} List
  * `split`: how many moves its solutions begin with on the other side */
-/** @typedef {{parts: Part[], note: string, next: string}} Candidate `next`: the reduction that it was kept with, or "" */
-/** @typedef {{scramble: string, parts: Part[], side: import("./steps.js").Side, list: List | null, kept: Candidate[]}} State */
+/** @typedef {{parts: Part[], note: string, next: string}} Candidate `next`: the reduction it was kept with, or "" */
+/** @typedef {{scramble: string, parts: Part[], side: Part["side"], list: List | null, kept: Candidate[]}} State */
 
 const LONGEST_ADDRESS = 20000;
 // 256 moves, each of as many signs as one may have and in brackets, are half of it
@@ -28,7 +28,7 @@ const SPLIT = /^split([12])$/;
 /** @returns {State} */
 export const emptyState = () => ({ scramble: "", parts: [], side: "normal", list: null, kept: [] });
 
-/** Moves as an address has them: `_` for a blank and `-` for an apostrophe, since some programs cut an address there. */
+/** Moves as an address has them: `_` for a blank and `-` for an apostrophe, since some programs cut it there. */
 function escaped(text) {
   const plain = (sign) => `%${sign.charCodeAt(0).toString(16).toUpperCase()}`;
   return encodeURIComponent(text.replace(/[\uD800-\uDFFF]/gu, "\uFFFD"))
@@ -46,7 +46,8 @@ const spelled = (text) => decodeURIComponent(text.replace(/_/g, "%20").replace(/
 const writtenParts = (parts) => parts.map(({ side, moves }) => `${side}.${escaped(moves)}`).join("~");
 
 /** @param {Candidate} candidate */
-const writtenCandidate = ({ parts, note, next }) => [writtenParts(parts), escaped(note), next].join(";").replace(/;+$/, "");
+const writtenCandidate = ({ parts, note, next }) =>
+  [writtenParts(parts), escaped(note), next].join(";").replace(/;+$/, "");
 
 /** @param {List} list */
 function writtenList({ step, side, slack, isAll, split = 0 }) {
@@ -153,8 +154,8 @@ function readField(state, field, said) {
  * @param {string} hash @returns {{state: State, fault: string}} */
 export function readAddress(hash) {
   const text = hash.replace(/^#/, "");
-  if (text.length > LONGEST_ADDRESS) return { state: emptyState(), fault: "This address is too long, so the page begins empty." };
   const state = emptyState();
+  if (text.length > LONGEST_ADDRESS) return { state, fault: "This address is too long, so the page begins empty." };
   const said = new Set();
   const leftOut = [];
   for (const field of text.split("&").filter((each) => each !== "")) {

@@ -1,5 +1,5 @@
-// A row of the best: its moves with their twins, what they reach, the reduction that follows with its lengths on both sides, how many
-// there are and the first of them, and its star.
+// A row of the best: its moves with their twins, what they reach, the reduction that follows with its lengths on both
+// sides, how many there are and the first of them, and its star.
 import { counted, element } from "./element.js";
 import { starButton, takeButton } from "./rows.js";
 import { SIDES, bracketed } from "./steps.js";
@@ -19,9 +19,10 @@ function cell(name, attributes, ...children) {
   return element(name, { ...role, ...attributes }, ...children);
 }
 
-/** The cell of a row's moves and twins, which tells the style how many signs stand on one line, where the page is narrow and elsewhere.
- * @param {HTMLElement} take @param {string[]} others the last turns of the twins @param {boolean} isBeside whether they stand beside the
- * moves there */
+/** The cell of a row's moves and twins, which tells the style how many signs its line has, if the page is narrow or
+ * not.
+ * @param {HTMLElement} take @param {string[]} others the last turns of the twins
+ * @param {boolean} isBeside whether they stand beside the moves on a narrow page */
 function movesCell(take, others, isBeside) {
   // as solvers write it: the last turn may be the one or the other
   const either = others.length === 1 ? ` / ${others[0]}` : ` or ${others.length} twins`;
@@ -36,14 +37,15 @@ function movesCell(take, others, isBeside) {
 
 /** @param {import("./finder.js").Next} next @param {import("./steps.js").Side} side */
 function lengthCell({ lengths, totals, side: best }, side) {
-  const isBest = lengths[side] !== null && totals[side] === totals[best];
-  const words = lengths[side] === null ? "no DR" : `DR in ${counted(lengths[side], "move")}`;
-  const inAll = lengths[side] === null ? "" : `, ${totals[side]} in all`;
+  const length = lengths[side];
+  const isBest = length !== null && totals[side] === totals[best];
+  const words = length === null ? "no DR" : `DR in ${counted(length, "move")}`;
+  const inAll = length === null ? "" : `, ${totals[side]} in all`;
   const about = {
     class: isBest ? "best number" : "number", "data-side": side === "normal" ? "N" : "I", title: `${side} side${inAll}`,
     "aria-label": `${words} on the ${side} side${inAll}`,
   };
-  return cell("td", about, lengths[side] === null ? "–" : String(lengths[side]), element("small", { class: "times" }));
+  return cell("td", about, length === null ? "–" : String(length), element("small", { class: "times" }));
 }
 
 /** Shows in a row how many of the shortest reductions there are on each side, and the first of them.
@@ -65,12 +67,13 @@ export function tellReductions(shown, { counts, first }) {
 export function bestRow(row, acts) {
   const { total, part: added, state, next, others, key } = row;
   const line = added.moves === "" ? "no moves" : bracketed([added]);
-  const isSeen = acts.isSeen([added], next?.step);
   const all = Number.isFinite(total) ? String(total) : "–";
-  const take = takeButton(line, { key, isSeen }, () => acts.goOn(row));
+  /** @type {[Part[], string | undefined]} */
+  const kept = [[added], next?.step];
+  const take = takeButton(line, { key, isSeen: acts.isSeen(...kept) }, () => acts.goOn(row));
   // one orientation has a row, and a star, for each reduction that may follow
   const whole = next ? `${line}, ${next.marks} ${next.case}` : line;
-  const star = starButton(whole, () => acts.isStarred([added], next?.step), (button) => acts.star(button, [added], next?.step));
+  const star = starButton(whole, () => acts.isStarred(...kept), (button) => acts.star(button, ...kept));
   const moves = movesCell(take, others, next !== null);
   const cells = [cell("th", {}, all), moves, cell("td", { class: "axis" }, state)];
   if (next) {

@@ -1,11 +1,13 @@
-// The card of the best continuations: looked for by themselves, longer ones too, with progress, a stop, filters, and rows that go on.
+// The card of the best continuations, which are looked for unasked: with progress, a stop, filters, rows that go on.
 import { byTotal } from "../module/best-rows.js";
 import { Stopped } from "../module/faults.js";
 import { GREATEST_SLACK } from "./address.js";
 import { bestRow } from "./best-row.js";
 import { announce, announceLater, counted, part, setBusy, tell } from "./element.js";
-import { Filters, NOT_MOVES, caseAtMost, chosen, offerChoices, offerLastTurns, offerMoves, withTurns } from "./filter.js";
-import { byCase, findContinuations } from "./finder.js";
+import {
+  Filters, NOT_MOVES, caseAtMost, chosen, offerChoices, offerLastTurns, offerMoves, withTurns,
+} from "./filter.js";
+import { byCase, findContinuations, goingOn } from "./finder.js";
 import { FurtherSearch } from "./further.js";
 import { ShownReductions } from "./reductions.js";
 import { addRows, refreshRows, roveWithin, showRows, takeNamed } from "./rows.js";
@@ -17,8 +19,8 @@ import { isNarrow } from "./view.js";
 /** @typedef {import("./further.js").Further} Further */
 
 const LOOKING_FOR_BEST = "Looking for the best …";
-/** How many rows are shown at first, so that the table below them is seen: where the page is narrow fewer, and of reductions more, since
- * none follows them in their row. */
+/** How many rows are shown at first, so that the table below them is seen: where the page is narrow fewer, and of
+ * reductions more, since none follows them in their row. */
 const SHOWN_FIRST = { narrow: 3, wide: 6, ofReductions: 8 };
 const SHOWN_MORE = 40;
 const TOTALS = ["7", "8", "9", "10", "11", "12", "13"];
@@ -42,7 +44,7 @@ function newAmong(rows, seen) {
   return rows.slice(0, Math.max(0, last)).filter(({ key }) => !known.has(key)).length;
 }
 
-/** The filters of orientations, with the reduction that follows and its case; and of reductions, after which there is no case. */
+/** The filters of orientations, with their reduction and its case; and of reductions, after which there is no case. */
 const filters = () => ({
   ofOrientations: [
     caseAtMost("best", ({ next }) => [next.case]),
@@ -81,8 +83,8 @@ export class BestContinuations {
   /**
    * @param {import("./calls.js").Calls[]} finders of its own, one an axis
    * @param {import("./calls.js").Calls} calls that tell more of rows that are seen
-   * @param {import("./best-row.js").RowActs & {shown: () => void, isBusy: () => boolean}} acts `isBusy`: whether the page waits for
-   * something else
+   * @param {import("./best-row.js").RowActs & {shown: () => void, isBusy: () => boolean}} acts `isBusy`: whether the
+   * page waits for something else
    */
   constructor(finders, calls, acts) {
     this.#finders = finders;
@@ -197,16 +199,25 @@ export class BestContinuations {
     this.#newer = null;
     this.#tellNewer(0);
     this.#question = { ...this.#question, slack: Number(part("best-slack").value), isAll: part("best-all").checked };
-    const known = this.#found.get(nameOfSearch(this.#question));
-    if (!known) return void this.#find(this.#question);
+    const known = this.#found.get(nameOfSearch(this.#question)) ?? this.#shorter(this.#question);
+    if (!known || known.slack < this.#question.slack) return void this.#find(this.#question, known);
     this.#show(known);
     this.#goFurther();
+  }
+
+  /** What was found of fewer moves more, as far as it was wanted; or nothing.
+   * @param {Question} question */
+  #shorter({ slack, ...question }) {
+    const names = Array.from({ length: slack }, (_, less) => nameOfSearch({ ...question, slack: less }));
+    const isWithin = (found) => question.reached.length === 0 && found?.slack <= slack;
+    return names.map((name) => this.#found.get(name)).filter(isWithin).sort((one, other) => other.slack - one.slack)[0];
   }
 
   /** Goes on by itself from what was found, if it may. */
   #goFurther() {
     this.#working(false);
-    if (part("best-further").checked) this.#further.begin({ ...this.#question, slack: this.#progress.slack }, this.#progress);
+    const { slack } = this.#progress;
+    if (part("best-further").checked) this.#further.begin({ ...this.#question, slack }, this.#progress);
   }
 
   #turnFurther() {
@@ -215,8 +226,8 @@ export class BestContinuations {
     else if (this.#found.has(nameOfSearch(this.#question))) this.#ask();
   }
 
-  /** Takes what was found without being asked for. Rows that are seen stay where they are: what belongs among them waits until it is asked
-   * for.
+  /** Takes what was found without being asked for. Rows that are seen stay where they are: what belongs among them
+   * waits until it is asked for.
    * @param {Further} progress */
   #foundFurther(progress) {
     if (progress.done === progress.all) this.#keep(this.#question, progress);
@@ -243,7 +254,7 @@ export class BestContinuations {
     this.#tellNewer(0);
   }
 
-  /** Says how many rows belong among those that are seen, and of the first of them how good it is, if it is better than all.
+  /** Says how many rows belong among those that are seen, and how good the first is, if it is better than all.
    * @param {number} count @param {Row} [first] */
   #tellNewer(count, first) {
     const isBest = count > 0 && first.total < (this.#rows(this.#progress)[0]?.total ?? 0);
@@ -261,16 +272,17 @@ export class BestContinuations {
     (first ? takeNamed(this.#body, first.key) : part("best-heading")).focus({ preventScroll: true });
   }
 
-  /** @param {Question} question */
-  async #find(question) {
+  /** @param {Question} question @param {Further} [known] what was found of fewer moves more */
+  async #find(question, known) {
     const isStill = () => question === this.#question;
     const { slack } = question;
+    const asked = known ? goingOn(question, known.slack, known) : question;
     this.#progress = null;
     this.#showRows([]);
     this.#working(true);
     part("best-note").textContent = LOOKING_FOR_BEST;
     try {
-      await findContinuations(this.#finders, question, (progress) => isStill() && this.#show({ ...progress, slack }));
+      await findContinuations(this.#finders, asked, (found) => isStill() && this.#show({ ...found, slack }), known);
       if (!isStill()) return;
       this.#keep(question, this.#progress);
       this.#goFurther();
@@ -370,8 +382,8 @@ export class BestContinuations {
   /** @param {number} left how many rows are left */
   #note(left) {
     const { rows, isCut } = this.#newer ?? this.#progress;
-    const all = `${isCut ? "best " : ""}${counted(rows.length, "row")}`;
-    const of = left === rows.length ? `${isCut ? "The " : ""}${all}` : `${left.toLocaleString("en")} of ${isCut ? "the " : ""}${all}`;
+    const all = `${isCut ? "the best " : ""}${counted(rows.length, "row")}`;
+    const of = left === rows.length ? all.replace("the", "The") : `${left.toLocaleString("en")} of ${all}`;
     return `${this.#tried()} ${of}.`.trim();
   }
 
@@ -383,8 +395,8 @@ export class BestContinuations {
     this.#body.querySelectorAll(".take")[from]?.focus();
   }
 
-  /** Shows rows below those that are seen, or in place of them. One that moved among others would be a shift of what is seen, so then all
-   * are made anew.
+  /** Shows rows below those that are seen, or in place of them. One that moved among others would be a shift of what is
+   * seen, so then all are made anew.
    * @param {Row[]} rows */
   #showRows(rows) {
     const stay = this.#seen.every((row, at) => row === rows[at]) ? this.#seen.length : 0;

@@ -1,5 +1,5 @@
-// Questions to the engine, as promises. It runs in a worker, whose script stands in the page (worker.js has what may be asked), so that the
-// page never waits; workers start and build the tables that may be needed next while nothing else is asked.
+// Questions to the engine, as promises. It runs in a worker, whose script stands in the page (worker.js has what may be
+// asked), so that the page never waits. Workers start and build tables while nothing else is asked.
 import { NissyFault } from "../module/faults.js";
 import { WorkerQueue } from "../module/worker-queue.js";
 import { ORIENTATIONS, REDUCTIONS, openSteps, reductionsAfter } from "./steps.js";
@@ -9,7 +9,7 @@ import { watched } from "./watch.js";
 
 const UNREADABLE = "An answer of it can't be read.";
 
-/** What starts workers of the page, by the text of their script. One is started before it is asked for, since that takes a while.
+/** What starts workers of the page, by the text of their script. One is started early, since that takes a while.
  * @param {string} script @returns {() => Worker} */
 export function workersOf(script) {
   const start = () => {
@@ -18,7 +18,8 @@ export function workersOf(script) {
     // not before it was read
     worker.addEventListener("message", () => URL.revokeObjectURL(address), { once: true });
     // an answer that can't be read would be waited for
-    worker.addEventListener("messageerror", () => worker.dispatchEvent(new ErrorEvent("error", { message: UNREADABLE })));
+    const unread = () => new ErrorEvent("error", { message: UNREADABLE });
+    worker.addEventListener("messageerror", () => worker.dispatchEvent(unread()));
     return worker;
   };
   let early = null;
@@ -58,7 +59,7 @@ export class Calls {
   /**
    * What the engine says. Rejects with a `NissyFault` if lines can't be read.
    * @template {keyof Answers} Name
-   * @param {Name} call @param {Parameters<Answers[Name]>[1]} about @param {(progress: any) => void} [followed] what is told before the end
+   * @param {Name} call @param {Parameters<Answers[Name]>[1]} about @param {(progress: any) => void} [followed]
    * @returns {Promise<ReturnType<Answers[Name]>>}
    */
   async ask(call, about, followed) {
@@ -98,7 +99,7 @@ export class Calls {
     this.#queue.drop();
   }
 
-  /** Gives up all questions: what runs has its worker ended, and the tables with it, unless these are all that it has to do. */
+  /** Gives up all questions: what runs has its worker ended, tables too, if it has more to do than these. */
   stop() {
     if (this.#asked === 0) return this.drop();
     this.end();
@@ -135,7 +136,8 @@ export class Readiness {
    * @param {string[]} reached @param {boolean} isBare whether no scramble is there yet @param {() => boolean} isBusy */
   begin(reached, isBare, isBusy) {
     this.stop();
-    this.#timer = setTimeout(() => (isBusy() ? this.begin(reached, isBare, isBusy) : this.#build(reached, isBare)), REST);
+    const go = () => (isBusy() ? this.begin(reached, isBare, isBusy) : this.#build(reached, isBare));
+    this.#timer = setTimeout(go, REST);
   }
 
   #build(reached, isBare) {

@@ -1,5 +1,5 @@
-// Copies: a line as solvers write it on a scoresheet, the scramble on top and then a step a line with what it reaches and how long it is;
-// and how a text comes to the clipboard.
+// Copies: a line as solvers write it on a scoresheet, the scramble on top and then a step a line with what it reaches
+// and how long it is; and how a text comes to the clipboard.
 import { announce, part } from "./element.js";
 import { bracketed, newlyReached } from "./steps.js";
 import { tellAt } from "./view.js";
@@ -11,7 +11,8 @@ import { tellAt } from "./view.js";
 function stepLine(walk, index) {
   const [own, total] = [walk.turns[index], walk.totals[index + 1]];
   const count = index === 0 ? `(${total})` : `(${own}/${total})`;
-  return `${bracketed([walk.parts[index]])} // ${[newlyReached(walk, index).join(", "), count].filter(Boolean).join(" ")}`;
+  const said = [newlyReached(walk, index).join(", "), count].filter(Boolean).join(" ");
+  return `${bracketed([walk.parts[index]])} // ${said}`;
 }
 
 /** @param {Walk} walk @returns the steps of a line, a text of a line each */
@@ -23,7 +24,8 @@ export const fmcOf = (scramble, walk) => [scramble, ...stepLines(walk)].join("\n
 /** Some candidates of a scramble, with their notes.
  * @param {string} scramble @param {{walk: Walk, notes: string[]}[]} candidates */
 export function fmcOfAll(scramble, candidates) {
-  const blocks = candidates.map(({ walk, notes }) => [...stepLines(walk), ...notes.map((note) => `// ${note}`)].join("\n"));
+  const blocks = candidates.map(({ walk, notes }) =>
+    [...stepLines(walk), ...notes.map((note) => `// ${note}`)].join("\n"));
   return [scramble, ...blocks].join("\n\n");
 }
 
@@ -65,7 +67,7 @@ function showUncopied(text) {
   announce("The browser doesn't let the page copy. The text is selected: copy it with the keys of your system.");
 }
 
-/** @param {string} text @param {HTMLElement} button @param {HTMLElement | null} shownIn what shows the text, if anything does
+/** @param {string} text @param {HTMLElement} button @param {HTMLElement | null} shownIn what shows the text
  * @returns {Promise<boolean>} whether it is copied */
 export async function copy(text, button, shownIn = null) {
   if (text === "") return false;
@@ -89,8 +91,8 @@ export async function copy(text, button, shownIn = null) {
   return isDone;
 }
 
-const LINK_OF_FILE = "This page is a file, so the link leads to it on this computer alone. Whoever else has the file can put what "
-  + "stands after the # behind its address.";
+const LINK_OF_FILE = "This page is a file, so the link leads to it on this computer alone. Whoever else has the file "
+  + "can put what stands after the # behind its address.";
 
 /** Copies the address of the page, and says of a file's that it is one.
  * @param {HTMLElement} button */

@@ -1,4 +1,4 @@
-// The card of the cube: the nets of both sides, the pieces that are marked on them, how they are held, and moves that are played on them.
+// The card of the cube: the nets of both sides, the pieces marked on them, how they are held, and moves played on them.
 import { AXES } from "../module/best-steps.js";
 import { stickersOf } from "../module/stickers.js";
 import { announce, element, part, tell } from "./element.js";
@@ -40,9 +40,10 @@ export class Cube {
 
   constructor() {
     for (const side of SIDES) {
-      this.#nets[side] = emptyNet();
-      part(`net-${side}`).prepend(this.#nets[side]);
-      this.#nets[side].addEventListener("click", ({ target }) => this.#press(side, stickerOf(this.#nets[side], target)));
+      const net = emptyNet();
+      this.#nets[side] = net;
+      part(`net-${side}`).prepend(net);
+      net.addEventListener("click", ({ target }) => this.#press(side, stickerOf(net, target)));
     }
     part("piece").append(...PIECES.map((place) => element("option", { value: place }, nameOfPiece(place))));
     part("piece").addEventListener("change", () => this.#tellWhy(SIDES));
@@ -51,8 +52,9 @@ export class Cube {
     const kinds = ["EO", "DR"].flatMap((kind) => AXES.map((axis) => `${kind} ${axisName(axis)}`));
     this.#choice.append(...kinds.map((kind) => element("option", { value: kind }, kind)));
     this.#choice.addEventListener("change", () => this.#draw());
-    for (const kind of ["pointerover", "focusin"]) part("choices").addEventListener(kind, (event) => this.#point(event.target));
-    for (const kind of ["pointerleave", "focusout"]) part("choices").addEventListener(kind, () => this.#point(null));
+    const choices = part("choices");
+    for (const kind of ["pointerover", "focusin"]) choices.addEventListener(kind, ({ target }) => this.#point(target));
+    for (const kind of ["pointerleave", "focusout"]) choices.addEventListener(kind, () => this.#point(null));
     for (const turn of ["x", "y"]) part(`view-${turn}`).addEventListener("click", () => this.#turn(turn));
     this.#play.addEventListener("click", () => (this.#timer === 0 ? this.#begin() : this.stop()));
     // a sheet has the whole line

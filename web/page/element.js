@@ -2,8 +2,9 @@
 
 /**
  * An element of the page, which may be a field, a bar or what folds.
- * @typedef {HTMLElement & {value: any, checked: boolean, disabled: boolean, selectedIndex: number, maxLength: number, selectionStart: number,
- *     selectionEnd: number, showPopover(): void, setSelectionRange(from: number, to: number): void, max: number, open: boolean}} PageElement
+ * @typedef {HTMLElement & {value: any, checked: boolean, disabled: boolean, selectedIndex: number, maxLength: number,
+ * selectionStart: number, selectionEnd: number, showPopover(): void, setSelectionRange(from: number, to: number): void,
+ * max: number, open: boolean}} PageElement
  */
 
 /** @param {string} id @returns {PageElement} the element of the page that has this id */
@@ -51,7 +52,7 @@ export function announce(text) {
   part("status").textContent = text;
 }
 
-/** Says something to screen readers once nothing else changes for a moment; an empty text takes back what would be said.
+/** Says something to screen readers once nothing else changes for a moment; an empty text takes that back.
  * @param {string} text */
 export function announceLater(text) {
   clearTimeout(later);
@@ -61,7 +62,7 @@ export function announceLater(text) {
 const LONG_WAIT = 500;
 const waiting = new Map();
 
-/** Says of a part of the page whether it waits for answers, and to screen readers what it waits for, where that takes a while.
+/** Says of a part of the page whether it waits for answers, and to screen readers for what, if that takes a while.
  * @param {string} id @param {boolean} isBusy @param {string} [text] what is said */
 export function setBusy(id, isBusy, text = "") {
   part(id).setAttribute("aria-busy", String(isBusy));
@@ -75,4 +76,5 @@ export function counted(count, word) {
 }
 
 /** @param {string} moves @returns moves as they are said, since an apostrophe isn't read as solvers read it */
-export const spoken = (moves) => moves.replace(/'/g, " prime").replace(/\(/g, "on the inverse side ").replace(/\)/g, "");
+export const spoken = (moves) =>
+  moves.replace(/'/g, " prime").replace(/\(/g, "on the inverse side ").replace(/\)/g, "");

@@ -1,10 +1,11 @@
-// What is left of rows: by what is chosen, by how many corners and edges their cases may have, by turns that are typed, by the last turn.
+// What is left of rows: by what is chosen, by the corners and edges of their cases, by turns that are typed, by the
+// last.
 import { withTwins } from "../module/twins.js";
 import { announce, announceLater, counted, element, part, tell } from "./element.js";
 import { sizeOfCase } from "./steps.js";
 
-/** @typedef {{fields: string[], test: (...values: string[]) => ((row: any) => boolean) | null}} Kind of filter: its fields, and what says
- * by the values of these whether a row is left; null if one of them can't be read */
+/** @typedef {{fields: string[], test: (...values: string[]) => ((row: any) => boolean) | null}} Kind of filter: its
+ * fields, and what says by the values of these whether a row is left; null if one of them can't be read */
 /** @typedef {{moves: string, others: string[]}} Ends moves, and the last turns of their twins */
 
 /** What is said of a text that isn't moves. */
@@ -20,7 +21,8 @@ const FIRST_OF_AXIS = { D: "U", L: "R", B: "F" };
 export function offerChoices(name, choices) {
   const field = part(name);
   const chosen = field.value;
-  field.replaceChildren(element("option", { value: "" }, "any"), ...choices.map((each) => element("option", { value: each }, each)));
+  const option = (value) => element("option", { value }, value || "any");
+  field.replaceChildren(...["", ...choices].map(option));
   field.value = choices.includes(chosen) ? chosen : "";
 }
 
@@ -32,14 +34,16 @@ export function offerMoves(name, most) {
 }
 
 /** What is chosen in a field.
- * @param {string} field @param {string[]} choices @param {(row: any, choice: string) => boolean} isLeft @returns {Kind} */
+ * @param {string} field @param {string[]} choices @param {(row: any, choice: string) => boolean} isLeft
+ * @returns {Kind} */
 export function chosen(field, choices, isLeft) {
   offerChoices(field, choices);
   return { fields: [field], test: (value) => (row) => value === "" || isLeft(row, value) };
 }
 
 /** The most corners and edges that one of a row's cases may have.
- * @param {string} name with which the ids of both fields begin @param {(row: any) => string[]} casesOf such as `4c2e` @returns {Kind} */
+ * @param {string} name with which the ids of both fields begin @param {(row: any) => string[]} casesOf
+ * @returns {Kind} */
 export function caseAtMost(name, casesOf) {
   for (const [kind, counts] of Object.entries(MOST_OF_CASE)) offerChoices(`${name}-${kind}`, counts);
   const test = (...values) => {
@@ -72,7 +76,8 @@ function turnsOf(text) {
 const lastTurn = (moves) => moves.slice(moves.lastIndexOf(" ") + 1);
 
 /** Turns that stand one after another, and the last turn, of a row's moves or of one of their twins.
- * @param {string} typed the field of the first @param {string} last of the second @param {(row: any) => Ends} endsOf @returns {Kind} */
+ * @param {string} typed its field @param {string} last the other one @param {(row: any) => Ends} endsOf
+ * @returns {Kind} */
 export function withTurns(typed, last, endsOf) {
   offerChoices(last, []);
   const test = (text, end) => {
@@ -82,7 +87,8 @@ export function withTurns(typed, last, endsOf) {
     const turns = wanted.length === 0 ? "" : ` ${wanted.join(" ")} `;
     return (row) => {
       const { moves, others } = endsOf(row);
-      return withTwins(moves, others).some((each) => ` ${each} `.includes(turns) && (end === "" || lastTurn(each) === end));
+      const isLeft = (each) => ` ${each} `.includes(turns) && (end === "" || lastTurn(each) === end);
+      return withTwins(moves, others).some(isLeft);
     };
   };
   return { fields: [typed, last], test };
@@ -90,7 +96,8 @@ export function withTurns(typed, last, endsOf) {
 
 /** Offers the last turns of some moves.
  * @param {string} field @param {string[]} all the moves of each row */
-export const offerLastTurns = (field, all) => offerChoices(field, [...new Set(all.map(lastTurn).filter(Boolean))].sort());
+export const offerLastTurns = (field, all) =>
+  offerChoices(field, [...new Set(all.map(lastTurn).filter(Boolean))].sort());
 
 /** The filters of a card, which says how many of them are on, and if they leave nothing; a button clears them. */
 export class Filters {
@@ -99,8 +106,9 @@ export class Filters {
   #button;
   #none;
 
-  /** @param {string} name with which the ids begin @param {HTMLElement} note that says what is left @param {Kind[][]} sets of which one is
-   * used at a time, at first the first one @param {() => boolean} changed says whether there are rows that may be left */
+  /** @param {string} name with which the ids begin @param {HTMLElement} note that says what is left
+   * @param {Kind[][]} sets of which one is used at a time, first the first
+   * @param {() => boolean} changed says whether there are rows that may be left */
   constructor(name, note, sets, changed) {
     [this.#kinds] = sets;
     [this.#badge, this.#button, this.#none] = ["on", "clear", "none"].map((each) => part(`${name}-${each}`));

@@ -1,15 +1,22 @@
-// Finds the best continuations, each axis by an engine of its own: what they find is one list, sorted by all moves, those made counted too.
-import { BestRows } from "../module/best-rows.js";
-import { ORIENTATIONS, stateOf, stepNamed } from "./steps.js";
+// Finds the best continuations, each axis by an engine of its own: what they find is one list, by all moves in all.
+import { BestRows, Bound } from "../module/best-rows.js";
+import { ORIENTATIONS } from "./steps.js";
 
 /** @typedef {import("./calls.js").Calls} Calls */
-/** @typedef {import("../module/best-rows.js").Next & {marks: string, case: string}} Next the reduction that follows, and what it reaches */
-/** @typedef {Omit<import("../module/best-rows.js").Row, "next"> & {state: string, next: Next | null}} Row with what its part reaches */
-/** @typedef {{position: import("../module/ways.js").Position, reached: string[], slack: number, isAll: boolean}} Question */
+/** @typedef {Omit<import("../module/best-rows.js").Next, "own"> & {marks: string, case: string}} Next a reduction and
+ * what it reaches */
+/** @typedef {Omit<import("../module/best-rows.js").Row, "next"> & {state: string, next: Next | null}} Row */
+/** @typedef {import("../module/ways.js").Position} Position */
+/** @typedef {{position: Position, reached: string[], slack: number, isAll: boolean, from?: number, totals?: number[]}}
+ * Question `from`: by how much longer at least, if shorter ones are known; `totals`: how many of those have how many
+ * moves */
 /** @typedef {{done: number, all: number | null, rows: Row[], isCut: boolean}} Progress of new rows alone, or of all */
 
 /** How many rows are kept. */
 const MOST_KEPT = 10_000;
+/** What is found before anything is.
+ * @type {Progress} */
+const NOTHING = { done: 0, all: 0, rows: [], isCut: false };
 
 /** @param {Row} row @returns how far the case of a row is; it matters only before its reduction */
 const farness = ({ next, far }) => (next === null ? 0 : far);
@@ -17,21 +24,24 @@ const farness = ({ next, far }) => (next === null ? 0 : far);
 /** @param {Row} one @param {Row} other */
 export const byCase = (one, other) => farness(one) - farness(other);
 
-/** @param {import("../module/best-rows.js").Row} row @returns {Row} a row with what it reaches in the page's words, and the lengths after
- * the moves that it shows */
-function rowInWords(row) {
-  const next = row.next && { ...row.next, ...row.next.own, marks: stateOf(stepNamed(row.next.step)), case: row.case };
-  return { ...row, state: stateOf(stepNamed(row.step)), next };
+/** A question about what is longer than what was found.
+ * @param {Question} question @param {number} known by how much longer that is @param {Progress} before */
+export function goingOn(question, known, { rows }) {
+  const bound = new Bound(MOST_KEPT);
+  bound.add(rows);
+  return { ...question, from: known + 1, totals: bound.totals };
 }
 
 /** What is found on some axes, as one list. */
 export class Found {
+  #before;
   #counts;
   #best;
   #isCut;
 
-  /** @param {number} axes how many @param {{rows: Row[], isCut: boolean}} [before] what was found before */
-  constructor(axes, before = { rows: [], isCut: false }) {
+  /** @param {number} axes how many @param {Progress} [before] what was found before, and isn't looked for again */
+  constructor(axes, before = NOTHING) {
+    this.#before = before;
     this.#counts = Array.from({ length: axes }, () => ({ done: 0, all: null }));
     this.#best = new BestRows(MOST_KEPT, before.rows);
     this.#isCut = before.isCut;
@@ -41,7 +51,7 @@ export class Found {
    * @param {number} at its place @param {Progress} found */
   take(at, found) {
     this.#counts[at] = found;
-    this.#best.add(found.rows.map(rowInWords));
+    this.#best.add(found.rows);
     this.#isCut ||= found.isCut || this.#best.isCut;
   }
 
@@ -53,13 +63,14 @@ export class Found {
 
   /** @returns {Progress} of all */
   progress() {
-    const sum = (name) => this.#counts.reduce((all, each) => (all === null || each[name] === null ? null : all + each[name]), 0);
+    const plus = (one, other) => (one === null || other === null ? null : one + other);
+    const sum = (name) => this.#counts.reduce((all, each) => plus(all, each[name]), this.#before[name]);
     return { done: sum("done"), all: sum("all"), rows: this.#best.rows, isCut: this.#isCut };
   }
 }
 
 /** Finds the best of one axis.
- * @param {Calls[]} finders one an axis @param {import("./steps.js").OfferedStep} orientation of the axis @param {Question} question
+ * @param {Calls[]} finders one an axis @param {import("./steps.js").OfferedStep} orientation @param {Question} question
  * @param {(found: Progress) => void} tell told of some after the other */
 export function findOnAxis(finders, orientation, question, tell) {
   const finder = finders[ORIENTATIONS.indexOf(orientation)];
@@ -69,11 +80,12 @@ export function findOnAxis(finders, orientation, question, tell) {
 }
 
 /** Finds the best, and tells of its progress whenever there is more.
- * @param {Calls[]} finders one an axis @param {Question} question @param {(progress: Progress) => void} tellProgress */
-export async function findContinuations(finders, question, tellProgress) {
+ * @param {Calls[]} finders one an axis @param {Question} question @param {(progress: Progress) => void} tellProgress
+ * @param {Progress} [before] what was found before, from which it goes on */
+export async function findContinuations(finders, question, tellProgress, before) {
   const held = ORIENTATIONS.filter(({ name }) => question.reached.includes(name));
   const asked = held.length > 0 ? held : ORIENTATIONS;
-  const found = new Found(asked.length);
+  const found = new Found(asked.length, before);
   await Promise.all(asked.map((orientation, at) => findOnAxis(finders, orientation, question, (progress) => {
     found.take(at, progress);
     tellProgress(found.progress());

@@ -1,12 +1,12 @@
-// Longer orientations than those that were asked for, which nobody asked for: one move longer, and then two. They are looked for while the
-// page is seen and waits for nothing else, by workers that leave half of the processor to whatever is asked meanwhile.
-import { Found, findOnAxis } from "./finder.js";
+// Longer orientations, which nobody asked for: one move longer, and then two. They are looked for while the page is
+// seen and waits for nothing else, by workers that leave half of the processor to whatever is asked meanwhile.
+import { Found, findOnAxis, goingOn } from "./finder.js";
 import { ORIENTATIONS } from "./steps.js";
 
 /** @typedef {import("./finder.js").Question} Question */
-/** @typedef {import("./finder.js").Progress & {slack: number}} Further how many moves longer than the shortest it looks */
-/** @typedef {{question: Question, found: Found, left: number[], running: Set<number>}} Search `left`: the axes that are still to be looked
- * at, by their places */
+/** @typedef {import("./finder.js").Progress & {slack: number}} Further by how many moves longer */
+/** @typedef {{question: Question, found: Found, left: number[], running: Set<number>}} Search `left`: the places
+ * of the axes that are still to be looked at */
 
 /** How many moves longer than the shortest are looked for without being asked for. */
 const FURTHEST = 2;
@@ -14,7 +14,7 @@ const FURTHEST = 2;
 const IDLE_FOR = 600;
 
 /** How many axes are looked at together. */
-const mostTogether = () => Math.max(1, Math.min(ORIENTATIONS.length, Math.floor((navigator.hardwareConcurrency || 2) / 2)));
+const mostTogether = () => Math.min(ORIENTATIONS.length, Math.max(1, (navigator.hardwareConcurrency || 2) >> 1));
 
 export class FurtherSearch {
   #finders;
@@ -24,8 +24,8 @@ export class FurtherSearch {
   #search = null;
 
   /** @param {import("./calls.js").Calls[]} finders one an axis
-   * @param {{isBusy: () => boolean, turned: () => void, found: (progress: Further) => void, ended: (fault: Error | null) => void}} acts
-   * `turned`: once it goes on, or no more */
+   * @param {{isBusy: () => boolean, turned: () => void, found: (progress: Further) => void, ended: (fault: Error |
+   * null) => void}} acts `turned`: once it goes on, or no more */
   constructor(finders, acts) {
     this.#finders = finders;
     this.#acts = acts;
@@ -38,12 +38,12 @@ export class FurtherSearch {
   }
 
   /** Goes on from what was found.
-   * @param {Question} question @param {Pick<Further, "rows" | "isCut">} before the best that are up to its moves longer */
+   * @param {Question} question @param {import("./finder.js").Progress} before what it found */
   begin(question, before) {
     this.stop();
     if (question.reached.length > 0 || question.slack >= FURTHEST) return;
     this.#search = {
-      question: { ...question, slack: question.slack + 1 },
+      question: { ...goingOn(question, question.slack, before), slack: question.slack + 1 },
       found: new Found(ORIENTATIONS.length, before),
       left: ORIENTATIONS.map((_, at) => at),
       running: new Set(),
@@ -83,8 +83,9 @@ export class FurtherSearch {
   async #look(search, at) {
     search.running.add(at);
     const isStill = () => search === this.#search;
+    const take = (found) => isStill() && this.#take(search, at, found);
     try {
-      await findOnAxis(this.#finders, ORIENTATIONS[at], search.question, (found) => isStill() && this.#take(search, at, found));
+      await findOnAxis(this.#finders, ORIENTATIONS[at], search.question, take);
     } catch (fault) {
       if (isStill()) this.#broken(search, at, fault);
       return;

@@ -1,10 +1,12 @@
-// The card of the candidates that are kept: each with its moves, what it reaches, its case and a note; gone on with, taken away, or copied.
+// The card of the candidates that are kept: each with its moves, what it reaches, its case and a note.
 import { Stopped } from "../module/faults.js";
 import { LONGEST_NOTE, MOST_CANDIDATES, fitsAddress } from "./address.js";
 import { copy, fmcOfAll } from "./copying.js";
 import { announce, button, counted, element, part, spoken, tell } from "./element.js";
 import { WayTo } from "./places.js";
-import { ORIENTATIONS, REDUCTIONS, SIDES, axisName, bracketed, isReduced, reductionsAfter, stateOf, statesOf, stepNamed } from "./steps.js";
+import {
+  ORIENTATIONS, REDUCTIONS, SIDES, axisName, bracketed, isReduced, reductionsAfter, stateOf, statesOf, stepNamed,
+} from "./steps.js";
 import { tellAt, withoutMoving } from "./view.js";
 import { MOST_ARE_KEPT, NO_ROOM } from "./words.js";
 
@@ -22,7 +24,8 @@ const nameOfCandidate = ({ parts, next }) => nameOf(parts, next);
 const saidOf = ({ parts, next }) => spoken(bracketed(parts)) + (next === "" ? "" : `, ${stateOf(stepNamed(next))}`);
 
 /** What is kept once a line is starred, or no longer if it was, and whether it is.
- * @param {Candidate[]} candidates @param {Part[]} parts @param {string} next @returns {{kept: Candidate[], isKept: boolean}} */
+ * @param {Candidate[]} candidates @param {Part[]} parts @param {string} next
+ * @returns {{kept: Candidate[], isKept: boolean}} */
 function withStar(candidates, parts, next) {
   const others = candidates.filter((each) => nameOfCandidate(each) !== nameOf(parts, next));
   const isKept = others.length === candidates.length;
@@ -48,7 +51,8 @@ function wordsOfNext({ next }) {
   return `${next.state} ${next.case}: N ${normal} I ${inverse}, ${total} in all`;
 }
 
-/** @typedef {{parts: Part[], states: string[], cases: string[]}} Stage some steps of a candidate, what they reach, and cases after them */
+/** @typedef {{parts: Part[], states: string[], cases: string[]}} Stage some steps, what they reach, and cases after
+ * them */
 
 /** From which beginning on it has held.
  * @param {KeptWalk} walk @param {string} name of a step that is reached in the end */
@@ -60,8 +64,8 @@ function sidesOf(parts) {
   return sides.length === 1 ? sides[0] : "both sides";
 }
 
-/** The stages of a candidate with a reduction: up to the orientation before it, up to itself with the case that was solved, and what came
- * after it.
+/** The stages of a candidate with a reduction: up to the orientation before it, up to itself with the case that was
+ * solved, and what came after it.
  * @param {KeptWalk} walk @returns {Stage[]} */
 function stagesOfReduced(walk) {
   const { parts, facts } = walk;
@@ -74,7 +78,8 @@ function stagesOfReduced(walk) {
   const before = parts.slice(0, begin);
   const oriented = statesOf(first.map(({ needs }) => needs)).map((state) => `${state}, ${sidesOf(before)}`);
   const reduced = first.map((step) => (from < to ? `${stateOf(step)} ${facts[from].cases[step.axis]}` : stateOf(step)));
-  const later = to === 0 ? reductions : reductions.filter((step) => !first.some((other) => stateOf(other) === stateOf(step)));
+  const others = reductions.filter((step) => !first.some((other) => stateOf(other) === stateOf(step)));
+  const later = to === 0 ? reductions : others;
   const stages = [
     { parts: before, states: oriented, cases: [] },
     { parts: parts.slice(begin, to), states: [...new Set(reduced)], cases: [] },
@@ -147,12 +152,14 @@ export class KeptCandidates {
     }
     this.#walks = [];
     this.#offerBack(null);
-    this.#way.show(candidates.length === 0 ? "" : `★ ${candidates.length}`, `Kept: ${counted(candidates.length, "line")}`);
+    const { length } = candidates;
+    this.#way.show(length === 0 ? "" : `★ ${length}`, `Kept: ${counted(length, "line")}`);
     this.#draw();
   }
 
   /** Keeps a line, or takes it away if it is kept.
-   * @param {import("./address.js").State} state @param {HTMLElement} pressed under which is said why it isn't kept @param {Part[]} parts
+   * @param {import("./address.js").State} state @param {HTMLElement} pressed under which is said why it isn't kept
+   * @param {Part[]} parts
    * @param {string} [next] the reduction that it is kept with */
   star(state, pressed, parts, next = "") {
     const { kept, isKept } = withStar(state.kept, parts, next);
@@ -178,8 +185,10 @@ export class KeptCandidates {
     this.#before = before;
     const count = before === null ? 0 : before.length - this.#candidates.length;
     part("kept-left").hidden = count === 0;
-    part("kept-left-words").textContent = count === 0 ? "" : `${counted(count, "line")} ${count === 1 ? "was" : "were"} removed.`;
-    part("kept").classList.toggle("empty", this.#candidates.length === 0 && count === 0);
+    const words = `${counted(count, "line")} ${count === 1 ? "was" : "were"} removed.`;
+    part("kept-left-words").textContent = count === 0 ? "" : words;
+    // not by :has, which would lay a style on all of the page whenever a part of it changes
+    part("kept").parentElement.classList.toggle("none-kept", this.#candidates.length === 0 && count === 0);
     // what is hidden can't keep the focus
     if (isFocused && count === 0) part("kept-heading").focus({ preventScroll: true });
   }
@@ -248,7 +257,7 @@ export class KeptCandidates {
 
   #item({ candidate, walk, at }) {
     const { parts, note } = candidate;
-    const [name, said] = [nameOfCandidate(candidate), saidOf(candidate)];
+    const [name, said, next] = [nameOfCandidate(candidate), saidOf(candidate), walk?.next ?? null];
     const act = (word, control, click) =>
       button(word, { class: "quiet", "data-control": `${control} ${name}`, "aria-label": `${word}: ${said}`, click });
     const field = element("input", {
@@ -264,7 +273,7 @@ export class KeptCandidates {
       stepOf(parts, walk),
       element("span", { class: "row" },
         field,
-        act("Go on", "on", () => this.#acts.goOn(parts, walk?.next ? { step: candidate.next, side: walk.next.side } : null)),
+        act("Go on", "on", () => this.#acts.goOn(parts, next && { step: candidate.next, side: next.side })),
         act("Remove", "away", () => this.#remove(at))));
   }
 

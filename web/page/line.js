@@ -1,5 +1,5 @@
-// The card of the line so far: the steps that were taken, each of which may be edited or taken away, undo, moves by hand, the switch of
-// sides, and the whole to copy.
+// The card of the line so far: the steps that were taken, each of which may be edited or taken away, undo, moves by
+// hand, the switch of sides, and the whole to copy.
 import { Stopped } from "../module/faults.js";
 import { plainLine } from "../module/written.js";
 import { copy, fmcOf } from "./copying.js";
@@ -14,6 +14,8 @@ import { showFault, wordsOfLeftOut } from "./words.js";
 const LONGEST_PASTED = 65536;
 const UNKNOWN = "…";
 const NO_MOVES = "No moves yet";
+/** What is there only if there are moves. */
+const OF_MOVES = ["line-list", "whole", "undo", "bar-total", "bar-undo", "keep-line"];
 
 /** @param {Part[]} parts @returns {Part[]} the parts without their last move */
 function withoutLastMove(parts) {
@@ -23,7 +25,7 @@ function withoutLastMove(parts) {
 }
 
 /** @param {string[]} words @returns words in a row: `one`, `one and another`, `one, another and a third` */
-const listed = (words) => [words.slice(0, -1).join(", "), ...words.slice(-1)].filter((each) => each !== "").join(" and ");
+const listed = (words) => [words.slice(0, -1).join(", "), ...words.slice(-1)].filter(Boolean).join(" and ");
 
 /** @param {Walk} walk @returns what is said of a line that ends, or "" */
 function endOf({ parts, facts, reached, totals }) {
@@ -32,7 +34,8 @@ function endOf({ parts, facts, reached, totals }) {
   if (facts.at(-1).solved) return `Solved: ${total}.`;
   if (!isReduced(reached.at(-1))) return "";
   const states = statesOf(reached.at(-1)).filter((state) => state.startsWith("DR"));
-  return `${listed(states)} ${states.length === 1 ? "is" : "are"} reached: ${total}. nissy has no step after a DR: go on by hand.`;
+  const are = states.length === 1 ? "is" : "are";
+  return `${listed(states)} ${are} reached: ${total}. nissy has no step after a DR: go on by hand.`;
 }
 
 /** What is known of the steps that two lines begin with in common.
@@ -48,7 +51,7 @@ function noteOfJoined({ parts, facts }) {
   return "Not finished: the inverse moves stand at the end as premoves, and what follows goes before them.";
 }
 
-/** Has lines that are pasted go into a field of one line without their comments, of which the first would leave out all after it.
+/** Has lines that are pasted go into a field of one line without comments, of which the first would hide the rest.
  * @param {import("./element.js").PageElement} field */
 function takeLines(field) {
   field.addEventListener("paste", (event) => {
@@ -71,14 +74,14 @@ export class LineSoFar {
   /** the same of steps that are about to be shown, one of which was edited or removed
    * @type {string[][] | null} */
   #wanted = null;
-  /** the elements that say of each step what it reaches and how long it is, also while a field stands in place of them */
+  /** the elements that say of each step what it reaches and how long it is, also if a field stands in their place */
   #words = [];
   /** @type {Side} */
   #side = "normal";
 
   /** @param {import("./calls.js").Calls} calls
-   * @param {{change: (change: {parts?: Part[], side?: Side}) => boolean, star: () => void}} acts `change` says whether it leads back to
-   * a row */
+   * @param {{change: (change: {parts?: Part[], side?: Side}) => boolean, star: () => void}} acts `change` says whether
+   * it leads back to a row */
   constructor(calls, acts) {
     this.#calls = calls;
     this.#acts = acts;
@@ -93,7 +96,8 @@ export class LineSoFar {
     part("clear").addEventListener("click", () => this.#undo([]));
     part("keep-line").addEventListener("click", () => acts.star());
     for (const name of ["bracketed", "joined", "fmc"]) {
-      part(`copy-${name}`).addEventListener("click", (event) => copy(part(name).textContent, event.currentTarget, part(name)));
+      const text = part(name);
+      part(`copy-${name}`).addEventListener("click", (event) => copy(text.textContent, event.currentTarget, text));
     }
   }
 
@@ -139,8 +143,9 @@ export class LineSoFar {
     part("line-list").replaceChildren(...parts.map((each, index) => this.#item(each, index)));
     part("line-empty").hidden = parts.length > 0;
     // where the engine can't read them, no line of other parts stays to be copied
-    if (bracketed(parts) !== part("bracketed").textContent) this.#showWhole({ line: bracketed(parts), joined: "", total: UNKNOWN });
-    for (const name of ["line-list", "whole", "undo", "bar-total", "bar-undo", "keep-line"]) part(name).hidden = parts.length === 0;
+    const line = bracketed(parts);
+    if (line !== part("bracketed").textContent) this.#showWhole({ line, joined: "", total: UNKNOWN });
+    for (const name of OF_MOVES) part(name).hidden = parts.length === 0;
   }
 
   /** Shows what each step reaches, how long it is, and the whole.
@@ -168,7 +173,8 @@ export class LineSoFar {
     return (this.#reached[index] ?? []).filter((state) => !holds.includes(state));
   }
 
-  /** @param {{line: string, joined: string, total: string, note?: string, fmc?: string}} texts `note`: on what is joined */
+  /** @param {{line: string, joined: string, total: string, note?: string, fmc?: string}} texts `note`: on what is
+   * joined */
   #showWhole({ line, joined, total, note = "", fmc = "" }) {
     const texts = { bracketed: line, joined, total, fmc, "bar-line": line || NO_MOVES, "bar-total": total };
     for (const [name, text] of Object.entries(texts)) part(name).textContent = text;
@@ -184,7 +190,8 @@ export class LineSoFar {
     return element("li", {},
       element("span", { class: "step" },
         element("span", { class: "moves" }, text), reaches, lost, element("span", { class: "note" }, count)),
-      element("span", { class: "acts" }, act("Edit", () => this.#edit(index)), act("Remove", () => this.#replace(index, [], 1))));
+      element("span", { class: "acts" },
+        act("Edit", () => this.#edit(index)), act("Remove", () => this.#replace(index, [], 1))));
   }
 
   /** Puts a field in place of a step.
@@ -194,8 +201,8 @@ export class LineSoFar {
     const text = bracketed([this.#parts[index]]);
     const shown = [...item.childNodes];
     const field = element("input", {
-      class: "moves wide", value: text, spellcheck: "false", autocapitalize: "off", autocomplete: "off", maxlength: 4096,
-      "aria-label": `Step ${index + 1}`,
+      class: "moves wide", value: text, spellcheck: "false", autocapitalize: "off", autocomplete: "off",
+      maxlength: 4096, "aria-label": `Step ${index + 1}`,
     });
     takeLines(field);
     const fault = element("div", { class: "fault", hidden: true });
@@ -219,9 +226,9 @@ export class LineSoFar {
     field.setSelectionRange(text.length, text.length);
   }
 
-  /** Puts parts in place of a step: the last of them is to reach what that one reached. The focus, if it was in the step's row, goes to the
-   * last row that is there then.
-   * @param {number} index @param {Part[]} added @param {number} focused the place among its buttons of the one that has the focus then */
+  /** Puts parts in place of a step: the last is to reach what that one reached. The focus, if it was in its row, goes
+   * to the last row then.
+   * @param {number} index @param {Part[]} added @param {number} focused the place of the button that has it then */
   #replace(index, added, focused) {
     const isWithin = part("line-list").children[index].contains(document.activeElement);
     const reached = added.map((_, at) => (at === added.length - 1 ? this.#reached[index] : []));
@@ -234,7 +241,7 @@ export class LineSoFar {
 
   #undo(parts) {
     const isOneLess = parts.length === this.#parts.length - 1;
-    const isBack = this.#acts.change(isOneLess && this.#parts.length > 0 ? { parts, side: this.#parts.at(-1).side } : { parts });
+    const isBack = this.#acts.change(isOneLess ? { parts, side: this.#parts.at(-1).side } : { parts });
     announce(parts.length === 0 ? "The line is empty." : `The line is ${spoken(bracketed(parts))}.`);
     // a field that is typed in would bring the keyboard of a phone up, beside the row
     if (parts.length === 0) part(isBack ? "line-heading" : "own").focus({ preventScroll: true });
@@ -251,7 +258,8 @@ export class LineSoFar {
 
   /**
    * Reads what a field has as steps.
-   * @param {import("./element.js").PageElement} field @param {HTMLElement} where for a fault @param {Side} side @param {(added: Part[]) => void} use
+   * @param {import("./element.js").PageElement} field @param {HTMLElement} where for a fault @param {Side} side
+   * @param {(added: Part[]) => void} use
    */
   async #read(field, where, side, use) {
     const [text, parts] = [field.value, this.#parts];

@@ -1,5 +1,6 @@
-// How lines are read, by the engine at hand: as it writes them, and by face turns alone if they turn the whole cube. The engine pushes such
-// turns to the end of a line; there they are left out, so that each letter names the same face in all that follows.
+// How lines are read, by the engine at hand: as it writes them, and by face turns alone if they turn the whole cube. It
+// pushes such turns to the end of a line; there they are left out, so that each letter names one face in all that
+// follows.
 import { NissyFault } from "../module/faults.js";
 import { plainLine } from "../module/written.js";
 import { LONGEST_NOTE, MOST_CANDIDATES, MOST_MOVES } from "./address.js";
@@ -15,7 +16,8 @@ const FACE_TURNS = /^[UDRLFB2' ]*$/;
 /** @param {string} cleaned @returns a cleaned line without turns of the whole cube */
 function withoutTurns(cleaned) {
   const line = cleaned.replace(/[xyz][2']?/g, "").replace(/ +/g, " ").replace(/\( /g, "(").replace(/ \)/g, ")");
-  if ((line.match(/[UDRLFB]/g)?.length ?? 0) > MOST_MOVES) throw new NissyFault(`more than ${MOST_MOVES} moves, as face turns`, {});
+  const count = line.match(/[UDRLFB]/g)?.length ?? 0;
+  if (count > MOST_MOVES) throw new NissyFault(`more than ${MOST_MOVES} moves, as face turns`, {});
   return line.replace(/\(\)/g, "").trim();
 }
 
@@ -37,14 +39,15 @@ export function readScramble(nissy, text) {
 }
 
 /** Moves by hand as steps, those in brackets on the inverse side.
- * @param {Nissy} nissy @param {{text: string, side: Side}} typed where moves go in a line without brackets @returns {Part[]} */
+ * @param {Nissy} nissy @param {{text: string, side: Side}} typed `side` of moves without brackets @returns {Part[]} */
 export function readByHand(nissy, { text, side }) {
   const line = FACE_TURNS.test(nissy.unniss(text)) ? text : withoutTurns(nissy.cleanup(text));
   const runs = runsOf(line, text.includes("(") ? "normal" : side);
   return runs.map((run) => ({ side: run.side, moves: nissy.unniss(run.moves) })).filter(({ moves }) => moves !== "");
 }
 
-/** @typedef {{line: string, fault: import("../module/faults.js").FaultParts}} Unread a line of a text that can't be read, and why */
+/** @typedef {{line: string, fault: import("../module/faults.js").FaultParts}} Unread a line, and why it can't be
+ * read */
 
 /** The steps of some lines of text, as solvers write them, up to the first that can't be read.
  * @param {Nissy} nissy @param {string[]} texts @returns {{parts: Part[], unread: Unread | null}} */
@@ -62,12 +65,13 @@ function readAllByHand(nissy, texts) {
   return { parts, unread: null };
 }
 
-/** The steps and the candidates of a text as solvers write it, and the first line of it that can't be read, if there is one.
+/** The steps and the candidates of a text as solvers write it, and the first line of it that can't be read, if any.
  * @param {Nissy} nissy @param {import("../module/written.js").Fmc} written
  * @returns {{parts: Part[], kept: Candidate[], unread: Unread | null}} */
 export function readWritten(nissy, { steps, candidates }) {
   const { parts, unread } = readAllByHand(nissy, steps);
-  const read = candidates.slice(0, MOST_CANDIDATES).map((each) => ({ note: each.note, ...readAllByHand(nissy, each.steps) }));
+  const first = candidates.slice(0, MOST_CANDIDATES);
+  const read = first.map((each) => ({ note: each.note, ...readAllByHand(nissy, each.steps) }));
   // an address has no candidate without moves
   const kept = read.filter((each) => each.parts.length > 0);
   return {
@@ -81,11 +85,14 @@ export function readWritten(nissy, { steps, candidates }) {
  * @param {Nissy} nissy @param {Part[]} parts @returns {Part[]} */
 function readSteps(nissy, parts) {
   nissy.unniss(bracketed(parts));
-  const turnsOf = (moves) => (FACE_TURNS.test(nissy.unniss(moves)) ? nissy.unniss(moves) : withoutTurns(nissy.cleanup(moves)));
+  const turnsOf = (moves) => {
+    const line = nissy.unniss(moves);
+    return FACE_TURNS.test(line) ? line : withoutTurns(nissy.cleanup(moves));
+  };
   return parts.map(({ side, moves }) => ({ side, moves: turnsOf(moves) })).filter(({ moves }) => moves !== "");
 }
 
-/** A candidate of an address, read as its steps are; one that can't be read stays, since that is said where it is shown.
+/** A candidate of an address, read as its steps are; one that can't be read stays, and is said to be so.
  * @param {Nissy} nissy @param {Candidate} candidate @returns {Candidate} */
 function readAgain(nissy, candidate) {
   if (candidate.parts.every(({ moves }) => FACE_TURNS.test(moves))) return candidate;

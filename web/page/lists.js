@@ -1,5 +1,5 @@
-// The rows of a list, by the engine at hand: a step's solutions, twins as one, each with the cases after it; or a step split over both
-// sides, a few moves on one side, and the rest on the other, of which the fewest moves in all are found first.
+// The rows of a list, by the engine at hand: a step's solutions, twins as one, each with the cases after it; or a step
+// split over both sides, a few moves on one and the rest on the other, the fewest moves in all first.
 import { FACES_OF, stepNamed } from "../module/best-steps.js";
 import { turnsOfFace } from "../module/merging.js";
 import { mergeTwins, withoutEarlier } from "../module/twins.js";
@@ -9,11 +9,11 @@ import { joined, otherSide } from "./steps.js";
 /** @typedef {import("../module/nissy.js").Nissy} Nissy */
 /** @typedef {import("./address.js").List} List */
 /** @typedef {import("./steps.js").Lines} Lines */
-/** @typedef {import("../module/twins.js").Twins & {total?: number, cases?: Record<string, string>, begin?: import("./steps.js").Part,
- * line?: string}} Entry a solution, with all moves and the cases after it where these are known; where it is split `length` is that of all
- * its moves, `begin` are those on the other side, and `line` is the cube after these */
-/** @typedef {{entries: Entry[], all: number, left: number, whole: boolean}} Rows `all`: how many solutions there are, and `left`: without
- * those that reach the step before their last move */
+/** @typedef {import("../module/twins.js").Twins & {total?: number, cases?: Record<string, string>, begin?:
+ * import("./steps.js").Part, line?: string}} Entry a solution, with all moves and cases if these are known; if it is
+ * split `length` counts all its moves, `begin` are those on the other side, and `line` is the cube after these */
+/** @typedef {{entries: Entry[], all: number, left: number, whole: boolean}} Rows `all`: how many there are, and `left`:
+ * without those that reach the step before their last move */
 
 /** How many solutions a list may have, and of how many the cases are asked for. */
 const MOST_LISTED = 1_000_000;
@@ -31,7 +31,7 @@ function mayFollow(last, turn) {
   return !axis.includes(turn[0]) || axis.indexOf(last[0]) < axis.indexOf(turn[0]);
 }
 
-/** @param {string} step its name @param {number} count @returns {string[][]} the beginnings of a step with so many moves */
+/** @param {string} step its name @param {number} count @returns {string[][]} its beginnings with so many moves */
 function beginningsWith(step, count) {
   if (count === 0) return [[]];
   const turns = [..."UDRLFB"].flatMap((face) => turnsOfFace(face, stepNamed(step)));
@@ -39,15 +39,16 @@ function beginningsWith(step, count) {
     turns.filter((turn) => mayFollow(before.at(-1), turn)).map((turn) => [...before, turn]));
 }
 
-/** The least length after some beginnings, tried from none on, so that the longer ones are never searched; null if there is none.
+/** The least length after some beginnings, tried from none on, so that none longer is searched; or null.
  * @param {Nissy} nissy @param {import("./steps.js").OfferedStep} step @param {{line: string}[]} beginnings */
 function leastAfter(nissy, { name }, beginnings) {
   const limits = Array.from({ length: LONGEST_AFTER + 1 }, (_, limit) => limit);
   return limits.find((limit) => beginnings.some(({ line }) => leastOf(nissy, name, line, limit) !== null)) ?? null;
 }
 
-/** The solutions of a step with some moves on the other side, those with the fewest moves in all, and longer ones by a slack.
- * @param {Nissy} nissy @param {List} list @param {Lines} now the cube @returns {{solutions: Entry[], whole: boolean}} */
+/** The solutions of a step with some moves on the other side, the fewest in all and longer ones by a slack.
+ * @param {Nissy} nissy @param {List} list @param {Lines} now the cube
+ * @returns {{solutions: Entry[], whole: boolean}} */
 function splitSolutions(nissy, { step, side, slack, split }, now) {
   const beginnings = beginningsWith(step, split).map((turns) => turns.join(" ")).map((moves) => (
     { begin: { side: otherSide(side), moves }, line: joined(nissy.invert(moves), now[side]) }));
@@ -63,8 +64,9 @@ function splitSolutions(nissy, { step, side, slack, split }, now) {
   return { solutions: wanted.slice(0, MOST_OF_ALL), whole };
 }
 
-/** The solutions of a step on one side that are at most so many moves longer than the shortest, and whether these are all.
- * @param {Nissy} nissy @param {List} list @param {Lines} now the cube @returns {{solutions: Entry[], whole: boolean}} */
+/** The solutions of a step on one side that are at most so many moves longer, and whether these are all.
+ * @param {Nissy} nissy @param {List} list @param {Lines} now the cube
+ * @returns {{solutions: Entry[], whole: boolean}} */
 function ownSolutions(nissy, { step, side, slack }, now) {
   const found = nissy.solve(step, now[side], { slack, most: MOST_LISTED + 1 });
   const solutions = found.slice(0, MOST_LISTED).map(({ moves, length }) => ({ moves, length, others: [] }));

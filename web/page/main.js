@@ -1,5 +1,5 @@
-// Starts the page: the worker's script and the engine's module, packed by gzip, stand in the page itself. The module is compiled once for all
-// workers.
+// Starts the page: the worker's script and the engine's module, packed by gzip, stand in the page itself. The module is
+// compiled once for all workers.
 import { compiled } from "../module/source.js";
 import { Calls, workersOf } from "./calls.js";
 import { copyLink } from "./copying.js";

@@ -1,5 +1,5 @@
-// Draws a cube as a net: U above, then L, F, R and B, and D below, as SVG. Each sticker has its colour and its letter, and if pieces are
-// marked a ring and a dot, or a grey. The view may be turned by y and x, which changes no letter and no move.
+// Draws a cube as a net: U above, then L, F, R and B, and D below, as SVG. Each sticker has its colour and its letter,
+// and if pieces are marked a ring and a dot, or a grey. The view may be turned by y and x, which changes no letter.
 
 const SVG = "http://www.w3.org/2000/svg";
 const PITCH = 10;
@@ -54,8 +54,8 @@ function inWords(letters) {
 /**
  * Shows the engine's 54 letters on a net.
  * @param {SVGElement} net @param {string} letters @param {string} title
- * @param {{places: Set<number> | null, view: number[]}} drawing the places that are marked, or null; and which place is seen at each of the
- * net
+ * @param {{places: Set<number> | null, view: number[]}} drawing the places that are marked, or null; and which place is
+ * seen at each of the net
  */
 export function showCube(net, letters, title, { places, view }) {
   const seen = view.map((place) => letters[place]).join("");

@@ -14,8 +14,10 @@ import { Seen, WayBack, dropAddress, keepPlace, placeIn, writeState } from "./pl
 import { ScrambleField } from "./scramble.js";
 import { SolutionList } from "./solutions.js";
 import { ORIENTATIONS, bracketed, isReduced, stateOf, stepNamed } from "./steps.js";
-import { StepTable, offersAt } from "./table.js";
-import { awaitAnswer, isBare, keepInView, listenToKeys, setUsable, showBeginning, showStart, star, waitsForAnswers } from "./view.js";
+import { StepTable, cubeWithOffers } from "./table.js";
+import {
+  awaitAnswer, isBare, keepInView, listenToKeys, setUsable, showBeginning, showStart, star, waitsForAnswers,
+} from "./view.js";
 import { tellFailed } from "./watch.js";
 import { titleOfPage, unanswered, whyNotListed, whyUnread } from "./words.js";
 
@@ -50,7 +52,9 @@ export class Page {
     // what is asked for by hand is never given up for another cube
     this.#byHand = newCalls();
     this.#scramble = new ScrambleField(this.#byHand, (scramble, change) => this.#setScramble(scramble, change));
-    this.#line = new LineSoFar(this.#byHand, { change: (change) => this.#changeLine(change), star: () => this.#starLine() });
+    this.#line = new LineSoFar(this.#byHand, {
+      change: (change) => this.#changeLine(change), star: () => this.#starLine(),
+    });
     this.#table = new StepTable((step, side) => this.#open(step, side));
     const stars = {
       star: (button, added, next) => this.#kept.star(this.#state, button, [...this.#state.parts, ...added], next),
@@ -134,10 +138,11 @@ export class Page {
     this.#refuse(fault);
   }
 
-  /** Takes another state, or parts of it. While an address is still read, what is done on the page that is seen overtakes it.
-   * A list doesn't outlast a change of the steps, since it belongs to the cube before it.
-   * @param {Partial<State>} change @param {{focusNext?: import("./focus.js").Where, isStep?: boolean, left?: number}} how where the focus
-   * is to go with the answers, whether the browser's Back leads to what was before, and how many kept lines it leads back to */
+  /** Takes another state, or parts of it. While an address is still read, what is done on the page that is seen
+   * overtakes it. A list doesn't outlast a change of the steps, since it belongs to the cube before it.
+   * @param {Partial<State>} change
+   * @param {{focusNext?: import("./focus.js").Where, isStep?: boolean, left?: number}} how where the focus is to go
+   * with the answers, whether the browser's Back leads to what was before, and how many kept lines it leads back to */
   #change(change, { focusNext, isStep = "parts" in change, left = 0 } = {}) {
     this.#scramble.tellLeft(left);
     this.#nextFocus.set(focusNext);
@@ -182,7 +187,7 @@ export class Page {
     this.#cube = null;
     this.#readiness.stop();
     this.#calls.drop();
-    const asked = this.#calls.ask("examine", { text: plainLine(scramble).line, parts });
+    const asked = cubeWithOffers(this.#calls, { text: plainLine(scramble).line, parts });
     // what is wrong is said where it is waited for
     asked.catch(() => {});
     document.title = titleOfPage(this.#state);
@@ -207,18 +212,16 @@ export class Page {
   }
 
   /** @param {number} turn of which the engine's answers are shown as they come
-   * @param {Promise<import("./position.js").Examined | import("./position.js").Unexamined>} asked the first of them */
+   * @param {ReturnType<typeof cubeWithOffers>} asked the first of them */
   async #answer(turn, asked) {
-    const cube = await asked;
+    const { cube, portions } = await asked;
     if (turn !== this.#turn) return;
     const fault = "unread" in cube ? new NissyFault(cube.unread.text, cube.unread) : null;
     this.#scramble.judge(fault, "read" in cube ? cube.read : null);
     showBeginning(this.#state);
     if ("unread" in cube) return setUsable(false);
-    const offers = await offersAt(this.#calls, cube.walk);
-    if (turn !== this.#turn) return;
     this.#showCube(cube);
-    await this.#showOffers(turn, offers);
+    await this.#showOffers(turn, portions);
     if (turn !== this.#turn) return;
     this.#showAnswered();
     this.#readiness.begin(this.#cube.reached, part("choices").hidden, () => this.#best.isWorking());
@@ -229,7 +232,8 @@ export class Page {
     const reached = walk.reached.at(-1);
     // as it was typed, if what follows names the faces so
     const written = isTurned ? scramble : plainLine(this.#state.scramble).line.trim().replace(/ +/g, " ");
-    this.#cube = { scramble, written, position: walk.now, reached, facts: views.normal.facts, made: walk.totals.at(-1) };
+    const [{ facts }, made] = [views.normal, walk.totals.at(-1)];
+    this.#cube = { scramble, written, position: walk.now, reached, facts, made };
     const count = parts.reduce((sum, { moves }) => sum + moves.split(" ").length, 0);
     this.#nets.show(views, count, () => this.#byHand.ask("framesOf", { scramble, parts }));
     this.#line.describe(walk, whole, written);
@@ -294,11 +298,13 @@ export class Page {
   async #showList() {
     const { list } = this.#state;
     if (list && !this.#cube) return;
-    this.#nets.follow(list ? stateOf(stepNamed(list.step)) : "");
+    if (!list) this.#nets.follow("");
     const name = list ? [this.#turn, list.step, list.side, list.slack, list.isAll, list.split ?? 0].join(" ") : "";
     const isShown = await this.#list.show(name, list, list && this.#cube.position);
     if (!isShown) return;
     if (this.#nextFocus.take("list")) this.#list.focus();
+    // the rows come first, since marks lay a style on each sticker
+    this.#nets.follow(stateOf(stepNamed(list.step)));
     this.#goBack();
   }
 
@@ -317,7 +323,7 @@ export class Page {
     if (this.#state.parts.length > 0) this.#kept.star(this.#state, part("keep-line"), this.#state.parts);
   }
 
-  /** @param {string} step @param {import("./steps.js").Side} side of the list, which is opened, or closed if it is open */
+  /** @param {string} step @param {Part["side"]} side of the list, which is opened, or closed if it is open */
   #open(step, side) {
     const { list } = this.#state;
     if (list?.step === step && list.side === side) return this.#changeList(null);
@@ -355,7 +361,8 @@ export class Page {
     const { parts } = this.#state;
     this.#seen.add(this.#state, [taken], key, next.step);
     const list = { step: next.step, side: next.side, slack: 0, isAll: false };
-    this.#change({ parts: taken.moves === "" ? parts : [...parts, taken], side: next.side, list }, { focusNext: "list" });
+    const all = taken.moves === "" ? parts : [...parts, taken];
+    this.#change({ parts: all, side: next.side, list }, { focusNext: "list" });
   }
 
   /** @param {Part[]} parts a line that was kept @param {import("./address.js").List | null} list of its reduction */

@@ -1,6 +1,6 @@
-// Where one was: with each entry of the browser's history that is left, what had the focus there and how far the page was scrolled is kept,
-// so that Back leads to the same place; the way to a card and back; and the lines that were taken in this session,
-// which lists and the best mark.
+// Where one was: with each entry of the browser's history that is left, what had the focus there and how far the page
+// was scrolled is kept, so that Back leads to the same place; the way to a card and back; and the lines that were taken
+// in this session, which lists and the best mark.
 import { addressOf, fitsAddress } from "./address.js";
 import { part, tell } from "./element.js";
 import { keepLast } from "./last.js";
@@ -33,7 +33,7 @@ let writing = 0;
 /** Gives up an address that is still to be written. */
 export const dropAddress = () => clearTimeout(writing);
 
-/** Puts an address into the history, a step as an entry of its own; a moment later where the browser has it done too often.
+/** Puts an address into the history, a step as an entry of its own, a moment later if the browser refuses it.
  * @param {string} address @param {boolean} isStep */
 function writeAddress(address, isStep) {
   dropAddress();
@@ -50,7 +50,7 @@ function writeAddress(address, isStep) {
 }
 
 /** Puts a state into the address if that has room for it, since a longer one isn't read.
- * @param {import("./address.js").State} state @param {boolean} isStep whether the browser's Back leads to what the address said before */
+ * @param {import("./address.js").State} state @param {boolean} isStep whether Back leads to what was before */
 export function writeState(state, isStep) {
   const isLong = !fitsAddress(state);
   if (isLong || part("alert").textContent === NOT_IN_ADDRESS) tell(part("alert"), isLong ? NOT_IN_ADDRESS : "");
@@ -93,7 +93,7 @@ export class WayTo {
   /** @type {number | null} how far the page was scrolled, where the button leads back */
   #scroll = null;
 
-  /** @param {HTMLElement} button @param {HTMLElement} card @param {HTMLElement} heading of the card, which takes the focus */
+  /** @param {HTMLElement} button @param {HTMLElement} card @param {HTMLElement} heading which takes the focus */
   constructor(button, card, heading) {
     this.#button = button;
     button.addEventListener("click", () => {
@@ -131,7 +131,7 @@ export class Seen {
   #rows = new Map();
 
   /** Keeps that a line was taken, from which row and beside which list, and with which step after it.
-   * @param {import("./address.js").State} state @param {Part[]} taken @param {string} key of the row @param {string} [next] */
+   * @param {import("./address.js").State} state @param {Part[]} taken @param {string} key @param {string} [next] */
   add({ scramble, parts, list }, taken, key, next = "") {
     const all = [...parts, ...taken];
     for (const step of new Set(["", next])) this.#names.add(nameOfSeen(scramble, all, step));

@@ -1,10 +1,10 @@
-// What the engine at hand says of a scramble and the moves after it: the cube after each step, what is reached, which steps may follow, and
-// what follows a row of the best.
+// What the engine at hand says of a scramble and the moves after it: the cube after each step, what is reached, which
+// steps may follow, and what follows a row of the best.
 import { firstOf } from "../module/best.js";
 import { NissyFault } from "../module/faults.js";
-import { afterPart, countOf, madeBy, totalsWith, wayTo } from "../module/ways.js";
+import { Lengths, afterPart, countOf, madeBy, totalsWith, wayTo } from "../module/ways.js";
 import { readScramble } from "./lines.js";
-import { SIDES, bracketed, caseOfStep, isReduced, offeredAmong, openSteps, stateOf, stepNamed } from "./steps.js";
+import { SIDES, bracketed, caseOfStep, inGroups, isReduced, offeredAmong, openSteps, stateOf } from "./steps.js";
 
 /** @typedef {import("../module/facts.js").Facts} Facts */
 /** @typedef {import("../module/nissy.js").Nissy} Nissy */
@@ -12,11 +12,12 @@ import { SIDES, bracketed, caseOfStep, isReduced, offeredAmong, openSteps, state
 /** @typedef {import("./steps.js").Part} Part */
 /** @typedef {import("./steps.js").Side} Side */
 /** @typedef {{letters: string, facts: Facts}} View what is drawn of a cube, and marked */
-/** @typedef {import("../module/replies.js").Count & {total: number, best: number}} Counted `total`: the fewest moves in all with a shortest
- * solution, once they are merged, Infinity if there is none; `best`: how many make that */
+/** @typedef {import("../module/replies.js").Count & {total: number, best: number}} Counted `total`: the fewest moves in
+ * all with a shortest solution, once they are merged, Infinity if there is none; `best`: how many make that */
 /** @typedef {{step: import("./steps.js").OfferedStep, normal: Counted, inverse: Counted}} Offer */
-/** @typedef {{parts: Part[], facts: Facts[], reached: string[][], totals: number[], turns: number[], now: Position}} Walk
- * what is known of a line after each beginning, from none of its parts to all; `turns`: of each part; `now`: the cube at the end */
+/** @typedef {{parts: Part[], facts: Facts[], reached: string[][], totals: number[], turns: number[], now: Position}}
+ * Walk what is known of a line after each beginning, from none of its parts to all; `turns`: of each part; `now`: the
+ * cube then */
 
 /** The cube after each beginning of some parts of a scramble, from none to all.
  * @param {Nissy} nissy @param {string} scramble by its face turns @param {Part[]} parts @returns {Position[]} */
@@ -45,16 +46,16 @@ function walkOf(nissy, scramble, parts) {
 
 /** @param {Nissy} nissy @param {Position} position @returns {Record<Side, View>} */
 function viewsOf(nissy, { lines }) {
-  const [normal, inverse] = SIDES.map((side) => ({ letters: nissy.facelets(lines[side]), facts: nissy.facts(lines[side]) }));
-  return { normal, inverse };
+  const viewOf = (line) => ({ letters: nissy.facelets(line), facts: nissy.facts(line) });
+  return { normal: viewOf(lines.normal), inverse: viewOf(lines.inverse) };
 }
 
-/** @typedef {{read: {line: string, isTurned: boolean}, walk: Walk, views: Record<Side, View>, whole: string}} Examined a scramble as it is
- * read, and the cube on both sides after some parts, which `whole` has without brackets */
+/** @typedef {{read: {line: string, isTurned: boolean}, walk: Walk, views: Record<Side, View>, whole: string}} Examined
+ * a scramble as it is read, and the cube on both sides after some parts, which `whole` has without brackets */
 /** @typedef {{unread: import("../module/faults.js").FaultParts}} Unexamined what is at fault in the scramble */
 
 /** @param {Nissy} nissy @param {{text: string, parts: Part[]}} typed @returns {Examined | Unexamined} */
-export function examine(nissy, { text, parts }) {
+function examined(nissy, { text, parts }) {
   let read = null;
   try {
     read = readScramble(nissy, text);
@@ -67,7 +68,8 @@ export function examine(nissy, { text, parts }) {
 }
 
 /** The cube on both sides after the scramble and after each move of some parts.
- * @param {Nissy} nissy @param {{scramble: string, parts: Part[]}} line @returns {{move: string, views: Record<Side, View>}[]} */
+ * @param {Nissy} nissy @param {{scramble: string, parts: Part[]}} line
+ * @returns {{move: string, views: Record<Side, View>}[]} */
 export function framesOf(nissy, { scramble, parts }) {
   const moves = parts.flatMap(({ side, moves: text }) => text.split(" ").map((move) => ({ side, moves: move })));
   return positionsOf(nissy, scramble, moves).map((position, at) => (
@@ -79,7 +81,7 @@ export function framesOf(nissy, { scramble, parts }) {
 function offerOf(nissy, step, position) {
   const [normal, inverse] = SIDES.map((side) => {
     const count = nissy.count(step.name, position.lines[side]);
-    const { total } = wayTo(nissy, step.name, position, side, count.length);
+    const { total } = wayTo(new Lengths(nissy), step.name, position, side, count.length);
     // where the best saves nothing none does
     const isEach = total >= countOf(position) + count.length;
     const all = isEach ? [] : totalsWith(nissy, position, side, nissy.solve(step.name, position.lines[side]));
@@ -88,8 +90,17 @@ function offerOf(nissy, step, position) {
   return { step, normal, inverse };
 }
 
-/** @param {Nissy} nissy @param {{steps: string[], position: Position}} asked */
-export const offersOf = (nissy, { steps, position }) => steps.map((name) => offerOf(nissy, stepNamed(name), position));
+/** A scramble with some parts, and then each group of steps that may follow: told one after another, since the tables
+ * of a group may still have to be built.
+ * @param {Nissy} nissy @param {{text: string, parts: Part[]}} typed
+ * @param {(told: Examined | Unexamined | Offer[]) => void} tell */
+export function examine(nissy, typed, tell) {
+  const cube = examined(nissy, typed);
+  tell(cube);
+  if ("unread" in cube) return;
+  const { now, reached } = cube.walk;
+  for (const steps of inGroups(openSteps(reached.at(-1)))) tell(steps.map((step) => offerOf(nissy, step, now)));
+}
 
 /** @typedef {{state: string, case: string, lengths: (number | null)[], total: number, side: Side}} Next
  * `lengths`: on each side; `total`: in all, on the side where it is least */
@@ -104,7 +115,7 @@ function nextOf({ facts }, offer) {
 }
 
 /** Walks through the candidates of one scramble, each with the reduction that it was kept with, if that may follow it.
- * @param {Nissy} nissy @param {{scramble: string, candidates: import("./address.js").Candidate[]}} kept the scramble by its face turns
+ * @param {Nissy} nissy @param {{scramble: string, candidates: import("./address.js").Candidate[]}} kept
  * @returns {KeptWalk[]} */
 export function walkKept(nissy, { scramble, candidates }) {
   return candidates.map(({ parts, next }) => {
@@ -115,14 +126,15 @@ export function walkKept(nissy, { scramble, candidates }) {
   });
 }
 
-/** @typedef {{counts: Record<Side, number | null>, first: Part | null}} Reductions `counts`: null where there is none */
+/** @typedef {{counts: Record<Side, number | null>, first: Part | null}} Reductions `counts`: null for none */
 
-/** How many of the shortest reductions follow a row of the best on each side, and the first with which it has as many moves in all as it
- * says.
+/** How many of the shortest reductions follow a row of the best on each side, and the first with which it has as many
+ * moves in all as it says.
  * @param {Nissy} nissy @param {{row: import("./finder.js").Row, position: Position}} asked @returns {Reductions} */
 export function reductionsOf(nissy, { row: { part, next, total }, position }) {
   const after = afterPart(nissy, position, part);
-  const [normal, inverse] = SIDES.map((side) => (next.lengths[side] === null ? null : nissy.count(next.step, after.lines[side]).solutions));
-  const first = Number.isFinite(total) ? { side: next.side, moves: firstOf(nissy, after, next.step, next.side, total).moves } : null;
-  return { counts: { normal, inverse }, first };
+  const { step, side, lengths } = next;
+  const countOn = (each) => (lengths[each] === null ? null : nissy.count(step, after.lines[each]).solutions);
+  const first = Number.isFinite(total) ? { side, moves: firstOf(nissy, after, step, side, total).moves } : null;
+  return { counts: { normal: countOn("normal"), inverse: countOn("inverse") }, first };
 }

@@ -1,5 +1,5 @@
-// The reductions after the rows of the best that are seen: how many of the shortest there are on each side, and the first with which the
-// row has its moves in all. They are asked for once a row is seen, since thousands are never looked at.
+// The reductions after the rows of the best that are seen: how many of the shortest there are on each side, and the
+// first with which the row has its moves in all. They are asked for once a row is seen: thousands never are.
 import { tellReductions } from "./best-row.js";
 import { setBusy } from "./element.js";
 import { takeNamed } from "./rows.js";
@@ -42,8 +42,9 @@ export class ShownReductions {
   /** @param {Position} position the cube @param {Row[]} shown the rows of the table, in their order */
   tell(position, shown) {
     this.#position = position;
-    const fresh = shown.map((row, at) => ({ row, element: this.#body.children[at] })).filter(({ element }) => !this.#told.has(element));
-    for (const { row, element } of fresh) {
+    for (const [at, row] of shown.entries()) {
+      const element = this.#body.children[at];
+      if (this.#told.has(element)) continue;
       this.#told.add(element);
       const reductions = this.#known.get(row.key);
       if (reductions) tellReductions(element, reductions);

@@ -1,5 +1,5 @@
-// Rows of moves, in a list or a table: what is pressed in each, how they come and go, and one stop of the Tab key for all of them, with the
-// arrow keys, Home and End from row to row, and from button to button within one.
+// Rows of moves, in a list or a table: what is pressed in each, how they come and go, and one stop of the Tab key for
+// all of them, with the arrow keys, Home and End from row to row, and from button to button within one.
 import { button, part, spoken } from "./element.js";
 
 /** @type {Set<string>} the rows that were pressed since moves are covered */
@@ -13,11 +13,13 @@ const keptBy = new WeakMap();
 export const named = (open, covered) => ({ tabindex: -1, "data-open": open, "data-covered": covered });
 
 /** The button that takes the moves of a row.
- * @param {string} text the moves as they are shown @param {{key: string, twins?: string[], cases?: string[], isSeen: boolean}} row what it
- * is known by, what else is said of it, and whether it was taken @param {() => void} click */
+ * @param {string} text the moves as they are shown
+ * @param {{key: string, twins?: string[], cases?: string[], isSeen: boolean}} row what it is known by, what else is
+ * said, and whether it was taken @param {() => void} click */
 export function takeButton(text, { key, twins = [], cases = [], isSeen }, click) {
   const seen = isSeen ? ["seen"] : [];
-  const names = named([spoken(text), ...cases, ...twins, ...seen].join(", "), ["Covered moves", ...cases, ...seen].join(", "));
+  const open = [spoken(text), ...cases, ...twins, ...seen].join(", ");
+  const names = named(open, ["Covered moves", ...cases, ...seen].join(", "));
   return button(text, { class: ["take moves", ...seen].join(" "), "data-key": key, ...names, click });
 }
 
@@ -111,8 +113,8 @@ export function addRows(holder, rows) {
   for (const row of rows) refreshRows(row);
 }
 
-/** Has rows put into a holder, of which one is a stop of the Tab key. The same row keeps the focus; if it is gone the first has it, or what
- * is given.
+/** Has rows put into a holder, of which one is a stop of the Tab key. The same row keeps the focus; if it is gone the
+ * first has it, or what is given.
  * @param {HTMLElement} holder @param {() => void} put @param {HTMLElement} otherwise */
 export function showRows(holder, put, otherwise) {
   const focused = document.activeElement;

@@ -1,5 +1,5 @@
-// The card of the scramble: its field, with what was left out of a text and what is at fault, examples, random scrambles from a seed, and
-// the fold of it if the page is narrow.
+// The card of the scramble: its field, with what was left out of a text and what is at fault, examples, random
+// scrambles from a seed, and the fold of it if the page is narrow.
 import { Stopped } from "../module/faults.js";
 import { plainLine, readFmc } from "../module/written.js";
 import { LONGEST_SCRAMBLE } from "./address.js";
@@ -7,8 +7,8 @@ import { announce, announceLater, counted, element, part, tell } from "./element
 import { withoutMoving } from "./view.js";
 import { placeOfFault, showFault, wordsOfLeftOut } from "./words.js";
 
-/** @typedef {{isNew: boolean, fmc: import("../module/written.js").Fmc | null, isStep: boolean}} ScrambleChange
- * a new scramble begins a new line, one that is mended keeps it; `isStep`: whether the browser's Back leads to what was before */
+/** @typedef {{isNew: boolean, fmc: import("../module/written.js").Fmc | null, isStep: boolean}} ScrambleChange a
+ * new scramble begins a new line, one that is mended keeps it; `isStep`: whether Back leads to what was before */
 
 const PAUSE = 150;
 const SEEDS = "A seed is a whole number from 0 to 18,446,744,073,709,551,615.";
@@ -128,7 +128,8 @@ export class ScrambleField {
     const words = `${counted(count, "kept line")} ${count === 1 ? "was" : "were"} left.`;
     part("left-words").textContent = count === 0 ? "" : words;
     // what is hidden can't keep the focus
-    if (isFocused && count === 0) [part("random"), part("scramble-edit")].find((each) => each.checkVisibility())?.focus();
+    const places = ["random", "scramble-edit"].map(part);
+    if (isFocused && count === 0) places.find((each) => each.checkVisibility())?.focus();
   }
 
   /** Folds the card once something was done elsewhere, if the page is scrolled far enough for nothing to move by it.
@@ -192,8 +193,8 @@ export class ScrambleField {
     this.#changed(fmc ? plain.line.trim() : plain.line, { isNew, fmc, isStep });
   }
 
-  /** Whether a scramble is another one than the last: it was pasted in its place, or typed after it was deleted. The beginning of the same
-   * one may be typed again.
+  /** Whether a scramble is another one than the last: it was pasted in its place, or typed after it was deleted. The
+   * beginning of the same one may be typed again.
    * @param {string} line @param {boolean} isPasted in its place */
   #isOther(line, isPasted) {
     const last = this.#last.trim();

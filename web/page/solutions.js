@@ -1,5 +1,5 @@
-// The list of a step's solutions: grouped by length or by case, filtered by turns and by case, and cut if it is long. A list that is looked
-// for gives way to another one, and can be stopped.
+// The list of a step's solutions: grouped by length or by case, filtered by turns and by case, and cut if it is long. A
+// list that is looked for gives way to another one, and can be stopped.
 import { Stopped } from "../module/faults.js";
 import { GREATEST_SLACK, MOST_SPLIT } from "./address.js";
 import { announce, announceLater, button, counted, element, part, setBusy, spoken, tell } from "./element.js";
@@ -11,8 +11,8 @@ import { isNarrow } from "./view.js";
 /** @typedef {import("./address.js").List} List */
 /** @typedef {import("./lists.js").Entry} Entry */
 /** @typedef {import("./steps.js").Part} Part */
-/** @typedef {{name: string, entries: Entry[], longest: number, list: HTMLElement | null}} Group `longest`: how many signs its longest row
- * has; `list`: of those that are shown */
+/** @typedef {{name: string, entries: Entry[], longest: number, list: HTMLElement | null}} Group `longest`: how many
+ * signs its longest row has; `list`: of those that are shown */
 
 /** From more signs on a line leaves no room for what is pressed beside it on a phone. */
 const LONG_LINE = 18;
@@ -28,7 +28,7 @@ const signsOf = ({ moves, begin }, side) =>
   (begin === undefined ? moves.length + (side === "inverse" ? 2 : 0) : moves.length + begin.moves.length + 3);
 
 /** What is said of a list.
- * @param {import("./lists.js").Rows} rows @param {number} matching how many rows the filters leave @param {number} shown */
+ * @param {import("./lists.js").Rows} rows @param {number} matching how many are left @param {number} shown */
 function noteOf({ entries, all, left, whole }, matching, shown) {
   if (all === 0) return "No solution within 20 moves.";
   const sentences = [`${whole ? "" : "More than "}${counted(all, "solution")}.`];
@@ -37,7 +37,8 @@ function noteOf({ entries, all, left, whole }, matching, shown) {
   if (earlier > 1) sentences.push(`${earlier.toLocaleString("en")} that reach it before their last move are left out.`);
   if (left > entries.length) sentences.push(`${counted(entries.length, "row")}: twins share one.`);
   if (matching < entries.length) sentences.push(`${counted(matching, "row")} ${matching === 1 ? "matches" : "match"}.`);
-  if (shown < matching) sentences.push(`The first ${shown.toLocaleString("en")} are shown: type moves to narrow the list.`);
+  const first = shown.toLocaleString("en");
+  if (shown < matching) sentences.push(`The first ${first} are shown: type moves to narrow the list.`);
   if (!whole) sentences.push("There are more than the page has room for.");
   return sentences.join(" ");
 }
@@ -55,22 +56,26 @@ export class SolutionList {
   #ordered = [];
   #shown = MOST_SHOWN;
   #filters = new Filters("list", part("solutions-note"), [[
-    withTurns("filter", "last-turn", (entry) => entry), caseAtMost("most", (entry) => this.#casesOf(entry).map(({ name }) => name)),
+    withTurns("filter", "last-turn", (entry) => entry),
+    caseAtMost("most", (entry) => this.#casesOf(entry).map(({ name }) => name)),
   ]], () => this.#filtered());
   #groups = part("solutions-groups");
 
   /**
    * @param {import("./calls.js").Calls} calls of its own
-   * @param {{take: (parts: Part[], key: string) => void, change: (change: Partial<List> | null) => void,
-   *     star: (button: HTMLElement, parts: Part[]) => void,
-   *     isStarred: (parts: Part[]) => boolean, isSeen: (parts: Part[]) => boolean, copy: (text: string, button: HTMLElement) => void}} acts
+   * @param {{take: (parts: Part[], key: string) => void, change: (change: Partial<List> | null) => void, star: (button:
+   * HTMLElement, parts: Part[]) => void, isStarred: (parts: Part[]) => boolean, isSeen: (parts: Part[]) => boolean,
+   * copy: (text: string, button: HTMLElement) => void}} acts
    */
   constructor(calls, acts) {
     this.#calls = calls;
     this.#acts = acts;
     offerMoves("slack", GREATEST_SLACK);
     offerMoves("split", MOST_SPLIT);
-    for (const name of ["slack", "split"]) part(name).addEventListener("change", () => acts.change({ [name]: Number(part(name).value) }));
+    for (const name of ["slack", "split"]) {
+      const field = part(name);
+      field.addEventListener("change", () => acts.change({ [name]: Number(field.value) }));
+    }
     part("twins").addEventListener("change", () => acts.change({ isAll: part("twins").checked }));
     part("solutions-stop").addEventListener("click", () => calls.stop());
     part("solutions-close").addEventListener("click", () => acts.change(null));
@@ -87,8 +92,10 @@ export class SolutionList {
     this.#calls.end();
   }
 
-  /** Looks for a list, or shows that none is open; one that is shown already stays. Says whether it is shown in the end.
-   * @param {string} name what tells it from others @param {List | null} list @param {import("../module/ways.js").Position | null} position */
+  /** Looks for a list, or shows that none is open; one that is shown already stays. Says whether it is shown in the
+   * end.
+   * @param {string} name what tells it from others @param {List | null} list
+   * @param {import("../module/ways.js").Position | null} position */
   async show(name, list, position) {
     if (name === this.#name) return false;
     this.#name = name;
@@ -149,7 +156,8 @@ export class SolutionList {
     this.#setWorking(false);
     this.#order();
     const { step, side } = this.#list;
-    announce(`${titleOf(stepNamed(step))}, ${side} side: ${rows.whole ? "" : "more than "}${counted(rows.all, "solution")}.`);
+    const all = `${rows.whole ? "" : "more than "}${counted(rows.all, "solution")}`;
+    announce(`${titleOf(stepNamed(step))}, ${side} side: ${all}.`);
   }
 
   /** Says why there is no list.
@@ -292,7 +300,8 @@ export class SolutionList {
     if (moves === "") return element("li", { class: "reached" }, "no moves: it is reached");
     const [added, key, cases] = [this.#partsOf(entry), keyOf(entry), this.#casesOf(entry)];
     const text = bracketed(added);
-    const said = { cases: cases.map(({ axis, name }) => `${axis} ${name}`), twins: others.map((other) => `or ${spoken(other)}`) };
+    const twins = others.map((other) => `or ${spoken(other)}`);
+    const said = { cases: cases.map(({ axis, name }) => `${axis} ${name}`), twins };
     const copy = { class: "copy", ...named(`Copy ${spoken(text)}`, "Copy the covered moves") };
     return element("li", {},
       takeButton(text, { key, isSeen: this.#acts.isSeen(added), ...said }, () => this.#acts.take(added, key)),

@@ -1,5 +1,5 @@
-// The steps that the page offers, by the engine's names, what they are called here, and the numbers that solvers choose them by; and the
-// parts of a line, each a step on one side.
+// The steps that the page offers, by the engine's names, what they are called here, and the numbers that solvers choose
+// them by; and the parts of a line, each a step on one side.
 import { FACES_OF, ORIENTATIONS, REDUCTIONS, reductionsAfter, stepNamed } from "../module/best-steps.js";
 import { SIDES } from "../module/sides.js";
 
@@ -27,12 +27,20 @@ export const reducedAfter = (orientations) =>
   [...new Set(orientations.flatMap(reductionsAfter).map(stateOf))];
 
 /** @param {OfferedStep} step @returns what a step is called on the page */
-export const titleOf = (step) => (step.needs === null ? stateOf(step) : `${stateOf(step)} after ${stateOf(stepNamed(step.needs))}`);
+export const titleOf = (step) =>
+  stateOf(step) + (step.needs === null ? "" : ` after ${stateOf(stepNamed(step.needs))}`);
 
 /** The steps that may start where others are reached, and aren't reached themselves.
  * @param {string[]} reached */
 export const openSteps = (reached) =>
-  [...ORIENTATIONS, ...REDUCTIONS].filter(({ name, needs }) => !reached.includes(name) && (needs === null || reached.includes(needs)));
+  [...ORIENTATIONS, ...REDUCTIONS]
+    .filter(({ name, needs }) => !reached.includes(name) && (needs === null || reached.includes(needs)));
+
+/** Steps in groups: orientations, and then reductions, if there are any.
+ * @param {OfferedStep[]} steps */
+export const inGroups = (steps) => [false, true]
+  .map((isReduction) => steps.filter(({ needs }) => (needs !== null) === isReduction))
+  .filter((group) => group.length > 0);
 
 /** The steps that the page offers among those that hold.
  * @param {readonly import("../module/steps.js").Step[]} held */

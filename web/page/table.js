@@ -1,14 +1,15 @@
-// The table of the steps that may follow: a row for each, with what solvers choose by, and a cell for each side with the least length, what
-// it makes in all, and how many solutions there are; what is reached, in a line; and the looks, in a table of their own.
+// The table of the steps that may follow: a row for each, with what solvers choose by, and a cell for each side with
+// the least length, all moves, and how many solutions there are; what is reached; and the looks, in a table of theirs.
 import { counted, element, part } from "./element.js";
-import { SIDES, caseOfStep, isReduced, openSteps, stateOf, statesOf, titleOf } from "./steps.js";
+import { SIDES, caseOfStep, inGroups, isReduced, openSteps, stateOf, statesOf, titleOf } from "./steps.js";
 
 /** @typedef {import("./position.js").Offer} Offer */
+/** @typedef {import("./position.js").Examined | import("./position.js").Unexamined} Told */
 /** @typedef {import("./steps.js").Side} Side */
 /** @typedef {{facts: import("../module/facts.js").Facts, made: number, reached: string[]}} Cube */
 
-/** The least length, what that makes in all, if moves were made before, and how many solutions there are, or how many of them make that,
- * with a word that is said and not shown.
+/** The least length, what that makes in all, if moves were made before, and how many solutions there are, or how many
+ * of them make that, with a word that is said and not shown.
  * @param {import("./position.js").Counted} count @param {number} made moves before it @returns {string[]} */
 function wordsOf({ length, total, solutions, best }, made) {
   if (length === null) return ["–", "", "none within 20 moves", ""];
@@ -20,25 +21,37 @@ function wordsOf({ length, total, solutions, best }, made) {
 /** How long the page waits for all offers, to show them together with the cube. */
 const SOON = 50;
 
-/** Steps in groups: orientations, and then reductions, where there are some.
- * @param {import("./steps.js").OfferedStep[]} steps */
-const inGroups = (steps) => [false, true]
-  .map((isReduction) => steps.filter(({ needs }) => (needs !== null) === isReduction)).filter((group) => group.length > 0);
+/** Asks for a cube, which is told first, and for the groups of steps that may follow: two at most.
+ * @param {import("./calls.js").Calls} calls @param {{text: string, parts: import("./steps.js").Part[]}} typed
+ * @returns {[Promise<Told>, ...Promise<Offer[]>[]]} */
+function askedOf(calls, typed) {
+  const acts = [];
+  const told = [0, 1, 2].map(() => new Promise((settle, refuse) => acts.push({ settle, refuse })));
+  // what is wrong is said where it is waited for
+  for (const each of told) each.catch(() => {});
+  let at = 0;
+  calls.ask("examine", typed, (each) => acts[at++].settle(each))
+    .catch((fault) => acts.forEach(({ refuse }) => refuse(fault)));
+  return /** @type {any} */ (told);
+}
 
 /**
- * Asks for the steps that may follow, each with its counts on both sides, in portions: all groups in one if they are there soon, since each
- * part of the page that is shown by itself is laid out and painted by itself, which costs more than most counts; else each as it comes.
- * @param {import("./calls.js").Calls} calls @param {import("./position.js").Walk} walk @returns {Promise<Promise<Offer[][]>[]>}
+ * The cube, and the steps that may follow, each with its counts on both sides, in portions: all groups in one if they
+ * are there soon, since what is shown by itself is laid out and painted by itself, at more than most counts; else each.
+ * They come by one question, so that none waits for the page.
+ * @param {Parameters<typeof askedOf>} asked @returns {Promise<{cube: Told, portions: Promise<Offer[][]>[]}>}
  */
-export async function offersAt(calls, { reached, now: position }) {
-  const names = inGroups(openSteps(reached.at(-1))).map((group) => group.map(({ name }) => name));
-  const groups = names.map((steps) => calls.ask("offersOf", { steps, position }));
-  const all = Promise.all(groups);
-  const isSoon = await Promise.race([all.then(() => true, () => false), new Promise((later) => setTimeout(later, SOON, false))]);
-  const portions = isSoon ? [all] : groups.map((group) => group.then((offers) => [offers]));
-  // what is wrong is said where they are waited for
-  for (const portion of [...groups, ...portions]) portion.catch(() => {});
-  return portions;
+export async function cubeWithOffers(...asked) {
+  const [first, ...groups] = askedOf(...asked);
+  const cube = await first;
+  const count = "unread" in cube ? 0 : inGroups(openSteps(cube.walk.reached.at(-1))).length;
+  const offers = groups.slice(0, count);
+  const all = Promise.all(offers);
+  const late = new Promise((tell) => setTimeout(tell, SOON, false));
+  const isSoon = await Promise.race([all.then(() => true, () => false), late]);
+  const portions = isSoon ? [all] : offers.map((group) => group.then((each) => [each]));
+  for (const portion of portions) portion.catch(() => {});
+  return { cube, portions };
 }
 
 /** A step that is still to be counted. */
@@ -147,7 +160,8 @@ export class StepTable {
     if (!held || ![held, document.body].includes(document.activeElement)) return;
     const same = held.dataset.cell ? this.cell(held.dataset.cell) : held;
     const places = [same, part("steps-heading"), part("line-heading")];
-    places.find((place) => place?.isConnected && place.checkVisibility() && !place.disabled)?.focus({ preventScroll: true });
+    const mayHave = (place) => place?.isConnected && place.checkVisibility() && !place.disabled;
+    places.find(mayHave)?.focus({ preventScroll: true });
   }
 
   /** Shows which list is open.
@@ -193,6 +207,7 @@ export class StepTable {
     const [length, all, solutions, word] = wordsOf(count, made);
     const name = `${step.name}.${side}`;
     const isLeast = least !== null && count.length === least;
+    const shortest = isLeast ? ", shortest" : "";
     const about = { "data-side": side === "normal" ? "Normal" : "Inverse" };
     // as high as one that is counted
     const inAll = made > 0 ? "10 in all, " : "";
@@ -204,7 +219,7 @@ export class StepTable {
       class: isLeast ? "cell least" : "cell",
       "data-cell": name,
       "aria-pressed": String(list !== null && name === `${list.step}.${list.side}`),
-      "aria-label": `${titleOf(step)}, ${side} side: ${length}, ${all}${solutions}${word}${isLeast ? ", shortest" : ""}`,
+      "aria-label": `${titleOf(step)}, ${side} side: ${length}, ${all}${solutions}${word}${shortest}`,
       click: () => this.#chosen(step.name, side),
     }, element("strong", {}, length), element("small", {}, all, element("span", { class: "together" }, solutions))));
   }

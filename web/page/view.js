@@ -1,4 +1,4 @@
-// How the page is seen and used as a whole: what stays in view and what is dimmed, light and dark, help under its button, and single keys.
+// How the page is seen and used as a whole: what stays in view, what is dimmed, light and dark, help, and single keys.
 import { announce, part } from "./element.js";
 import { offerLast, store, stored } from "./last.js";
 
@@ -35,7 +35,7 @@ export function awaitAnswer(state) {
   document.body.classList.toggle("begun", state !== null && isBare(state));
 }
 
-/** Scrolls to where a column that stays shows what has the focus. The browser scrolls to where that is, and the column goes along.
+/** Scrolls to where a column that stays shows what has the focus. The browser scrolls, and the column goes along.
  * @param {HTMLElement} column @param {Element} focused */
 function showFocused(column, focused) {
   // a button that is clicked stays under the mouse
@@ -72,7 +72,7 @@ export function setUsable(usable) {
   for (const name of ["line", "results", "kept", "cube"]) part(name).inert = !usable;
 }
 
-/** Scrolls to what follows a step; on a narrow page to the results, and after the last step to the line: below the results, or beside them.
+/** Scrolls to what follows a step; on a narrow page to the results, after the last step to the line, below or beside.
  * @param {boolean} isFinished */
 export function showStart(isFinished) {
   if (!matchMedia(BESIDE).matches) return part(isFinished ? "line" : "results").scrollIntoView({ block: "start" });

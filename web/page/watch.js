@@ -1,11 +1,12 @@
-// Watches the workers, so that the page never waits without a word: one may fail, and one that ended or crashed may say nothing at all.
+// Watches the workers, so that the page never waits without a word: one may fail, and one that ended may say nothing.
 import { listenedTo } from "../module/worker-queue.js";
 import { part } from "./element.js";
 import { engineFails } from "./words.js";
 
 /** How long a worker that was asked something may be silent, in milliseconds. */
 const PATIENCE = 20_000;
-const SILENT = `The engine has given no answer for ${PATIENCE / 1000} seconds. It may still be at work, or it has ended without a word.`;
+const SILENT = `The engine has given no answer for ${PATIENCE / 1000} seconds. `
+  + "It may still be at work, or it has ended without a word.";
 
 /** Says what failed, beside a button that tries it again, if that may help; no words take both away.
  * @param {string} words */

@@ -12,7 +12,10 @@ const faceAt = (place) => FACE_LETTERS[Math.floor(place / 9)];
 
 /** The places of the piece that a place belongs to, in the order in which its faces are named.
  * @param {number} place */
-const placesOf = (place) => pieceAt(place).sort((one, other) => NAMED_FIRST.indexOf(faceAt(one)) - NAMED_FIRST.indexOf(faceAt(other)));
+function placesOf(place) {
+  const rank = (each) => NAMED_FIRST.indexOf(faceAt(each));
+  return pieceAt(place).sort((one, other) => rank(one) - rank(other));
+}
 
 /** @param {number} place of one of its stickers @returns what a piece is called by its faces, such as `UF` */
 export const nameOfPiece = (place) => placesOf(place).map(faceAt).join("");
@@ -29,7 +32,8 @@ const eitherOf = (axis) => axis.replace("/", " or ");
 
 /** Which of some faces is of the first axis that has one of them.
  * @param {string[]} faces @param {string[]} axes */
-const whichTells = (faces, axes) => axes.map((axis) => faces.findIndex((face) => axis.includes(face))).find((at) => at >= 0);
+const whichTells = (faces, axes) =>
+  axes.map((axis) => faces.findIndex((face) => axis.includes(face))).find((at) => at >= 0);
 
 /** Whether an edge is oriented on an axis.
  * @param {string[]} faces where it is @param {string[]} colours that it has there @param {string} axis */
@@ -46,8 +50,10 @@ function edgeOriented(faces, colours, axis) {
  * @param {string[]} faces @param {string[]} colours @param {string} axis of the reduction */
 function edgePlaced(faces, colours, axis) {
   const isIn = (letters) => !letters.some((each) => axis.includes(each));
-  const belongs = isIn(colours) ? `in the slice, since it has no ${eitherOf(axis)}` : `outside the slice, since it has ${eitherOf(axis)}`;
-  return isIn(colours) === isIn(faces) ? `good for DR ${axis}: it is ${belongs}` : `bad for DR ${axis}: it belongs ${belongs}`;
+  const where = isIn(colours) ? "in the slice, since it has no" : "outside the slice, since it has";
+  const belongs = `${where} ${eitherOf(axis)}`;
+  if (isIn(colours) === isIn(faces)) return `good for DR ${axis}: it is ${belongs}`;
+  return `bad for DR ${axis}: it belongs ${belongs}`;
 }
 
 /** Whether a corner is oriented on an axis.
@@ -59,8 +65,8 @@ function cornerOriented(faces, colours, axis) {
 }
 
 /** Why a piece is good or bad.
- * @param {string} letters of the cube @param {number} place of one of its stickers @param {string} choice what is marked, such as `EO F/B`,
- * or "" for each axis */
+ * @param {string} letters of the cube @param {number} place of one of its stickers
+ * @param {string} choice what is marked, such as `EO F/B`, or "" for each axis */
 export function whyOf(letters, place, choice) {
   const places = placesOf(place);
   const [faces, colours] = [places.map(faceAt), places.map((each) => letters[each])];

@@ -1,11 +1,12 @@
-// Sentences: why a line can't be read, with a mark at the place in the text that was typed, why there is no answer, and the page's title.
+// Sentences: why a line can't be read, with a mark at the place in it, why there is no answer, and the title.
 import { EngineMissing, NissyFault } from "../module/faults.js";
 import { MOST_CANDIDATES, MOST_MOVES } from "./address.js";
 import { element } from "./element.js";
 import { bracketed, openSteps, stateOf, stepNamed, titleOf } from "./steps.js";
 
 export const MOST_ARE_KEPT = `${MOST_CANDIDATES} lines are kept, and there can be no more: remove one of them first.`;
-export const NO_ROOM = "The address of the page has no room for another line: remove one that is kept, or shorten a note.";
+export const NO_ROOM = "The address of the page has no room for another line: "
+  + "remove one that is kept, or shorten a note.";
 export const NOT_IN_ADDRESS = "The address of the page has no room for all of this, and stays as it was.";
 const PAGE_NAME = "nissy";
 const TOO_MANY = `more than ${MOST_MOVES} moves`;
@@ -56,7 +57,7 @@ function wordAt(line, place) {
 }
 
 /** A move that ends as no move does, such as `R1` or `F-1`, if it stands at a place: all of it, and its letters.
- * @param {string} line @param {number} place of the first sign that can't be read @returns {{word: string, letters: string} | null} */
+ * @param {string} line @param {number} place that can't be read @returns {{word: string, letters: string} | null} */
 function oddMove(line, place) {
   const begin = /([UDRLFB]w?|[MESudrlfbxyz])['2]?$/.exec(line.slice(0, place));
   const isOdd = /^(?:[-+*^'0-9]|i(?!\p{L}))/u.test(line.slice(place));
@@ -107,14 +108,16 @@ function marked(text, place) {
 }
 
 /** Where a fault is in the text that was typed, or null.
- * @param {import("../module/written.js").PlainLine} plain @param {Error | null} fault @param {string} text @returns {number | null} */
+ * @param {import("../module/written.js").PlainLine} plain @param {Error | null} fault @param {string} text
+ * @returns {number | null} */
 export function placeOfFault({ places }, fault, text) {
   if (!(fault instanceof NissyFault) || fault.character === null) return null;
   return places[fault.character - 1] ?? text.length;
 }
 
 /** Shows a fault under its field, or takes the last one away.
- * @param {HTMLElement} where @param {HTMLElement} field @param {import("../module/written.js").PlainLine} plain what the engine read
+ * @param {HTMLElement} where @param {HTMLElement} field
+ * @param {import("../module/written.js").PlainLine} plain what the engine read
  * @param {Error | null} fault @param {string} text what was typed */
 export function showFault(where, field, plain, fault, text) {
   where.hidden = fault === null;

@@ -6,7 +6,8 @@ import { Nissy } from "../module/nissy.js";
 import { serveBy } from "../module/serve.js";
 import { readAddressed, readByHand, readWritten } from "./lines.js";
 import { rowsOfList } from "./lists.js";
-import { examine, framesOf, offersOf, reductionsOf, walkKept } from "./position.js";
+import { examine, framesOf, reductionsOf, walkKept } from "./position.js";
+import { stateOf, stepNamed } from "./steps.js";
 
 /** @typedef {import("../module/steps.js").Step} Step */
 
@@ -22,12 +23,23 @@ function scrambleOf(nissy, { seed }) {
   return status === 0 ? textIn(out).trim() : null;
 }
 
+/** A row as it is told: what it reaches in the page's words, and the lengths after the moves that it shows alone.
+ * @param {import("../module/best-rows.js").Row} row @returns {import("./finder.js").Row} */
+function rowInWords(row) {
+  if (row.next === null) return { ...row, state: stateOf(stepNamed(row.step)), next: null };
+  const { step, side, own } = row.next;
+  const next = { step, side, ...own, marks: stateOf(stepNamed(step)), case: row.case };
+  return { ...row, state: stateOf(stepNamed(row.step)), next };
+}
+
 /** The best of one axis, which are told as they are found.
  * @param {Nissy} nissy @param {{orientation: Step, question: import("./finder.js").Question}} asked
- * @param {(found: import("../module/best-search.js").Found) => void} tell */
-function bestOfAxis(nissy, { orientation, question: { position, reached, slack, isAll } }, tell) {
-  const wish = { slack, isAll, most: MOST_TOLD_OF_AXIS };
-  for (const found of continuations(nissy, position, reached, [orientation], wish)) tell(found);
+ * @param {(found: import("./finder.js").Progress) => void} tell */
+function bestOfAxis(nissy, { orientation, question }, tell) {
+  const wish = { ...question, most: MOST_TOLD_OF_AXIS };
+  for (const found of continuations(nissy, question.position, question.reached, [orientation], wish)) {
+    tell({ ...found, rows: found.rows.map(rowInWords) });
+  }
 }
 
 /** Has the tables of a step built.
@@ -37,7 +49,8 @@ function build(nissy, { step }) {
 }
 
 const ANSWERS = {
-  bestOfAxis, build, examine, framesOf, offersOf, readAddressed, readByHand, readWritten, reductionsOf, rowsOfList, scrambleOf, walkKept,
+  bestOfAxis, build, examine, framesOf, readAddressed, readByHand, readWritten, reductionsOf, rowsOfList, scrambleOf,
+  walkKept,
 };
 
 /** @typedef {typeof ANSWERS} Answers */
