@@ -68,7 +68,7 @@ export class BestContinuations {
   #question = null;
   /** @type {Further | null} what the rows are shown of */
   #progress = null;
-  /** @type {Further | null} what was found since, if rows of it belong among those that are seen */
+  /** @type {Further | null} what was found since, if rows of it belong among those that are seen, or none is yet */
   #newer = null;
   #isAsked = false;
   #further;
@@ -121,8 +121,8 @@ export class BestContinuations {
     this.#body.replaceChildren();
     part("best-note").textContent = "";
     part("best-more").hidden = true;
-    this.#takeNewer();
     this.#working(false);
+    this.#takeNewer();
   }
 
   /** @param {string[]} reached the orientations that hold */
@@ -247,8 +247,9 @@ export class BestContinuations {
     this.#working(false);
   }
 
-  /** Takes the rows that were found since into those that are shown. */
+  /** Takes the rows that were found since into those that are shown, unless they are still looked for. */
   #takeNewer() {
+    if (this.#isAsked) return;
     this.#progress = this.#newer ?? this.#progress;
     this.#newer = null;
     this.#tellNewer(0);
@@ -282,15 +283,28 @@ export class BestContinuations {
     this.#working(true);
     part("best-note").textContent = LOOKING_FOR_BEST;
     try {
-      await findContinuations(this.#finders, asked, (found) => isStill() && this.#show({ ...found, slack }), known);
+      await findContinuations(this.#finders, asked, (found) => isStill() && this.#looked({ ...found, slack }), known);
       if (!isStill()) return;
-      this.#keep(question, this.#progress);
+      const found = this.#newer;
+      this.#newer = null;
+      this.#keep(question, found);
+      this.#show(found);
       this.#goFurther();
     } catch (fault) {
       if (!isStill()) return;
-      this.#brokenOff(fault);
       this.#working(false);
+      this.#takeNewer();
+      this.#draw();
+      this.#brokenOff(fault);
     }
+  }
+
+  /** Says how far a search is. Its rows come together, since a later one may belong before others, which would move.
+   * @param {Further} progress */
+  #looked(progress) {
+    this.#newer = progress;
+    this.#tellProgress(progress);
+    part("best-note").textContent = this.#tried() || LOOKING_FOR_BEST;
   }
 
   /** Keeps what was found, in place of what was kept longest.
@@ -325,11 +339,11 @@ export class BestContinuations {
     if (isOn) part("best-progress").removeAttribute("value");
   }
 
-  /** @param {Further} progress */
+  /** @param {Further} progress all that was looked for */
   #show(progress) {
     this.#progress = progress;
     this.#tellProgress(progress);
-    if (progress.done === progress.all) this.#working(false);
+    this.#working(false);
     if (this.#question.reached.length > 0) offerLastTurns("best-last", progress.rows.map((row) => row.part.moves));
     this.#draw();
     this.#acts.shown();

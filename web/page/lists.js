@@ -3,7 +3,7 @@
 import { FACES_OF, stepNamed } from "../module/best-steps.js";
 import { turnsOfFace } from "../module/merging.js";
 import { mergeTwins, withoutEarlier } from "../module/twins.js";
-import { countOf, leastOf, totalsWith } from "../module/ways.js";
+import { afterPart, countOf, leastOf, totalsWith } from "../module/ways.js";
 import { joined, otherSide } from "./steps.js";
 
 /** @typedef {import("../module/nissy.js").Nissy} Nissy */
@@ -73,13 +73,28 @@ function ownSolutions(nissy, { step, side, slack }, now) {
   return { solutions, whole: found.length <= MOST_LISTED };
 }
 
+/** @param {Entry[]} solutions @returns {Map<Entry["begin"], Entry[]>} by what they begin with on the other side */
+function byBeginning(solutions) {
+  const groups = new Map();
+  for (const each of solutions) {
+    const group = groups.get(each.begin);
+    if (group) group.push(each);
+    else groups.set(each.begin, [each]);
+  }
+  return groups;
+}
+
 /** Tells of solutions all moves with each, if moves were made before, and puts those with the fewest first.
  * @param {Nissy} nissy @param {Entry[]} solutions @param {import("../module/ways.js").Position} position
- * @param {import("./steps.js").Side} side */
-function withTotals(nissy, solutions, position, side) {
+ * @param {List} list */
+function withTotals(nissy, solutions, position, { side, split = 0 }) {
   if (countOf(position) === 0 || solutions.length > MOST_WITH_CASES) return solutions;
-  const totals = totalsWith(nissy, position, side, solutions);
-  const counted = solutions.map((each, at) => ({ ...each, total: totals[at] }));
+  const counted = [...byBeginning(solutions)].flatMap(([begin, entries]) => {
+    const before = begin === undefined ? position : afterPart(nissy, position, begin);
+    const own = entries.map(({ moves, length }) => ({ moves, length: length - split }));
+    const totals = totalsWith(nissy, before, side, own);
+    return entries.map((each, at) => ({ ...each, total: totals[at] }));
+  });
   return counted.sort((one, other) => one.total - other.total || one.length - other.length);
 }
 
@@ -90,7 +105,7 @@ export function rowsOfList(nissy, { list, position }) {
   const { solutions, whole } = (isSplit ? splitSolutions : ownSolutions)(nissy, list, now);
   const isEach = list.isAll || isSplit;
   const wanted = isEach ? solutions : withoutEarlier(solutions);
-  const left = isSplit ? wanted : withTotals(nissy, wanted, position, list.side);
+  const left = withTotals(nissy, wanted, position, list);
   /** @type {Entry[]} */
   const entries = isEach ? left : mergeTwins(left, list.step);
   if (stepNamed(list.step).needs === null) {
