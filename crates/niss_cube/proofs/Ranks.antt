@@ -2,8 +2,8 @@
 use Rattle.niss_cube.proofs.Words.{Fact, Yes, Equal, Below, Both, When, Numbers, Holds, holds, refl, sym, ◌∙◌}
 use Rattle.niss_cube.proofs.Words.{ap, arith, ◌≡◌, ℕ, ◌%◌, ◌<◌, ◌==◌, List, length, get_or, take, sum, ◌↔◌, ext_get_or}
 use Rattle.niss_cube.proofs.Words.{eq-eqb, number, orientations_of_rank, AreOriented}
-use Rattle.niss_cube.proofs.Words.{append_assoc, suc, ◌+◌, ◌-◌, ◌/◌, [], ◌∷◌, ◌++◌, set, drop, length-set, sum_by-cons}
-use Rattle.niss_cube.proofs.Words.{take-length, digits_of_number, drop-set_at, take-suc-set, Same, Truths, map, reverse}
+use Rattle.niss_cube.proofs.Words.{append_assoc, suc, ◌+◌, ◌-◌, [], ◌∷◌, ◌++◌, set, drop, length-set}
+use Rattle.niss_cube.proofs.Words.{take-length, digits_of_number, drop-set_at, Same, Truths, map, reverse}
 use Rattle.niss_cube.proofs.Words.{Bool, false, nat_le, sum_by, get_or-reverse, length-reverse, length-map, get_or-map}
 use Rattle.niss_cube.proofs.Words.{rank_places, edges_down, reverse-reverse, count_by, Turn, turn_table}
 use Rattle.niss_cube.proofs.Words.{edges_of_rank, ArePlaced, ◌≤◌, le-leb, drop-cons, choose, length-drop, zero}
@@ -12,7 +12,6 @@ use Rattle.niss_cube.proofs.Words.{le-ltb}
 use Rattle.niss_cube.proofs.CubieKinds.{Kind, Corners, Edges, count, facelets, CubieLists, Valid, once, tabulated}
 use Rattle.niss_cube.proofs.CubieKinds.{tabulated-length, tabulated-at, brought, low}
 use Rattle.std.proofs.Common.{length-append}
-use Rattle.std.proofs.Math.Nat.{mod-add-mod}
 use Rattle.std.proofs.Math.Seq.{take-append_seam, take-suc}
 use Rattle.std.proofs.lemmas.List.Sums.{sum_by-append}
 use Rattle.std.specs.Prelude.{◌^◌}
@@ -124,64 +123,6 @@ turns_number-zero k xs o =
     none_turned : (k : Kind) (i : ℕ) → i < count k → get_or (of_rank k 0) i 0 ≡ 0
     none_turned Corners = holds (Numbers 8 λ i. Equal (get_or (of_rank Corners 0) i 0) 0) refl
     none_turned Edges = holds (Numbers 12 λ i. Equal (get_or (of_rank Edges 0) i 0) 0) refl
-
--- the last digits of n
-abbrev last_digits : (n met : ℕ) → List ℕ → List ℕ
-last_digits n met xs = take met (drop (n - met) xs)
-
-last_digits-set : (n met : ℕ) (xs : List ℕ) (d : ℕ) → met < n → length xs ≡ suc n → last_digits n (met + 1) (set xs (n - 1 - met) d) ≡ d ∷ last_digits n met xs
-last_digits-set n met xs d h l =
-    ap (λ k. take k (drop (n - (met + 1)) (set xs (n - 1 - met) d))) (let a : met + 1 ≡ suc met = omega arith in a)
-    ∙ ap (take (suc met)) (drop-set_at xs (n - 1 - met) (n - (met + 1)) d (omega arith) (omega arith))
-    ∙ ap (λ k. d ∷ take met (drop k xs)) (let a : (n - 1 - met) + 1 ≡ n - met = omega arith in a)
-
--- what the loop keeps: the digits still to come and those written are those of the number, and the sum of those written
-pub record Written (b n number met rest total : ℕ) (xs : List ℕ) : Type 0 where
-  pub places : length xs ≡ suc n
-  pub digits : digits_of_number b (n - met) rest ++ last_digits n met xs ≡ digits_of_number b n number
-  pub total_is : sum (last_digits n met xs) % b ≡ total
-
-pub written-step : (b n number met rest total : ℕ) (xs : List ℕ) → met < n → Written b n number met rest total xs → Written b n number (met + 1) (rest / b) ((total + rest % b) % b) (set xs (n - 1 - met) (rest % b))
-written-step b n number met rest total xs h w =
-    let d : ℕ = rest % b in
-    let e : last_digits n (met + 1) (set xs (n - 1 - met) d) ≡ d ∷ last_digits n met xs = last_digits-set n met xs d h w.places in
-    record {
-      places = length-set xs (n - 1 - met) d ∙ w.places;
-      digits =
-          ap (λ ys. digits_of_number b (n - (met + 1)) (rest / b) ++ ys) e
-          ∙ sym (append_assoc (digits_of_number b (n - (met + 1)) (rest / b)) (d ∷ []) (last_digits n met xs))
-          ∙ ap (λ k. digits_of_number b k rest ++ last_digits n met xs) (let a : suc (n - (met + 1)) ≡ n - met = omega arith in a)
-          ∙ w.digits;
-      total_is =
-          ap (λ ys. sum ys % b) e
-          ∙ ap (λ k. k % b) (sum_by-cons (λ x. x) d (last_digits n met xs))
-          ∙ ap (λ k. k % b) (let a : d + sum (last_digits n met xs) ≡ sum (last_digits n met xs) + d = omega arith in a)
-          ∙ sym (mod-add-mod (sum (last_digits n met xs)) b d)
-          ∙ ap (λ k. (k + d) % b) w.total_is;
-    }
-
-set_last : (n : ℕ) (xs : List ℕ) (d : ℕ) → length xs ≡ suc n → set xs n d ≡ take n xs ++ d ∷ []
-set_last n xs d l =
-    sym (take-length (set xs n d))
-    ∙ ap (λ k. take k (set xs n d)) (length-set xs n d ∙ l)
-    ∙ take-suc-set xs n d (omega arith)
-
-pub written-end : (b n number met rest total : ℕ) (xs : List ℕ) → met ≡ n → Written b n number met rest total xs → set xs n ((b - total) % b) ≡ orientations_of_rank b n number
-written-end b n number met rest total xs e w =
-    let none : n - met ≡ 0 = omega arith in
-    let all : take n xs ≡ digits_of_number b n number =
-    ap (λ k. take k xs) (sym e)
-    ∙ ap (λ k. take met (drop k xs)) (sym none)
-    ∙ ap (λ k. digits_of_number b k rest ++ last_digits n met xs) (sym none)
-    ∙ w.digits in
-    let total_of : total ≡ sum (digits_of_number b n number) % b =
-    sym w.total_is
-    ∙ ap (λ k. sum (take met (drop k xs)) % b) none
-    ∙ ap (λ k. sum (take k xs) % b) e
-    ∙ ap (λ ys. sum ys % b) all in
-    set_last n xs ((b - total) % b) w.places
-    ∙ ap (λ ys. ys ++ ((b - total) % b) ∷ []) all
-    ∙ ap (λ k. digits_of_number b n number ++ ((b - k) % b) ∷ []) total_of
 
 -- each edge stands at one place
 pub edge-once : (c : CubieLists) → Valid c → (h : ℕ) → h < 12 → below 12 (λ i. one_if (get_or c.edges i 0 == h)) ≡ 1
