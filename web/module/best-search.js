@@ -225,7 +225,8 @@ function* groupsFound(nissy, position, groups, going, isLast) {
  * @param {Wish} wish
  * @returns {Generator<Found>}
  */
-function* orientationsFound(nissy, position, orientations, { slack: wanted, from: least = 0, isAll, most, totals, atOnce = false }) {
+function* orientationsFound(nissy, position, orientations, wish) {
+  const { slack: wanted, from: least = 0, isAll, most, totals, atOnce = false } = wish;
   const going = { bound: new Bound(most, totals), done: 0, atOnce };
   for (const [from, slack] of least > 0 || wanted === 0 ? [[least, wanted]] : [[0, 0], [1, wanted]]) {
     const groups = groupsOf(nissy, position, orientations, { from, slack, isAll });

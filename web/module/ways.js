@@ -169,7 +169,8 @@ export function wayTo(lengths, step, position, side, length = lengths.after(step
  */
 export function isWithin(lengths, step, position, bound) {
   const left = bound - 1 - countOf(position);
-  return SIDES.some((side) => lengths.after(step, position.lines[side], left + mostMerged(position.made[side], step)) !== null);
+  const mostOn = (/** @type {Side} */ side) => left + mostMerged(position.made[side], step);
+  return SIDES.some((side) => lengths.after(step, position.lines[side], mostOn(side)) !== null);
 }
 
 /**
