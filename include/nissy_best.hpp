@@ -60,12 +60,14 @@ struct best_search {
 // What the search shares. Its names are no part of the interface.
 namespace continuing {
 
-// Twins of an orientation on a side, and the cube after each.
+// Twins of an orientation on a side, the cube after each, and whether they are longer ones, which go on after it was reached. What these go on
+// with belongs on their own side to the reduction after a shorter one, so they have a row only if the other side is better.
 struct twins {
     axis_step step;
     std::size_t on;
     std::vector<solution> moves;
     std::vector<cube> cubes;
+    bool is_longer;
 };
 
 // A reduction on a side: how many moves there are in all with it, and its own, if it has any solution.
@@ -75,23 +77,31 @@ struct way {
     std::string moves;
 };
 
-// A reduction after twins, and the bounds of all moves with it.
+// A reduction after twins, and the bounds of all moves with it on each side.
 struct candidate {
     const continuing::twins *twins;
     axis_step step;
-    int least = NEVER, most = NEVER;
+    std::array<int, 2> least_on = {NEVER, NEVER}, most_on = {NEVER, NEVER};
 
     // Widens the bounds by a cube after one of the twins, on each side of which the reduction has this least length. If a reduction merges
-    // with its orientation alone, a twin of that has a shorter one, so this isn't looked at.
+    // with its orientation alone, a twin of that or a shorter one has it without that, so this isn't looked at.
     void add(const cube &before, const cube &after, const std::array<std::optional<int>, 2> &on_sides) {
         for (const std::size_t on : {NORMAL, INVERSE}) {
             const std::optional<int> length = on_sides[on];
             if (!length) continue;
             const int total = after.count_made() + *length;
-            most = std::min(most, total);
-            least = std::min(least, total - (before.made[on].empty() ? 0 : most_saved(after.made[on], step)));
+            most_on[on] = std::min(most_on[on], total);
+            least_on[on] = std::min(least_on[on], total - (before.made[on].empty() ? 0 : most_saved(after.made[on], step)));
         }
     }
+
+    // The bounds of its row, NEVER if it may have none.
+    int least() const {
+        if (!twins->is_longer) return std::min(least_on[NORMAL], least_on[INVERSE]);
+        const int other = least_on[1 - twins->on];
+        return other < most_on[twins->on] ? other : NEVER;
+    }
+    int most() const { return twins->is_longer ? NEVER : std::min(most_on[NORMAL], most_on[INVERSE]); }
 };
 
 // How many moves there are in all with a solution on a side of a cube.
@@ -118,9 +128,12 @@ inline std::pair<std::size_t, way> best_on(searches &by, const candidate &one, s
     return best;
 }
 
-// How many moves there are in all.
+// How many moves there are in all, or NEVER if it has no row.
 inline int total_of(searches &by, const candidate &one) {
-    return one.least == one.most ? one.most : std::min(best_on(by, one, NORMAL).second.total, best_on(by, one, INVERSE).second.total);
+    if (one.least() == one.most()) return one.most();
+    const std::size_t on = one.twins->on;
+    const int own = best_on(by, one, on).second.total, other = best_on(by, one, 1 - on).second.total;
+    return other < own || !one.twins->is_longer ? std::min(own, other) : NEVER;
 }
 
 // Moves as a line, those on the inverse side in brackets.
@@ -135,7 +148,7 @@ constexpr side side_of(std::size_t on) { return on == NORMAL ? side::normal : si
 
 // A candidate with its moves, the reduction on the side of the orientation if the other one isn't better.
 inline continuation continued(searches &by, const candidate &one, const start &from, const std::string &dr_case) {
-    const auto &[step, own, moves, cubes] = *one.twins;
+    const auto &[step, own, moves, cubes, is_longer] = *one.twins;
     const std::array<std::pair<std::size_t, way>, 2> ways = {best_on(by, one, NORMAL), best_on(by, one, INVERSE)};
     const std::size_t on = ways[own].second.total <= ways[1 - own].second.total ? own : 1 - own;
     const auto &[at, found] = ways[on];
@@ -149,9 +162,13 @@ inline continuation continued(searches &by, const candidate &one, const start &f
 
 // The orientations on a side.
 inline std::vector<twins> orientations_on(searches &by, const cube &from, std::size_t on, const axis_step &step, std::int64_t slack) {
+    const std::vector<solution> all = by.solve(step, from.lines[on], slack);
+    const longer_among longer(all);
     std::vector<twins> found;
-    for (std::vector<solution> &group : grouped(reaching(by, from.lines[on], step, slack), step)) {
-        twins each = {step, on, std::move(group), {}};
+    for (std::vector<solution> &group : grouped(all, step)) {
+        // twins are longer ones together
+        const bool is_longer = longer.has(group[0]);
+        twins each = {step, on, std::move(group), {}, is_longer};
         const auto after = [&](const solution &one) { return from.after(on, one.moves); };
         std::transform(each.moves.begin(), each.moves.end(), std::back_inserter(each.cubes), after);
         found.push_back(std::move(each));
@@ -207,11 +224,13 @@ inline void add_candidates(std::vector<candidate> &to, searches &by, const cube 
 // Those that may be among the first `most`: as many have no more moves in all than the bound, and one that can't come down to it is left out.
 inline std::vector<judged> judged_best(searches &by, const std::vector<candidate> &candidates, std::uint64_t most) {
     std::vector<int> numbers;
-    std::transform(candidates.begin(), candidates.end(), std::back_inserter(numbers), [](const candidate &one) { return one.most; });
+    std::transform(candidates.begin(), candidates.end(), std::back_inserter(numbers), [](const candidate &one) { return one.most(); });
     const int enough = nth_least(std::move(numbers), most);
     std::vector<judged> found;
-    for (const candidate &one : candidates)
-        if (one.least <= enough) found.push_back({one, total_of(by, one), facts(one.twins->cubes[0].lines[NORMAL]).axes[one.step.axis]});
+    for (const candidate &one : candidates) {
+        const int total = one.least() <= enough ? total_of(by, one) : NEVER;
+        if (total < NEVER) found.push_back({one, total, facts(one.twins->cubes[0].lines[NORMAL]).axes[one.step.axis]});
+    }
     return found;
 }
 
@@ -330,7 +349,8 @@ inline std::vector<continuation> continuations(searches &by, const start &from, 
 
 // What may follow a scramble and the moves so far, the best first, up to a domino reduction: each orientation on three axes and both sides, up
 // to `slack` moves longer than the shortest of its axis and side, and after it the reduction on each of two axes with the fewest moves in
-// all, on the better side. If an orientation holds, the reductions, up to `slack` longer; if a reduction is reached, nothing.
+// all, on the better side. An orientation that goes on after it was reached has a row only if the reduction is better on the other side than on
+// its own. If an orientation holds, the reductions, up to `slack` longer; if a reduction is reached, nothing.
 //
 // Moves of `so_far` in brackets are made on the inverse side. All moves count, those so far too, once they are merged on each side. The order
 // is by these, by the moves of the first step, and by the pieces of the case. `most` is how many are returned. Each unit of slack makes this

@@ -222,15 +222,27 @@ private:
     std::size_t done_ = 0, all_ = 0;
 };
 
-// The solutions of a step on a side, without those in which it is reached before their last turn.
+// Tells of a step's solutions, all of which are given from the shortest on, which are longer ones: those that go on after the step was reached.
+class longer_among {
+public:
+    explicit longer_among(const std::vector<solution> &all) : least_(all.empty() ? 0 : all.front().length) {
+        const auto moves = [](const solution &one) { return std::string_view(one.moves); };
+        std::transform(all.begin(), all.end(), std::inserter(known_, known_.end()), moves);
+    }
+
+    bool has(const solution &one) const { return is_reached_earlier(one, least_, known_); }
+
+private:
+    std::unordered_set<std::string_view> known_;
+    int least_;
+};
+
+// The solutions of a step on a side but longer ones.
 inline std::vector<solution> reaching(searches &by, const std::string &line, const axis_step &step, std::int64_t slack) {
     const std::vector<solution> all = by.solve(step, line, slack);
-    std::unordered_set<std::string_view> known;
-    const auto moves = [](const solution &one) { return std::string_view(one.moves); };
-    std::transform(all.begin(), all.end(), std::inserter(known, known.end()), moves);
+    const longer_among longer(all);
     std::vector<solution> kept;
-    const auto is_new = [&](const solution &one) { return !is_reached_earlier(one, all.front().length, known); };
-    std::copy_if(all.begin(), all.end(), std::back_inserter(kept), is_new);
+    std::remove_copy_if(all.begin(), all.end(), std::back_inserter(kept), [&](const solution &one) { return longer.has(one); });
     return kept;
 }
 

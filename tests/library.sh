@@ -36,9 +36,11 @@ holds "so does the archive" names_level "$folder/libnissy.a"
 # where the parts put what they compile, and beside it, since one has the name of a header, the rows of tests/runs.tsv and calls.tsv as C
 made=$room/made
 mkdir "$made"
-strict=(-O1 -g -Wall -Wextra -Wpedantic -Werror -Iinclude -Itests/library "-I$room/rows")
+strict=(-O1 -Wall -Wextra -Wpedantic -Werror -Iinclude -Itests/library "-I$room/rows")
 rows_in_c "$room/rows"
-sanitized=("-fsanitize=address,undefined" -fno-sanitize-recover=all)
+# -O0 behind -O1, by which the sanitizers take a compiler more than twice as long
+sanitized=(-O0 -g1 "-fsanitize=address,undefined" -fno-sanitize-recover=all)
+for_races=(-O0 -g1 -fsanitize=thread)
 wrapped=-Wl,--wrap=malloc,--wrap=realloc,--wrap=free
 linked() { # NAME: what the test is linked with
     case $1 in
@@ -58,7 +60,7 @@ has_sanitizer() { # WORD..: programs that are compiled with these words run here
 }
 is_sanitized=no sees_races=no
 if has_sanitizer "${sanitized[@]}"; then is_sanitized=yes; else skips "cc has no sanitizers here"; fi
-if has_sanitizer -fsanitize=thread; then sees_races=yes; else skips "cc has no sanitizer for threads here"; fi
+if has_sanitizer "${for_races[@]}"; then sees_races=yes; else skips "cc has no sanitizer for threads here"; fi
 missing valgrind && skips "valgrind isn't installed"
 valgrinds() { missing valgrind || add valgrind -q --error-exitcode=99 "$@"; } # WORD..
 
@@ -71,7 +73,7 @@ tried() { # NAME: the test in C of this name
         add "$made/$name.sanitized"
     fi
     if [ "$name" = threads ] && [ $sees_races = yes ]; then
-        holds "$name.c compiles with the sanitizer for threads" compiled "$made/$name.raced" "$name" -fsanitize=thread
+        holds "$name.c compiles with the sanitizer for threads" compiled "$made/$name.raced" "$name" "${for_races[@]}"
         add "$made/$name.raced"
     fi
     case $name in
@@ -100,18 +102,18 @@ read_strictly() { # COMPILER HEADER: callers have warnings of their own, and it 
     [ "$1" = clang++ ] || more+=(-Wuseless-cast)
     "$1" -std=c++17 "${strict[@]}" "${more[@]}" -x c++ -fsyntax-only "$2"
 }
-by_compiler() { # COMPILER
-    local compiler=$1 standard header test
+# Each compiler makes programs of one standard, and reads their texts by the other: the headers do the same by both.
+by_compiler() { # COMPILER STANDARD OTHER
+    local compiler=$1 standard=$2 header test
     holds "nissy.h is C++98 too, by $compiler" "$compiler" -std=c++98 "${strict[@]}" -x c++ -fsyntax-only include/nissy.h
     # named beside an empty file, since not all of its functions are called in it
     holds "so is nissy_forms.h, by $compiler" "$compiler" -std=c++98 "${strict[@]}" -include nissy_forms.h -x c++ -fsyntax-only /dev/null
     holds "nissy.hpp tells C++14 that it is for C++17, by $compiler" tells_older "$compiler"
     for header in include/*.hpp; do holds "$header is read without further warnings, by $compiler" read_strictly "$compiler" "$header"; done
-    for standard in c++17 c++20; do
-        for test in nissy headers; do
-            holds "$test.cpp compiles as $standard by $compiler" compiled_by "$compiler" $test "$made/$compiler.$standard.$test" -std=$standard
-            add "$made/$compiler.$standard.$test"
-        done
+    for test in nissy headers; do
+        holds "$test.cpp compiles as $standard by $compiler" compiled_by "$compiler" $test "$made/$compiler.$test" "-std=$standard"
+        add "$made/$compiler.$test"
+        holds "$test.cpp is read as $3 by $compiler" "$compiler" "-std=$3" "${strict[@]}" -fsyntax-only "tests/library/$test.cpp"
     done
     ended
 }
@@ -125,16 +127,18 @@ with_sanitizers() {
         done
     fi
     if [ $sees_races = yes ]; then
-        holds "nissy.cpp compiles with the sanitizer for threads" compiled_by g++ nissy "$made/nissy.raced" -std=c++17 -fsanitize=thread
+        holds "nissy.cpp compiles with the sanitizer for threads" compiled_by g++ nissy "$made/nissy.raced" -std=c++17 "${for_races[@]}"
         add "$made/nissy.raced"
     fi
-    for test in nissy headers; do valgrinds --leak-check=full "$made/g++.c++17.$test"; done
+    for test in nissy headers; do valgrinds --leak-check=full "$made/g++.$test"; done
     ended
 }
-for compiler in g++ clang++; do
-    if missing $compiler; then skips "$compiler isn't installed"; else part by_compiler $compiler; fi
-done
-missing g++ || after="by_compiler g++" part with_sanitizers
+by_gcc=(by_compiler g++ c++17 c++20)
+if missing g++; then skips "g++ isn't installed"; else
+    part "${by_gcc[@]}"
+    after="${by_gcc[*]}" part with_sanitizers
+fi
+if missing clang++; then skips "clang++ isn't installed"; else part by_compiler clang++ c++20 c++17; fi
 printf '#include "nissy.h"\nint main(void) { return nissy_invert("R", 1, 0).status; }\n' > "$room/other.c"
 holds "a call with too few arguments doesn't compile" refuses cc -std=c11 "${strict[@]}" -o "$room/other" "$room/other.c" "$folder/libnissy.a"
 
@@ -156,7 +160,7 @@ is_refused() { # COMMAND..: the older processor loads none of it
     [ $? -eq 127 ] && [ -z "$said" ]
 }
 on_old_processors() {
-    add qemu-x86_64 -cpu Nehalem "$made/shared_calls"
+    add qemu-x86_64 -cpu Nehalem "$made/shared_calls" few
     answers "the program on an old processor" 0 'length 7 solutions 4 nodes 107\n' '' \
         qemu-x86_64 -cpu Nehalem "$program" count drud-eofb 20 "R U2 L' D R2 U' F2 L D' B2 R' U L2 D2 R U' F2 D L'"
     holds "an older one doesn't load the library" is_refused "$made/shared_calls" few
@@ -176,7 +180,7 @@ beside_program() {
         holds "caller.cpp compiles" g++ -std=c++17 "${strict[@]}" "${further[@]}" -o "$made/caller" tests/library/caller.cpp "$folder/libnissy.a"
         caller=("$made/caller")
     fi
-    add python3 tests/library/beside_program.py "$program" 1 0.4 "${caller[@]}"
+    add python3 tests/library/beside_program.py "$program" 1 0.2 "${caller[@]}"
     add python3 tests/library/beside_model.py 1 1500 "${caller[@]}"
     ended
 }

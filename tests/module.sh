@@ -37,10 +37,9 @@ if missing tsc; then
 else
     holds "the types are those of the JavaScript" tools/module-types "$room/types"
     cp tests/module/types.ts "$room/types"
-    strict=(tsc --strict --noEmit --target es2022 --module es2022 --moduleResolution node --lib "es2022,dom")
-    holds "a caller in TypeScript has these types, and is told of what is wrong" "${strict[@]}" "$room/types/types.ts"
-    echo 'declare const nissy: import("./nissy.js").Nissy; nissy.invert(1);' > "$room/types/wrong.ts"
-    holds "tsc refuses a wrong call" refuses "${strict[@]}" "$room/types/wrong.ts"
+    # tsc says so too if a call that the caller marks as wrong is none
+    holds "a caller in TypeScript has these types, and is told of what is wrong" \
+        tsc --strict --noEmit --target es2022 --module es2022 --moduleResolution node --lib "es2022,dom" "$room/types/types.ts"
 fi
 parts_end
 ended

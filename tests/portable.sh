@@ -59,9 +59,10 @@ each "for Windows" windows x86_64-w64-mingw32-gcc "${strict[@]}"
 each "for 32 bits" i686 i686-linux-gnu-gcc "${strict[@]}" -static
 each "for ARM" aarch64 aarch64-linux-gnu-gcc "${strict[@]}" -static
 each "for s390x, of the other byte order" s390x s390x-linux-gnu-gcc "${strict[@]}" -static
-sanitized=(-std=c11 -O1 -g "-fsanitize=address,undefined" -fno-sanitize-recover=all)
+# lines alone for the debugger: with all of -g the sanitizers take the compiler twice as long
+sanitized=(-std=c11 -O1 -g1 "-fsanitize=address,undefined" -fno-sanitize-recover=all)
 each "with the sanitizers" sanitized gcc "${sanitized[@]}"
-each "with the sanitizer for threads" raced gcc -std=c11 -O1 -g -fsanitize=thread
+each "with the sanitizer for threads" raced gcc -std=c11 -O1 -g1 -fsanitize=thread
 wait
 passed=$passed_before failed=$failed_before
 for made in "$room"/*.made; do
@@ -82,8 +83,9 @@ beside() { # LINES NAME [RUNNER..]: drawn runs by the program of a compiler that
     add python3 tests/portable/beside.py "$program" 1 "$count" "$@" "$room/$name"
 }
 beside 60 gcc
-for name in clang musl tcc bytewise i686; do beside 30 "$name"; done
-beside 20 sanitized
+for name in clang musl bytewise i686; do beside 30 "$name"; done
+# what is slow by itself, or by an emulator, takes one line a search
+for name in tcc sanitized; do beside 15 "$name"; done
 beside 15 aarch64 qemu-aarch64
 beside 15 s390x qemu-s390x
 # Wine has a server, which is to stay from run to run, and a folder for what Windows would have; the first run says that it makes it.
@@ -102,7 +104,7 @@ fi
 linked() { # NAME TEST WORD..: the test of this name with the file as it was compiled
     local wrapped=()
     [[ $2 == fuzz* ]] && wrapped=("-Wl,--wrap=malloc,--wrap=realloc,--wrap=free")
-    gcc -std=c11 -O1 -g "${@:3}" -pthread "${wrapped[@]}" -Iinclude -Itests/library -I"$room/rows" -o "$room/$1.$2" "tests/library/$2.c" "$room/$1.o"
+    gcc -std=c11 -O1 -g1 "${@:3}" -pthread "${wrapped[@]}" -Iinclude -Itests/library -I"$room/rows" -o "$room/$1.$2" "tests/library/$2.c" "$room/$1.o"
 }
 rows_in_c "$room/rows"
 for trial in "calls few" "facts few" "fuzz" "fuzz_facts" "threads 0 20"; do
@@ -114,7 +116,7 @@ done
 holds "threads.c is linked with it for races" linked raced threads -fsanitize=thread
 add "$room/raced.threads" 0 20
 in_c_plus_plus() { # the headers in C++ over it
-    g++ -std=c++17 -O1 -g -DNISSY_IN_C -pthread -Wl,--wrap=malloc,--wrap=realloc,--wrap=free -Iinclude -Itests/library -I"$room/rows" -o "$room/plus" tests/library/nissy.cpp "$room/gcc.o"
+    g++ -std=c++17 -O1 -DNISSY_IN_C -pthread -Wl,--wrap=malloc,--wrap=realloc,--wrap=free -Iinclude -Itests/library -I"$room/rows" -o "$room/plus" tests/library/nissy.cpp "$room/gcc.o"
 }
 if missing g++; then skips "nissy.hpp over nissy.c, since there is no g++"; else
     holds "nissy.cpp is linked with it" in_c_plus_plus

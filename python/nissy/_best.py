@@ -8,9 +8,9 @@ from ._continuations import Continuation, Lengths, Orientation, Reduction, Side
 from ._facts import Axis, Case, check, facts, facts_all
 from ._given import Step, Text, bytes_of, number_of
 from ._lines import MOST_WORD
-from ._twins import grouped, last_turns, without_earlier
+from ._twins import grouped, last_turns, longer_among
 from ._values import Fault, LineFault, Solution, raising
-from ._ways import NORMAL, SIDES, Cube, Progress, Searches, Start, Way, best_way, bounds, read, totals, turns_of
+from ._ways import NEVER, NORMAL, SIDES, Bounds, Cube, Progress, Searches, Start, Way, best_way, bounds, bounds_of, read, totals, turns_of
 
 _NAMES: Tuple[Side, Side] = ("normal", "inverse")
 # the orientations, and the reductions that may follow each, with their axes
@@ -24,16 +24,18 @@ _BATCH = 256
 
 
 class _Twins(NamedTuple):
-    """Twins of an orientation on a side, and the cube after each."""
+    """Twins of an orientation on a side, the cube after each, and whether they are longer ones, which go on after it was reached. What these go
+    on with belongs on their own side to the reduction after a shorter one, so they have a row only if the other side is better."""
 
     step: Step
     side: int
     moves: List[Solution]
     cubes: List[Cube]
+    is_longer: bool
 
 
 class _Candidate(NamedTuple):
-    """A reduction after twins, and the bounds of all moves with it: `least` and `most`."""
+    """A reduction after twins, and the bounds of all moves with it: `least` and `most`, which is NEVER if it may have no row."""
 
     twins: _Twins
     step: Step
@@ -51,12 +53,15 @@ class _Candidate(NamedTuple):
         return min(ways, key=lambda found: found[1][:2])
 
     def total(self, searches: Searches) -> int:
-        """Returns how many moves there are in all."""
-        return self.most if self.least == self.most else min(self.best_on(searches, side)[1].total for side in SIDES)
+        """Returns how many moves there are in all, or NEVER if it has no row."""
+        if self.least == self.most:
+            return self.most
+        own, other = (self.best_on(searches, side)[1].total for side in (self.twins.side, 1 - self.twins.side))
+        return min(own, other) if other < own or not self.twins.is_longer else NEVER
 
     def continuation(self, searches: Searches, start: Start, case: Case) -> Continuation:
         """Returns it with its moves, on the side of the orientation if the other one isn't better."""
-        (step, own, twins, _), best = self.twins, [self.best_on(searches, side) for side in SIDES]
+        (step, own, twins, *_), best = self.twins, [self.best_on(searches, side) for side in SIDES]
         side = own if best[own][1].total <= best[1 - own][1].total else 1 - own
         at, (total, _, moves) = best[side]
         others = tuple(start.named(own, last_turns(each, step)) for each in twins[:at] + twins[at + 1:])
@@ -71,26 +76,33 @@ def _written(*parts: Tuple[int, str]) -> str:
     return line.replace(") (", " ")
 
 
-def _reaching(searches: Searches, cube: Cube, side: int, step: Step, slack: int) -> List[Solution]:
-    """Returns a step's solutions on a side, without those in which it is reached before their last turn."""
-    return without_earlier(searches.solve(step, cube.lines[side], slack))
+def _twins_on(searches: Searches, cube: Cube, side: int, step: Step, slack: int) -> List[_Twins]:
+    """Returns the orientations on a side."""
+    solutions = searches.solve(step, cube.lines[side], slack)
+    longer = longer_among(solutions)
+    # twins are longer ones together
+    return [_Twins(step, side, twins, [cube.after(side, moves) for moves in twins], twins[0] in longer) for twins in grouped(solutions, step)]
 
 
 def _orientations(searches: Searches, cube: Cube, step: Step, slack: int) -> List[_Twins]:
     """Returns the orientations on an axis, the shortest first."""
-    groups = [(side, twins) for side in SIDES for twins in grouped(_reaching(searches, cube, side, step, slack), step)]
-    groups.sort(key=lambda group: group[1][0].length)
-    return [_Twins(step, side, twins, [cube.after(side, moves) for moves in twins]) for side, twins in groups]
+    found = [twins for side in SIDES for twins in _twins_on(searches, cube, side, step, slack)]
+    return sorted(found, key=lambda twins: twins.moves[0].length)
+
+
+def _candidate(twins: _Twins, step: Step, on_each: List[List[Bounds]]) -> _Candidate:
+    """Returns a reduction after twins, by its bounds on both sides after each of them."""
+    own, other = (bounds_of([on_sides[side] for on_sides in on_each]) for side in (twins.side, 1 - twins.side))
+    if twins.is_longer:
+        return _Candidate(twins, step, other.least if other.least < own.most else NEVER, NEVER)
+    return _Candidate(twins, step, *bounds_of((own, other)))
 
 
 def _candidates(searches: Searches, cube: Cube, every: List[_Twins], step: Step) -> List[_Candidate]:
     """Returns a reduction after each of the twins on an axis, which go on from a cube."""
     lengths = searches.least_lengths(step, [line for twins in every for after in twins.cubes for line in after.lines])
-    on_sides, found = zip(lengths, lengths), []
-    for twins in every:
-        on_each = [bounds(cube, after, step, next(on_sides)) for after in twins.cubes]
-        found.append(_Candidate(twins, step, min(least for least, _ in on_each), min(most for _, most in on_each)))
-    return found
+    on_sides = zip(lengths, lengths)
+    return [_candidate(twins, step, [bounds(cube, after, step, next(on_sides)) for after in twins.cubes]) for twins in every]
 
 
 def _on_axis(searches: Searches, cube: Cube, every: List[_Twins]) -> Iterator[_Candidate]:
@@ -114,7 +126,8 @@ def _oriented(searches: Searches, start: Start, slack: int, most: int) -> List[C
     candidates = [each for every in axes for each in _on_axis(searches, start.cube, every)]
     # as many as are asked for have no more moves in all than this, so one that can't come down to it is left out
     enough = _nth_least((each.most for each in candidates), most)
-    counted = [(each.total(searches), each) for each in candidates if each.least <= enough]
+    looked_at = ((each.total(searches), each) for each in candidates if each.least <= enough)
+    counted = [(total, each) for total, each in looked_at if total < NEVER]
     enough = _nth_least((total for total, _ in counted), most)
     kept = [(total, each) for total, each in counted if total <= enough]
     seen = raising(facts_all([each.twins.cubes[0].lines[NORMAL] for _, each in kept]))
@@ -126,11 +139,12 @@ def _oriented(searches: Searches, start: Start, slack: int, most: int) -> List[C
 def _reductions(searches: Searches, start: Start, step: Step, axis: Axis, slack: int) -> Iterator[Continuation]:
     """Yields the reductions of a step, which may start."""
     cube = start.cube
-    case, found = facts(cube.lines[NORMAL]).case[axis], [_reaching(searches, cube, side, step, slack) for side in SIDES]
+    case, found = facts(cube.lines[NORMAL]).case[axis], [searches.solve(step, cube.lines[side], slack) for side in SIDES]
     lengths = Lengths(*(solutions[0].length if solutions else None for solutions in found))
     for side, solutions in enumerate(found):
+        longer = longer_among(solutions)
         counted = dict(zip(solutions, totals(cube, side, solutions)))
-        for twins in grouped(solutions, step):
+        for twins in grouped((moves for moves in solutions if moves not in longer), step):
             moves = min(twins, key=counted.__getitem__)
             others = tuple(start.named(side, last_turns(each, step)) for each in twins if each != moves)
             dr = Reduction(step, _NAMES[side], start.named(side, moves), moves.length, others, lengths)
@@ -154,7 +168,8 @@ def best(scramble: Text, so_far: Text = "", *, slack: int = 0, most: Optional[in
          progress: Optional[Progress] = None) -> List[Continuation]:
     """What may follow a scramble and the moves so far, the best first, up to a domino reduction: each orientation on three axes and both
     sides, up to `slack` moves longer than the shortest of its axis and side, and after it the reduction on each of two axes with the fewest
-    moves in all, on the better side. If an orientation holds, the reductions, up to `slack` longer; if a reduction is reached, nothing.
+    moves in all, on the better side. An orientation that goes on after it was reached has a row only if the reduction is better on the other
+    side than on its own. If an orientation holds, the reductions, up to `slack` longer; if a reduction is reached, nothing.
 
     Moves of `so_far` in brackets are made on the inverse side. All moves count, those so far too, once they are merged on each side. The
     order is by these, then by the moves of the first step, then by the pieces of the case. No more than `most` are returned, or all if it is

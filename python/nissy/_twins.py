@@ -1,10 +1,10 @@
-"""Solutions of one step that are nearly the same: twins, which differ in the direction of their last quarter turns alone, and those that go
-on after the step was reached."""
+"""Solutions of one step that are nearly the same: twins, which differ in the direction of their last quarter turns alone, and longer ones, which
+go on after the step was reached."""
 from __future__ import annotations
 
 import re
 from functools import lru_cache
-from typing import Dict, Iterable, Iterator, List, Pattern, Sequence
+from typing import Dict, Iterable, Iterator, List, Pattern, Sequence, Set
 
 from ._given import Step
 from ._values import Solution
@@ -51,7 +51,7 @@ def _beginnings(moves: str, least: int) -> Iterator[str]:
             yield " ".join([*turns[:count - 1], turns[count]])
 
 
-def without_earlier(solutions: Sequence[Solution]) -> List[Solution]:
-    """Returns those of a step's solutions, which are all up to some length, in which it isn't reached before their last turn."""
+def longer_among(solutions: Sequence[Solution]) -> Set[Solution]:
+    """Returns those of a step's solutions, which are all up to some length, in which it is reached before their last turn."""
     known, least = set(solutions), solutions[0].length if solutions else 0
-    return [moves for moves in solutions if known.isdisjoint(_beginnings(moves, least))]
+    return {moves for moves in solutions if moves.length > least and not known.isdisjoint(_beginnings(moves, least))}

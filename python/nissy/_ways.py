@@ -149,15 +149,26 @@ def _most_saved(made: str, step: Step) -> int:
     return saved
 
 
-def bounds(before: Cube, after: Cube, step: Step, lengths: Sequence[Optional[int]]) -> Tuple[int, int]:
-    """Returns the least and the most that all moves can be with a reduction after an orientation, by its length on each side. If it merges with
-    the orientation alone, a twin of that has a shorter one, so this isn't looked at."""
-    count, least, most = after.count_made(), NEVER, NEVER
+class Bounds(NamedTuple):
+    """The least and the most that all moves can be."""
+
+    least: int
+    most: int
+
+
+def bounds_of(every: Sequence[Bounds]) -> Bounds:
+    """Returns the bounds of the best of some ways."""
+    return Bounds(min(each.least for each in every), min(each.most for each in every))
+
+
+def bounds(before: Cube, after: Cube, step: Step, lengths: Sequence[Optional[int]]) -> List[Bounds]:
+    """Returns the bounds of all moves with a reduction after an orientation on each side, by its length there. If it merges with the orientation
+    alone, a twin of that or a shorter one has it without that, so this isn't looked at."""
+    count, found = after.count_made(), []
     for made_before, made, length in zip(before.made, after.made, lengths):
-        if length is not None:
-            most = min(most, count + length)
-            least = min(least, count + length - (_most_saved(made, step) if made_before else 0))
-    return least, most
+        most, saved = (NEVER, 0) if length is None else (count + length, _most_saved(made, step) if made_before else 0)
+        found.append(Bounds(most - saved, most))
+    return found
 
 
 def totals(cube: Cube, side: int, solutions: Sequence[Solution]) -> List[int]:

@@ -38,10 +38,26 @@ def written(question: Question) -> str:
     return json.dumps(answer(question), separators=(",", ":"))
 
 
-def answers_of(command: List[str], questions: List[Question]) -> List[str]:
-    """What a caller in another language answers."""
-    asked = "".join(question.as_line() + "\n" for question in questions)
-    return subprocess.run(command, input=asked, stdout=subprocess.PIPE, check=True, encoding="utf-8").stdout.splitlines()
+class Caller:
+    """A caller in another language, which keeps its tables."""
+
+    def __init__(self, command: List[str]) -> None:
+        self.process = subprocess.Popen(command, stdin=subprocess.PIPE, stdout=subprocess.PIPE, encoding="utf-8")
+        assert self.process.stdin is not None and self.process.stdout is not None
+        self.asked, self.said = self.process.stdin, self.process.stdout
+
+    def answers(self, questions: List[Question]) -> List[str]:
+        """What it answers."""
+        found = []
+        for question in questions:
+            print(question.as_line(), file=self.asked, flush=True)
+            found.append(self.said.readline().rstrip("\n"))
+        return found
+
+    def end(self) -> int:
+        """Its status, once it has read all and said no more."""
+        self.asked.close()
+        return self.process.wait() or len(self.said.read())
 
 
 def least_bounds(questions: List[Question], answers: Callable[[List[Question]], List[str]]) -> List[int]:
@@ -59,15 +75,15 @@ def least_bounds(questions: List[Question], answers: Callable[[List[Question]], 
             found[question] = (nodes, high) if it == CUT else (low, nodes)
 
 
-def bounds(tally: Tally, name: str, command: List[str], seed: int) -> None:
+def bounds(tally: Tally, name: str, caller: Caller, seed: int) -> None:
     """With the least bound there is the answer of Python, and with one less none. It is that of Python in C++, which searches alike."""
     draw = Drawing(seed)
     scrambles = [draw.scramble() for _ in range(3)]
     questions = [Question("U R F"), Question("R U", "", 1), Question(scrambles[0]), Question(scrambles[1], draw.both_sides(), 0, 200),
                  Question(scrambles[2], draw.orientation(scrambles[2]), 1), Question(" ".join(draw.turns(3)), "", 1, 1)]
-    least = least_bounds(questions, lambda asked: list(map(written, asked)) if name == "C++" else answers_of(command, asked))
+    least = least_bounds(questions, caller.answers if name == "JavaScript" else lambda asked: list(map(written, asked)))
     asked = [question._replace(nodes=bound - short) for question, bound in zip(questions, least) for short in (1, 0)]
-    got = answers_of(command, asked)
+    got = caller.answers(asked)
     tally.equal(f"one less is cut in {name}", got[::2], [CUT] * len(questions))
     tally.equal(f"the least bound is none in {name}", got[1::2], [written(question) for question in questions])
 
@@ -82,11 +98,11 @@ def main() -> None:
     for command, name in callers:
         if "-" in command:
             continue
-        got = answers_of(command, questions)
-        tally.equal(f"how many answers there are in {name}", len(got), len(wanted))
-        for question, ours, theirs in zip(questions, wanted, got):
+        caller = Caller(command)
+        for question, ours, theirs in zip(questions, wanted, caller.answers(questions)):
             tally.equal(f"{question} in {name}", theirs, ours)
-        bounds(tally, name, command, seed)
+        bounds(tally, name, caller, seed)
+        tally.equal(f"{name} ends, and has said no more", caller.end(), 0)
     tally.holds("some have rows", sum(line.startswith("[{") for line in wanted) > count / 2)
     tally.holds("some have none", "[]" in wanted)
     tally.end()

@@ -50,10 +50,11 @@ class Cube(NamedTuple):
 
 
 class Group(NamedTuple):
-    """Twins, with the cube after each, and their place."""
+    """Twins, with the cube after each, their place, and whether the step isn't reached before their last move."""
 
     place: Tuple[int, int, int]
     key: Key
+    is_new: bool
     cubes: List[Cube]
 
 
@@ -120,15 +121,22 @@ def twin_key(moves: Moves, step: str) -> Key:
 
 
 def groups(program: Program, cube: Cube, step: str, slack: int) -> List[Group]:
-    """The solutions of a step on both sides, those that are twins together."""
+    """The solutions of a step on both sides. Those are together that are twins, and alike in whether they are new."""
     found: Dict[Key, Group] = {}
     for side, solutions in enumerate(program.near(step, slack, cube.lines)):
         least = len(solutions[0])
-        kept = [moves for moves in solutions if is_new(cube.lines[side], moves, step, least)]
-        for at, moves in enumerate(kept):
-            key = (step, SIDES[side], twin_key(moves, step))
-            found.setdefault(key, Group((len(moves), side, at), key, [])).cubes.append(cube.after(side, moves))
+        for at, moves in enumerate(solutions):
+            new = is_new(cube.lines[side], moves, step, least)
+            key = (step, SIDES[side], twin_key(moves, step), new)
+            found.setdefault(key, Group((len(moves), side, at), key[:-1], new, [])).cubes.append(cube.after(side, moves))
     return list(found.values())
+
+
+def has_row(group: Group, best: List[Tuple[int, int]]) -> bool:
+    """Whether orientations have a row with the best reduction on each side: what they go on with belongs on their own side to the reduction
+    after a shorter one, so there is none then if the other side isn't better."""
+    own = group.place[1]
+    return group.is_new or best[1 - own][0] < best[own][0]
 
 
 def after_orientations(program: Program, cube: Cube, slack: int) -> Iterator[Wanted]:
@@ -144,8 +152,9 @@ def after_orientations(program: Program, cube: Cube, slack: int) -> Iterator[Wan
                     for side in (0, 1):
                         ways[side].extend((after.after(side, moves).total(), len(moves)) for moves in next(found))
                 best = [min(on) for on in ways]
-                yield Wanted(min(best)[0], group.place[0], sum(pieces(group.cubes[0].lines[0], step)), (number, *group.place, at),
-                             (step, *group.key), (best[0][1], best[1][1]))
+                if has_row(group, best):
+                    yield Wanted(min(best)[0], group.place[0], sum(pieces(group.cubes[0].lines[0], step)), (number, *group.place, at),
+                                 (step, *group.key), (best[0][1], best[1][1]))
 
 
 def reductions(program: Program, cube: Cube, axes: List[str], slack: int) -> Iterator[Wanted]:
@@ -153,7 +162,7 @@ def reductions(program: Program, cube: Cube, axes: List[str], slack: int) -> Ite
     for axis in axes:
         for at, step in enumerate(STEPS[axis]):
             least = program.near(step, 0, cube.lines)
-            for group in groups(program, cube, step, slack):
+            for group in (it for it in groups(program, cube, step, slack) if it.is_new):
                 side, best = group.place[1], min(group.cubes, key=Cube.total)
                 key = (step, SIDES[side], words_of(best.lines[side][len(cube.lines[side]):]))
                 yield Wanted(best.total(), group.place[0], sum(pieces(cube.lines[0], step)), (AXES.index(axis), at, *group.place[1:]), key,

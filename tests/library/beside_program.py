@@ -3,7 +3,7 @@
 
     tests/library/beside_program.py PROGRAM SEED SCALE [CALLER]
 
-The draws are those by which the program is compared with the independent model (tests/model/against.py), some 3,500 at scale 0.4, and files
+The draws are those by which the program is compared with the independent model (tests/model/against.py), some 1,700 at scale 0.2, and files
 of many lines. A run is called with room that grows and with room of a drawn size, and then by a call for each line of its input, which is a
 string, bytes or another buffer; searches and scrambles go by the calls that return values. CALLER is a program made of caller.cpp: it makes
 the calls on lines, searches and scrambles of nissy.hpp too. The last line is `N passed, M failed`, by kinds of calls, and the status is 1

@@ -38,6 +38,18 @@ def told(tally: Tally) -> None:
     tally.equal("bytes and wide turns", nissy.best(b"U R F x", bytearray(b"")), nissy.best("U R F x"))
 
 
+def switched(tally: Tally) -> None:
+    """An orientation that goes on after it was reached: the reduction follows on the other side. The first line spells it: between B R and the
+    last R are turns of the domino's group, so that (B R) R leaves none but these and R2."""
+    for scramble, slack, most, line, total in (("B R D' L2 U L2 R", 1, 1, "(B R) R", 3),
+                                               ("R' U' F D' L2 B2 R2 D2 L' R2 U' F R U L2 F' D' L F2 L D R' U' F", 2, 3,
+                                                "(L F L' U L2 D R' F) B", 9)):
+        row = nissy.best(scramble, slack=slack, most=most)[0]
+        tally.equal(f"{scramble}, slack {slack}", (row.line, row.total), (line, total))
+    row = nissy.best("B R D' L2 U L2 R", slack=1, most=1)[0]
+    tally.equal("its steps", (row.eo and row.eo.moves, row.dr.step, row.dr.side, row.dr.lengths.normal), ("B R", "drud-eofb", "normal", 1))
+
+
 def many(tally: Tally) -> None:
     """As many rows as are asked for, from the best on."""
     rows = nissy.best(SCRAMBLE, most=None)
@@ -121,7 +133,7 @@ def faults(tally: Tally) -> None:
 def main() -> None:
     """All of it."""
     tally = Tally()
-    for part in (told, many, bounded, progress, values, faults):
+    for part in (told, switched, many, bounded, progress, values, faults):
         part(tally)
     tally.end()
 

@@ -120,6 +120,9 @@ static void solves_fewer(const nissy_tables *tables, const search_row *row, uint
     let_go(out);
 }
 
+/* A look at a position is followed by one for each turn that may follow, which the bound allows together. */
+#define MOST_TURNS 18
+
 /* A bound that the whole search keeps changes nothing; by any that is lower the search is cut, and never looks more often. */
 static void is_bounded(const nissy_tables *tables, const search_row *row, nissy_search_answer whole) {
     guarded out = untouched(strlen(row->text));
@@ -130,6 +133,7 @@ static void is_bounded(const nissy_tables *tables, const search_row *row, nissy_
         out = untouched(strlen(row->text));
         nissy_search_answer cut = solve(tables, row, NISSY_ALL, bound, out), told = count_of(tables, row, NISSY_ALL, bound);
         holds(cut.status == NISSY_CUT && cut.more == 1 && cut.nodes <= bound && !cut.fault && !cut.column, "a lower bound cuts it", row->line);
+        holds(cut.nodes + MOST_TURNS > bound, "and not before the next positions would pass it", row->line);
         holds(cut.least == (cut.solutions ? row->least : 0), "the least length, if it is known", row->line);
         holds(is_same(cut, told) && told.length == 0, "a count that is cut", row->line);
         is_beginning(cut, out, row);

@@ -91,6 +91,9 @@ void continuations_are_told() {
     holds(nissy::best("U R F", "F' R").empty() && nissy::best("U", "R2 (D)").empty(), "a reduction is reached", "U R F");
     // F' and F2 of the moves so far merge
     holds(nissy::best("U R F'", "F2").at(0).total == 2, "moves so far count, merged", "U R F'");
+    // B reaches the orientation; behind B R, and R on the other side, are turns of the domino's group alone
+    const nissy::continuation switched = nissy::best("B R D' L2 U L2 R", "", 1).at(0);
+    holds(switched.total == 3 && switched.line == "(B R) R" && switched.dr.side == side::normal, "it goes on", "B R D' L2 U L2 R");
 }
 
 void rows_are_counted() {

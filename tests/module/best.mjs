@@ -30,6 +30,9 @@ function tryKnown() {
   same("their cases", nissy.best("R U").map((row) => row.case), ["4c4e", "4c4e", "4c4e", "4c4e"]);
   same("the first of them", nissy.best("R U", { most: 1 }).map(({ line }) => line), ["(R)"]);
   same("none of them", nissy.best("R U", { most: 0 }), []);
+  // B reaches the orientation; behind B R, and R on the other side, are turns of the domino's group alone
+  const [{ line, total, eo, dr }] = nissy.best("B R D' L2 U L2 R", { slack: 1, most: 1 });
+  same("an orientation that goes on", [line, total, eo.moves, dr.step, dr.side], ["(B R) R", 3, "B R", "drud-eofb", "normal"]);
 }
 
 /** What no call takes, and lines that can't be read. */

@@ -86,6 +86,17 @@ async function tryMemory() {
   same("the memory after many calls", memory.buffer.byteLength, sizeAfterTen);
 }
 
+/** Many lines have room, wherever the memory ends: it grows with each call here. */
+async function tryRoom() {
+  const { nissy } = await loaded(Nissy);
+  const lengths = Array.from({ length: 340 }, (_, length) => length);
+  const answered = [];
+  const fault = await thrown(() => lengths.forEach((length) => {
+    answered.push(nissy.factsAll(Array.from({ length: 256 }, () => " ".repeat(length))).every(({ solved }) => solved));
+  }));
+  same("many lines have room, wherever the memory ends", [fault, answered], [["nothing", ""], lengths.map(() => true)]);
+}
+
 const compiled = await WebAssembly.compile(module);
 same("the module asks nothing of its host", WebAssembly.Module.imports(compiled), []);
 same("what it exports", WebAssembly.Module.exports(compiled).map(({ name }) => name).sort(), EXPORTS);
@@ -96,4 +107,5 @@ tryRows(nissy);
 tryRuns(nissy);
 await tryRefusals(nissy);
 await tryMemory();
+await tryRoom();
 ended();

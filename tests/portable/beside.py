@@ -4,7 +4,8 @@ and status must be the same.
 
     tests/portable/beside.py PROGRAM SEED LINES COMMAND..
 
-COMMAND is the other program, with what runs it before its name. The last line is `N passed, M failed`, and the status is 1 if M isn't 0.
+COMMAND is the other program, with what runs it before its name; a slow one, as under an emulator, is given fewer than 20 LINES, which leaves out
+three fifths of the searches and the longest input. The last line is `N passed, M failed`, and the status is 1 if M isn't 0.
 """
 import random
 import subprocess
@@ -88,8 +89,11 @@ class Drawing:
     def runs(self, count: int) -> list[Run]:
         """Runs of every kind."""
         found = [run for command in REWRITINGS for run in self.rewritings(command, count)]
-        found += [run for step in STEPS for run in self.searches(step, max(2, count // 10))]
-        # the longest input, and one byte more; on 32 bits, too, a length has room for them. With few lines an emulator is tried, which would be slow.
+        for at, step in enumerate(STEPS):
+            made = self.searches(step, max(1, count // 10))
+            # each builds its tables anew, so a slow program makes two of the five for each step
+            found += made if count >= MANY else [made[at % 5], made[(at + 2) % 5]]
+        # the longest input, and one byte more; on 32 bits, too, a length has room for them
         found += [(["invert"], b" " * length) for length in (MOST_INPUT, MOST_INPUT + 1) if count >= MANY]
         return found + [(words, b"") for words in WORDS]
 

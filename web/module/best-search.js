@@ -22,8 +22,9 @@ import { Lengths, afterPart, isWithin, totalWith, wayTo } from "./ways.js";
  * How much is looked for: how many moves longer than the shortest of its side an orientation may be, and at least is,
  * none if it isn't given; whether all of them are wanted, twins and those that go on after it was reached too; and how
  * many rows are kept, besides those as good as the last of them: if some are there already, how many of each number of
- * moves.
- * @typedef {{slack: number, from?: number, isAll: boolean, most: number, totals?: number[]}} Wish
+ * moves. `atOnce`: whether the engine is asked of many orientations at once, which takes less time; without it, it
+ * looks at no more positions than are needed.
+ * @typedef {{slack: number, from?: number, isAll: boolean, most: number, totals?: number[], atOnce?: boolean}} Wish
  */
 
 /**
@@ -184,7 +185,10 @@ const sizeOf = (groups) => groups.reduce((sum, { group }) => sum + group.length,
  * @typedef {{orientation: StepOnAxis, key: string, group: Sided[]}} Untried orientations that are twins, before they
  * are tried
  */
-/** @typedef {{bound: Bound, done: number}} Going how far a search is */
+/**
+ * @typedef {{bound: Bound, done: number, atOnce: boolean}} Going how far a search is, and whether it asks of many at
+ * once
+ */
 
 /**
  * Asks for the least lengths of the reductions that may follow some positions, on both sides.
@@ -198,22 +202,22 @@ function askAfter(lengths, { name }, positions) {
 }
 
 /**
- * The rows of some groups, of all of which the engine is asked at once.
+ * The rows of some groups.
  * @param {Nissy} nissy
  * @param {Position} position
  * @param {Untried[]} batch
- * @param {number} bound
+ * @param {Going} going
  */
-function rowsOfBatch(nissy, position, batch, bound) {
+function rowsOfBatch(nissy, position, batch, { bound, atOnce }) {
   const lengths = new Lengths(nissy);
   const tried = batch.map(({ orientation, key, group }) => (
     { orientation, key, twins: group.map((part) => ({ part, after: afterPart(nissy, position, part) })) }));
-  ORIENTATIONS.forEach((orientation) => {
+  (atOnce ? ORIENTATIONS : []).forEach((orientation) => {
     const own = tried.filter((each) => each.orientation === orientation);
     askAfter(lengths, orientation, own.flatMap(({ twins }) => twins.map(({ after }) => after)));
   });
   const facts = nissy.factsAll(tried.map(({ twins }) => twins[0].after.lines.normal));
-  return tried.flatMap((group, at) => rowsOf(lengths, { ...group, facts: facts[at] }, bound));
+  return tried.flatMap((group, at) => rowsOf(lengths, { ...group, facts: facts[at] }, bound.get()));
 }
 
 /**
@@ -229,7 +233,7 @@ function* groupsFound(nissy, position, groups, going, isLast) {
   const all = isLast ? going.done + sizeOf(groups) : null;
   yield { done: going.done, all, rows: [], isCut: false };
   for (const batch of batchesOf(groups)) {
-    const rows = rowsOfBatch(nissy, position, batch, going.bound.get());
+    const rows = rowsOfBatch(nissy, position, batch, going);
     const kept = rows.filter(isRow);
     going.bound.add(kept);
     going.done += sizeOf(batch);
@@ -246,8 +250,9 @@ function* groupsFound(nissy, position, groups, going, isLast) {
  * @param {Wish} wish
  * @returns {Generator<Found>}
  */
-function* orientationsFound(nissy, position, orientations, { slack: wanted, from: least = 0, isAll, most, totals }) {
-  const going = { bound: new Bound(most, totals), done: 0 };
+function* orientationsFound(nissy, position, orientations, wish) {
+  const { slack: wanted, from: least = 0, isAll, most, totals, atOnce = false } = wish;
+  const going = { bound: new Bound(most, totals), done: 0, atOnce };
   for (const [from, slack] of least > 0 || wanted === 0 ? [[least, wanted]] : [[0, 0], [1, wanted]]) {
     const groups = groupsOf(nissy, position, orientations, { from, slack, isAll });
     yield* groupsFound(nissy, position, groups, going, slack === wanted);

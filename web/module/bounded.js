@@ -2,11 +2,9 @@
 import { cutOfAll } from "./faults.js";
 import { STATUS, hasValue } from "./replies.js";
 
-/** @typedef {import("./bytes.js").Text} Text */
 /** @typedef {import("./replies.js").CountReply} CountReply */
 /** @typedef {import("./replies.js").SeenCount} SeenCount */
 /** @typedef {import("./replies.js").SolveReply} SolveReply */
-/** @typedef {import("./requests.js").CountRequest} CountRequest */
 /** @typedef {import("./requests.js").Request} Request */
 /** @typedef {{answer: (request: Request) => any}} Answering an engine, or what asks one */
 
@@ -33,26 +31,13 @@ export class Bounded {
   /**
    * What the engine returns.
    * @param {Request} request
-   * @returns {any}
    */
   answer(request) {
-    // each search may look at what those before it leave, so they can't be asked for in one call of the module
-    if (request.call === "all" && request.each.call === "count") return this.#countEach(request.each, request.lines);
     if (request.call !== "solve" && request.call !== "count") return this.#engine.answer(request);
     /** @type {SolveReply | CountReply} */
     const reply = this.#engine.answer({ ...request, nodes: this.#nodes - this.#looked });
     if (hasValue(reply.status)) this.#looked += /** @type {SeenCount} */ (reply).nodes;
     if (reply.status === STATUS.cut) throw cutOfAll(this.#looked);
     return reply;
-  }
-
-  /**
-   * What the engine returns of each of many lines.
-   * @param {CountRequest} each
-   * @param {Text[]} lines
-   * @returns {CountReply[]}
-   */
-  #countEach(each, lines) {
-    return lines.map((line) => this.answer({ ...each, line }));
   }
 }

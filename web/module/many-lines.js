@@ -106,7 +106,7 @@ const countsBy = (tables, { limit, slack, most, nodes }) => ({
 function answerPiece(instance, { bytes, read, ask }, lines, step) {
   const { memory, answer, free } = instance;
   const text = aligned(free + lines.length * bytes);
-  memory.reach(lines.reduce((end, line) => end + roomFor(line) + 1, text));
+  memory.reach(lines.reduce((end, line) => end + roomFor(line) + roomFor("\n"), text));
   const length = putLines(memory, text, lines);
   instance.call((exports) => ask(exports, wide(answer), wide(text), wide(length), wide(free), wide(lines.length)));
   const isWhole = instance.answered(LINES_ANSWER.lines) === lines.length;

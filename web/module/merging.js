@@ -92,14 +92,12 @@ export function mergersOf(made, name, line) {
     ]);
   }
   const last = group.join(" ");
-  // twins have one line then, and the engine is asked once
-  const afterAll = line.endsWith(last)
-    ? (/** @type {Merging} */ { left }) => joined(line.slice(0, -last.length).trimEnd(), ...left)
-    : (/** @type {Merging} */ { moves }) => joined(line, ...moves);
-  return ways.filter(({ moves }) => moves.length > 0).map((way) => ({
-    count: way.moves.length,
-    after: afterAll(way),
-    saved: way.moves.length + group.length - way.left.length,
-    before: way.left.length === 0 ? made.slice(0, -group.length) : [],
+  const begin = line.endsWith(last) ? line.slice(0, -last.length).trimEnd() : null;
+  return ways.filter(({ moves }) => moves.length > 0).map(({ moves, left }) => ({
+    count: moves.length,
+    // twins have one line then, and the engine is asked once
+    after: begin === null ? joined(line, ...moves) : joined(begin, ...left),
+    saved: moves.length + group.length - left.length,
+    before: left.length === 0 ? made.slice(0, -group.length) : [],
   }));
 }

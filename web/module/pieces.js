@@ -35,7 +35,7 @@ class Failed {
  * What a worker's reply says of a line, unless it is an error, which is thrown.
  * @param {unknown} told
  */
-export function valueOf(told) {
+export function valueIn(told) {
   if (told instanceof Failed) throw told.error;
   return told;
 }
@@ -123,7 +123,7 @@ export class Pieces {
     return this.#begun === this.#request.lines.length && this.#begins.length > 0;
   }
 
-  /** @returns {unknown[]} what is told of each line, as `valueOf` reads it */
+  /** @returns {unknown[]} what is told of each line, as `valueIn` reads it */
   told() {
     return this.#told.slice(0, this.#wanted).flat();
   }

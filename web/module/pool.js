@@ -4,7 +4,7 @@ import { BestRows } from "./best-rows.js";
 import { ORIENTATIONS } from "./best-steps.js";
 import { wholeNumber } from "./bytes.js";
 import { Stopped, cutOfAll } from "./faults.js";
-import { Pieces, valueOf } from "./pieces.js";
+import { Pieces, valueIn } from "./pieces.js";
 import { allOf, bestIn, countIn, factsIn, shownIn, solutionsIn } from "./replies.js";
 import { allRequest, bestRequest, countRequest, factsRequest, solveRequest, stepsRequest } from "./requests.js";
 import { Signals, progressOf, reasonOf, signalOf } from "./signals.js";
@@ -202,7 +202,7 @@ export class WorkerPool {
       const ways = { signal, tell, whole: resolve };
       for (const queue of this.#queues) workOn(queue, pieces, ways).catch(reject);
     }));
-    return allOf(told, request, valueOf);
+    return allOf(told, request, valueIn);
   }
 
   /**

@@ -51,7 +51,8 @@ import { hasOwn } from "./natives.js";
 /**
  * What is wanted of the best continuations: `soFar`, the moves that were made after the scramble, those in brackets on
  * its inverse, none if it isn't given; `slack`, how many turns longer than the shortest of its side an orientation may
- * be, none if it isn't given; `most`, how many rows, 20 if it isn't given; `nodes`, at how many positions all its
+ * be, none if it isn't given: one that goes on after it was reached has a row only if the reduction is better on the
+ * other side than on its own; `most`, how many rows, 20 if it isn't given; `nodes`, at how many positions all its
  * searches look together at most, at as many as there are if it isn't given: `SearchCut` is thrown before they look at
  * more. In a pool each axis is searched up to this bound, so the cut may come behind it.
  * @typedef {{soFar?: Text, slack?: number, most?: number, nodes?: number}} BestWanted

@@ -36,7 +36,7 @@ function rowInWords(row) {
  * @param {Nissy} nissy @param {{orientation: Step, question: import("./finder.js").Question}} asked
  * @param {(found: import("./finder.js").Progress) => void} tell */
 function bestOfAxis(nissy, { orientation, question }, tell) {
-  const wish = { ...question, most: MOST_TOLD_OF_AXIS };
+  const wish = { ...question, most: MOST_TOLD_OF_AXIS, atOnce: true };
   for (const found of continuations(nissy, question.position, question.reached, [orientation], wish)) {
     tell({ ...found, rows: found.rows.map(rowInWords) });
   }

@@ -16,7 +16,7 @@ use Rattle.niss_cube.specs.BadPieces.{leaving, stickers_in, bad_pieces}
 use Rattle.niss_cube.specs.BadPlaces.{strays, rows_of, bad_places, bad_mask, bad_count, marks_of, turned_away}
 use Rattle.niss_cube.specs.BadPlaces.{sides, BadPlacesAreCounted, BadPlacesSeePlaces}
 unfoldable use Rattle.niss_cube.specs.BadPlaces.{has_stray}
-use Rattle.niss_cube.proofs.CubieKinds.{CubieLists, Valid, map_lists, lists_of, Kind, Corners, Edges, count, facelets, rows}
+use Rattle.niss_cube.proofs.CubieKinds.{row_len, CubieLists, Valid, map_lists, lists_of, Kind, Edges, count, facelets, rows}
 use Rattle.niss_cube.proofs.CubieKinds.{at, home_at, turn_at, stand, low, rewound, origin, one_to_one, at_number, number_at}
 use Rattle.niss_cube.proofs.CubieKinds.{kind_place, facelet_kind, place_of, stands, map_at, of_rank}
 use Rattle.niss_cube.proofs.Codes.{kind_for, set_kind}
@@ -116,10 +116,6 @@ all_away Twist Fb = holds (away_fact Twist Fb) refl
 all_away Slice Ud = holds (away_fact Slice Ud) refl
 all_away Slice Rl = holds (away_fact Slice Rl) refl
 all_away Slice Fb = holds (away_fact Slice Fb) refl
-
-row_len : (k : Kind) (i : ℕ) → i < count k → length (row_at (rows k) i) ≡ facelets k
-row_len Corners = holds (Numbers 8 λ i. Equal (length (row_at (rows Corners) i)) 3) refl
-row_len Edges = holds (Numbers 12 λ i. Equal (length (row_at (rows Edges) i)) 2) refl
 
 -- the facelets of one place: a sticker there is on the wrong side if the cubie there is turned away
 module _ (k : Coordinate) (a : Axis) (c : CubieLists) (v : Valid c) (n : ℕ) (ln : n < count (kind_for k)) where

@@ -34,10 +34,10 @@ unfolding edges_of_rank edges_down
 edges_home-are = of_rank-placed 0 (omega arith)
 
 flips_home-are : AreOriented 2 12 flips_home
-flips_home-are = of_rank-are Edges 0 (omega arith)
+flips_home-are = of_rank-are Edges 0
 
 twists_home-are : AreOriented 3 8 twists_home
-twists_home-are = of_rank-are Corners 0 (omega arith)
+twists_home-are = of_rank-are Corners 0
 
 -- cubies with corners at home
 abbrev pub cubies_of : (twists edges flips : List ℕ) → CubieLists
@@ -78,8 +78,8 @@ cubies_with Slice i = cubies_of twists_home (edges_of_rank i) flips_home
 
 pub cubies_with-valid : (k : Coordinate) (i : ℕ) → i < count_of k → Valid (cubies_with k i)
 unfolding flips_of_rank twists_of_rank
-cubies_with-valid Flip i l = cubies_of-valid twists_home edges_home (flips_of_rank i) twists_home-are edges_home-are (of_rank-are Edges i l)
-cubies_with-valid Twist i l = cubies_of-valid (twists_of_rank i) edges_home flips_home (of_rank-are Corners i l) edges_home-are flips_home-are
+cubies_with-valid Flip i l = cubies_of-valid twists_home edges_home (flips_of_rank i) twists_home-are edges_home-are (of_rank-are Edges i)
+cubies_with-valid Twist i l = cubies_of-valid (twists_of_rank i) edges_home flips_home (of_rank-are Corners i) edges_home-are flips_home-are
 cubies_with-valid Slice i l = cubies_of-valid twists_home (edges_of_rank i) flips_home twists_home-are (of_rank-placed i l) flips_home-are
 
 pub cubies_with-code : (k : Coordinate) (i : ℕ) → i < count_of k → code k (cubies_with k i) ≡ i

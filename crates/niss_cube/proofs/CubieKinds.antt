@@ -7,6 +7,8 @@ use Rattle.niss_cube.proofs.Words.{sticker_place, cases_Bool, ArePlaced, AreOrie
 use Rattle.niss_cube.proofs.Words.{range_with_len, ext_get_or, sticker_map, EachIndex, get_or-map-range_with_len}
 use Rattle.niss_cube.proofs.Words.{length-map-range_with_len, AreCubies, ◌*◌, ◌==◌, eq-eqb, eqb-true, same_truth}
 use Rattle.niss_cube.proofs.Words.{places, facelet, U, Kept, PermutesPlaces, CubesPermutePlaces, KeptIsEqual, set}
+use Rattle.niss_cube.proofs.Words.{eqb_tells, subst}
+use Rattle.std.proofs.lemmas.List.{get_or-set_same, get_or-set_other}
 use Rattle.niss_cube.proofs.Sums.{times_in, place_in, place_in-found, place_in-is, count_by-times, one_if-same, below}
 use Rattle.niss_cube.proofs.Sums.{below_same, below_permuted, one_if, one_of, below_all_same, one_if-at_most}
 
@@ -48,6 +50,14 @@ tabulated-at n f i l = get_or-map-range_with_len f 0 n i i 0 l (omega arith)
 pub tabulated-is : (n : ℕ) (f : ℕ → ℕ) (xs : List ℕ) → length xs ≡ n → EachIndex xs (λ i. slice_index xs i ≡ f i) → xs ≡ tabulated n f
 tabulated-is n f xs l h = ext_get_or 0 xs (tabulated n f) (l ∙ sym (tabulated-length n f)) (λ i li. h i li ∙ sym (tabulated-at n f i (omega (arith, li, l))))
 
+-- a list that is written from the front, with one more
+pub written_more : {A : Type 0} (P : ℕ → A → Type 0) (xs : List A) (n : ℕ) (x d : A) → n < length xs → P n x →
+    ((i : ℕ) → i < n → P i (get_or xs i d)) → (i : ℕ) → i < n + 1 → P i (get_or (set xs n x) i d)
+written_more P xs n x d l here before i li = elim (eqb_tells i n) [
+  | inl w ↦ subst (λ k. P k (get_or (set xs n x) k d)) (sym w.1) (subst (P n) (sym (get_or-set_same xs n x d l)) here)
+  | inr w ↦ subst (P i) (sym (get_or-set_other xs n i x d w.1)) (before i (grind (arith, w.1)))
+]
+
 -- what comes to a place from the one that a table names
 abbrev pub brought : (from xs : List ℕ) → ℕ → ℕ
 brought from xs i = slice_index xs (slice_index from i)
@@ -68,6 +78,10 @@ facelets Edges = 2
 abbrev pub rows : Kind → List (List Place)
 rows Corners = corner_facelets
 rows Edges = edge_facelets
+
+pub row_len : (k : Kind) (i : ℕ) → i < count k → length (row_at (rows k) i) ≡ facelets k
+row_len Corners = holds (Numbers 8 λ i. Equal (length (row_at (rows Corners) i)) 3) refl
+row_len Edges = holds (Numbers 12 λ i. Equal (length (row_at (rows Edges) i)) 2) refl
 
 abbrev pub at : Kind → ℕ → ℕ → Place
 at k i j = facelet_at (rows k) i j

@@ -4,6 +4,7 @@ pub mod CallerLemmas
 pub mod Codes
 pub mod CoordinateLaws
 pub mod CubieKinds
+pub mod Digits
 pub mod Leaving
 pub mod MovedCubies
 pub mod Ranks

@@ -1,17 +1,21 @@
 -- The numbers of orientations and of slice edges, what they determine, also after a turn; and the loops over them, step by step.
-use Rattle.niss_cube.proofs.Words.{Fact, Yes, Equal, Below, Both, When, Numbers, Digits, Holds, holds, refl, sym, ◌∙◌}
+use Rattle.niss_cube.proofs.Words.{Fact, Yes, Equal, Below, Both, When, Numbers, Holds, holds, refl, sym, ◌∙◌}
 use Rattle.niss_cube.proofs.Words.{ap, arith, ◌≡◌, ℕ, ◌%◌, ◌<◌, ◌==◌, List, length, get_or, take, sum, ◌↔◌, ext_get_or}
-use Rattle.niss_cube.proofs.Words.{eq-eqb, nat_eq, pointwise, same_text, number, orientations_of_rank, AreOriented}
-use Rattle.niss_cube.proofs.Words.{append_assoc, suc, ◌+◌, ◌-◌, ◌/◌, [], ◌∷◌, ◌++◌, set, drop, length-set, sum_by-cons}
-use Rattle.niss_cube.proofs.Words.{take-length, digits_of_number, drop-set_at, take-suc-set, Same, Truths, map, reverse}
+use Rattle.niss_cube.proofs.Words.{eq-eqb, number, orientations_of_rank, AreOriented}
+use Rattle.niss_cube.proofs.Words.{append_assoc, suc, ◌+◌, ◌-◌, [], ◌∷◌, ◌++◌, set, drop, length-set}
+use Rattle.niss_cube.proofs.Words.{take-length, digits_of_number, drop-set_at, Same, Truths, map, reverse}
 use Rattle.niss_cube.proofs.Words.{Bool, false, nat_le, sum_by, get_or-reverse, length-reverse, length-map, get_or-map}
 use Rattle.niss_cube.proofs.Words.{rank_places, edges_down, reverse-reverse, count_by, Turn, turn_table}
 use Rattle.niss_cube.proofs.Words.{edges_of_rank, ArePlaced, ◌≤◌, le-leb, drop-cons, choose, length-drop, zero}
 use Rattle.niss_cube.proofs.Words.{CHOICES, choices_with, lt-leb, leb-true, nat_lt, subst, reverse-append, lt-ltb}
 use Rattle.niss_cube.proofs.Words.{le-ltb}
 use Rattle.niss_cube.proofs.CubieKinds.{Kind, Corners, Edges, count, facelets, CubieLists, Valid, once, tabulated}
-use Rattle.niss_cube.proofs.CubieKinds.{tabulated-length, tabulated-at, brought}
-use Rattle.std.proofs.Math.Nat.{mod-add-mod}
+use Rattle.niss_cube.proofs.CubieKinds.{tabulated-length, tabulated-at, brought, low}
+use Rattle.std.proofs.Common.{length-append}
+use Rattle.std.proofs.Math.Seq.{take-append_seam, take-suc}
+use Rattle.std.proofs.lemmas.List.Sums.{sum_by-append}
+use Rattle.std.specs.Prelude.{◌^◌}
+use Rattle.niss_cube.proofs.Digits.{below-more, length-digits, digits-below, number-of_digits, digits-of_list}
 use Rattle.niss_cube.proofs.Sums.{below, one_if, below_same, below_permuted, sum_by-below}
 use Rattle.niss_cube.proofs.MovedCubies.{By, table}
 
@@ -30,40 +34,68 @@ turns_number k xs = number (facelets k) (take (free k) xs)
 abbrev pub of_rank : Kind → ℕ → List ℕ
 of_rank k i = orientations_of_rank (facelets k) (free k) i
 
+counted : (k : Kind) → (0 < facelets k) × (count k ≡ suc (free k)) × (facelets k ^ free k ≡ numbers k)
+counted Corners = (omega arith, refl, refl)
+counted Edges = (omega arith, refl, refl)
+
+-- the last orientation follows from the sum of the others
+last-is : (k : Kind) (s d : ℕ) → d < facelets k → (s + d) % facelets k ≡ 0 → (facelets k - s % facelets k) % facelets k ≡ d
+last-is Corners s d l e = omega arith
+last-is Edges s d l e = omega arith
+
+whole-with_last : (k : Kind) (s : ℕ) → (s + (facelets k - s % facelets k) % facelets k) % facelets k ≡ 0
+whole-with_last Corners s = omega arith
+whole-with_last Edges s = omega arith
+
+sum-more : (ds : List ℕ) (d : ℕ) → sum (ds ++ d ∷ []) ≡ sum ds + d
+sum-more ds d = let e : sum (ds ++ d ∷ []) ≡ sum ds + sum (d ∷ []) = sum_by-append (λ x. x) ds (d ∷ []) in omega (arith, e)
+
+-- each number is that of its orientations
+module _ (k : Kind) (i : ℕ) where
+  abbrev digits : List ℕ
+  digits = digits_of_number (facelets k) (free k) i
+
+  abbrev last : ℕ
+  last = (facelets k - sum digits % facelets k) % facelets k
+
+  long : length digits ≡ free k
+  long = length-digits (facelets k) (free k) i
+
+  pub of_rank-are : AreOriented (facelets k) (count k) (of_rank k i)
+  of_rank-are = record {
+    places = omega (arith, length-append digits (last ∷ []), long, (counted k).1);
+    range = λ n l.
+        below-more (facelets k) digits last (λ n l. digits-below (facelets k) (free k) i (counted k).0 n (omega (arith, l, long))) (low k (facelets k - sum digits % facelets k)) n
+        (omega (arith, l, long, (counted k).1));
+    whole = ap (λ s. s % facelets k) (sum-more digits last) ∙ whole-with_last k (sum digits);
+  }
+
+  pub of_rank-number : i < numbers k → turns_number k (of_rank k i) ≡ i
+  of_rank-number l =
+      ap (number (facelets k)) (ap (λ n. take n (of_rank k i)) (sym long) ∙ take-append_seam digits (last ∷ []))
+      ∙ number-of_digits (facelets k) (free k) i (counted k).0 (omega (arith, l, (counted k).2))
+
 -- orientations are those of their number
-abbrev list_fact : Kind → Fact
-list_fact k = Digits (facelets k) (count k) λ xs. When (sum xs % facelets k == 0)
-    (Both (Below (turns_number k xs) (numbers k)) (Yes (pointwise nat_eq xs (of_rank k (turns_number k xs)))))
-
-all_lists : (k : Kind) → Holds (list_fact k)
-all_lists Corners = holds (list_fact Corners) refl
-all_lists Edges = holds (list_fact Edges) refl
-
--- each number is that of its orientations, and no cubie is turned at 0
-abbrev number_fact : Kind → Fact
-number_fact k = Both (Numbers (count k) λ j. Equal (get_or (of_rank k 0) j 0) 0) (Numbers (numbers k) λ i.
-    Both (Equal (turns_number k (of_rank k i)) i)
-    (Both (Equal (length (of_rank k i)) (count k)) (Both (Equal (sum (of_rank k i) % facelets k) 0)
-    (Numbers (count k) λ j. Below (get_or (of_rank k i) j 0) (facelets k)))))
-
-all_numbers : (k : Kind) → Holds (number_fact k)
-all_numbers Corners = holds (number_fact Corners) refl
-all_numbers Edges = holds (number_fact Edges) refl
-
-pub of_rank-are : (k : Kind) (i : ℕ) → i < numbers k → AreOriented (facelets k) (count k) (of_rank k i)
-of_rank-are k i l =
-    let t = (all_numbers k).1 i l in
-    record { places = t.1.0; range = t.1.1.1; whole = t.1.1.0 }
-
-pub of_rank-number : (k : Kind) (i : ℕ) → i < numbers k → turns_number k (of_rank k i) ≡ i
-of_rank-number k i l = ((all_numbers k).1 i l).0
-
 module _ (k : Kind) (xs : List ℕ) (o : AreOriented (facelets k) (count k) xs) where
+  free_below : free k < length xs
+  free_below = omega (arith, o.places, (counted k).1)
+
+  by_digits : (turns_number k xs < facelets k ^ free k) × (digits_of_number (facelets k) (free k) (turns_number k xs) ≡ take (free k) xs)
+  by_digits = digits-of_list (facelets k) xs (free k) (omega (arith, free_below)) (λ n l. o.range n (omega (arith, l, o.places)))
+
   pub turns_number-below : turns_number k xs < numbers k
-  turns_number-below = (all_lists k xs o.places o.range (eq-eqb _ 0 o.whole)).0
+  turns_number-below = omega (arith, by_digits.0, (counted k).2)
 
   pub turns_number-is : xs ≡ of_rank k (turns_number k xs)
-  turns_number-is = same_text _ _ (sym (all_lists k xs o.places o.range (eq-eqb _ 0 o.whole)).1)
+  turns_number-is =
+      let others : List ℕ = take (free k) xs in
+      let last : ℕ = get_or xs (free k) 0 in
+      let split : xs ≡ others ++ last ∷ [] =
+      sym (take-length xs) ∙ ap (λ n. take n xs) (o.places ∙ (counted k).1) ∙ take-suc xs (free k) 0 free_below in
+      let whole : (sum others + last) % facelets k ≡ 0 = ap (λ s. s % facelets k) (sym (sum-more others last) ∙ ap sum (sym split)) ∙ o.whole in
+      split
+      ∙ ap (λ d. others ++ d ∷ []) (sym (last-is k (sum others) last (o.range (free k) (omega (arith, (counted k).1))) whole))
+      ∙ ap (λ ds. ds ++ ((facelets k - sum ds % facelets k) % facelets k) ∷ []) (sym by_digits.1)
 
 -- orientations are determined by their number
 pub turns_number-same : (k : Kind) (xs ys : List ℕ) → AreOriented (facelets k) (count k) xs → AreOriented (facelets k) (count k) ys →
@@ -74,11 +106,11 @@ turns_number-same k xs ys p q e = turns_number-is k xs p ∙ ap (of_rank k) e �
 pub turns_number-zero : (k : Kind) (xs : List ℕ) → AreOriented (facelets k) (count k) xs →
     (turns_number k xs ≡ 0) ↔ ((i : ℕ) → i < count k → get_or xs i 0 ≡ 0)
 turns_number-zero k xs o =
-    let home : (i : ℕ) → i < count k → get_or (of_rank k 0) i 0 ≡ 0 = (all_numbers k).0 in (
+    let home : (i : ℕ) → i < count k → get_or (of_rank k 0) i 0 ≡ 0 = none_turned k in (
       (λ e i l. ap (λ ys. get_or ys i 0) (turns_number-is k xs o ∙ ap (of_rank k) e) ∙ home i l),
       (λ h.
           let some : 0 < numbers k = some_number k in
-          let len : length xs ≡ length (of_rank k 0) = o.places ∙ sym (of_rank-are k 0 some).places in
+          let len : length xs ≡ length (of_rank k 0) = o.places ∙ sym (of_rank-are k 0).places in
           let none : xs ≡ of_rank k 0 = ext_get_or 0 xs (of_rank k 0) len (λ i l.
           let li : i < count k = omega (arith, l, o.places) in h i li ∙ sym (home i li)) in
           ap (turns_number k) none ∙ of_rank-number k 0 some),
@@ -88,63 +120,9 @@ turns_number-zero k xs o =
     some_number Corners = omega arith
     some_number Edges = omega arith
 
--- the last digits of n
-abbrev last_digits : (n met : ℕ) → List ℕ → List ℕ
-last_digits n met xs = take met (drop (n - met) xs)
-
-last_digits-set : (n met : ℕ) (xs : List ℕ) (d : ℕ) → met < n → length xs ≡ suc n → last_digits n (met + 1) (set xs (n - 1 - met) d) ≡ d ∷ last_digits n met xs
-last_digits-set n met xs d h l =
-    ap (λ k. take k (drop (n - (met + 1)) (set xs (n - 1 - met) d))) (let a : met + 1 ≡ suc met = omega arith in a)
-    ∙ ap (take (suc met)) (drop-set_at xs (n - 1 - met) (n - (met + 1)) d (omega arith) (omega arith))
-    ∙ ap (λ k. d ∷ take met (drop k xs)) (let a : (n - 1 - met) + 1 ≡ n - met = omega arith in a)
-
--- what the loop keeps: the digits still to come and those written are those of the number, and the sum of those written
-pub record Written (b n number met rest total : ℕ) (xs : List ℕ) : Type 0 where
-  pub places : length xs ≡ suc n
-  pub digits : digits_of_number b (n - met) rest ++ last_digits n met xs ≡ digits_of_number b n number
-  pub total_is : sum (last_digits n met xs) % b ≡ total
-
-pub written-step : (b n number met rest total : ℕ) (xs : List ℕ) → met < n → Written b n number met rest total xs → Written b n number (met + 1) (rest / b) ((total + rest % b) % b) (set xs (n - 1 - met) (rest % b))
-written-step b n number met rest total xs h w =
-    let d : ℕ = rest % b in
-    let e : last_digits n (met + 1) (set xs (n - 1 - met) d) ≡ d ∷ last_digits n met xs = last_digits-set n met xs d h w.places in
-    record {
-      places = length-set xs (n - 1 - met) d ∙ w.places;
-      digits =
-          ap (λ ys. digits_of_number b (n - (met + 1)) (rest / b) ++ ys) e
-          ∙ sym (append_assoc (digits_of_number b (n - (met + 1)) (rest / b)) (d ∷ []) (last_digits n met xs))
-          ∙ ap (λ k. digits_of_number b k rest ++ last_digits n met xs) (let a : suc (n - (met + 1)) ≡ n - met = omega arith in a)
-          ∙ w.digits;
-      total_is =
-          ap (λ ys. sum ys % b) e
-          ∙ ap (λ k. k % b) (sum_by-cons (λ x. x) d (last_digits n met xs))
-          ∙ ap (λ k. k % b) (let a : d + sum (last_digits n met xs) ≡ sum (last_digits n met xs) + d = omega arith in a)
-          ∙ sym (mod-add-mod (sum (last_digits n met xs)) b d)
-          ∙ ap (λ k. (k + d) % b) w.total_is;
-    }
-
-set_last : (n : ℕ) (xs : List ℕ) (d : ℕ) → length xs ≡ suc n → set xs n d ≡ take n xs ++ d ∷ []
-set_last n xs d l =
-    sym (take-length (set xs n d))
-    ∙ ap (λ k. take k (set xs n d)) (length-set xs n d ∙ l)
-    ∙ take-suc-set xs n d (omega arith)
-
-pub written-end : (b n number met rest total : ℕ) (xs : List ℕ) → met ≡ n → Written b n number met rest total xs → set xs n ((b - total) % b) ≡ orientations_of_rank b n number
-written-end b n number met rest total xs e w =
-    let none : n - met ≡ 0 = omega arith in
-    let all : take n xs ≡ digits_of_number b n number =
-    ap (λ k. take k xs) (sym e)
-    ∙ ap (λ k. take met (drop k xs)) (sym none)
-    ∙ ap (λ k. digits_of_number b k rest ++ last_digits n met xs) (sym none)
-    ∙ w.digits in
-    let total_of : total ≡ sum (digits_of_number b n number) % b =
-    sym w.total_is
-    ∙ ap (λ k. sum (take met (drop k xs)) % b) none
-    ∙ ap (λ k. sum (take k xs) % b) e
-    ∙ ap (λ ys. sum ys % b) all in
-    set_last n xs ((b - total) % b) w.places
-    ∙ ap (λ ys. ys ++ ((b - total) % b) ∷ []) all
-    ∙ ap (λ k. digits_of_number b n number ++ ((b - k) % b) ∷ []) total_of
+    none_turned : (k : Kind) (i : ℕ) → i < count k → get_or (of_rank k 0) i 0 ≡ 0
+    none_turned Corners = holds (Numbers 8 λ i. Equal (get_or (of_rank Corners 0) i 0) 0) refl
+    none_turned Edges = holds (Numbers 12 λ i. Equal (get_or (of_rank Edges 0) i 0) 0) refl
 
 -- each edge stands at one place
 pub edge-once : (c : CubieLists) → Valid c → (h : ℕ) → h < 12 → below 12 (λ i. one_if (get_or c.edges i 0 == h)) ≡ 1

@@ -1,5 +1,5 @@
 -- What is shown of cubies by the map of a cube, of which equal cubes have one, and by the letters of the facelet text.
-use Rattle.niss_cube.proofs.Words.{corner_facelets, Equal, Numbers, holds, refl, sym, ◌∙◌, ap, arith, ◌≡◌, ℕ, zero, suc}
+use Rattle.niss_cube.proofs.Words.{Equal, Numbers, holds, refl, sym, ◌∙◌, ap, arith, ◌≡◌, ℕ, zero, suc}
 use Rattle.niss_cube.proofs.Words.{◌<◌, ◌↔◌, List, [], ◌∷◌, length, get_or, map, drop, Bool, true, false, ◌&&◌, ◌==◌}
 use Rattle.niss_cube.proofs.Words.{nat_le, nat_eq, list_any, range_with_len, eqb-true, eq-eqb, ext_get_or, get_or-map}
 use Rattle.niss_cube.proofs.Words.{length-map, Any-from_list_any, Place, same_place, SameMap, U, facelet, index_in}
@@ -10,7 +10,7 @@ use Rattle.niss_cube.proofs.Words.{same_cubies, pointwise, same_text, other_text
 use Rattle.niss_cube.proofs.Words.{false_from_ne_true, Yes, Both, Places, Alike}
 use Rattle.niss_cube.proofs.Words.{is_place, places, effect, inverse, moved_by, inverse_after, letter_at}
 use Rattle.niss_cube.proofs.Words.{letter_of, letters, Token, place_at, SOLVED_TEXT}
-use Rattle.niss_cube.proofs.CubieKinds.{CubieLists, Valid, map_lists, lists_of, lists_path, Kind, Corners, Edges, count}
+use Rattle.niss_cube.proofs.CubieKinds.{row_len, CubieLists, Valid, map_lists, lists_of, lists_path, Kind, Corners, Edges, count}
 use Rattle.niss_cube.proofs.CubieKinds.{facelets, rows, at, homes, turns, home_at, turn_at, place_of, stand, stands}
 use Rattle.niss_cube.proofs.CubieKinds.{stands-at, unturned, some_facelet, same_facelet, shown_at, of_rank}
 use Rattle.niss_cube.proofs.Words.{list_all-from_AllPass}
@@ -48,10 +48,6 @@ index_in-is test (x ∷ xs) d (suc t) l passes only =
 rows_len : (k : Kind) → length (rows k) ≡ count k
 rows_len Corners = refl
 rows_len Edges = refl
-
-row_len : (k : Kind) (i : ℕ) → i < count k → length (row_at (rows k) i) ≡ facelets k
-row_len Corners = holds (Numbers 8 λ i. Equal (length (row_at corner_facelets i)) 3) refl
-row_len Edges = holds (Numbers 12 λ i. Equal (length (row_at edge_facelets i)) 2) refl
 
 brought_first : (k : Kind) (e : Place → Place) (q : Place) → brings e (firsts (rows k)) q ≡ any_below (count k) (λ h. same_place (e (at k h 0)) q)
 brought_first Corners e q = refl

@@ -231,7 +231,6 @@ impl PartialEq for Cube {
 
     ghost laws = { Prim.search (comparing, rules) };
 
-    #[tactic(auto, using(crate::proofs::Shown::equal_cubes))]
     fn eq(&self, other: &Cube) -> bool
         ensures value { result ≡ same_cubies self.now other.now }
         ensures map { IsTrue result ↔ SameMap (map_of self.now) (map_of other.now) }

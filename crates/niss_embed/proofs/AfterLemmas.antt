@@ -33,8 +33,10 @@ use Rattle.niss_embed.specs.declared.answer.Status.TheVariants as status
 use Rattle.niss_embed.specs.declared.line_search.Wanted.{Wanted}
 use Rattle.niss_embed.specs.declared.search_answer.SearchAnswer.{SearchAnswer}
 use Rattle.niss_embed.proofs.CountLemmas.{CountsPath, RefusesMore, stop as stop_counting}
-use Rattle.niss_embed.proofs.SolveLemmas.{Took, Stopped, Into, TakesPath, RefusesPath, Lines, begun, ended, state_of, told_of, solve_answer, took_none}
-use Rattle.niss_embed.proofs.SolveLemmas.{went, stop, into, hands_all, hands_some, hands_cut, first_of, first_is, no_cut, is_less, is_not_less, capped_le}
+use Rattle.niss_embed.proofs.SolveLemmas.{Lines, begun, ended, told_of, solve_answer}
+use Rattle.niss_embed.proofs.WrittenLemmas.{Took, Stopped, Into, TakesPath, RefusesPath, state_of, took_none}
+use Rattle.niss_embed.proofs.SolveLemmas.{hands_all, hands_some, hands_cut, first_is, no_cut, is_less, is_not_less, capped_le}
+use Rattle.niss_embed.proofs.WrittenLemmas.{went, stop, into, first_of}
 
 -- the first solution, which was refused, tells the least length
 pub least_is_first : FirstIsLeast → (step : Step) (e : Place → Place) (n : ℕ) (a b : CountedSolutions) → a.first ≡ None

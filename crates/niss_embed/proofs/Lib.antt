@@ -2,6 +2,7 @@ pub mod WordLemmas
 pub mod TargetLemmas
 pub mod RunLemmas
 pub mod LineLengths
+pub mod WrittenLemmas
 pub mod SolveLemmas
 pub mod TextLemmas
 pub mod ManyLemmas

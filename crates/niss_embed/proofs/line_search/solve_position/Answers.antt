@@ -7,7 +7,8 @@ use Rattle.niss_embed.specs.Memory.{memory}
 use Rattle.niss_embed.specs.LineSearch.{lines_state, SolvesCube, capped, is_cut, looks_for_all, all_found}
 use Rattle.niss_embed.specs.declared.line_search.Wanted.{Wanted}
 use Rattle.niss_embed.specs.declared.search_answer.SearchAnswer.{SearchAnswer}
-use Rattle.niss_embed.proofs.SolveLemmas.{Lines, TakesPath, RefusesPath, solve_answer, same_memory, solves}
+use Rattle.niss_embed.proofs.SolveLemmas.{Lines, solve_answer, same_memory, solves}
+use Rattle.niss_embed.proofs.WrittenLemmas.{TakesPath, RefusesPath}
 use Rattle.niss_embed.proofs.line_search.solve_position.Goals as goal
 
 pub returns : goal.returns

@@ -10,7 +10,8 @@ use Rattle.niss_embed.specs.LineSearch.{lines_state, capped, is_cut}
 use Rattle.niss_embed.specs.SolveAfter.{all_behind, looks_for_behind, SolvesBehind}
 use Rattle.niss_embed.specs.declared.line_search.Wanted.{Wanted}
 use Rattle.niss_embed.specs.declared.search_answer.SearchAnswer.{SearchAnswer}
-use Rattle.niss_embed.proofs.SolveLemmas.{Lines, TakesPath, RefusesPath, told_of}
+use Rattle.niss_embed.proofs.SolveLemmas.{Lines, told_of}
+use Rattle.niss_embed.proofs.WrittenLemmas.{TakesPath, RefusesPath}
 use Rattle.niss_embed.proofs.AfterLemmas.{behind_is, looks_are, least_known, over_both, same_memory_behind, solves_behind}
 use Rattle.niss_embed.proofs.line_search.after.solve_behind.Goals as goal
 

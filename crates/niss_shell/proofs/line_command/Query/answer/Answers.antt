@@ -32,3 +32,19 @@ returns-in-Counts-clause-reports g c = λ e at.
     rw c.in-Counts.is (reported_after g.W.Target.call _ _ _ _ c.args.output.now c.put-in-Counts.new.self
     (c.set_count.ensures ∙ same_count _ _ _ _ found.length_is found.solutions_are nodes_are)
     looked c.put-in-Counts.ensures.taken)
+
+pub search-requires-clause-meter : goal.search-requires-clause-meter
+search-requires-clause-meter g c = c.requires.meter
+
+pub returns-in_err-outcome-in-Solutions-clause-bound : goal.returns-in_err-outcome-in-Solutions-clause-bound
+returns-in_err-outcome-in-Solutions-clause-bound g c =
+    let limit_is : c.new-path.result.limit ≡ c.in-Solutions.limit = ap (λ p. p.limit) c.new-path.ensures in
+    rw (c.in-Solutions.is, ← limit_is) c.in_err-outcome-in-Solutions.ensures.bound
+
+pub returns-in_ok-outcome-in-Solutions-clause-bound : goal.returns-in_ok-outcome-in-Solutions-clause-bound
+returns-in_ok-outcome-in-Solutions-clause-bound g c =
+    let limit_is : c.new-path.result.limit ≡ c.in-Solutions.limit = ap (λ p. p.limit) c.new-path.ensures in
+    rw (c.in-Solutions.is, ← limit_is) c.in_ok-outcome-in-Solutions.ensures.bound
+
+pub returns-in-Counts-clause-bound : goal.returns-in-Counts-clause-bound
+returns-in-Counts-clause-bound g c = rw c.in-Counts.is c.count_solutions-outcome.ensures.bound

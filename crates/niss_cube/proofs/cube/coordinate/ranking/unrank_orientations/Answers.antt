@@ -1,5 +1,5 @@
 use Rattle.niss_cube.proofs.Words.{◌-◌, length, arith}
-use Rattle.niss_cube.proofs.Ranks.{written-step, written-end}
+use Rattle.niss_cube.proofs.Digits.{written-step, written-end}
 use Rattle.niss_cube.proofs.cube.coordinate.ranking.unrank_orientations.Goals as goal
 
 pub loop-met-preserved : goal.loop-met-preserved

@@ -1,4 +1,4 @@
-use Rattle.niss_cube.proofs.Ranks.{Written}
+use Rattle.niss_cube.proofs.Digits.{Written}
 use Rattle.niss_cube.proofs.cube.coordinate.ranking.unrank_orientations.Given as goal
 
 abbrev pub invariant-loop-met : goal.invariant-loop-met

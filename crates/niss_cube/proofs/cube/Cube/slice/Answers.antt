@@ -1,0 +1,4 @@
+use Rattle.niss_cube.proofs.cube.Cube.slice.Goals as goal
+
+pub returns : goal.returns
+returns c = c.rank.ensures

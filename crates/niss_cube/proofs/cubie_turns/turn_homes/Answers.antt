@@ -1,0 +1,10 @@
+use Rattle.niss_cube.proofs.Words.{◌≡◌, ◌∙◌, refl, arith, get_or, length-set}
+use Rattle.niss_cube.proofs.CubieKinds.{written_more}
+use Rattle.niss_cube.proofs.cubie_turns.turn_homes.Goals as goal
+
+pub loop-place-preserved : goal.loop-place-preserved
+loop-place-preserved g c =
+    let l = c.loop-place in
+    let homes = c.args.homes.now in
+    let from = c.args.from.now in
+    (length-set l.turned l.place _ ∙ l.invariant.0, written_more (λ i home. home ≡ get_or homes (get_or from i 0) 0) l.turned l.place _ 0 (omega arith) refl l.invariant.1)
