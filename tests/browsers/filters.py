@@ -1,4 +1,6 @@
 """Filters that stay for the next scramble are seen when they are folded, can be cleared at once, and say so where they leave nothing."""
+import re
+
 from best import LONGER, SCRAMBLE, TYPE, address_of
 from browser import Browser
 from tally import Tally
@@ -38,6 +40,25 @@ def of_the_best(tally: Tally, browser: Browser) -> None:
     tally.equal("no field is set", browser.script(values), [""] * 6)
 
 
+def of_many(tally: Tally, browser: Browser) -> None:
+    """A filter leaves as many rows seen as were asked for; beside a mouse it is at hand below them, and stays where it is."""
+    browser.open(address_of(LONGER))
+    browser.wait_best()
+    browser.click("#best-more")
+    count = len(browser.texts("#best-body tr"))
+    place = "return document.getElementById('best-options').getBoundingClientRect().top"
+    browser.script("scrollTo({ top: 0, behavior: 'instant' })")
+    tally.holds(f"it is in view: {browser.script(place)}", browser.script(place) < browser.script("return innerHeight") - 20)
+    browser.script("document.getElementById('best-options').open = true")
+    top = browser.script(place)
+    browser.choose("best-side", "inverse")
+    left = re.match(r"[0-9,]+ of [0-9,]+ EOs? tried. ([0-9,]+) of", browser.text("best-note"))
+    tally.equal("as many are seen", len(browser.texts("#best-body tr")), min(count, int(left[1].replace(",", "")) if left else 0))
+    tally.holds(f"and not as few as at first: {count}", len(browser.texts("#best-body tr")) > 6)
+    tally.equal("the filters stay", browser.script(place), top)
+    browser.choose("best-side", "")
+
+
 def of_a_list(tally: Tally, browser: Browser) -> None:
     """Those of a list."""
     browser.open(address_of(LONGER) + "&list=eorl.normal.0")
@@ -56,5 +77,5 @@ def of_a_list(tally: Tally, browser: Browser) -> None:
 
 def try_all(tally: Tally, browser: Browser) -> None:
     """All of them."""
-    for part in (of_the_best, of_a_list):
+    for part in (of_the_best, of_many, of_a_list):
         part(tally, browser)

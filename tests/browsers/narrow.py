@@ -11,6 +11,8 @@ LEAST_TARGET = 24
 LINE_OF_FIRST = 15.5
 MOST_OF_ROW = 56
 LEAST_SIGN = 10
+# and beside a mouse
+LEAST_BESIDE_MOUSE = 12.5
 # how wide and high what a selector finds is for a finger, each: the points around its middle that reach it
 REACHED = """
     const far = (each, x, y, [right, down]) => {
@@ -110,6 +112,29 @@ def has_two_lines(tally: Tally, browser: Browser) -> None:
     browser.choose("best-sort", "total")
 
 
+def is_legible(tally: Tally, browser: Browser) -> None:
+    """Beside a mouse long moves of the best, and their twins, are as large as can be read, in rows of one height."""
+    browser.open(SCRAMBLE)
+    browser.choose("best-slack", "2")
+    browser.wait_best()
+    browser.choose("best-sort", "case")
+    browser.script("document.getElementById('best-more').click()")
+    for width in (601, 768, 960, 1180, 1440):
+        browser.command("Emulation.setDeviceMetricsOverride", width=width, height=900, deviceScaleFactor=1, mobile=False)
+        rows = browser.script(ROWS_OF_BEST)
+        longest = max(len(row["moves"]) for row in rows if row["hasTwins"])
+        tally.holds(f"{width}: there are long rows with twins: {longest}", longest > 20)
+        sizes = browser.script("""return [...document.querySelectorAll('#best-body :is(.take, .twins)')]
+            .map((each) => parseFloat(getComputedStyle(each).fontSize))""")
+        tally.holds(f"{width}: the least sign: {min(sizes)}", min(sizes) >= LEAST_BESIDE_MOUSE)
+        heights = [row["height"] for row in rows]
+        # the last row has half of a border less
+        tally.holds(f"{width}: heights of rows: {min(heights)}, {max(heights)}", max(heights) - min(heights) <= 0.5)
+        tally.equal(f"{width}: parts of a row on each other", [row for row in rows if row["on"]], [])
+    browser.choose("best-sort", "total")
+    browser.choose("best-slack", "0")
+
+
 def places(tally: Tally, browser: Browser, width: int, height: int) -> None:
     """After a step what follows is in view, and the line; after the last one the line and how it ends are."""
     browser.command("Emulation.setDeviceMetricsOverride", width=width, height=height, deviceScaleFactor=1, mobile=False)
@@ -148,5 +173,6 @@ def try_all(tally: Tally, browser: Browser) -> None:
     browser.command("Emulation.setDeviceMetricsOverride", width=360, height=800, deviceScaleFactor=1, mobile=False)
     for part in (presses, has_heads, has_two_lines):
         part(tally, browser)
+    is_legible(tally, browser)
     for width, height in ((1200, 900), (360, 800)):
         places(tally, browser, width, height)

@@ -36,6 +36,26 @@ COUNTED = """const [text, hidden] = arguments;
     const { left } = document.getElementById('best-clear').getBoundingClientRect();
     const { right, height } = more.getBoundingClientRect();
     return [left, right, height].map(Math.round);"""
+# takes a row of the best, and keeps for each frame after it whether a cell may be pressed, how far the page is scrolled, how many rows the
+# list has, whether it is hidden, and where the cube's card begins on the page
+TAKE = """window.frames_seen = [];
+    const look = () => {
+        const cell = document.querySelector('#steps-body .cell');
+        const { top } = document.getElementById('cube').getBoundingClientRect();
+        window.frames_seen.push([cell !== null && cell.closest('[inert]') === null, Math.round(scrollY),
+            document.querySelectorAll('#solutions-groups .take').length, document.getElementById('solutions').hidden, Math.round(top + scrollY)]);
+        if (window.frames_seen.length < 600) requestAnimationFrame(look);
+    };
+    document.querySelector('#best-body .take').click();
+    look()"""
+# answers of a list come so much later
+SLOW = """const { postMessage } = Worker.prototype;
+    Worker.prototype.postMessage = function (...words) {
+        setTimeout(() => postMessage.apply(this, words), words[0].request?.call === "rowsOfList" ? arguments_later : 0);
+    }"""
+PLACES = """return [document.getElementById('bar').getBoundingClientRect().bottom,
+    ...['#solutions-heading', '#solutions-groups .take'].map((each) => document.querySelector(each).getBoundingClientRect())
+        .flatMap(({ top, bottom }) => [top, bottom]), innerHeight]"""
 FIRST_ROW = "return document.querySelector('#best-body .take').getBoundingClientRect().top"
 
 
@@ -76,6 +96,46 @@ def searches(tally: Tally, browser: Browser, width: int) -> None:
     tally.equal(f"{width}: what moves meanwhile", browser.script(SHIFTS, since), [])
 
 
+def takes(tally: Tally, browser: Browser, width: int) -> None:
+    """After a row of the best nothing can be pressed before the page went to the list; there its heading and its first row are seen."""
+    for later in (0, 300):
+        # one that takes more than a second, since the machine has other work, isn't waited for: so it is taken again
+        for _ in range(4):
+            browser.open(SCRAMBLE)
+            browser.wait_best()
+            browser.script(SLOW.replace("arguments_later", str(later)))
+            browser.script(TAKE)
+            tally.holds(f"{width}: the list comes", browser.until("return document.activeElement.closest('#solutions-groups') !== null"))
+            browser.wait()
+            frames = browser.script("return window.frames_seen.splice(0)")
+            pressable = {scroll for may_press, scroll, _, _, _ in frames if may_press}
+            if len(pressable) == 1:
+                break
+        tally.holds(f"{width}: {later}: it may be pressed before and after: {pressable}", frames[-1][0] and not frames[0][0])
+        tally.equal(f"{width}: {later}: how far the page is scrolled once it may be", pressable, {frames[-1][1]})
+        if width < 960:
+            tops = {top for _, _, _, is_hidden, top in frames if not is_hidden}
+            tally.equal(f"{width}: {later}: where the cube is below a list that comes", len(tops), 1)
+        below, top, _, _, bottom, height = browser.script(PLACES)
+        tally.holds(f"{width}: {later}: heading and row from {top} to {bottom}", below <= top < bottom <= height)
+
+
+def waits(tally: Tally, browser: Browser) -> None:
+    """A list that takes long doesn't hold the page, and what is pressed meanwhile stays where it is."""
+    browser.open(SCRAMBLE)
+    browser.wait_best()
+    browser.script(SLOW.replace("arguments_later", "4000"))
+    browser.script(TAKE)
+    tally.holds("it may be pressed before there is a list", browser.until("return window.frames_seen.at(-1)[0]"))
+    tally.equal("which isn't there yet", browser.script("return window.frames_seen.at(-1)[2]"), 0)
+    scroll = browser.script("return scrollY")
+    for kind in ("mousePressed", "mouseReleased"):
+        browser.command("Input.dispatchMouseEvent", type=kind, x=2, y=300, button="left", clickCount=1)
+    tally.holds("it comes", browser.until("return document.querySelector('#solutions-groups .take') !== null"))
+    browser.wait()
+    tally.equal("and the page stays", browser.script("return scrollY"), scroll)
+
+
 def stands(tally: Tally, browser: Browser, width: int) -> None:
     """Neither the count of the best nor a list that is looked for, marks or a move that is played move what stands beside them."""
     browser.open(SCRAMBLE + "&steps=inverse.B_D_R_F2_B_D~normal.R_B-~normal.D2_R&list=eofb.normal.0")
@@ -108,4 +168,8 @@ def try_all(tally: Tally, browser: Browser) -> None:
         opens(tally, browser, width)
         searches(tally, browser, width)
         stands(tally, browser, width)
+        takes(tally, browser, width)
+    waits(tally, browser)
+    browser.command("Emulation.setDeviceMetricsOverride", width=320, height=640, deviceScaleFactor=1, mobile=False)
+    takes(tally, browser, 320)
     browser.command("Page.removeScriptToEvaluateOnNewDocument", identifier=script["identifier"])

@@ -51,6 +51,18 @@ def shows_uncopied(tally: Tally, browser: Browser) -> None:
     browser.command("Page.removeScriptToEvaluateOnNewDocument", identifier=script["identifier"])
 
 
+def keeps_its_width(tally: Tally, browser: Browser) -> None:
+    """A button that says that it copied is no narrower then."""
+    browser.open(LINE)
+    width = "return document.getElementById('copy-fmc').getBoundingClientRect().width"
+    before = browser.script(width)
+    browser.click("#copy-fmc")
+    said = browser.until("return document.getElementById('copy-fmc').textContent === 'Copied'")
+    tally.equal("while it says so", (said, browser.script(width)), (True, before))
+    tally.holds("then it says its own words", browser.until("return document.getElementById('copy-fmc').textContent.startsWith('Copy ')"))
+    tally.equal("as wide as before", browser.script(width), before)
+
+
 def closes_from_fields(tally: Tally, browser: Browser) -> None:
     """Escape closes the list also from its fields."""
     for name in ("filter", "last-turn", "slack"):
@@ -78,5 +90,6 @@ def goes_on_with_reduction(tally: Tally, browser: Browser) -> None:
 
 def try_all(tally: Tally, browser: Browser) -> None:
     """All of them."""
-    for part in (plays_by_steps, prints_the_end, shows_uncopied, closes_from_fields, has_a_plain_title, goes_on_with_reduction):
+    for part in (plays_by_steps, prints_the_end, shows_uncopied, keeps_its_width, closes_from_fields, has_a_plain_title,
+        goes_on_with_reduction):
         part(tally, browser)

@@ -27,11 +27,12 @@ function movesCell(take, others, isBeside) {
   // as solvers write it: the last turn may be the one or the other
   const either = others.length === 1 ? ` / ${others[0]}` : ` or ${others.length} twins`;
   const twin = others.length === 0 ? "" : either;
-  const made = cell("td", {}, take, ...(twin === "" ? [] : [element("small", { class: "twins" }, twin)]));
+  const beside = twin === "" ? [] : [element("small", { class: "twins" }, twin)];
+  const made = cell("td", {}, element("span", { class: "ends" }, take, ...beside));
   const seen = take.classList.contains("seen") ? SEEN_SIGNS : 0;
-  const [own, beside] = [take.textContent.length + seen, SIGN_OF_TWIN * twin.length];
-  made.style.setProperty("--signs", String(own + (isBeside ? beside : 0)));
-  made.style.setProperty("--signs-wide", String(own + beside));
+  const [own, more] = [take.textContent.length + seen, SIGN_OF_TWIN * twin.length];
+  made.style.setProperty("--signs", String(own + (isBeside ? more : 0)));
+  made.style.setProperty("--signs-wide", String(own + more));
   return made;
 }
 

@@ -12,7 +12,7 @@ import { FurtherSearch } from "./further.js";
 import { ShownReductions } from "./reductions.js";
 import { addRows, refreshRows, roveWithin, showRows, takeNamed } from "./rows.js";
 import { ORIENTATIONS, SIDES, isReduced, reducedAfter, stateOf } from "./steps.js";
-import { isNarrow } from "./view.js";
+import { isNarrow, withoutMoving } from "./view.js";
 
 /** @typedef {import("./finder.js").Row} Row */
 /** @typedef {import("./finder.js").Question} Question */
@@ -80,12 +80,10 @@ export class BestContinuations {
   /** @type {Row[]} those that are seen */
   #seen = [];
 
-  /**
-   * @param {import("./calls.js").Calls[]} finders of its own, one an axis
+  /** @param {import("./calls.js").Calls[]} finders of its own, one an axis
    * @param {import("./calls.js").Calls} calls that tell more of rows that are seen
    * @param {import("./best-row.js").RowActs & {shown: () => void, isBusy: () => boolean}} acts `isBusy`: whether the
-   * page waits for something else
-   */
+   * page waits for something else */
   constructor(finders, calls, acts) {
     this.#finders = finders;
     this.#reductions = new ShownReductions(calls, this.#body);
@@ -160,11 +158,10 @@ export class BestContinuations {
     refreshRows(this.#body);
   }
 
-  /** Shows what the filters leave, from its beginning, and says whether there are rows. */
+  /** Shows what the filters leave, as many as before, and says whether there are rows. */
   #filtered() {
-    this.#shown = shownFirst(this.#question?.reached ?? []);
     this.#takeNewer();
-    this.#draw();
+    withoutMoving(part("best-options"), () => this.#draw());
     return this.#progress !== null;
   }
 

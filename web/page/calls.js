@@ -56,12 +56,10 @@ export class Calls {
     this.#queue = new WorkerQueue(module, watched(newWorker));
   }
 
-  /**
-   * What the engine says. Rejects with a `NissyFault` if lines can't be read.
+  /** What the engine says. Rejects with a `NissyFault` if lines can't be read.
    * @template {keyof Answers} Name
    * @param {Name} call @param {Parameters<Answers[Name]>[1]} about @param {(progress: any) => void} [followed]
-   * @returns {Promise<ReturnType<Answers[Name]>>}
-   */
+   * @returns {Promise<ReturnType<Answers[Name]>>} */
   async ask(call, about, followed) {
     this.#asked++;
     try {

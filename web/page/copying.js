@@ -35,8 +35,11 @@ const MOMENT = 1500;
  * @param {HTMLElement} button @param {string} word */
 function sayOn(button, word) {
   button.dataset.word ??= button.textContent;
+  // no narrower, so that it stays below what presses it
+  button.style.minWidth ||= `${button.getBoundingClientRect().width}px`;
   button.textContent = word;
   setTimeout(() => {
+    button.style.minWidth = "";
     button.textContent = button.dataset.word;
   }, MOMENT);
 }

@@ -1,11 +1,9 @@
 // Makes and fills elements of the page. Text from outside goes through here as text, never as markup.
 
-/**
- * An element of the page, which may be a field, a bar or what folds.
+/** An element of the page, which may be a field, a bar or what folds.
  * @typedef {HTMLElement & {value: any, checked: boolean, disabled: boolean, selectedIndex: number, maxLength: number,
  * selectionStart: number, selectionEnd: number, showPopover(): void, setSelectionRange(from: number, to: number): void,
- * max: number, open: boolean}} PageElement
- */
+ * max: number, open: boolean}} PageElement */
 
 /** @param {string} id @returns {PageElement} the element of the page that has this id */
 export function part(id) {
@@ -14,13 +12,9 @@ export function part(id) {
   return /** @type {any} */ (found);
 }
 
-/**
- * A new element: attributes by name, listeners as functions, children as elements or text.
- * @param {string} name
- * @param {Record<string, string | number | boolean | ((event: any) => void)>} attributes
- * @param {...(Node | string)} children
- * @returns {PageElement}
- */
+/** A new element: attributes by name, listeners as functions, children as elements or text.
+ * @param {string} name @param {Record<string, string | number | boolean | ((event: any) => void)>} attributes
+ * @param {...(Node | string)} children @returns {PageElement} */
 export function element(name, attributes = {}, ...children) {
   const made = document.createElement(name);
   for (const [key, value] of Object.entries(attributes)) {

@@ -256,11 +256,9 @@ export class LineSoFar {
     });
   }
 
-  /**
-   * Reads what a field has as steps.
+  /** Reads what a field has as steps.
    * @param {import("./element.js").PageElement} field @param {HTMLElement} where for a fault @param {Side} side
-   * @param {(added: Part[]) => void} use
-   */
+   * @param {(added: Part[]) => void} use */
   async #read(field, where, side, use) {
     const [text, parts] = [field.value, this.#parts];
     // what was sent twice, or changed since, isn't added; nor is it to another line

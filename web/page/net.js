@@ -51,12 +51,10 @@ function inWords(letters) {
   }).join("; ");
 }
 
-/**
- * Shows the engine's 54 letters on a net.
+/** Shows the engine's 54 letters on a net.
  * @param {SVGElement} net @param {string} letters @param {string} title
  * @param {{places: Set<number> | null, view: number[]}} drawing the places that are marked, or null; and which place is
- * seen at each of the net
- */
+ * seen at each of the net */
 export function showCube(net, letters, title, { places, view }) {
   const seen = view.map((place) => letters[place]).join("");
   net.setAttribute("aria-label", `${title}; ${inWords(seen)}`);

@@ -223,8 +223,8 @@ export class Page {
     this.#showCube(cube);
     await this.#showOffers(turn, portions);
     if (turn !== this.#turn) return;
-    this.#showAnswered();
     this.#readiness.begin(this.#cube.reached, part("choices").hidden, () => this.#best.isWorking());
+    await this.#showAnswered(turn);
   }
 
   #showCube({ read: { line: scramble, isTurned }, walk, views, whole }) {
@@ -260,21 +260,29 @@ export class Page {
    * @param {number} turn */
   async #showOffers(turn, portions) {
     const { position, reached } = this.#cube;
+    // nothing is pressed before the page went on to a list that is to come, or back to a row
+    const isHeld = this.#state.list !== null && (this.#nextFocus.waitsFor("list") || this.#wayBack.isOn());
     if (portions.length > 1) this.#table.expect(this.#cube);
     for (const [at, portion] of portions.entries()) {
       const groups = await portion;
       if (turn !== this.#turn) return;
       this.#table.add(groups, this.#cube, this.#state.list);
+      part("choices").inert = isHeld;
       awaitAnswer(null);
       if (at === 0) this.#best.reset(part("choices").hidden ? null : { position, reached });
     }
   }
 
-  #showAnswered() {
-    this.#showList();
-    const isFinished = isReduced(this.#cube.reached) && this.#state.parts.length > 0;
+  /** @param {number} turn */
+  async #showAnswered(turn) {
     // a list that is looked for takes the focus itself, and says what it has
-    if (this.#nextFocus.waitsFor("list")) return;
+    const isOfList = this.#nextFocus.waitsFor("list");
+    const shown = this.#showList();
+    if (part("choices").inert) await this.#nextFocus.isSoon(shown);
+    if (turn !== this.#turn) return;
+    part("choices").inert = false;
+    if (isOfList) return;
+    const isFinished = isReduced(this.#cube.reached) && this.#state.parts.length > 0;
     if (this.#nextFocus.take("table")) this.#showTaken(isFinished);
     else if (!isBare(this.#state)) announceLater(this.#table.summary());
     this.#table.giveBack();
@@ -301,7 +309,8 @@ export class Page {
     if (!list) this.#nets.follow("");
     const name = list ? [this.#turn, list.step, list.side, list.slack, list.isAll, list.split ?? 0].join(" ") : "";
     const isShown = await this.#list.show(name, list, list && this.#cube.position);
-    if (!isShown) return;
+    if (!isShown || !name.startsWith(`${this.#turn} `)) return;
+    part("choices").inert = false;
     if (this.#nextFocus.take("list")) this.#list.focus();
     // the rows come first, since marks lay a style on each sticker
     this.#nets.follow(stateOf(stepNamed(list.step)));

@@ -67,6 +67,11 @@ export class WayBack {
     this.#place = place;
   }
 
+  /** Whether it still leads somewhere. */
+  isOn() {
+    return this.#place !== null;
+  }
+
   /** Goes back, once what had the focus there is shown.
    * @param {(key: string) => HTMLElement | null} find */
   go(find) {

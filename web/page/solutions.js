@@ -61,12 +61,10 @@ export class SolutionList {
   ]], () => this.#filtered());
   #groups = part("solutions-groups");
 
-  /**
-   * @param {import("./calls.js").Calls} calls of its own
+  /** @param {import("./calls.js").Calls} calls of its own
    * @param {{take: (parts: Part[], key: string) => void, change: (change: Partial<List> | null) => void, star: (button:
    * HTMLElement, parts: Part[]) => void, isStarred: (parts: Part[]) => boolean, isSeen: (parts: Part[]) => boolean,
-   * copy: (text: string, button: HTMLElement) => void}} acts
-   */
+   * copy: (text: string, button: HTMLElement) => void}} acts */
   constructor(calls, acts) {
     this.#calls = calls;
     this.#acts = acts;
@@ -180,7 +178,9 @@ export class SolutionList {
   }
 
   focus() {
-    (this.#groups.querySelector(".take") ?? part("solutions-heading")).focus();
+    (this.#groups.querySelector(".take") ?? part("solutions-heading")).focus({ preventScroll: true });
+    // with its heading, and below the bar
+    part("solutions").scrollIntoView({ block: "nearest" });
   }
 
   /** Makes the row of some moves seen, and returns its button, or null.

@@ -35,12 +35,10 @@ function askedOf(calls, typed) {
   return /** @type {any} */ (told);
 }
 
-/**
- * The cube, and the steps that may follow, each with its counts on both sides, in portions: all groups in one if they
+/** The cube, and the steps that may follow, each with its counts on both sides, in portions: all groups in one if they
  * are there soon, since what is shown by itself is laid out and painted by itself, at more than most counts; else each.
  * They come by one question, so that none waits for the page.
- * @param {Parameters<typeof askedOf>} asked @returns {Promise<{cube: Told, portions: Promise<Offer[][]>[]}>}
- */
+ * @param {Parameters<typeof askedOf>} asked @returns {Promise<{cube: Told, portions: Promise<Offer[][]>[]}>} */
 export async function cubeWithOffers(...asked) {
   const [first, ...groups] = askedOf(...asked);
   const cube = await first;
@@ -101,7 +99,6 @@ export class StepTable {
   add(added, cube, list) {
     this.#groups.push(...added);
     this.#draw(cube, list);
-    part("choices").inert = false;
   }
 
   /** Shows the steps before they are counted, so that no row moves once it can be pressed.
