@@ -4,14 +4,12 @@ import { Stopped } from "../module/faults.js";
 import { GREATEST_SLACK } from "./address.js";
 import { bestRow } from "./best-row.js";
 import { announce, announceLater, counted, part, setBusy, tell } from "./element.js";
-import {
-  Filters, NOT_MOVES, caseAtMost, chosen, offerChoices, offerLastTurns, offerMoves, withTurns,
-} from "./filter.js";
+import { Filters, NOT_MOVES, filtersOfBest, offerChoices, offerLastTurns, offerMoves } from "./filter.js";
 import { byCase, findContinuations, goingOn } from "./finder.js";
 import { FurtherSearch } from "./further.js";
 import { ShownReductions } from "./reductions.js";
 import { addRows, refreshRows, roveWithin, showRows, takeNamed } from "./rows.js";
-import { ORIENTATIONS, SIDES, isReduced, reducedAfter, stateOf } from "./steps.js";
+import { isReduced, reducedAfter } from "./steps.js";
 import { isNarrow, withoutMoving } from "./view.js";
 
 /** @typedef {import("./finder.js").Row} Row */
@@ -19,11 +17,9 @@ import { isNarrow, withoutMoving } from "./view.js";
 /** @typedef {import("./further.js").Further} Further */
 
 const LOOKING_FOR_BEST = "Looking for the best …";
-/** How many rows are shown at first, so that the table below them is seen: where the page is narrow fewer, and of
- * reductions more, since none follows them in their row. */
+/** How many rows are shown at first, so that the table below is seen; of reductions more, since it has no rows then. */
 const SHOWN_FIRST = { narrow: 3, wide: 6, ofReductions: 8 };
 const SHOWN_MORE = 40;
-const TOTALS = ["7", "8", "9", "10", "11", "12", "13"];
 /** Of how many searches what was found is kept. */
 const MOST_KEPT_SEARCHES = 8;
 
@@ -44,26 +40,10 @@ function newAmong(rows, seen) {
   return rows.slice(0, Math.max(0, last)).filter(({ key }) => !known.has(key)).length;
 }
 
-/** The filters of orientations, with their reduction and its case; and of reductions, after which there is no case. */
-const filters = () => ({
-  ofOrientations: [
-    caseAtMost("best", ({ next }) => [next.case]),
-    chosen("best-axis", ORIENTATIONS.map(stateOf), ({ state }, axis) => state === axis),
-    chosen("best-side", [...SIDES], ({ part: { side } }, wanted) => side === wanted),
-    chosen("best-next", reducedAfter(ORIENTATIONS.map(({ name }) => name)), ({ next }, marks) => next.marks === marks),
-    chosen("best-total", TOTALS, ({ total }, most) => total <= Number(most)),
-  ],
-  ofReductions: [
-    chosen("best-reduction", [], ({ state }, wanted) => state === wanted),
-    chosen("best-reduction-side", [...SIDES], ({ part: { side } }, wanted) => side === wanted),
-    withTurns("best-filter", "best-last", ({ part: { moves }, others }) => ({ moves, others })),
-  ],
-});
-
 export class BestContinuations {
   #finders;
   #acts;
-  #kinds = filters();
+  #kinds = filtersOfBest();
   #filters = new Filters("best", part("best-note"), Object.values(this.#kinds), () => this.#filtered());
   #question = null;
   /** @type {Further | null} what the rows are shown of */

@@ -2,7 +2,7 @@
 // last.
 import { withTwins } from "../module/twins.js";
 import { announce, announceLater, counted, element, part, tell } from "./element.js";
-import { sizeOfCase } from "./steps.js";
+import { ORIENTATIONS, SIDES, reducedAfter, sizeOfCase, stateOf } from "./steps.js";
 
 /** @typedef {{fields: string[], test: (...values: string[]) => ((row: any) => boolean) | null}} Kind of filter: its
  * fields, and what says by the values of these whether a row is left; null if one of them can't be read */
@@ -13,6 +13,8 @@ export const NOT_MOVES = "The text in the filter is not moves: type face turns s
 
 /** How many corners and edges of a case may be asked for, beside any number. */
 const MOST_OF_CASE = { corners: ["7", "6", "5", "4", "3", "2", "0"], edges: ["6", "4", "2", "0"] };
+/** How many moves in all the best may be asked to have at most. */
+const TOTALS = ["7", "8", "9", "10", "11", "12", "13"];
 /** Of two turns of opposite faces, which may stand in either order, the lists have these first. */
 const FIRST_OF_AXIS = { D: "U", L: "R", B: "F" };
 
@@ -98,6 +100,22 @@ export function withTurns(typed, last, endsOf) {
  * @param {string} field @param {string[]} all the moves of each row */
 export const offerLastTurns = (field, all) =>
   offerChoices(field, [...new Set(all.map(lastTurn).filter(Boolean))].sort());
+
+/** The filters of the best: of orientations, with their reduction and its case, and of reductions. */
+export const filtersOfBest = () => ({
+  ofOrientations: [
+    caseAtMost("best", ({ next }) => [next.case]),
+    chosen("best-axis", ORIENTATIONS.map(stateOf), ({ state }, axis) => state === axis),
+    chosen("best-side", [...SIDES], ({ part: { side } }, wanted) => side === wanted),
+    chosen("best-next", reducedAfter(ORIENTATIONS.map(({ name }) => name)), ({ next }, marks) => next.marks === marks),
+    chosen("best-total", TOTALS, ({ total }, most) => total <= Number(most)),
+  ],
+  ofReductions: [
+    chosen("best-reduction", [], ({ state }, wanted) => state === wanted),
+    chosen("best-reduction-side", [...SIDES], ({ part: { side } }, wanted) => side === wanted),
+    withTurns("best-filter", "best-last", ({ part: { moves }, others }) => ({ moves, others })),
+  ],
+});
 
 /** The filters of a card, which says how many of them are on, and if they leave nothing; a button clears them. */
 export class Filters {
