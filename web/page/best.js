@@ -5,7 +5,7 @@ import { GREATEST_SLACK } from "./address.js";
 import { bestRow } from "./best-row.js";
 import { announce, announceLater, counted, part, setBusy, tell } from "./element.js";
 import { Filters, NOT_MOVES, filtersOfBest, offerChoices, offerLastTurns, offerMoves } from "./filter.js";
-import { byCase, findContinuations, goingOn } from "./finder.js";
+import { KnownSearches, byCase, findContinuations, goingOn } from "./finder.js";
 import { FurtherSearch } from "./further.js";
 import { ShownReductions } from "./reductions.js";
 import { addRows, refreshRows, roveWithin, showRows, takeNamed } from "./rows.js";
@@ -20,17 +20,12 @@ const LOOKING_FOR_BEST = "Looking for the best …";
 /** How many rows are shown at first, so that the table below is seen; of reductions more, since it has no rows then. */
 const SHOWN_FIRST = { narrow: 3, wide: 6, ofReductions: 8 };
 const SHOWN_MORE = 40;
-/** Of how many searches what was found is kept. */
-const MOST_KEPT_SEARCHES = 8;
 
 /** @param {string[]} reached */
 function shownFirst(reached) {
   if (isNarrow()) return SHOWN_FIRST.narrow;
   return reached.length > 0 ? SHOWN_FIRST.ofReductions : SHOWN_FIRST.wide;
 }
-
-/** @param {Question} question @returns what a search is known by */
-const nameOfSearch = ({ position: { lines }, slack, isAll }) => [lines.normal, lines.inverse, slack, isAll].join("/");
 
 /** How many rows that aren't seen belong before the last one that is.
  * @param {Row[]} rows @param {string[]} seen the keys of those that are seen */
@@ -52,8 +47,7 @@ export class BestContinuations {
   #newer = null;
   #isAsked = false;
   #further;
-  /** @type {Map<string, Further>} */
-  #found = new Map();
+  #found = new KnownSearches();
   #reductions;
   #shown = 0;
   #body = part("best-body");
@@ -176,18 +170,10 @@ export class BestContinuations {
     this.#newer = null;
     this.#tellNewer(0);
     this.#question = { ...this.#question, slack: Number(part("best-slack").value), isAll: part("best-all").checked };
-    const known = this.#found.get(nameOfSearch(this.#question)) ?? this.#shorter(this.#question);
+    const known = this.#found.of(this.#question) ?? this.#found.shorter(this.#question);
     if (!known || known.slack < this.#question.slack) return void this.#find(this.#question, known);
     this.#show(known);
     this.#goFurther();
-  }
-
-  /** What was found of fewer moves more, as far as it was wanted; or nothing.
-   * @param {Question} question */
-  #shorter({ slack, ...question }) {
-    const names = Array.from({ length: slack }, (_, less) => nameOfSearch({ ...question, slack: less }));
-    const isWithin = (found) => question.reached.length === 0 && found?.slack <= slack;
-    return names.map((name) => this.#found.get(name)).filter(isWithin).sort((one, other) => other.slack - one.slack)[0];
   }
 
   /** Goes on by itself from what was found, if it may. */
@@ -200,14 +186,14 @@ export class BestContinuations {
   #turnFurther() {
     if (this.#isAsked || this.#question === null) return;
     if (!part("best-further").checked) this.#stopped();
-    else if (this.#found.has(nameOfSearch(this.#question))) this.#ask();
+    else if (this.#found.of(this.#question)) this.#ask();
   }
 
   /** Takes what was found without being asked for. Rows that are seen stay where they are: what belongs among them
    * waits until it is asked for.
    * @param {Further} progress */
   #foundFurther(progress) {
-    if (progress.done === progress.all) this.#keep(this.#question, progress);
+    if (progress.done === progress.all) this.#found.keep(this.#question, progress);
     const seen = this.#seen.map(({ key }) => key);
     const rows = this.#rows(progress) ?? [];
     this.#newer = progress;
@@ -250,22 +236,24 @@ export class BestContinuations {
     (first ? takeNamed(this.#body, first.key) : part("best-heading")).focus({ preventScroll: true });
   }
 
-  /** @param {Question} question @param {Further} [known] what was found of fewer moves more */
+  /** Finds what is asked for. The shortest are shown first, and stay until all are found.
+   * @param {Question} question @param {Further} [known] what was found of fewer moves more */
   async #find(question, known) {
     const isStill = () => question === this.#question;
-    const { slack } = question;
-    const asked = known ? goingOn(question, known.slack, known) : question;
-    this.#progress = null;
-    this.#showRows([]);
+    const isOne = known || question.slack === 0 || question.reached.length > 0;
+    this.#progress = known ?? null;
+    if (!known) this.#showRows([]);
     this.#working(true);
     part("best-note").textContent = LOOKING_FOR_BEST;
     try {
-      await findContinuations(this.#finders, asked, (found) => isStill() && this.#looked({ ...found, slack }), known);
-      if (!isStill()) return;
-      const found = this.#newer;
-      this.#newer = null;
-      this.#keep(question, found);
-      this.#show(found);
+      for (const slack of isOne ? [question.slack] : [0, question.slack]) {
+        const found = await this.#look({ ...question, slack }, isStill);
+        if (!isStill()) return;
+        this.#found.keep({ ...question, slack }, found);
+        this.#progress = found;
+        this.#draw();
+      }
+      this.#show(this.#progress);
       this.#goFurther();
     } catch (fault) {
       if (!isStill()) return;
@@ -276,19 +264,24 @@ export class BestContinuations {
     }
   }
 
+  /** Finds the best of a question, from what is known on.
+   * @param {Question} question @param {() => boolean} isStill whether it is still asked for */
+  async #look(question, isStill) {
+    const { slack } = question;
+    const known = this.#progress ?? undefined;
+    const asked = known ? goingOn(question, known.slack, known) : question;
+    await findContinuations(this.#finders, asked, (found) => isStill() && this.#looked({ ...found, slack }), known);
+    const found = this.#newer;
+    if (isStill()) this.#newer = null;
+    return found;
+  }
+
   /** Says how far a search is. Its rows come together, since a later one may belong before others, which would move.
    * @param {Further} progress */
   #looked(progress) {
     this.#newer = progress;
     this.#tellProgress(progress);
     part("best-note").textContent = this.#tried() || LOOKING_FOR_BEST;
-  }
-
-  /** Keeps what was found, in place of what was kept longest.
-   * @param {Question} question @param {Further} found */
-  #keep(question, found) {
-    this.#found.set(nameOfSearch(question), found);
-    if (this.#found.size > MOST_KEPT_SEARCHES) this.#found.delete(this.#found.keys().next().value);
   }
 
   #brokenOff(fault) {

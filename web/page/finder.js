@@ -32,6 +32,38 @@ export function goingOn(question, known, { rows }) {
   return { ...question, from: known + 1, totals: bound.totals };
 }
 
+/** Of how many searches what was found is kept. */
+const MOST_KEPT_SEARCHES = 8;
+
+/** @param {Question} question @returns what a search is known by */
+const nameOfSearch = ({ position: { lines }, slack, isAll }) => [lines.normal, lines.inverse, slack, isAll].join("/");
+
+/** What was found of the last questions. */
+export class KnownSearches {
+  /** @type {Map<string, Progress & {slack: number}>} */
+  #found = new Map();
+
+  /** @param {Question} question */
+  of(question) {
+    return this.#found.get(nameOfSearch(question));
+  }
+
+  /** What was found of fewer moves more, as far as it was wanted; or nothing.
+   * @param {Question} question */
+  shorter({ slack, ...question }) {
+    const found = Array.from({ length: slack }, (_, less) => this.of({ ...question, slack: less }));
+    const isWithin = (each) => question.reached.length === 0 && each?.slack <= slack;
+    return found.filter(isWithin).sort((one, other) => other.slack - one.slack)[0];
+  }
+
+  /** Keeps what was found, in place of what was kept longest.
+   * @param {Question} question @param {Progress & {slack: number}} found */
+  keep(question, found) {
+    this.#found.set(nameOfSearch(question), found);
+    if (this.#found.size > MOST_KEPT_SEARCHES) this.#found.delete(this.#found.keys().next().value);
+  }
+}
+
 /** What is found on some axes, as one list. */
 export class Found {
   #before;
