@@ -66,20 +66,20 @@ def ahead(tally: Tally, browser: Browser) -> None:
 
 
 def soon(tally: Tally, browser: Browser) -> None:
-    """Of a long search there are rows before it is known how many there will be, and the table doesn't wait for them."""
+    """While a long search goes on the rows that are known stay, and it says how many were tried."""
     browser.open(address_of(LONGER))
     browser.wait_best()
     seen = """const [done] = [arguments[arguments.length - 1]];
         const slack = document.getElementById("best-slack"); slack.value = "2"; slack.dispatchEvent(new Event("change"));
         const look = () => {
-            const rows = document.querySelectorAll("#best-body .take").length;
-            if (rows > 0) done([rows, document.getElementById("best-note").textContent, document.getElementById("best-stop").disabled]);
+            const rows = document.querySelectorAll("#best-body .take").length, note = document.getElementById("best-note").textContent;
+            if (note.includes(" tried")) done([rows, note, document.getElementById("best-stop").disabled]);
             else setTimeout(look);
         };
         look()"""
     rows, note, is_done = browser.driver.execute_async_script(seen)
     tally.equal("rows are shown, and the search goes on", (rows > 0, is_done), (True, False))
-    tally.holds(f"what it says: {note}", re.match(r"[0-9,]+ EOs? tried\.", note))
+    tally.holds(f"what it says: {note}", re.fullmatch(r"[0-9,]+( of [0-9,]+)? EOs? tried\.", note))
     browser.choose("best-slack", "0")
     browser.wait_best()
 

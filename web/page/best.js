@@ -270,6 +270,8 @@ export class BestContinuations {
     const { slack } = question;
     const known = this.#progress ?? undefined;
     const asked = known ? goingOn(question, known.slack, known) : question;
+    // how many longer ones there are isn't known yet
+    if (known) this.#looked({ ...known, all: null, slack });
     await findContinuations(this.#finders, asked, (found) => isStill() && this.#looked({ ...found, slack }), known);
     const found = this.#newer;
     if (isStill()) this.#newer = null;
