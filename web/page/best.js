@@ -250,7 +250,7 @@ export class BestContinuations {
         const found = await this.#look({ ...question, slack }, isStill);
         if (!isStill()) return;
         this.#found.keep({ ...question, slack }, found);
-        this.#progress = found;
+        [this.#progress, this.#newer] = [found, null];
         this.#draw();
       }
       this.#show(this.#progress);
@@ -272,10 +272,8 @@ export class BestContinuations {
     const asked = known ? goingOn(question, known.slack, known) : question;
     // how many longer ones there are isn't known yet
     if (known) this.#looked({ ...known, all: null, slack });
-    await findContinuations(this.#finders, asked, (found) => isStill() && this.#looked({ ...found, slack }), known);
-    const found = this.#newer;
-    if (isStill()) this.#newer = null;
-    return found;
+    const tell = (found) => isStill() && this.#looked({ ...found, slack });
+    return { ...await findContinuations(this.#finders, asked, tell, known), slack };
   }
 
   /** Says how far a search is. Its rows come together, since a later one may belong before others, which would move.

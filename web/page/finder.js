@@ -111,7 +111,7 @@ export function findOnAxis(finders, orientation, question, tell) {
   return finder.ask("bestOfAxis", { orientation: orientation.name, question }, tell);
 }
 
-/** Finds the best, and tells of its progress whenever there is more.
+/** Finds the best, returns them, and tells of its progress whenever there is more.
  * @param {Calls[]} finders one an axis @param {Question} question @param {(progress: Progress) => void} tellProgress
  * @param {Progress} [before] what was found before, from which it goes on */
 export async function findContinuations(finders, question, tellProgress, before) {
@@ -122,4 +122,5 @@ export async function findContinuations(finders, question, tellProgress, before)
     found.take(at, progress);
     tellProgress(found.progress());
   })));
+  return found.progress();
 }
