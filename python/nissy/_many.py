@@ -3,7 +3,7 @@ from __future__ import annotations
 
 from collections import deque
 from itertools import islice
-from time import perf_counter
+from time import perf_counter, sleep
 from typing import Any, Callable, Deque, Generic, Iterable, Iterator, List, NamedTuple, Optional, Tuple, TypeVar
 
 from ._given import Text, bytes_of, each_of, number_of
@@ -12,13 +12,19 @@ Value = TypeVar("Value")
 
 # the most lines of a piece: an ordinary room has an answer to each
 _MOST_LINES = 16_384
-# so many lines are worth a piece of their own
-_LEAST_LINES = 1024
 _MOST_BYTES = 1 << 22
 _MOST_THREADS = 1024
 # A piece takes so many seconds or more, if there are lines enough, and at most twice as many: in between Python hears of signals. Threads
 # have longer ones, since each waits for the lock when it has done one.
 _SHORT, _SHORT_OF_THREADS = 0.005, 0.03
+# The first piece has one line, since that may take long, and the next ones at most so many times as many as one before it.
+_GROWTH = 16
+# a piece that took so much of those seconds tells well how many lines the next ones are to have
+_TELLING = 1 / 64
+# A thread that goes on keeps Python's lock from others for five thousandths of a second. After so many seconds of sleep one of them has it.
+_REST = 0.00001
+# seconds that are worth a piece of their own
+_WORTH = 0.002
 
 
 class Piece(NamedTuple):
@@ -52,6 +58,7 @@ class _Taking:
         self._lines, self._short = lines, short
         self._size, self._next = 1, 1
         self._count, self._threads = count, threads
+        self._is_told, self._least = False, 1
         self.error: Optional[Exception] = None
 
     def __iter__(self) -> Iterator[Piece]:
@@ -78,7 +85,7 @@ class _Taking:
         """Returns how many lines come next at most. If it is known how many there are, those that are left are shared by the threads, so that
         none works long at the last piece alone."""
         left = self._count - self._next + 1
-        return min(self._size, max(_LEAST_LINES, left // (2 * self._threads))) if self._count else self._size
+        return min(self._size, max(self._least, left // (2 * self._threads))) if self._count else self._size
 
     def _text(self, lines: List[Text]) -> bytes:
         """Returns lines as one text. Of those that are no lines, the first one and all behind it are taken off."""
@@ -105,7 +112,20 @@ class _Taking:
         if len(piece.text) > _MOST_BYTES or seconds > 2 * self._short:
             self._size = max(1, self._size // 2)
         elif seconds < self._short and len(piece.lines) == self._size:
-            self._size = min(_MOST_LINES, 2 * self._size)
+            growth = min(_GROWTH, max(2, int(self._short / max(seconds, 1e-6))))
+            self._size = min(_MOST_LINES, growth * self._size)
+        if seconds >= _TELLING * self._short:
+            self._is_told, self._least = True, max(1, int(len(piece.lines) * _WORTH / seconds))
+
+    def ahead(self) -> int:
+        """Returns how many pieces are asked before the first one's answers are taken. Until it is told how many lines they may have, that is one
+        for each thread."""
+        return 4 * self._threads + 1 if self._is_told else self._threads
+
+    def rest(self) -> None:
+        """Lets another thread begin or end a piece, if pieces are so long that it waits longer than that takes."""
+        if self._is_told:
+            sleep(_REST)
 
 
 def in_pieces(lines: Iterable[Text], asking: Asking[Value], threads: int) -> Iterator[Value]:
@@ -163,32 +183,65 @@ def _in_turn(taking: _Taking, asking: Asking[Value]) -> Iterator[Value]:
         raise taking.error
 
 
+class _Asked(Generic[Value]):
+    """A piece that waits for a thread, or is asked by one, or was."""
+
+    def __init__(self, piece: Piece, asking: Asking[Value], pool: Any) -> None:
+        self.piece, self._asking = piece, asking
+        self._other = pool.submit(asking.timed, piece)
+        self._own: Optional[Tuple[Any, float]] = None
+
+    def is_open(self) -> bool:
+        """Whether it waits, or another thread asks it."""
+        return self._own is None and not self._other.done()
+
+    def take_over(self) -> bool:
+        """Asks it in this thread, if it waits. Returns whether it did."""
+        if not self.is_open() or not self._other.cancel():
+            return False
+        self._own = self._asking.timed(self.piece)
+        return True
+
+    def give_up(self) -> None:
+        """Has it asked by none, if it waits."""
+        self._other.cancel()
+
+    def told(self) -> Tuple[Any, float]:
+        """Returns what the first part returned, and the seconds that it took."""
+        return self._own or self._other.result()
+
+
 def _side_by_side(taking: _Taking, asking: Asking[Value], threads: int) -> Iterator[Value]:
-    """Yields the answers to lines, of which so many pieces are asked at the same time, in the order of the lines."""
+    """Yields the answers to lines, of which so many pieces are asked at the same time, in the order of the lines. This thread is one of those that
+    ask: with one more than processors, two would share a processor while another one rests."""
     # nobody else waits for this module to be read
-    from concurrent.futures import Future, ThreadPoolExecutor
-    asked: Deque[Tuple[Piece, Future[Tuple[Any, float]]]] = deque()
+    from concurrent.futures import ThreadPoolExecutor
+    asked: Deque[_Asked[Value]] = deque()
 
     def first() -> Iterable[Value]:
-        piece, future = asked.popleft()
-        told, seconds = future.result()
-        taking.took(piece, seconds)
-        return asking.told(piece, told)
+        while asked[0].is_open() and any(it.take_over() for it in asked):
+            pass
+        it = asked.popleft()
+        told, seconds = it.told()
+        taking.took(it.piece, seconds)
+        return asking.told(it.piece, told)
 
     def answers(pool: ThreadPoolExecutor) -> Iterator[Value]:
         for piece in taking:
-            asked.append((piece, pool.submit(asking.timed, piece)))
-            if len(asked) > 2 * threads:
+            asked.append(_Asked(piece, asking, pool))
+            taking.rest()
+            if len(asked) >= taking.ahead():
                 yield from first()
         while asked:
             yield from first()
+            taking.rest()
 
-    with ThreadPoolExecutor(threads, "nissy") as pool:
+    with ThreadPoolExecutor(threads - 1, "nissy") as pool:
         try:
             yield from answers(pool)
         finally:
             # those that have begun end, and the others need not
-            for _, future in asked:
-                future.cancel()
+            for it in asked:
+                it.give_up()
     if taking.error is not None:
         raise taking.error
