@@ -17,7 +17,7 @@ from urllib.parse import parse_qsl, urlsplit
 
 import nissy
 
-# the positions of a search, some milliseconds, and the solutions that an answer shows
+# the positions of a search, at most some tenths of a second, and the solutions that an answer shows
 MOST_NODES, MOST_SHOWN = 1_000_000, 20
 Answer = Dict[str, Any]
 

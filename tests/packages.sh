@@ -145,6 +145,7 @@ if [ ! -e "$release" ]; then skips "the archive in C, which wasn't made"; elif m
                 { "$room/other/built/one"; [ $? -eq 4 ]; }
         }
         holds "CMake builds and installs it" by_cmake -DCMAKE_C_FLAGS=-O1
+        holds "each header is there" diff <(ls -- *.h *.hpp) <(ls "$room/cmade/include")
         holds "its program runs from there" test "$("$room/cmade/bin/nissy" invert "R U' F2")" = "F2 U R'"
         holds "another project finds its library" uses_it
     fi
