@@ -8,6 +8,7 @@
 
 #include <functional>
 #include <iterator>
+#include <numeric>
 #include <set>
 #include <tuple>
 
@@ -60,13 +61,12 @@ struct best_search {
 // What the search shares. Its names are no part of the interface.
 namespace continuing {
 
-// Twins of an orientation on a side, the cube after each, and whether they are longer ones, which go on after it was reached. What these go on
-// with belongs on their own side to the reduction after a shorter one, so they have a row only if the other side is better.
+// Twins of an orientation on a side, and whether they are longer ones, which go on after it was reached. What these go on with belongs on their
+// own side to the reduction after a shorter one, so they have a row only if the other side is better.
 struct twins {
     axis_step step;
     std::size_t on;
     std::vector<solution> moves;
-    std::vector<cube> cubes;
     bool is_longer;
 };
 
@@ -77,31 +77,24 @@ struct way {
     std::string moves;
 };
 
-// A reduction after twins, and the bounds of all moves with it on each side.
+// A reduction after twins, the cube after each, and the bounds of all moves with it, NEVER if it may have no row.
 struct candidate {
     const continuing::twins *twins;
+    std::vector<cube> cubes;
     axis_step step;
-    std::array<int, 2> least_on = {NEVER, NEVER}, most_on = {NEVER, NEVER};
+    int least = NEVER, most_found = NEVER;
 
-    // Widens the bounds by a cube after one of the twins, on each side of which the reduction has this least length. If a reduction merges
-    // with its orientation alone, a twin of that or a shorter one has it without that, so this isn't looked at.
-    void add(const cube &before, const cube &after, const std::array<std::optional<int>, 2> &on_sides) {
-        for (const std::size_t on : {NORMAL, INVERSE}) {
-            const std::optional<int> length = on_sides[on];
-            if (!length) continue;
-            const int total = after.count_made() + *length;
-            most_on[on] = std::min(most_on[on], total);
-            least_on[on] = std::min(least_on[on], total - (before.made[on].empty() ? 0 : most_saved(after.made[on], step)));
-        }
+    // Looks for the reduction on a side of a cube after one of the twins, as far as there may be no more moves in all than `enough`, and widens
+    // the bounds. If it merges with its orientation alone, a twin of that or a shorter one has it without that, so this isn't looked at.
+    void look(searches &by, const tables &of_step, const cube &before, const cube &after, std::size_t on, int enough) {
+        const int made = after.count_made(), saved = before.made[on].empty() ? 0 : most_saved(after.made[on], step);
+        const std::optional<int> length = by.least_length(of_step, after.lines[on], std::min(enough - made + saved, MOST_TURNS));
+        if (!length) return;
+        most_found = std::min(most_found, made + *length);
+        least = std::min(least, made + *length - saved);
     }
 
-    // The bounds of its row, NEVER if it may have none.
-    int least() const {
-        if (!twins->is_longer) return std::min(least_on[NORMAL], least_on[INVERSE]);
-        const int other = least_on[1 - twins->on];
-        return other < most_on[twins->on] ? other : NEVER;
-    }
-    int most() const { return twins->is_longer ? NEVER : std::min(most_on[NORMAL], most_on[INVERSE]); }
+    int most() const { return twins->is_longer ? NEVER : most_found; }
 };
 
 // How many moves there are in all with a solution on a side of a cube.
@@ -121,8 +114,8 @@ inline way best_way(searches &by, const cube &from, std::size_t on, const axis_s
 // The best way on a side after any of the twins, and after which.
 inline std::pair<std::size_t, way> best_on(searches &by, const candidate &one, std::size_t on) {
     std::pair<std::size_t, way> best = {0, {NEVER, std::nullopt, ""}};
-    for (std::size_t at = 0; at < one.twins->cubes.size(); at++) {
-        way found = best_way(by, one.twins->cubes[at], on, one.step);
+    for (std::size_t at = 0; at < one.cubes.size(); at++) {
+        way found = best_way(by, one.cubes[at], on, one.step);
         if (std::tie(found.total, found.length) < std::tie(best.second.total, best.second.length)) best = {at, std::move(found)};
     }
     return best;
@@ -130,7 +123,7 @@ inline std::pair<std::size_t, way> best_on(searches &by, const candidate &one, s
 
 // How many moves there are in all, or NEVER if it has no row.
 inline int total_of(searches &by, const candidate &one) {
-    if (one.least() == one.most()) return one.most();
+    if (one.least == one.most()) return one.least;
     const std::size_t on = one.twins->on;
     const int own = best_on(by, one, on).second.total, other = best_on(by, one, 1 - on).second.total;
     return other < own || !one.twins->is_longer ? std::min(own, other) : NEVER;
@@ -148,7 +141,7 @@ constexpr side side_of(std::size_t on) { return on == NORMAL ? side::normal : si
 
 // A candidate with its moves, the reduction on the side of the orientation if the other one isn't better.
 inline continuation continued(searches &by, const candidate &one, const start &from, const std::string &dr_case) {
-    const auto &[step, own, moves, cubes, is_longer] = *one.twins;
+    const auto &[step, own, moves, is_longer] = *one.twins;
     const std::array<std::pair<std::size_t, way>, 2> ways = {best_on(by, one, NORMAL), best_on(by, one, INVERSE)};
     const std::size_t on = ways[own].second.total <= ways[1 - own].second.total ? own : 1 - own;
     const auto &[at, found] = ways[on];
@@ -168,29 +161,40 @@ inline std::vector<twins> orientations_on(searches &by, const cube &from, std::s
     for (std::vector<solution> &group : grouped(all, step)) {
         // twins are longer ones together
         const bool is_longer = longer.has(group[0]);
-        twins each = {step, on, std::move(group), {}, is_longer};
-        const auto after = [&](const solution &one) { return from.after(on, one.moves); };
-        std::transform(each.moves.begin(), each.moves.end(), std::back_inserter(each.cubes), after);
-        found.push_back(std::move(each));
+        found.push_back({step, on, std::move(group), is_longer});
     }
     return found;
 }
 
-// The orientations on an axis, the shortest first.
-inline std::vector<twins> orientations(searches &by, const cube &from, const axis_step &step, std::int64_t slack) {
-    std::vector<twins> found = orientations_on(by, from, NORMAL, step, slack), others = orientations_on(by, from, INVERSE, step, slack);
-    found.insert(found.end(), std::make_move_iterator(others.begin()), std::make_move_iterator(others.end()));
+// The orientations, the shortest first.
+inline std::vector<twins> orientations(searches &by, const cube &from, std::int64_t slack) {
+    std::vector<twins> found;
+    for (const oriented_steps &steps : STEPS_BY_AXIS)
+        for (const std::size_t on : {NORMAL, INVERSE}) {
+            std::vector<twins> others = orientations_on(by, from, on, steps.eo, slack);
+            found.insert(found.end(), std::make_move_iterator(others.begin()), std::make_move_iterator(others.end()));
+        }
     const auto is_shorter = [](const twins &one, const twins &other) { return one.moves[0].length < other.moves[0].length; };
     std::stable_sort(found.begin(), found.end(), is_shorter);
     return found;
 }
 
-// A candidate of twins that go on from a cube.
-inline candidate candidate_of(searches &by, const cube &before, const twins &each, const axis_step &step) {
-    candidate found = {&each, step};
+// The cubes after twins that go on from a cube.
+inline std::vector<cube> cubes_after(const cube &before, const twins &each) {
+    std::vector<cube> cubes;
+    const auto after = [&](const solution &one) { return before.after(each.on, one.moves); };
+    std::transform(each.moves.begin(), each.moves.end(), std::back_inserter(cubes), after);
+    return cubes;
+}
+
+// A candidate of twins. The reduction after longer ones is looked for on the other side alone.
+inline candidate candidate_of(searches &by, const cube &before, const twins &each, const std::vector<cube> &cubes, const axis_step &step,
+                              int enough) {
+    candidate found = {&each, cubes, step};
     const tables of_step(step.name);
-    for (const cube &after : each.cubes)
-        found.add(before, after, {by.least_length(of_step, after.lines[NORMAL]), by.least_length(of_step, after.lines[INVERSE])});
+    for (const cube &after : cubes)
+        for (const std::size_t on : {NORMAL, INVERSE})
+            if (on != each.on || !each.is_longer) found.look(by, of_step, before, after, on, enough);
     return found;
 }
 
@@ -211,15 +215,8 @@ struct judged {
     auto rank() const { return std::make_tuple(total, one.twins->moves[0].length, facts.bad_corners + facts.misplaced_edges); }
 };
 
-// The candidates of an axis, both reductions after each of the orientations.
-inline void add_candidates(std::vector<candidate> &to, searches &by, const cube &before, const std::vector<twins> &every,
-                           const oriented_steps &steps) {
-    for (const twins &each : every) {
-        to.push_back(candidate_of(by, before, each, steps.reductions[0]));
-        to.push_back(candidate_of(by, before, each, steps.reductions[1]));
-        by.go_on(each.cubes.size());
-    }
-}
+// How many of some orientations are looked at before their totals bound the next ones: few at first.
+constexpr std::size_t FIRST_BATCH = 32, MOST_BATCH = 256;
 
 // Those that may be among the first `most`: as many have no more moves in all than the bound, and one that can't come down to it is left out.
 inline std::vector<judged> judged_best(searches &by, const std::vector<candidate> &candidates, std::uint64_t most) {
@@ -228,34 +225,46 @@ inline std::vector<judged> judged_best(searches &by, const std::vector<candidate
     const int enough = nth_least(std::move(numbers), most);
     std::vector<judged> found;
     for (const candidate &one : candidates) {
-        const int total = one.least() <= enough ? total_of(by, one) : NEVER;
-        if (total < NEVER) found.push_back({one, total, facts(one.twins->cubes[0].lines[NORMAL]).axes[one.step.axis]});
+        const int total = one.least <= enough ? total_of(by, one) : NEVER;
+        if (total < NEVER) found.push_back({one, total, facts(one.cubes[0].lines[NORMAL]).axes[one.step.axis]});
     }
     return found;
 }
 
 // How many orientations there are.
-inline std::size_t count_of(const std::array<std::vector<twins>, 3> &every) {
-    std::size_t count = 0;
-    for (const std::vector<twins> &on_axis : every)
-        for (const twins &each : on_axis) count += each.cubes.size();
-    return count;
+inline std::size_t count_of(const std::vector<twins> &every) {
+    const auto add = [](std::size_t count, const twins &each) { return count + each.moves.size(); };
+    return std::accumulate(every.begin(), every.end(), std::size_t{0}, add);
 }
 
-// All orientations with both reductions after each.
-inline std::vector<candidate> candidates_of(searches &by, const cube &before, const std::array<std::vector<twins>, 3> &every) {
+// Orientations with both reductions after each, at least all that may be among the first `most`.
+inline std::vector<candidate> candidates_of(searches &by, const cube &before, const std::vector<twins> &every, std::uint64_t most) {
     by.begin(count_of(every));
     std::vector<candidate> candidates;
-    for (std::size_t axis = 0; axis < every.size(); axis++) add_candidates(candidates, by, before, every[axis], STEPS_BY_AXIS[axis]);
+    least_until_now least(most);
+    std::size_t end = 0, size = FIRST_BATCH;
+    int enough = NEVER;
+    for (std::size_t at = 0; at < every.size(); at++) {
+        if (at == end) {
+            enough = least.enough();
+            end += size;
+            size = std::min(2 * size, MOST_BATCH);
+        }
+        const std::vector<cube> cubes = cubes_after(before, every[at]);
+        for (const axis_step &step : STEPS_BY_AXIS[every[at].step.axis].reductions) {
+            candidate found = candidate_of(by, before, every[at], cubes, step, enough);
+            least.add(found.most());
+            if (found.least < NEVER) candidates.push_back(std::move(found));
+        }
+        by.go_on(cubes.size());
+    }
     return candidates;
 }
 
 // The best orientations, each with a reduction.
 inline std::vector<continuation> oriented(searches &by, const start &from, std::int64_t slack, std::uint64_t most) {
-    std::array<std::vector<twins>, 3> every;
-    const auto on_axis = [&](const oriented_steps &steps) { return orientations(by, from.cube, steps.eo, slack); };
-    std::transform(STEPS_BY_AXIS.begin(), STEPS_BY_AXIS.end(), every.begin(), on_axis);
-    std::vector<judged> found = judged_best(by, candidates_of(by, from.cube, every), most);
+    const std::vector<twins> every = orientations(by, from.cube, slack);
+    std::vector<judged> found = judged_best(by, candidates_of(by, from.cube, every, most), most);
     std::stable_sort(found.begin(), found.end(), [](const judged &one, const judged &other) { return one.rank() < other.rank(); });
     found.erase(found.begin() + static_cast<std::ptrdiff_t>(std::min<std::uint64_t>(most, found.size())), found.end());
     std::vector<continuation> rows;

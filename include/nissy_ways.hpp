@@ -8,6 +8,7 @@
 #include <functional>
 #include <iterator>
 #include <limits>
+#include <queue>
 #include <unordered_map>
 #include <unordered_set>
 
@@ -28,6 +29,7 @@ inline constexpr std::size_t NORMAL = 0, INVERSE = 1;
 inline constexpr std::array<std::string_view, 3> FACES = {"FB", "RL", "UD"};
 // More moves than there can be in all.
 inline constexpr int NEVER = std::numeric_limits<int>::max() / 2;
+inline constexpr int MOST_TURNS = 20;
 
 // A step of the search: an orientation on an axis, or a reduction on an axis after the orientation on another one; and the axis whose quarter
 // turns end its solutions.
@@ -197,14 +199,15 @@ public:
     // A step's solutions.
     std::vector<solution> solve(const axis_step &step, const std::string &line, std::int64_t slack = 0) {
         go_on(0);
-        found all = tables(step.name).find(line, {20, slack, NISSY_ALL, left()});
+        found all = tables(step.name).find(line, {MOST_TURNS, slack, NISSY_ALL, left()});
         spend(all.count);
         return std::move(all.solutions);
     }
 
-    // A step's least length.
-    std::optional<int> least_length(const tables &by, const std::string &line) {
-        const count first = by.count(line, {20, 0, 1, left()});
+    // A step's least length, if it is no more than a limit.
+    std::optional<int> least_length(const tables &by, const std::string &line, int limit) {
+        if (limit < 0) return std::nullopt;
+        const count first = by.count(line, {limit, 0, 1, left()});
         spend(first);
         return first.length;
     }
@@ -220,6 +223,23 @@ private:
     std::uint64_t nodes_, looked_ = 0;
     const progress &told_;
     std::size_t done_ = 0, all_ = 0;
+};
+
+// The least of some numbers until now: as many as are asked for, of which the last bounds the next ones.
+class least_until_now {
+public:
+    explicit least_until_now(std::uint64_t most) : most_(most) {}
+
+    void add(int total) {
+        if (total < NEVER) totals_.push(total);
+        if (totals_.size() > most_) totals_.pop();
+    }
+
+    int enough() const { return totals_.size() < most_ ? NEVER : most_ == 0 ? -1 : totals_.top(); }
+
+private:
+    std::uint64_t most_;
+    std::priority_queue<int> totals_;
 };
 
 // Tells of a step's solutions, all of which are given from the shortest on, which are longer ones: those that go on after the step was reached.

@@ -1,7 +1,7 @@
 """The best continuations of a line: each edge orientation on three axes and both sides, with the reduction that follows it best."""
 from __future__ import annotations
 
-from heapq import nsmallest
+from heapq import heappush, heappushpop, nsmallest
 from typing import Dict, Iterable, Iterator, List, NamedTuple, Optional, Tuple
 
 from ._continuations import Continuation, Lengths, Orientation, Reduction, Side
@@ -10,7 +10,7 @@ from ._given import Step, Text, bytes_of, number_of
 from ._lines import MOST_WORD
 from ._twins import grouped, last_turns, longer_among
 from ._values import Fault, LineFault, Solution, raising
-from ._ways import NEVER, NORMAL, SIDES, Bounds, Cube, Progress, Searches, Start, Way, best_way, bounds, bounds_of, read, totals, turns_of
+from ._ways import NEVER, NORMAL, SIDES, Cube, Progress, Searches, Start, Way, best_way, bounds, bounds_of, read, totals, turns_of, wanted_on
 
 _NAMES: Tuple[Side, Side] = ("normal", "inverse")
 # the orientations, and the reductions that may follow each, with their axes
@@ -19,25 +19,26 @@ _REDUCTIONS: Dict[Step, Dict[Step, Axis]] = {
     "eorl": {"drud-eorl": "ud", "drfb-eorl": "fb"},
     "eoud": {"drrl-eoud": "rl", "drfb-eoud": "fb"}}
 _MOST_SLACK = 20
-# so many groups of twins go on before the caller is told
-_BATCH = 256
+# so many groups of twins go on at first, and at most, before the caller is told
+_FIRST_BATCH, _BATCH = 32, 256
 
 
 class _Twins(NamedTuple):
-    """Twins of an orientation on a side, the cube after each, and whether they are longer ones, which go on after it was reached. What these go
-    on with belongs on their own side to the reduction after a shorter one, so they have a row only if the other side is better."""
+    """Twins of an orientation on a side, and whether they are longer ones, which go on after it was reached. What these go on with belongs on
+    their own side to the reduction after a shorter one, so they have a row only if the other side is better."""
 
     step: Step
     side: int
     moves: List[Solution]
-    cubes: List[Cube]
     is_longer: bool
 
 
 class _Candidate(NamedTuple):
-    """A reduction after twins, and the bounds of all moves with it: `least` and `most`, which is NEVER if it may have no row."""
+    """A reduction after twins, the cube after each, and the bounds of all moves with it: `least` and `most`, which is NEVER if it may have no
+    row."""
 
     twins: _Twins
+    cubes: List[Cube]
     step: Step
     least: int
     most: int
@@ -49,7 +50,7 @@ class _Candidate(NamedTuple):
 
     def best_on(self, searches: Searches, side: int) -> Tuple[int, Way]:
         """Returns the best way on a side after any of the twins, and after which."""
-        ways = [(at, best_way(searches, cube, side, self.step)) for at, cube in enumerate(self.twins.cubes)]
+        ways = [(at, best_way(searches, cube, side, self.step)) for at, cube in enumerate(self.cubes)]
         return min(ways, key=lambda found: found[1][:2])
 
     def total(self, searches: Searches) -> int:
@@ -61,7 +62,7 @@ class _Candidate(NamedTuple):
 
     def continuation(self, searches: Searches, start: Start, case: Case) -> Continuation:
         """Returns it with its moves, on the side of the orientation if the other one isn't better."""
-        (step, own, twins, *_), best = self.twins, [self.best_on(searches, side) for side in SIDES]
+        (step, own, twins, _), best = self.twins, [self.best_on(searches, side) for side in SIDES]
         side = own if best[own][1].total <= best[1 - own][1].total else 1 - own
         at, (total, _, moves) = best[side]
         others = tuple(start.named(own, last_turns(each, step)) for each in twins[:at] + twins[at + 1:])
@@ -81,37 +82,52 @@ def _twins_on(searches: Searches, cube: Cube, side: int, step: Step, slack: int)
     solutions = searches.solve(step, cube.lines[side], slack)
     longer = longer_among(solutions)
     # twins are longer ones together
-    return [_Twins(step, side, twins, [cube.after(side, moves) for moves in twins], twins[0] in longer) for twins in grouped(solutions, step)]
+    return [_Twins(step, side, twins, twins[0] in longer) for twins in grouped(solutions, step)]
 
 
-def _orientations(searches: Searches, cube: Cube, step: Step, slack: int) -> List[_Twins]:
-    """Returns the orientations on an axis, the shortest first."""
-    found = [twins for side in SIDES for twins in _twins_on(searches, cube, side, step, slack)]
+def _orientations(searches: Searches, cube: Cube, slack: int) -> List[_Twins]:
+    """Returns the orientations, the shortest first."""
+    found = [twins for step in _REDUCTIONS for side in SIDES for twins in _twins_on(searches, cube, side, step, slack)]
     return sorted(found, key=lambda twins: twins.moves[0].length)
 
 
-def _candidate(twins: _Twins, step: Step, on_each: List[List[Bounds]]) -> _Candidate:
-    """Returns a reduction after twins, by its bounds on both sides after each of them."""
-    own, other = (bounds_of([on_sides[side] for on_sides in on_each]) for side in (twins.side, 1 - twins.side))
-    if twins.is_longer:
-        return _Candidate(twins, step, other.least if other.least < own.most else NEVER, NEVER)
-    return _Candidate(twins, step, *bounds_of((own, other)))
+def _sides_of(twins: _Twins) -> Tuple[int, ...]:
+    """Returns on which sides a reduction is looked for: after longer ones on the other side alone."""
+    return (1 - twins.side,) if twins.is_longer else SIDES
 
 
-def _candidates(searches: Searches, cube: Cube, every: List[_Twins], step: Step) -> List[_Candidate]:
-    """Returns a reduction after each of the twins on an axis, which go on from a cube."""
-    lengths = searches.least_lengths(step, [line for twins in every for after in twins.cubes for line in after.lines])
-    on_sides = zip(lengths, lengths)
-    return [_candidate(twins, step, [bounds(cube, after, step, next(on_sides)) for after in twins.cubes]) for twins in every]
+def _candidates(searches: Searches, cube: Cube, batch: List[_Twins], most: int) -> Iterator[_Candidate]:
+    """Yields twins that go on from a cube, each with both reductions, if these may come down to no more moves in all than `most`."""
+    after = [(twins, [cube.after(twins.side, moves) for moves in twins.moves]) for twins in batch]
+    each = [(twins, cubes, step, [(one, side) for one in cubes for side in _sides_of(twins)])
+            for twins, cubes in after for step in _REDUCTIONS[twins.step]]
+    wanted = [wanted_on(cube, one, side, step, most) for _, _, step, sought in each for one, side in sought]
+    lengths = iter(searches.least_lengths(wanted))
+    for twins, cubes, step, sought in each:
+        least, greatest = bounds_of([bounds(cube, one, side, step, next(lengths)) for one, side in sought])
+        if least < NEVER:
+            yield _Candidate(twins, cubes, step, least, NEVER if twins.is_longer else greatest)
 
 
-def _on_axis(searches: Searches, cube: Cube, every: List[_Twins]) -> Iterator[_Candidate]:
-    """Yields the orientations of an axis, the shortest first, each with both reductions."""
-    for first in range(0, len(every), _BATCH):
-        batch = every[first:first + _BATCH]
-        for both in zip(*(_candidates(searches, cube, batch, reduction) for reduction in _REDUCTIONS[batch[0].step])):
-            yield from both
-        searches.go_on(sum(len(twins.cubes) for twins in batch))
+def _batches(every: List[_Twins]) -> Iterator[List[_Twins]]:
+    """Yields twins in order, few at first: what they come to bounds the search for the next ones."""
+    first, size = 0, _FIRST_BATCH
+    while first < len(every):
+        yield every[first:first + size]
+        first, size = first + size, min(2 * size, _BATCH)
+
+
+def _all_candidates(searches: Searches, cube: Cube, every: List[_Twins], most: int) -> Iterator[_Candidate]:
+    """Yields orientations with a reduction, at least all that may be among the best `most`."""
+    # as many of the least numbers of all moves as are asked for, the greatest first
+    least: List[int] = []
+    for batch in _batches(every):
+        enough = NEVER if len(least) < most else -least[0] if least else -1
+        found = list(_candidates(searches, cube, batch, enough))
+        yield from found
+        for total in (each.most for each in found if each.most < NEVER):
+            (heappushpop if len(least) >= most else heappush)(least, -total)
+        searches.go_on(sum(len(twins.moves) for twins in batch))
 
 
 def _nth_least(numbers: Iterable[int], nth: int) -> int:
@@ -121,16 +137,16 @@ def _nth_least(numbers: Iterable[int], nth: int) -> int:
 
 def _oriented(searches: Searches, start: Start, slack: int, most: int) -> List[Continuation]:
     """Returns the best of the orientations with a reduction after each."""
-    axes = [_orientations(searches, start.cube, step, slack) for step in _REDUCTIONS]
-    searches.begin(sum(len(twins.cubes) for every in axes for twins in every))
-    candidates = [each for every in axes for each in _on_axis(searches, start.cube, every)]
+    every = _orientations(searches, start.cube, slack)
+    searches.begin(sum(len(twins.moves) for twins in every))
+    candidates = list(_all_candidates(searches, start.cube, every, most))
     # as many as are asked for have no more moves in all than this, so one that can't come down to it is left out
     enough = _nth_least((each.most for each in candidates), most)
     looked_at = ((each.total(searches), each) for each in candidates if each.least <= enough)
     counted = [(total, each) for total, each in looked_at if total < NEVER]
     enough = _nth_least((total for total, _ in counted), most)
     kept = [(total, each) for total, each in counted if total <= enough]
-    seen = raising(facts_all([each.twins.cubes[0].lines[NORMAL] for _, each in kept]))
+    seen = raising(facts_all([each.cubes[0].lines[NORMAL] for _, each in kept]))
     cased = [(total, each, it.case[each.axis]) for (total, each), it in zip(kept, seen)]
     cased.sort(key=lambda row: (row[0], row[1].twins.moves[0].length, row[2].corners + row[2].edges))
     return [each.continuation(searches, start, case) for _, each, case in cased[:most]]

@@ -15,8 +15,17 @@ from ._values import Count, Cut, Solution, Solutions, raising
 NORMAL, INVERSE = SIDES = (0, 1)
 NEVER = 10_000
 """More moves than there can be in all."""
+MOST_TURNS = 20
 Progress = Callable[[int, Optional[int]], object]
 """Is told how many are done, and of how many, or None until that is known."""
+
+
+class Wanted(NamedTuple):
+    """A step's least length on a line, if it is no more than a limit."""
+
+    step: Step
+    line: str
+    limit: int
 
 
 class Searches:
@@ -50,15 +59,29 @@ class Searches:
         self._looked += found.nodes
         return found
 
-    def least_lengths(self, step: Step, lines: Sequence[str]) -> Iterator[Optional[int]]:
-        """Yields a step's least length on each line. With a bound each is asked for by itself, since the next one may look at what it leaves."""
-        counts = raising(count_all(step, lines, most=1)) if self._nodes is None else map(self._first_of(Tables(step)), lines)
-        return (count.length for count in counts)
+    def least_lengths(self, wanted: Sequence[Wanted]) -> List[Optional[int]]:
+        """Returns each least length that is wanted, or None if it is more than the limit."""
+        found: List[Optional[int]] = [None] * len(wanted)
+        alike: Dict[Tuple[Step, int], List[int]] = {}
+        for at, (step, _, limit) in enumerate(wanted):
+            if limit >= 0:
+                alike.setdefault((step, limit), []).append(at)
+        for (step, limit), places in alike.items():
+            for at, count in zip(places, self._first_counts(step, limit, [wanted[at].line for at in places])):
+                found[at] = count.length
+        return found
 
-    def _first_of(self, tables: Tables) -> Callable[[str], Count]:
+    def _first_counts(self, step: Step, limit: int, lines: List[str]) -> Iterator[Count]:
+        """Returns the counts of lines up to their first solutions. With a bound each is asked for by itself, since the next one may look at what
+        it leaves."""
+        if self._nodes is None:
+            return raising(count_all(step, lines, limit, most=1))
+        return map(self._first_of(Tables(step), limit), lines)
+
+    def _first_of(self, tables: Tables, limit: int) -> Callable[[str], Count]:
         """Returns what counts until the first solution of a line."""
         def count_first(line: str) -> Count:
-            count = tables.count(line, most=1, nodes=self._left(), partial=True)
+            count = tables.count(line, limit, most=1, nodes=self._left(), partial=True)
             if count.cut:
                 raise self._cut(count)
             self._looked += count.nodes
@@ -161,14 +184,24 @@ def bounds_of(every: Sequence[Bounds]) -> Bounds:
     return Bounds(min(each.least for each in every), min(each.most for each in every))
 
 
-def bounds(before: Cube, after: Cube, step: Step, lengths: Sequence[Optional[int]]) -> List[Bounds]:
-    """Returns the bounds of all moves with a reduction after an orientation on each side, by its length there. If it merges with the orientation
-    alone, a twin of that or a shorter one has it without that, so this isn't looked at."""
-    count, found = after.count_made(), []
-    for made_before, made, length in zip(before.made, after.made, lengths):
-        most, saved = (NEVER, 0) if length is None else (count + length, _most_saved(made, step) if made_before else 0)
-        found.append(Bounds(most - saved, most))
-    return found
+def saved_on(before: Cube, after: Cube, side: int, step: Step) -> int:
+    """Returns how many moves a reduction after an orientation can save at most on a side. If it merges with the orientation alone, a twin of that
+    or a shorter one has it without that, so this isn't looked at."""
+    return _most_saved(after.made[side], step) if before.made[side] else 0
+
+
+def wanted_on(before: Cube, after: Cube, side: int, step: Step, most: int) -> Wanted:
+    """Returns what is wanted of a reduction after an orientation on a side, for no more moves in all than `most`."""
+    left = most - after.count_made() + saved_on(before, after, side, step)
+    return Wanted(step, after.lines[side], min(left, MOST_TURNS))
+
+
+def bounds(before: Cube, after: Cube, side: int, step: Step, length: Optional[int]) -> Bounds:
+    """Returns the bounds of all moves with a reduction after an orientation on a side, by its length there."""
+    if length is None:
+        return Bounds(NEVER, NEVER)
+    most = after.count_made() + length
+    return Bounds(most - saved_on(before, after, side, step), most)
 
 
 def totals(cube: Cube, side: int, solutions: Sequence[Solution]) -> List[int]:
