@@ -204,8 +204,8 @@ typedef struct nissy_search_answer {
  * It takes no memory.
  *
  * It looks at no more than `most_nodes` positions, unless this is NISSY_ALL: before it would look at more, it ends with NISSY_CUT, which
- * happens only if the whole search, that of all solutions, looks at more. What is written then is a beginning of the list. So no line can
- * hold a service for long that asks with 1,000,000.
+ * happens only if the whole search, that of all solutions, looks at more. It has looked at more than `most_nodes` - 18 then, and what is
+ * written is a beginning of the list. So no line can hold a service for long that asks with 1,000,000.
  *
  * NISSY_USAGE: the struct has no tables, or `limit` or `slack` is above 20. NISSY_STOPPED: the line has more than NISSY_MOST_INPUT
  * bytes. NISSY_FAULT: the line has a fault, or NISSY_START. The first of these that holds is told, in this order. */

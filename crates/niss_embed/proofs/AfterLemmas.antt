@@ -1,8 +1,9 @@
 -- From what a search behind a sequence did to its lines in memory to what it answers.
-use Rattle.std.proofs.Common.{◌≡◌, ◌⊎◌, inl, inr, ℕ, ◌+◌, ◌<◌, ◌≤◌, true, false, Option, None, Result, Ok, Err, List, [], ◌∷◌, map}
+use Rattle.std.proofs.Common.{◌≡◌, ◌⊎◌, inl, inr, ℕ, ◌+◌, ◌<◌, ◌≤◌, Bool, true, false, Option, None, Result, Ok, Err, List, [], ◌∷◌, map}
 use Rattle.std.proofs.Common.{take, length, refl, sym, ap, ◌∙◌, subst, arith, unwrap_or}
 use Rattle.std.proofs.Common.{ap₂, get_or, ◌++◌}
 use Rattle.std.specs.Prelude.{filter}
+use Rattle.std.proofs.lemmas.Grind.{common_steps}
 use Rattle.std.proofs.lemmas.List.{length-take-le, take_more, length-map, map-append, get_or_default, get_or-map}
 use Rattle.niss_search.specs.Names.{no_turn}
 use Rattle.std.specs.Prelude.{is_err, OnOk, IfErr}
@@ -10,8 +11,8 @@ use Rattle.niss_moves.specs.Line.{Moves}
 use Rattle.niss_moves.specs.Places.{Place}
 use Rattle.niss_moves.specs.declared.token.Token.{Token}
 use Rattle.niss_moves.specs.declared.token.Token.TheVariants as token
-use Rattle.niss_search.specs.Budgets.{is_cut_in}
-use Rattle.niss_search.specs.Cubes.{least_length_of, near_solutions_of, near_looks_of, cubes}
+use Rattle.niss_search.specs.Budgets.{is_cut_in, HasSpent}
+use Rattle.niss_search.specs.Cubes.{least_length_of, near_solutions_of, cubes}
 use Rattle.niss_search.specs.Delivery.{WentThrough, StoppedIn, EndedIn}
 use Rattle.niss_search.specs.Laws.{FirstIsLeast, SolutionsAreSequences}
 use Rattle.niss_search.specs.Later.{comes_after, later_of, deepening_looks_of}
@@ -25,7 +26,7 @@ use Rattle.niss_shell.specs.Output.{start_cube}
 use Rattle.niss_shell.specs.Words.{most_bytes, most_limit}
 use Rattle.niss_embed.specs.Memory.{Memory, memory}
 use Rattle.niss_embed.specs.LineSearch.{Hands, Only, unsolved, capped, is_cut, looks_for_all}
-use Rattle.niss_embed.specs.SolveAfter.{all_behind, looks_for_behind, SolvesBehind, SolvesBehindAt, SolvesAfter, Spells, cut_before, line_of_turns}
+use Rattle.niss_embed.specs.SolveAfter.{all_behind, looks_for_behind, SolvesBehind, SolvesBehindAt, SolvesAfter, Spells, line_of_turns}
 use Rattle.niss_embed.specs.declared.line_search.CountedSolutions.{CountedSolutions}
 use Rattle.niss_embed.specs.declared.line_search.Refused.{Refused}
 use Rattle.niss_embed.specs.declared.line_search.SolutionLines.{SolutionLines}
@@ -34,7 +35,7 @@ use Rattle.niss_embed.specs.declared.line_search.Wanted.{Wanted}
 use Rattle.niss_embed.specs.declared.search_answer.SearchAnswer.{SearchAnswer}
 use Rattle.niss_embed.proofs.CountLemmas.{CountsPath, RefusesMore, stop as stop_counting}
 use Rattle.niss_embed.proofs.SolveLemmas.{Lines, begun, ended, told_of, solve_answer}
-use Rattle.niss_embed.proofs.WrittenLemmas.{Took, Stopped, Into, TakesPath, RefusesPath, state_of, took_none}
+use Rattle.niss_embed.proofs.WrittenLemmas.{Took, Stopped, Into, TakesPath, RefusesPath, state_of}
 use Rattle.niss_embed.proofs.SolveLemmas.{hands_all, hands_some, hands_cut, first_is, no_cut, is_less, is_not_less, capped_le}
 use Rattle.niss_embed.proofs.WrittenLemmas.{went, stop, into, first_of}
 
@@ -51,44 +52,6 @@ Handed = Result ℕ (Ending Refused)
 module _ (step : Step) (w : Wanted) (p : List Turn) (e : Place → Place) where
   abbrev all : List (List Turn)
   all = all_behind step w p e
-
-  -- a search that was cut before it knew the least length
-  pub cut_early : (out : List ℕ) (looks : ℕ) → looks ≤ looks_for_behind step w e → capped looks ≤ w.most_nodes → w.most_nodes < near_looks_of step e w.limit 0
-      → SolvesBehind step w p e (memory out out) (cut_before looks)
-  cut_early out looks at_most within early =
-      let l : Lines = record {
-        before = out;
-        after = out;
-        reference = 0;
-        reference_now = 0;
-        written = 0;
-        solutions = 0;
-        most = w.most;
-        most_now = w.most;
-        first = None;
-        too_small = false;
-        within = omega arith;
-        few = omega arith;
-      } in
-      let none : Into all (begun l) (ended l) = record { count = 0; within = omega arith; took = subst (λ ps. Took ps (begun l) (ended l)) (sym (nothing all)) (took_none (begun l)) } in
-      let hands = hands_cut l all (capped looks) none in
-      record {
-        hands = record { text = hands.text; room = hands.room; ended = hands.ended };
-        finds = record {
-          more = λ n. absurd (n refl);
-          maybe_more = λ c. refl;
-          least = inr (refl, refl, refl, early);
-          looks_at_most = capped_le looks (looks_for_behind step w e) at_most;
-          within = within;
-          cut = λ c. omega (arith, early);
-          no_fault = refl;
-          no_column = refl;
-        };
-      }
-    where
-      nothing : (ps : List (List Turn)) → take 0 ps ≡ []
-      nothing [] = refl
-      nothing (q ∷ qs) = refl
 
   -- a search from a cube, by what it did to its lines
   module _ (a b : SolutionLines) (r : Handed)
@@ -107,8 +70,9 @@ module _ (step : Step) (w : Wanted) (p : List Turn) (e : Place → Place) where
     pub solves_behind : (l : Lines) (least : Option ℕ) (looks : ℕ) → l.most ≡ w.most → state_of a ≡ begun l → state_of b ≡ ended l
         → least ≡ least_length_of step e w.limit → looks ≤ looks_for_behind step w e → capped looks ≤ w.most_nodes
         → IfErr r (λ stop. is_cut_in stop ≡ true → w.most_nodes < looks_for_behind step w e)
+        → HasSpent is_cut_in w.most_nodes step (capped looks) r
         → SolvesBehind step w p e (memory l.before l.after) (told_of (is_cut r) l.too_small (is_err r) least l.written l.solutions (capped looks))
-    solves_behind l least looks most begins ends least_is at_most within cut = by_result r ok err cut where
+    solves_behind l least looks most begins ends least_is at_most within cut spent = by_result r ok err cut spent where
       known : unwrap_or least 0 ≡ unwrap_or (least_length_of step e w.limit) 0
       known = ap (λ o. unwrap_or o 0) least_is
 
@@ -117,8 +81,9 @@ module _ (step : Step) (w : Wanted) (p : List Turn) (e : Place → Place) where
 
       by_result : (r : Handed) → OnOk r (WentThrough TakesPath a all b) → IfErr r (λ stop. EndedIn TakesPath RefusesPath (is_cut_in stop) a all b)
           → IfErr r (λ stop. is_cut_in stop ≡ true → w.most_nodes < looks_for_behind step w e)
+          → HasSpent is_cut_in w.most_nodes step (capped looks) r
           → SolvesBehind step w p e (memory l.before l.after) (told_of (is_cut r) l.too_small (is_err r) least l.written l.solutions (capped looks))
-      by_result (Ok o) h k cut =
+      by_result (Ok o) h k cut spent =
           let t : Took all (begun l) (ended l) = subst (λ s. Took all s (ended l)) begins (subst (λ s. Took all (state_of a) s) ends (went all a b h)) in
           let hands = subst (λ m. Hands all m (memory l.before l.after) (solve_answer l false false (capped looks))) most (hands_all l all (capped looks) t) in
           record {
@@ -130,11 +95,12 @@ module _ (step : Step) (w : Wanted) (p : List Turn) (e : Place → Place) where
               looks_at_most = few;
               within = within;
               cut = λ c. absurd (no_cut l.too_small c);
+              spent = λ c. absurd (no_cut l.too_small c);
               no_fault = refl;
               no_column = refl;
             };
           }
-      by_result (Err (ending.Refused x)) h k cut =
+      by_result (Err (ending.Refused x)) h k cut spent =
           let s : Stopped all (begun l) (ended l) = subst (λ s. Stopped all s (ended l)) begins (subst (λ s. Stopped all (state_of a) s) ends (stop all a b k)) in
           let taken : length (take s.count all) ≡ s.count = length-take-le s.count all (omega (arith, s.within)) in
           let hands = subst (λ m. Hands all m (memory l.before l.after) (solve_answer l false true (capped looks))) most (hands_some l all (capped looks) s) in
@@ -147,11 +113,12 @@ module _ (step : Step) (w : Wanted) (p : List Turn) (e : Place → Place) where
               looks_at_most = few;
               within = within;
               cut = λ c. absurd (no_cut l.too_small c);
+              spent = λ c. absurd (no_cut l.too_small c);
               no_fault = refl;
               no_column = refl;
             };
           }
-      by_result (Err ending.Cut) h k cut =
+      by_result (Err ending.Cut) h k cut spent =
           let t : Into all (begun l) (ended l) = subst (λ s. Into all s (ended l)) begins (subst (λ s. Into all (state_of a) s) ends (into all a b k)) in
           let hands = subst (λ m. Hands all m (memory l.before l.after) (solve_answer l true true (capped looks))) most (hands_cut l all (capped looks) t) in
           record {
@@ -163,6 +130,7 @@ module _ (step : Step) (w : Wanted) (p : List Turn) (e : Place → Place) where
               looks_at_most = few;
               within = within;
               cut = λ c. cut refl;
+              spent = λ c. spent refl;
               no_fault = refl;
               no_column = refl;
             };
@@ -247,3 +215,9 @@ pub over_both : (r : Handed) (left all most whole : ℕ) → (left < all → mos
     → IfErr r (λ stop. is_cut_in stop ≡ true → most < whole)
 over_both (Ok count) left all most whole passes h = tt
 over_both (Err stop) left all most whole passes h = λ t. passes (h t)
+
+-- What a search has spent is told whole if it is a number of 64 bits.
+pub capped_spent : {T E : Type 0} (is_cut : E → Bool) (r : Result T E) (step : Step) (most looks : ℕ) → looks ≤ most → most ≤ 18446744073709551615
+    → HasSpent is_cut most step looks r → HasSpent is_cut most step (capped looks) r
+capped_spent is_cut (Ok value) step most looks within few h = tt
+capped_spent is_cut (Err stop) step most looks within few h = λ cut. grind (arith, common_steps, h cut)

@@ -4,7 +4,7 @@ use Rattle.std.proofs.Common.{take, length, refl, sym, ap, ◌∙◌, subst, ari
 use Rattle.std.specs.Prelude.{is_err, OnOk, IfErr}
 use Rattle.std.proofs.lemmas.List.{length-take-le}
 use Rattle.niss_moves.specs.Places.{Place}
-use Rattle.niss_search.specs.Budgets.{is_cut_in}
+use Rattle.niss_search.specs.Budgets.{is_cut_in, HasSpent}
 use Rattle.niss_search.specs.Delivery.{WentThrough, StoppedIn, WentInto, EndedIn}
 use Rattle.niss_search.specs.Laws.{FirstIsLeast}
 use Rattle.niss_search.specs.declared.budget.Stopped.TheVariants as ending
@@ -93,16 +93,18 @@ module _ (step : Step) (w : Wanted) (e : Place → Place) (a b : CountedSolution
     (err : IfErr r (λ stop. EndedIn CountsPath RefusesMore (is_cut_in stop) a (all_found step w e) b))
     (begins : tally_of a ≡ count_state 0 w.most None) (least : FirstIsLeast) (looks : ℕ)
     (looked : OnOk r (looks ≡ looks_for_all step w e)) (at_most : looks ≤ looks_for_all step w e) (within : capped looks ≤ w.most_nodes)
-    (cut : IfErr r (λ stop. is_cut_in stop ≡ true → w.most_nodes < looks_for_all step w e)) where
+    (cut : IfErr r (λ stop. is_cut_in stop ≡ true → w.most_nodes < looks_for_all step w e))
+    (spent : HasSpent is_cut_in w.most_nodes step (capped looks) r) where
   pub counts : CountsCube step w e (told_of (is_cut r) false (is_err r) b.first 0 b.solutions (capped looks))
-  counts = by_result r ok err looked cut where
+  counts = by_result r ok err looked cut spent where
     all : List (List Turn)
     all = all_found step w e
 
     by_result : (r : Found) → OnOk r (WentThrough CountsPath a all b) → IfErr r (λ stop. EndedIn CountsPath RefusesMore (is_cut_in stop) a all b)
         → OnOk r (looks ≡ looks_for_all step w e) → IfErr r (λ stop. is_cut_in stop ≡ true → w.most_nodes < looks_for_all step w e)
+        → HasSpent is_cut_in w.most_nodes step (capped looks) r
         → CountsCube step w e (told_of (is_cut r) false (is_err r) b.first 0 b.solutions (capped looks))
-    by_result (Ok o) h k looked cut =
+    by_result (Ok o) h k looked cut spent =
         let t : Tallied all (count_state 0 w.most None) (tally_of b) = subst (λ s. Tallied all s (tally_of b)) begins (went all a b h) in
         let count : b.solutions ≡ length all = omega (arith, t.counted) in
         let whole : b.solutions ≡ min w.most (length all) = count ∙ min_is_right w.most (length all) (omega (arith, count, b.few, t.same_most)) in
@@ -112,7 +114,7 @@ module _ (step : Step) (w : Wanted) (e : Place → Place) (a b : CountedSolution
           counted = λ n. (refl, whole);
           some_counted = omega (arith, whole);
         }
-    by_result (Err (ending.Refused x)) h k looked cut =
+    by_result (Err (ending.Refused x)) h k looked cut spent =
         let s : Filled all (count_state 0 w.most None) (tally_of b) = subst (λ s. Filled all s (tally_of b)) begins (stop all a b k) in
         let full : b.solutions ≡ w.most = s.full ∙ s.same_most in
         let part : b.solutions ≡ min w.most (length all) = full ∙ min_is_left w.most (length all) (omega (arith, full, s.counted, s.within)) in
@@ -122,11 +124,11 @@ module _ (step : Step) (w : Wanted) (e : Place → Place) (a b : CountedSolution
           counted = λ n. (refl, part);
           some_counted = omega (arith, part);
         }
-    by_result (Err ending.Cut) h k looked cut =
+    by_result (Err ending.Cut) h k looked cut spent =
         let t : Begun all (count_state 0 w.most None) (tally_of b) = subst (λ s. Begun all s (tally_of b)) begins (into all a b k) in
         let taken : length (take t.count all) ≡ t.count = length-take-le t.count all t.within in
         record {
-          finds = finds_cut step w e least b.first 0 b.solutions looks at_most within false t.count (omega (arith, taken, t.took.counted)) t.took.first (cut refl);
+          finds = finds_cut step w e least b.first 0 b.solutions looks at_most within false t.count (omega (arith, taken, t.took.counted)) t.took.first (cut refl) (spent refl);
           no_text = refl;
           counted = λ n. absurd (n refl);
           some_counted = at_most_min b.solutions w.most (length all) (omega (arith, b.few, t.took.same_most)) (omega (arith, taken, t.took.counted, t.within));

@@ -7,7 +7,8 @@ use Rattle.std.proofs.lemmas.List.{take_all, length-drop, length-take-le}
 use Rattle.std.proofs.lemmas.Grind.{common_steps}
 use Rattle.niss_moves.specs.Places.{Place}
 use Rattle.niss_search.specs.Delivery.{WentThrough, EndedIn}
-use Rattle.niss_search.specs.Budgets.{is_cut_in}
+use Rattle.niss_cube.specs.Steps.{turns_of}
+use Rattle.niss_search.specs.Budgets.{is_cut_in, HasSpent}
 use Rattle.niss_search.specs.declared.budget.Stopped.{Stopped as Ending}
 use Rattle.niss_search.specs.declared.budget.Stopped.TheVariants as ending
 use Rattle.niss_search.specs.Laws.{FirstIsLeast}
@@ -210,6 +211,7 @@ module _ (step : Step) (w : Wanted) (e : Place → Place) (least : FirstIsLeast)
     looks_at_most = capped_le looks (looks_for_all step w e) at_most;
     within = within;
     cut = λ c. absurd (no_cut too_small c);
+    spent = λ c. absurd (no_cut too_small c);
     no_fault = refl;
     no_column = refl;
   }
@@ -226,13 +228,15 @@ module _ (step : Step) (w : Wanted) (e : Place → Place) (least : FirstIsLeast)
     looks_at_most = capped_le looks (looks_for_all step w e) at_most;
     within = within;
     cut = λ c. absurd (no_cut too_small c);
+    spent = λ c. absurd (no_cut too_small c);
     no_fault = refl;
     no_column = refl;
   }
 
   pub finds_cut : (too_small : Bool) → (count : ℕ) → solutions ≡ count → first ≡ first_of None (take count all) → w.most_nodes < looks_for_all step w e
+      → w.most_nodes < capped looks + length (turns_of step)
       → FindsOf step w e (told_of true too_small true first written solutions (capped looks))
-  finds_cut too_small count is f cut = record {
+  finds_cut too_small count is f cut spent = record {
     more = λ n. absurd (n refl);
     maybe_more = λ c. refl;
     least = λ n. absurd (n refl);
@@ -242,6 +246,7 @@ module _ (step : Step) (w : Wanted) (e : Place → Place) (least : FirstIsLeast)
     looks_at_most = capped_le looks (looks_for_all step w e) at_most;
     within = within;
     cut = λ c. cut;
+    spent = λ c. spent;
     no_fault = refl;
     no_column = refl;
   }
@@ -266,21 +271,23 @@ module _ (step : Step) (w : Wanted) (e : Place → Place) (a b : SolutionLines) 
   pub solves : (l : Lines) (looks : ℕ) → l.most ≡ w.most → state_of a ≡ begun l → state_of b ≡ ended l → FirstIsLeast
       → OnOk r (looks ≡ looks_for_all step w e) → looks ≤ looks_for_all step w e → capped looks ≤ w.most_nodes
       → IfErr r (λ stop. is_cut_in stop ≡ true → w.most_nodes < looks_for_all step w e)
+      → HasSpent is_cut_in w.most_nodes step (capped looks) r
       → SolvesCube step w e (memory l.before l.after) (solve_answer l (is_cut r) (is_err r) (capped looks))
-  solves l looks most p q least looked at_most within cut = by_result r ok err looked cut where
+  solves l looks most p q least looked at_most within cut spent = by_result r ok err looked cut spent where
     all : List (List Turn)
     all = all_found step w e
 
     by_result : (r : Found) → OnOk r (WentThrough TakesPath a all b) → IfErr r (λ stop. EndedIn TakesPath RefusesPath (is_cut_in stop) a all b)
         → OnOk r (looks ≡ looks_for_all step w e) → IfErr r (λ stop. is_cut_in stop ≡ true → w.most_nodes < looks_for_all step w e)
+        → HasSpent is_cut_in w.most_nodes step (capped looks) r
         → SolvesCube step w e (memory l.before l.after) (solve_answer l (is_cut r) (is_err r) (capped looks))
-    by_result (Ok o) h k looked cut =
+    by_result (Ok o) h k looked cut spent =
         let t : Took all (begun l) (ended l) = subst (λ s. Took all s (ended l)) p (subst (λ s. Took all (state_of a) s) q (went all a b h)) in
         record {
           hands = subst (λ m. Hands all m (memory l.before l.after) (solve_answer l false false (capped looks))) most (hands_all l all (capped looks) t);
           finds = finds_all step w e least l.first l.written l.solutions looks at_most within l.too_small t.same_room (omega (arith, t.counted)) t.first looked;
         }
-    by_result (Err (ending.Refused x)) h k looked cut =
+    by_result (Err (ending.Refused x)) h k looked cut spent =
         let s : Stopped all (begun l) (ended l) = subst (λ s. Stopped all s (ended l)) p (subst (λ s. Stopped all (state_of a) s) q (stop all a b k)) in
         let taken : length (take s.count all) ≡ s.count = length-take-le s.count all (omega (arith, s.within)) in
         record {
@@ -288,11 +295,11 @@ module _ (step : Step) (w : Wanted) (e : Place → Place) (a b : SolutionLines) 
           finds = finds_some step w e least l.first l.written l.solutions looks at_most within l.too_small
               (omega (arith, taken, s.took.counted, s.refused.same_count, s.within)) s.first;
         }
-    by_result (Err ending.Cut) h k looked cut =
+    by_result (Err ending.Cut) h k looked cut spent =
         let t : Into all (begun l) (ended l) = subst (λ s. Into all s (ended l)) p (subst (λ s. Into all (state_of a) s) q (into all a b k)) in
         let taken : length (take t.count all) ≡ t.count = length-take-le t.count all t.within in
         record {
           hands = subst (λ m. Hands all m (memory l.before l.after) (solve_answer l true true (capped looks))) most (hands_cut l all (capped looks) t);
           finds = finds_cut step w e least l.first l.written l.solutions looks at_most within l.too_small t.count
-              (omega (arith, taken, t.took.counted)) t.took.first (cut refl);
+              (omega (arith, taken, t.took.counted)) t.took.first (cut refl) (spent refl);
         }

@@ -7,7 +7,7 @@ use Rattle.std.specs.Option.{option_or}
 use Rattle.niss_moves.specs.Faults.{fault_column}
 use Rattle.niss_moves.specs.Places.{Place}
 use Rattle.niss_moves.specs.Reader.{read_line}
-use Rattle.niss_cube.specs.Steps.{name_of}
+use Rattle.niss_cube.specs.Steps.{name_of, turns_of}
 use Rattle.niss_search.specs.Budgets.{is_cut_in}
 use Rattle.niss_search.specs.declared.budget.Stopped.{Stopped as Ending}
 use Rattle.niss_search.specs.Cubes.{least_length_of, near_solutions_of, near_looks_of}
@@ -171,6 +171,8 @@ pub record FindsOf (step : Step) (w : Wanted) (e : Place → Place) (told : Sear
   pub within : told.nodes ≤ w.most_nodes
   -- it is cut only if the whole search looks at more
   pub cut : told.status ≡ status_number Cut → w.most_nodes < looks_for_all step w e
+  -- and leaves fewer of the nodes that it may look at than the step has turns
+  pub spent : told.status ≡ status_number Cut → w.most_nodes < told.nodes + length (turns_of step)
   pub no_fault : told.fault ≡ 0
   pub no_column : told.column ≡ 0
 

@@ -4,6 +4,7 @@ use Rattle.niss_moves.specs.Line.{Moves}
 use Rattle.niss_moves.specs.Places.{Place}
 use Rattle.niss_moves.specs.Reader.{read_line}
 use Rattle.niss_moves.specs.declared.token.Token.TheVariants as token
+use Rattle.niss_cube.specs.Steps.{turns_of}
 use Rattle.niss_search.specs.Cubes.{least_length_of, near_looks_of}
 use Rattle.niss_search.specs.Later.{comes_after}
 use Rattle.niss_shell.specs.Names.{Step, Turn}
@@ -60,6 +61,8 @@ pub record FindsBehind (step : Step) (w : Wanted) (p : List Turn) (e : Place →
   pub within : told.nodes ≤ w.most_nodes
   -- it is cut only if both searches look at more
   pub cut : told.status ≡ status_number Cut → w.most_nodes < looks_for_behind step w e
+  -- and whichever of them was cut, it leaves fewer of the nodes than the step has turns
+  pub spent : told.status ≡ status_number Cut → w.most_nodes < told.nodes + length (turns_of step)
   pub no_fault : told.fault ≡ 0
   pub no_column : told.column ≡ 0
 

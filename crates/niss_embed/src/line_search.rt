@@ -3,7 +3,7 @@ ghost use Rattle.std.specs.Prelude.{◌≡◌, ◌⊎◌, ◌≤◌, ◌<◌, if
 ghost use Rattle.std.specs.Prelude.{length, OnOk, IfErr};
 ghost use Rattle.niss_moves.specs.Places.{Place};
 ghost use Rattle.niss_moves.specs.Reader.{read_line};
-ghost use Rattle.niss_search.specs.Budgets.{is_cut_in};
+ghost use Rattle.niss_search.specs.Budgets.{is_cut_in, HasSpent};
 ghost use Rattle.niss_search.specs.Cubes.{IsPosition, HasPosition, near_solutions_of, near_looks_of};
 ghost use Rattle.niss_search.specs.Delivery.{WentThrough, EndedIn, at_limit};
 ghost use Rattle.niss_shell.specs.Output.{solution_line, start_cube};
@@ -196,6 +196,7 @@ fn search_at_most<K: Sink, A: Allocator>(
     ensures looks_at_most { (e : Place → Place) → HasPosition tables.now e position.now
         → looks.new ≤ near_looks_of tables.now e bounds.limit bounds.slack }
     ensures within { capped looks.new ≤ most_nodes }
+    ensures spent { HasSpent is_cut_in most_nodes tables.now (capped looks.new) result }
 {
     let mut path = TurnPath::new(bounds.limit);
     if most_nodes == u64::MAX {
@@ -271,7 +272,7 @@ fn solve_position<A: Allocator>(
 /// Writes the solutions for a line, by tables that the caller keeps: those of at most `limit` turns that are at most
 /// `slack` turns longer than the least, and at most `most` of them, each on a line as `near` and `solve` write it. One
 /// that has no room ends it, and nothing of it is written. Before it would look at more than `most_nodes` positions it
-/// is cut.
+/// is cut, with fewer of them left than the step has turns.
 pub fn solve_line<A: Allocator>(
     tables: &Tables<A>,
     line: &[u8],

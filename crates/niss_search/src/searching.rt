@@ -7,7 +7,7 @@ ghost use Rattle.niss_search.specs.Cubes.{IsPosition, HasPosition, least_length_
 ghost use Rattle.niss_search.specs.Solutions.{look_bound, last_length, least_length};
 ghost use Rattle.niss_search.specs.Positions.{positions, distance_at};
 ghost use Rattle.niss_search.specs.Delivery.{WentThrough, StoppedIn, EndedIn, at_limit, Path};
-ghost use Rattle.niss_search.specs.Budgets.{is_cut_in};
+ghost use Rattle.niss_search.specs.Budgets.{is_cut_in, HasSpent};
 ghost use Rattle.niss_search.specs.Deepening.{deepening, all_deepenings, Delivers, turns};
 
 mod depth_first;
@@ -91,7 +91,8 @@ pub fn search<K: Sink, A: Allocator>(
 
 /// Searches as `search` does, but makes at most so many looks: before looks that would pass them it ends with
 /// `Stopped::Cut`, and the sink took some of the first solutions, and was handed no other. It is cut only if the whole
-/// search looks more often. A refusal of the sink is `Stopped::Refused`.
+/// search looks more often, and leaves fewer of its looks than the step has turns. A refusal of the sink is
+/// `Stopped::Refused`.
 ///
 /// The position is one of the tables' step, the path is empty, and the meter is at most at 2^127. The path is empty
 /// again at the end, of the same limit. The meter rises by one for each look.
@@ -127,6 +128,7 @@ pub fn search_within<K: Sink, A: Allocator>(
         → meter.new ≤ meter.old + near_looks_of tables.now e path.old.limit slack }
     ensures rises { meter.old ≤ meter.new }
     ensures within { meter.new ≤ meter.old + looks }
+    ensures spent { HasSpent is_cut_in (meter.old + looks) tables.now meter.new result }
 {
     positions_follow_cubes();
     let budget = UpTo {
@@ -167,6 +169,7 @@ impl<A: Allocator> Root<'_, A> {
             meter.old meter.new sink.old sink.new B.is_cut (B.bound budget.now) (λ o. o.solutions) result }
         ensures rises { meter.old ≤ meter.new }
         ensures within { meter.new ≤ B.bound budget.now }
+        ensures spent { HasSpent B.is_cut (B.bound budget.now) self.now.tables.now meter.new result }
         ensures limit { path.old.limit ≤ 20 }
     {
         let limit = path.limit();
@@ -206,6 +209,7 @@ impl<A: Allocator> Root<'_, A> {
             (deepening (positions self.now.tables.now) (distance_at self.now.tables.now) self.now.position.now length)
             meter.old meter.new sink.old sink.new B.is_cut (B.bound budget.now) (λ count. count) result }
         ensures within { meter.new ≤ B.bound budget.now }
+        ensures spent { HasSpent B.is_cut (B.bound budget.now) self.now.tables.now meter.new result }
         ensures counted { IfOk result (λ count. meter.old + count ≤ meter.new) }
     {
         // by value, as the descent takes it: what stands in its place meanwhile never ticks

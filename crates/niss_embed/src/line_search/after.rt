@@ -1,6 +1,7 @@
 //! A search that goes on behind a solution, so that a caller goes through a long list in pieces.
 ghost use Rattle.std.specs.Prelude.{◌≡◌, ◌≢◌, ◌≤◌, ◌<◌, ◌+◌, ℕ, List, IfOk, OnErr, MatchOption, length};
 ghost use Rattle.niss_moves.specs.Places.{Place};
+ghost use Rattle.niss_cube.specs.Steps.{turns_of};
 ghost use Rattle.niss_search.specs.Cubes.{IsPosition, HasPosition, least_length_of, near_looks_of};
 ghost use Rattle.niss_search.specs.Solutions.{last_length};
 ghost use Rattle.niss_shell.specs.Names.{Turn};
@@ -75,6 +76,7 @@ fn least_length<A: Allocator>(
     ensures looks_at_most { (e : Place → Place) → HasPosition tables.now e position.now
         → looks.new ≤ near_looks_of tables.now e limit 0 }
     ensures within { looks.new ≤ most_nodes }
+    ensures spent { OnErr result (most_nodes < looks.new + length (turns_of tables.now)) }
 {
     // the first solution is refused, and tells the least length
     first_is_least();

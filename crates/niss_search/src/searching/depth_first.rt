@@ -1,5 +1,6 @@
 //! One length: depth first from a position, with a look before each turn that is put on the path.
 ghost use Rattle.std.specs.Prelude.{◌+◌, ◌≤◌, ◌<◌, ◌^◌, ◌∷◌, length, [], ◌-◌, ◌++◌, All, IfSome, IfNone};
+ghost use Rattle.niss_search.specs.Budgets.{HasSpent};
 ghost use Rattle.niss_search.specs.Cubes.{IsPosition};
 ghost use Rattle.niss_search.specs.Positions.{distance_at};
 ghost use Rattle.niss_search.specs.Deepening.{below_at, beyond_at, Keeps, Makes, turns};
@@ -40,6 +41,7 @@ impl<K: Sink> Descent<'_, K> {
         requires count { self.old.count ≤ meter }
         ensures keeps { Keeps self.old self.new meter result.0 }
         ensures within { result.0 ≤ B.bound budget.now }
+        ensures spent { HasSpent B.is_cut (B.bound budget.now) tables.now result.0 result.1 }
         ensures makes { Makes K.took K.refused B.is_cut (B.bound budget.now) (below_at tables.now position.now (turns self.old) left)
             meter result.0 self.old self.new result.1 }
     {
@@ -67,6 +69,7 @@ impl<K: Sink> Descent<'_, K> {
         requires count { self.old.count ≤ meter }
         ensures keeps { Keeps self.old self.new meter result.0 }
         ensures within { result.0 ≤ B.bound budget.now }
+        ensures spent { HasSpent B.is_cut (B.bound budget.now) tables.now.step result.0 result.1 }
         ensures makes { Makes K.took K.refused B.is_cut (B.bound budget.now) (below_at tables.now.step position.now (turns self.old) left)
             meter result.0 self.old self.new result.1 }
     {
@@ -101,6 +104,7 @@ impl<K: Sink> Descent<'_, K> {
         requires count { self.old.count < meter }
         ensures keeps { Keeps self.old self.new (meter - 1) result.0 }
         ensures within { result.0 ≤ B.bound budget.now }
+        ensures spent { HasSpent B.is_cut (B.bound budget.now) tables.now.step result.0 result.1 }
         ensures makes { Makes K.took K.refused B.is_cut (B.bound budget.now)
             (beyond_at tables.now.step (S.seen tables.now.space state) (turns self.old) left)
             meter result.0 self.old self.new result.1 }
@@ -132,6 +136,7 @@ impl<K: Sink> Descent<'_, K> {
         requires count { self.old.count < meter }
         ensures keeps { Keeps self.old self.new (meter - 1) result.0 }
         ensures within { result.0 ≤ B.bound budget.now }
+        ensures spent { HasSpent B.is_cut (B.bound budget.now) tables.now.step result.0 result.1 }
         ensures makes { Makes K.took K.refused B.is_cut (B.bound budget.now)
             (beyond_at tables.now.step (S.seen tables.now.space state) (turns self.old) left)
             meter result.0 self.old self.new result.1 }
@@ -177,6 +182,7 @@ impl<K: Sink> Descent<'_, K> {
         requires count { self.old.count < meter }
         ensures keeps { Keeps self.old self.new (meter - 1) result.0 }
         ensures within { result.0 ≤ B.bound budget.now }
+        ensures spent { HasSpent B.is_cut (B.bound budget.now) tables.now.step result.0 result.1 }
         ensures makes { Makes K.took K.refused B.is_cut (B.bound budget.now)
             (beyond_at tables.now.step (S.seen tables.now.space state) (turns self.old ++ turn ∷ []) left)
             meter result.0 self.old self.new result.1 }

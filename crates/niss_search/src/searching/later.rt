@@ -7,7 +7,7 @@ ghost use Rattle.niss_cube.specs.Steps.{turns_of};
 ghost use Rattle.niss_search.specs.Cubes.{IsPosition, HasPosition};
 ghost use Rattle.niss_search.specs.Later.{turn_place, later_of, deepening_looks_of};
 ghost use Rattle.niss_search.specs.Delivery.{WentThrough, EndedIn, at_limit};
-ghost use Rattle.niss_search.specs.Budgets.{is_cut_in};
+ghost use Rattle.niss_search.specs.Budgets.{is_cut_in, HasSpent};
 ghost use Rattle.niss_search.specs.Deepening.{Delivers, Keeps, Makes, turns, below_at, later_at, all_later, later_turn_at};
 
 use super::depth_first::Descent;
@@ -64,6 +64,7 @@ pub fn search_after<K: Sink, A: Allocator>(
         → meter.new ≤ meter.old + deepening_looks_of tables.now e path.old.limit }
     ensures rises { meter.old ≤ meter.new }
     ensures within { meter.new ≤ meter.old + looks }
+    ensures spent { HasSpent is_cut_in (meter.old + looks) tables.now meter.new result }
 {
     positions_follow_cubes();
     let budget = UpTo {
@@ -94,6 +95,7 @@ impl<A: Allocator> Root<'_, A> {
             meter.old meter.new sink.old sink.new B.is_cut (B.bound budget.now) (λ count. count) result }
         ensures rises { meter.old ≤ meter.new }
         ensures within { meter.new ≤ B.bound budget.now }
+        ensures spent { HasSpent B.is_cut (B.bound budget.now) self.now.tables.now meter.new result }
         ensures limit { path.old.limit ≤ 20 }
     {
         let limit = path.limit().get();
@@ -130,6 +132,7 @@ impl<A: Allocator> Root<'_, A> {
             (later_at self.now.tables.now self.now.position.now [] after.now)
             meter.old meter.new sink.old sink.new B.is_cut (B.bound budget.now) (λ count. count) result }
         ensures within { meter.new ≤ B.bound budget.now }
+        ensures spent { HasSpent B.is_cut (B.bound budget.now) self.now.tables.now meter.new result }
         ensures counted { IfOk result (λ count. meter.old + count ≤ meter.new) }
     {
         let held = mem::replace(meter, Meter::new());
@@ -166,6 +169,7 @@ impl<K: Sink> Descent<'_, K> {
         requires count { self.old.count ≤ meter }
         ensures keeps { Keeps self.old self.new meter result.0 }
         ensures within { result.0 ≤ B.bound budget.now }
+        ensures spent { HasSpent B.is_cut (B.bound budget.now) tables.now result.0 result.1 }
         ensures makes { Makes K.took K.refused B.is_cut (B.bound budget.now)
             (later_at tables.now position.now (turns self.old) after.now)
             meter result.0 self.old self.new result.1 }
@@ -221,6 +225,7 @@ impl<K: Sink> Descent<'_, K> {
         requires count { self.old.count ≤ meter }
         ensures keeps { Keeps self.old self.new meter result.0 }
         ensures within { result.0 ≤ B.bound budget.now }
+        ensures spent { HasSpent B.is_cut (B.bound budget.now) tables.now result.0 result.1 }
         ensures makes { Makes K.took K.refused B.is_cut (B.bound budget.now)
             (later_turn_at tables.now position.now (turns self.old) after.now turn)
             meter result.0 self.old self.new result.1 }
@@ -264,6 +269,7 @@ impl<K: Sink> Descent<'_, K> {
         requires count { self.old.count ≤ meter }
         ensures keeps { Keeps self.old self.new meter result.0 }
         ensures within { result.0 ≤ B.bound budget.now }
+        ensures spent { HasSpent B.is_cut (B.bound budget.now) tables.now result.0 result.1 }
         ensures makes { Makes K.took K.refused B.is_cut (B.bound budget.now)
             (if behind then later_at tables.now position.now (turns self.old) rest.now
             else below_at tables.now position.now (turns self.old) (length rest.now))

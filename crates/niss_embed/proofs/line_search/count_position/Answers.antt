@@ -54,4 +54,4 @@ returns g c = λ e at.
       nodes = (c.capped.ensures ∙ ap capped c.count.ensures) i;
     } in
     subst (λ t. CountsCube step w e t) (sym told_is)
-    (counts step w e a b found ok err (λ i. count_state (new.none i) (new.most i) (new.first i)) c.first_is_least.ensures looks looked at_most by.within cut)
+    (counts step w e a b found ok err (λ i. count_state (new.none i) (new.most i) (new.first i)) c.first_is_least.ensures looks looked at_most by.within cut by.spent)

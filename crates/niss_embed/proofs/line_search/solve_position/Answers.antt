@@ -75,4 +75,4 @@ returns g c = λ e at.
     (solves step w e a b found ok err l looks refl
     (λ i. lines_state (new.unchanged i) a.bytes.ghost_name (new.empty i) (new.none i) (new.most i) (new.first i) (new.works i))
     (λ i. lines_state b.bytes.now b.bytes.ghost_name b.written b.solutions b.most b.first b.too_small)
-    c.first_is_least.ensures looked at_most by.within cut))
+    c.first_is_least.ensures looked at_most by.within cut by.spent))

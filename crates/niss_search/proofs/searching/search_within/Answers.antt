@@ -1,5 +1,6 @@
-use Rattle.niss_search.proofs.Words.{arith, cubes, distance_of, near_looks_of, ◌≤◌}
-use Rattle.niss_search.proofs.Bounds.{bound-small, all_looks-bound}
+use Rattle.niss_search.proofs.Words.{arith, cubes, distance_of, near_looks_of, ◌≤◌, ◌+◌}
+use Rattle.niss_search.proofs.Bounds.{bound-small, all_looks-bound, turns_of-length}
+use Rattle.niss_search.proofs.SpentLemmas.{spent-looks}
 use Rattle.niss_search.proofs.LookLemmas.{least_length-same}
 use Rattle.niss_search.proofs.DeepeningLemmas.{searched, cut-over}
 use Rattle.niss_search.specs.Budgets.{is_cut_in}
@@ -27,4 +28,7 @@ returns g c =
       looks_at_most = λ e h. (of e h).looks_at_most;
       rises = c.deepen_all.ensures.rises;
       within = omega (arith, c.deepen_all.ensures.within, c.saturating_add.ensures);
+      spent = spent-looks is_cut_in c.saturating_add.result (c.args.meter.now + c.args.looks) step c.deepen_all.new.meter c.deepen_all.result
+          (λ left. omega (arith, left, c.saturating_add.ensures, c.count.ensures, c.requires.meter, (of some.0 some.1).looks_at_most, all_looks-bound (cubes step) (distance_of step) some.0 n c.args.slack, bound-small step n (omega (arith, small)), turns_of-length step))
+          c.deepen_all.ensures.spent;
     }

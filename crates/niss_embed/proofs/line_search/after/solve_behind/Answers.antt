@@ -1,6 +1,6 @@
 use Rattle.std.proofs.Common.{◌≡◌, ◌≤◌, refl, cond, sym, ap, ◌∙◌, subst, Bool, ℕ, arith, ◌-◌}
 use Rattle.std.specs.Prelude.{OnOk, IfErr, is_err}
-use Rattle.niss_search.specs.Budgets.{is_cut_in}
+use Rattle.niss_search.specs.Budgets.{is_cut_in, HasSpent}
 use Rattle.niss_search.specs.Cubes.{least_length_of, near_looks_of}
 use Rattle.niss_search.specs.Delivery.{Path, WentThrough, EndedIn}
 use Rattle.niss_search.specs.Later.{deepening_looks_of}
@@ -12,7 +12,7 @@ use Rattle.niss_embed.specs.declared.line_search.Wanted.{Wanted}
 use Rattle.niss_embed.specs.declared.search_answer.SearchAnswer.{SearchAnswer}
 use Rattle.niss_embed.proofs.SolveLemmas.{Lines, told_of}
 use Rattle.niss_embed.proofs.WrittenLemmas.{TakesPath, RefusesPath}
-use Rattle.niss_embed.proofs.AfterLemmas.{behind_is, looks_are, least_known, over_both, same_memory_behind, solves_behind}
+use Rattle.niss_embed.proofs.AfterLemmas.{behind_is, looks_are, least_known, over_both, capped_spent, same_memory_behind, solves_behind}
 use Rattle.niss_embed.proofs.line_search.after.solve_behind.Goals as goal
 
 pub returns : goal.returns
@@ -48,6 +48,8 @@ returns g c = λ e at.
     let within : capped looks ≤ w.most_nodes = omega (arith, by.within, c.in-Ok.ensures.within, c.from.ensures, c.count.ensures) in
     let cut = over_both found (c.from.result - c.count.result) all w.most_nodes (looks_for_behind step w e)
     (λ over. omega (arith, over, looks_same, first, c.in-Ok.ensures.within, c.from.ensures, c.count.ensures)) (by.cut e at) in
+    let spent = capped_spent is_cut_in found step w.most_nodes looks (omega (arith, by.within, c.in-Ok.ensures.within, c.from.ensures, c.count.ensures)) (omega arith)
+    (subst (λ m. HasSpent is_cut_in m step looks found) (omega (arith, c.in-Ok.ensures.within, c.from.ensures, c.count.ensures)) by.spent) in
     let back : c.out-1.given.0 ≡ b.bytes.now =
     c.out-1.given.1.1 (sym (same_memory_behind step w p e a b found ok err ∙ new.same_reference)) in
     let l : Lines = record {
@@ -89,4 +91,4 @@ returns g c = λ e at.
     (solves_behind step w p e a b found ok err l least looks refl
     (λ i. lines_state (new.unchanged i) a.bytes.ghost_name (new.empty i) (new.none i) (new.most i) (new.first i) (new.works i))
     (λ i. lines_state b.bytes.now b.bytes.ghost_name b.written b.solutions b.most b.first b.too_small)
-    (least_known law step w p e least n slack last n_is slack_is least_is last_is) at_most within cut))
+    (least_known law step w p e least n slack last n_is slack_is least_is last_is) at_most within cut spent))

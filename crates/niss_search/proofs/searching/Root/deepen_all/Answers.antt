@@ -50,6 +50,7 @@ returns-in_err-found g c =
       delivers = stopped;
       rises = omega (arith, inv.went.looked, stops.rises);
       within = c.deepen.ensures.within;
+      spent = rw c.in_err-found.was at c.deepen.ensures.spent;
       limit = omega (arith, c.limit-limit.ensures.in_range, c.limit-limit.ensures.value);
     }
 
@@ -67,5 +68,6 @@ returns g c =
       delivers = all-done (positions step) (distance_at step) x n c.args.slack c.loop-length.length inv.went end;
       rises = omega (arith, inv.went.looked);
       within = inv.bounded;
+      spent = tt;
       limit = omega (arith, c.limit-limit.ensures.in_range, c.limit-limit.ensures.value);
     }

@@ -1,4 +1,6 @@
-use Rattle.niss_search.proofs.Words.{arith, ◌≤◌, deepening_looks_of}
+use Rattle.niss_search.proofs.Words.{arith, ◌≤◌, ◌+◌, deepening_looks_of}
+use Rattle.niss_search.proofs.Bounds.{turns_of-length}
+use Rattle.niss_search.proofs.SpentLemmas.{spent-looks}
 use Rattle.niss_search.specs.Deepening.{all_later}
 use Rattle.niss_search.proofs.DeepeningLemmas.{cut-over}
 use Rattle.niss_search.proofs.LaterParts.{later_searched, later_looked, deepening_looks-small}
@@ -11,6 +13,7 @@ returns g c =
     let n = c.args.path.now.limit in
     let after = c.args.after.now in
     let of = later_searched g.K.Sink.took g.K.Sink.refused is_cut_in c.saturating_add.result step c.args.position.now n after c.args.meter.now c.deepen_later.new.meter c.args.sink.now c.deepen_later.new.sink c.deepen_later.result c.deepen_later.ensures.delivers c.positions_follow_cubes.ensures in
+    let some = c.requires.position in
     let small : n ≤ 20 = c.deepen_later.ensures.limit in
     record {
       solutions = λ e h. (of e h).solutions;
@@ -25,4 +28,7 @@ returns g c =
       looks_at_most = λ e h. (of e h).looks_at_most;
       rises = c.deepen_later.ensures.rises;
       within = omega (arith, c.deepen_later.ensures.within, c.saturating_add.ensures);
+      spent = spent-looks is_cut_in c.saturating_add.result (c.args.meter.now + c.args.looks) step c.deepen_later.new.meter c.deepen_later.result
+          (λ left. omega (arith, left, c.saturating_add.ensures, c.count.ensures, c.requires.meter, (of some.0 some.1).looks_at_most, deepening_looks-small step some.0 n small, turns_of-length step))
+          c.deepen_later.ensures.spent;
     }

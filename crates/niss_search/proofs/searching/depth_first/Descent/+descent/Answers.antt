@@ -1,7 +1,8 @@
-use Rattle.niss_search.proofs.Words.{◌≡◌, arith, length, ◌+◌, ◌<◌, ◌∙◌, sym, ◌≤◌, [], refl, ◌-◌, ◌∷◌, ◌++◌, get_or, subst, suc}
+use Rattle.niss_search.proofs.Words.{◌≡◌, arith, length, ◌+◌, ◌<◌, ◌∙◌, sym, ◌≤◌, [], refl, ◌-◌, ◌∷◌, ◌++◌, get_or, subst, suc, may_follow, last_turn}
 use Rattle.niss_search.proofs.Words.{distance_at, position_after, ◌^◌, IsFollower, beyond_at, progress_of, Path, All-drop, take_rest, at_limit, length-append}
 use Rattle.std.proofs.lemmas.List.{length-drop}
 use Rattle.niss_search.proofs.DescentParts.{no_follower, beyond_at-end, Remains-all, Remains-room}
+use Rattle.niss_search.proofs.SpentLemmas.{few_followers, taken-spent}
 use Rattle.niss_search.proofs.DescentParts.{Descends-take, Remains-cut, Remains-room_next, Remains-next, Remains-stops, Remains-far}
 use Rattle.niss_search.proofs.searching.depth_first.Descent.+descent.Goals as goal
 
@@ -12,6 +13,7 @@ try_turns-loop-stop-init g t c =
     record {
       columns = c.turns_after-rest.ensures.columns;
       within = c.requires.budget;
+      some = few_followers c.args.tables.now.step (may_follow (last_turn c.args.self.now.path.now.turns)) c.turns_after-rest.result.now listed;
       few = c.turns_after-rest.type_inv.1;
       keeps = record { path = refl; same_path = refl; same_sink = refl; counted = omega arith };
       remains = Remains-all c.args.left (c.args.left - 1) c.turns_after-rest.result.now (progress_of c.args.meter c.args.self.now) left c.requires.near listed;
@@ -75,6 +77,9 @@ try_turns-returns-in-Err-clause-makes g t c =
     let inv = c.loop-stop.invariant in
     Remains-cut inv.remains (g.B.Budget.bound c.args.budget.now) (g.B.Budget.is_cut c.in-Err.stop) c.in-Err.ensures.cut c.in-Err.ensures.over
 
+pub try_turns-returns-in-Err-clause-spent : goal.try_turns-returns-in-Err-clause-spent
+try_turns-returns-in-Err-clause-spent g t c = λ cut. omega (arith, c.in-Err.ensures.over, c.loop-stop.invariant.some)
+
 pub try_turns-returns-in-Err-below-clause-makes : goal.try_turns-returns-in-Err-below-clause-makes
 try_turns-returns-in-Err-below-clause-makes g t c =
     let inv = c.loop-stop.invariant in
@@ -95,6 +100,7 @@ try_turns-loop-stop-preserved g t c =
     rw (take_rest rest (i + 1)) record {
       columns = All-drop (IsFollower c.args.tables.now.step) (i + 1) rest inv.columns;
       within = c.follow-counted.ensures.within;
+      some = omega (arith, inv.some, length-drop (i + 1) rest);
       few = omega (arith, inv.few, length-drop (i + 1) rest);
       keeps = record {
         path = kept.path ∙ inv.keeps.path;
@@ -115,6 +121,10 @@ extend-returns-then-left-eq0-clause-makes g t c =
     (Descends-take (at_limit g.K.Sink.took path.limit) (at_limit g.K.Sink.refused path.limit) g.B.Budget.is_cut (g.B.Budget.bound c.args.budget.now)
     c.take.result c.taken.result c.args.meter c.args.self.now.count c.args.self.now.sink.now c.take.new.self path.turns
     c.taken.ensures c.take.ensures.ok c.take.ensures.err)
+
+pub extend-returns-then-left-eq0-clause-spent : goal.extend-returns-then-left-eq0-clause-spent
+extend-returns-then-left-eq0-clause-spent g t c =
+    taken-spent g.B.Budget.is_cut (g.B.Budget.bound c.args.budget.now) c.args.meter c.args.tables.now.step c.take.result c.taken.result c.taken.ensures
 
 pub follow-extend-below-requires : goal.follow-extend-below-requires
 follow-extend-below-requires g t c κs within =

@@ -1,4 +1,4 @@
-use Rattle.niss_search.proofs.Words.{length, ◌+◌, ◌<◌, ◌≤◌, ◌*◌, All, at_limit, IsFollower, progress_of, Keeps}
+use Rattle.niss_search.proofs.Words.{length, ◌+◌, ◌<◌, ◌≤◌, ◌*◌, All, at_limit, IsFollower, progress_of, Keeps, turns_of}
 use Rattle.niss_search.proofs.DescentParts.{Remains}
 use Rattle.niss_search.proofs.searching.depth_first.Descent.+descent.Given as goal
 
@@ -18,6 +18,7 @@ abbrev pub invariant-try_turns-loop-stop : goal.invariant-try_turns-loop-stop
 invariant-try_turns-loop-stop g l = record {
   columns : All (IsFollower l.tables.step) l.rest;
   within : l.meter ≤ g.B.Budget.bound l.budget;
+  some : length l.rest ≤ length (turns_of l.tables.step);
   few : length l.rest * 3 < 9223372036854775808;
   keeps : Keeps l.fn.self l.self l.fn.meter l.meter;
   remains : Remains (at_limit g.K.Sink.took l.fn.self.path.now.limit) (at_limit g.K.Sink.refused l.fn.self.path.now.limit)

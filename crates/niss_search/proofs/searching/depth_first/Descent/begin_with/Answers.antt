@@ -1,5 +1,6 @@
 use Rattle.niss_search.proofs.Words.{arith, ◌<◌, distance_at, at_limit, beyond_at, below_at, progress_of}
 use Rattle.niss_search.proofs.DescentParts.{StopsIn-cut, beyond_at-far, GoesThrough-looks, Descends-then}
+use Rattle.niss_search.proofs.SpentLemmas.{some_turns}
 use Rattle.niss_search.proofs.searching.depth_first.Descent.begin_with.Goals as goal
 
 pub returns-then-look-left-clause-makes : goal.returns-then-look-left-clause-makes
@@ -22,3 +23,6 @@ returns-in-Err-clause-makes g c =
     let below = below_at c.args.tables.now.step c.args.position.now path.turns c.args.left in
     StopsIn-cut (g.B.Budget.bound c.args.budget.now) below (progress_of c.args.meter c.args.self.now)
     (g.B.Budget.is_cut c.in-Err.stop) c.in-Err.ensures.cut (omega (arith, c.in-Err.ensures.over))
+
+pub returns-in-Err-clause-spent : goal.returns-in-Err-clause-spent
+returns-in-Err-clause-spent g c = λ cut. omega (arith, c.in-Err.ensures.over, some_turns c.args.tables.now.step)
