@@ -62,7 +62,7 @@ def of_twin(folder: str, body: WrongBody, number: int) -> WrongBody | None:
     copy_proofs(folder, path[1:], name, twin)
     first = before.count("\n") + 1
     among = range(first, first + len(added))
-    changes = [replace(own, among=among) if of else copied for (own, of), copied in zip(placed(body), in_copy(folder, body).changes)]
+    changes = [replace(it, among=among) if of else copied for (it, of), copied in zip(placed(body), in_copy(folder, body).changes)]
     return replace(body, folder=folder, refused="::".join([*path, twin]), changes=changes)
 
 
