@@ -13,7 +13,9 @@ bodies=$copy/tests/wrong-bodies
 copied() { # a copy of what the tool reads
     rm -rf "$copy"
     mkdir -p "$copy/tests" && cp -R tools crates.txt "$copy" && cp -R tests/wrong-bodies "$copy/tests" || return
-    for crate in crates/*/src; do mkdir -p "$copy/$crate" && cp -R "$crate" "${copy:?}/${crate%/src}" || return; done
+    for part in crates/*/{src,proofs}; do
+        [ ! -d "$part" ] || { mkdir -p "$copy/${part%/*}" && cp -R "$part" "${copy:?}/${part%/*}"; } || return
+    done
 }
 says() { # MESSAGE COMMAND..: the tool fails and says this, once the command was run beside the bodies of the copy
     copied && (cd "$bodies" && "${@:2}") || return
@@ -24,7 +26,36 @@ is_sound() { copied && "$copy/tools/wrong-bodies" --read niss_moves; }
 turned() { sed -i "$1" niss_moves/turn.txt; } # SCRIPT: changes a file of bodies
 own() { turned "/_opposite_is_itself/,/^\$/{$1}"; } # SCRIPT: changes a body of it
 
+# the second body of LineReader::feed is made in a twin: it has the function's text, what its `impl` brings for clauses, and its proof
+has_twin() {
+    copied && python3 -B - "$copy" << 'END'
+import re
+import shutil
+import sys
+
+top = sys.argv[1]
+sys.path.insert(0, f"{top}/tools")
+
+from bodies import read
+from twins import with_twins
+
+crate = shutil.copytree(f"{top}/crates/niss_moves", f"{top}/twins")
+own = open(f"{crate}/src/reader.rt", encoding="utf-8").read()
+bodies = [it for it in read(f"{top}/tests/wrong-bodies/niss_moves/reader.txt") if it.refused.endswith("::feed")]
+twin = with_twins(crate, bodies)[1]
+made = open(f"{crate}/src/reader.rt", encoding="utf-8").read()
+proof = open(f"{crate}/proofs/reader/LineReader/feed_twin2/Answers.antt", encoding="utf-8").read()
+added = made.removeprefix(own.rstrip("\n"))
+function = re.findall(r"^    pub fn feed\(.*?^    }\n", own, re.MULTILINE | re.DOTALL)
+brought = re.findall(r"^impl LineReader {\n(?:    ghost use .*\n)+", own, re.MULTILINE)
+assert len(function) == 1 and function[0].replace("fn feed(", "fn feed_twin2(") in added.split("feed_twin3")[0], added
+assert len(brought) == 1 and added.lstrip("\n").startswith(brought[0]), added
+assert twin.refused.endswith("::feed_twin2") and "LineReader.feed_twin2.Goals" in proof and "LineReader.feed.Goals" not in proof, proof
+END
+}
+
 holds "each wrong body can be made, and names a function of its crate" tools/wrong-bodies --read
+holds "a second body of a function is made in a twin of it" has_twin
 holds "the copy has no fault of its own" is_sound
 body=niss_moves/turn_opposite_is_itself
 holds "a function that is gone is named" says "NOT MADE: $body: the crate has no function niss_moves::turn::Face::gone" \

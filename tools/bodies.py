@@ -19,16 +19,17 @@ class BadBody(Exception):
 
 @dataclass
 class Change:
-    """Lines of a file, without the spaces before them, and what stands in their place."""
+    """Lines of a file, without the spaces before them, and what stands in their place; perhaps among which of its lines they stand."""
 
     file: str
     old: list[str] = field(default_factory=list)
     new: list[str] = field(default_factory=list)
+    among: range | None = None
 
     def first_line(self, lines: list[str]) -> int:
         """Returns where its old lines begin, if they stand exactly once."""
         bare = [line.strip() for line in lines]
-        found = [at for at in range(len(bare)) if bare[at : at + len(self.old)] == self.old]
+        found = [at for at in self.among or range(len(bare)) if bare[at : at + len(self.old)] == self.old]
         if len(found) != 1:
             raise BadBody(f"this stands {len(found)} times in {self.file}, and not once: {' '.join(self.old)}")
         return found[0]
@@ -78,19 +79,16 @@ def function_at(lines: list[str], at: int) -> Span | None:
 @dataclass
 class WrongBody:
     """A wrong body, with one line on what it does wrong, the function that must be refused, by which error if it doesn't compile, and the
-    changes that make it."""
+    changes that make it in the crate of a folder."""
 
     crate: str
     name: str
     is_of_gate: bool
+    folder: str
     says: str = ""
     refused: str = ""
     error: str = ""
     changes: list[Change] = field(default_factory=list)
-
-    @property
-    def folder(self) -> str:
-        return f"{TOP}/crates/{self.crate}"
 
     @property
     def files(self) -> set[str]:
@@ -145,7 +143,7 @@ def read_body(crate: str, file: str, lines: list[str]) -> WrongBody:
     after '- ', with those in their place, after '+ '. A line 'compiler: ERROR' says that it doesn't compile, a line 'file: PATH' names another
     file of the crate for what is below it."""
     kind, _, name = lines[0].partition(": ")
-    body, parted = WrongBody(crate, name, kind == "gate"), True
+    body, parted = WrongBody(crate, name, kind == "gate", f"{TOP}/crates/{crate}"), True
     if len(lines) > 1 and lines[1].strip() and not OF_A_BODY.match(lines[1]):
         body.says = lines[1].strip()
     else:

@@ -10,9 +10,14 @@ from bodies import HEAD, Span, function_at, sources
 # what a function keeps that can't do without its body: a value that a type needs, a cycle of calls, what is known by its symbol
 NEEDS_ITS_BODY = re.compile(r"#\[(?:cycle|unsafe)\b|\b(?:const|unsafe|extern) ")
 PROOF = """use Rattle.{path}.Statement.{{statement}}
+use Rattle.{crate}.proofs.Unproved.{{unproved}}
 
 pub {name}_spec : {{M : Type 1}} → statement M
-{name}_spec = ?
+{name}_spec = unproved
+"""
+# one hole stands for all of them, since a check works out and prints the goal of each hole
+UNPROVED = """pub unproved : {A : Type 2} → A
+unproved = ?
 """
 
 
@@ -108,6 +113,7 @@ def hollow(crate: str, folder: str, kept: set[str]) -> None:
     as `src/lib.rt:7`, by the line of its head, counted from 0."""
     texts = texts_of(folder)
     modules = modules_of_types(texts)
+    add_the_hole(folder)
     for file, text in texts.items():
         lines = text.split("\n")
         for function in functions_of(crate, file, lines, modules):
@@ -119,12 +125,21 @@ def hollow(crate: str, folder: str, kept: set[str]) -> None:
             it.write("\n".join(lines))
 
 
+def add_the_hole(folder: str) -> None:
+    """Adds the hole that stands for each proof which is taken away."""
+    os.makedirs(f"{folder}/proofs", exist_ok=True)
+    with open(f"{folder}/proofs/Unproved.antt", "w", encoding="utf-8") as it:
+        it.write(UNPROVED)
+    with open(f"{folder}/proofs/Lib.antt", "a", encoding="utf-8") as it:
+        it.write("mod Unproved\n")
+
+
 def leave_a_hole(folder: str, path: list[str]) -> None:
-    """Leaves a hole in the place of a function's proof, or of its cycle's, where it calls itself."""
+    """Leaves the hole in the place of a function's proof, or of its cycle's, where it calls itself."""
     crate, *owner, name = path
     of_owner = "/".join([folder, "proofs", *owner])
     for proof in (name, f"+{name}"):
         shutil.rmtree(f"{of_owner}/{proof}", ignore_errors=True)
     os.makedirs(f"{of_owner}/{name}")
     with open(f"{of_owner}/{name}/Proof.antt", "w", encoding="utf-8") as it:
-        it.write(PROOF.format(path=".".join([crate, "proofs", *owner, name]), name=name))
+        it.write(PROOF.format(crate=crate, path=".".join([crate, "proofs", *owner, name]), name=name))

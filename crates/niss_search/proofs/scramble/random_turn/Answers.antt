@@ -1,4 +1,4 @@
-use Rattle.niss_search.proofs.Words.{ap, choice}
+use Rattle.niss_search.proofs.Words.{ap, arith, choice}
 use Rattle.niss_search.proofs.Bounds.{choice-index, choice-follows}
 use Rattle.niss_search.proofs.scramble.random_turn.Goals as goal
 
@@ -14,3 +14,6 @@ returns-clause-follows c = rw (c.choice_index-index.ensures, c.turns_after.ensur
 
 pub returns-clause-word : goal.returns-clause-word
 returns-clause-word c = ap (λ p. p.1) c.next_word.ensures
+
+pub offset_bounds-turns_after-index : goal.offset_bounds-turns_after-index
+offset_bounds-turns_after-index c = omega (arith, bounds-turns_after-index c, c.turns_after.ensures.few)
