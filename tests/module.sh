@@ -23,14 +23,7 @@ else
 fi
 for trial in typed in_worker wrong overridden rows plain twins written totals best pool; do part node "tests/module/$trial.mjs" "$module"; done
 
-# Debian's Python has Debian's selenium, whatever other Python comes first
-python=/usr/bin/python3
-export SE_OFFLINE=true SE_AVOID_STATS=true
-if missing chromium || missing chromedriver || ! $python -c "import selenium" 2> /dev/null; then
-    skips "the module in a page, since chromium, chromedriver or python3-selenium isn't installed"
-else
-    part $python tests/module/in_browser.py "$module"
-fi
+if missing chromium; then skips "the module in a page, since chromium isn't installed"; else part python3 tests/module/in_browser.py "$module"; fi
 
 if missing tsc; then
     skips "the types of the module's JavaScript, since there is no tsc"

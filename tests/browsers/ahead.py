@@ -8,9 +8,6 @@ from tally import Tally
 from wanted import SIDES, TITLES, Position, merged_count
 
 TURNS = [face + power for face in "UDRLFB" for power in ("", "2", "'")]
-LISTED = "return [...document.querySelectorAll('#solutions-groups .take')].map((each) => each.textContent)"
-
-
 STEP_OF = {title: name for name, title in TITLES.items()}
 
 
@@ -24,7 +21,7 @@ def counts_reductions(tally: Tally, browser: Browser) -> None:
     """Each row has the number of its shortest reductions on both sides, after its moves, and the first that makes as many moves as the
     row says."""
     for scramble in (SCRAMBLE, LONGER):
-        browser.open(address_of(scramble))
+        browser.go(address_of(scramble))
         browser.wait_best()
         for row, (first, *times) in zip(browser.script(ROWS), browser.script(DETAILS), strict=True):
             total, moves, orientation, reduction, *lengths = row
@@ -43,7 +40,7 @@ def counts_reductions(tally: Tally, browser: Browser) -> None:
 
 def leaves_few(tally: Tally, browser: Browser) -> None:
     """The rows with at most so many moves in all."""
-    browser.open(address_of(LONGER))
+    browser.go(address_of(LONGER))
     browser.wait_best()
     browser.until(MORE)
     every = browser.script(ROWS)
@@ -68,7 +65,7 @@ def beginnings(count: int) -> list[str]:
 def splits(tally: Tally, browser: Browser) -> None:
     """A step with one or two moves on the other side: the list has all with the fewest moves in all, as the built program finds them."""
     for side, count in product(SIDES, (1, 2)):
-        browser.open(address_of(LONGER) + f"&list=eofb.{side}.0.split{count}")
+        browser.go(address_of(LONGER) + f"&list=eofb.{side}.0.split{count}")
         begun = beginnings(count)
         inverted = program_answers(browser.program, ["invert"], begun)
         lines = [f"{each} {Position(LONGER).lines[side]}" for each in inverted]
@@ -78,15 +75,8 @@ def splits(tally: Tally, browser: Browser) -> None:
             for begin, each in zip(begun, found) for moves in each if len(moves.split()) == least and moves)
         while browser.text("solutions-more"):
             browser.act("#solutions-more")
-        tally.equal(f"{side}, {count} on the other side", sorted(browser.script(LISTED)), wanted)
-        tally.equal("the field says so", browser.script("return document.getElementById('split').value"), str(count))
-        line = browser.script(LISTED)[0]
-        browser.act("#solutions-groups .take")
-        tally.equal("one is taken, as two steps", (browser.text("bracketed"), len(browser.texts("#line-list li"))), (line, 2))
+        listed = browser.texts("#solutions-groups .take")
+        tally.equal(f"{side}, {count} on the other side", sorted(listed), wanted)
+        browser.walk(tally, "one is taken, as two steps", ("wait", {"split=": str(count)}),
+            ("act", "#solutions-groups .take", {"bracketed": listed[0], "steps": 2}))
         tally.holds("and reaches its step", "EO F/B" in browser.texts("#line-list .reaches"))
-
-
-def try_all(tally: Tally, browser: Browser) -> None:
-    """All of them."""
-    for part in (counts_reductions, leaves_few, splits):
-        part(tally, browser)

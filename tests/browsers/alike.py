@@ -14,34 +14,25 @@ from pathlib import Path
 
 sys.path.insert(0, str(Path(__file__).resolve().parent.parent))
 
-from anywhere import DONE, Window
 from net import letters_of, stickers_of
 from tally import Tally
 from wanted import SIDES
-from windows import BROWSERS, is_here
+from windows import BROWSERS, DONE, Window, is_here
 
 SCRAMBLE = "#scramble=R-_U-_F_D2_L2_F_R2_U2_R2_B_D2_L_B2_D-_B2_L-_R-_B-_D2_B2_R-_U-_F"
 BOTH = SCRAMBLE + "&steps=inverse.B_D_R_F2_B_D~normal.R_B-"
+FIELD = "const field = document.querySelector('%s'); field.value = '%s';"
 PRESS = "document.querySelector(%r).click();"
 # what is looked at: a name, an address, and what is done there
-STATES = (
-    ("empty", "", ""),
-    ("a scramble", SCRAMBLE, ""),
-    ("an EO that is taken", SCRAMBLE + "&steps=normal.R-_U_F-_R_L", ""),
-    ("both sides", BOTH, ""),
-    ("an open list", "#scramble=R_U_F_D2_L-_B&list=eorl.normal.1", ""),
-    ("the best with one move more", "#scramble=R_U_F",
-     "const field = document.getElementById('best-slack'); field.value = '1'; field.dispatchEvent(new Event('change'))"),
+STATES = (("empty", "", ""), ("a scramble", SCRAMBLE, ""), ("an EO that is taken", SCRAMBLE + "&steps=normal.R-_U_F-_R_L", ""),
+    ("both sides", BOTH, ""), ("an open list", "#scramble=R_U_F_D2_L-_B&list=eorl.normal.1", ""),
+    ("the best with one move more", "#scramble=R_U_F", FIELD % ("#best-slack", "1") + "field.dispatchEvent(new Event('change'))"),
     ("kept lines", BOTH + "&kept=inverse.B_D_R_F2_B_D;a_note,normal.R-_U_F-_R_L", ""),
-    ("a fault", "#scramble=R_U", "const field = document.getElementById('scramble'); field.value = 'R U q F';"
-     "field.dispatchEvent(new Event('input'))"),
-    ("a line that is too long", "#scramble=" + "_".join(["R", "U"] * 129), ""),
-    ("a solved cube", "#scramble=R_U&steps=normal.U-_R-", ""),
+    ("a fault", "#scramble=R_U", FIELD % ("#scramble", "R U q F") + "field.dispatchEvent(new Event('input'))"),
+    ("a line that is too long", "#scramble=" + "_".join(["R", "U"] * 129), ""), ("a solved cube", "#scramble=R_U&steps=normal.U-_R-", ""),
     ("a reduction", BOTH + "~normal.D2_R", ""),
-    ("an edit", BOTH, PRESS % "#line-list button" + "const field = document.querySelector('#line-list input');"
-     "field.value = '(B D)'; field.form.requestSubmit()"),
-    ("an undo", BOTH, PRESS % "#undo-move"),
-)
+    ("an edit", BOTH, PRESS % "#line-list button" + FIELD % ("#line-list input", "(B D)") + "field.form.requestSubmit()"),
+    ("an undo", BOTH, PRESS % "#undo-move"))
 # wide, with all of them, and as a phone has it, with these
 SIZES = {(1280, 1000): range(len(STATES)), (520, 900): (0, 4, 6)}
 CARDS = """
@@ -62,18 +53,25 @@ CONTROLS = """
         [...(each.options ?? [])].map((option) => option.textContent.trim()).join()])"""
 # what the page's own policy refuses it
 REFUSED = "window.refused = []; addEventListener('securitypolicyviolation', (event) => window.refused.push(event.blockedURI))"
+# goes to an address, if the page is open, as if nothing had been done on it before
+GO = """const [results, slack, before] = [document.getElementById("results"), document.getElementById("best-slack"), location.hash];
+    if (results === null) return true;
+    document.activeElement?.blur();
+    if (slack.value !== "0") { slack.value = "0"; slack.dispatchEvent(new Event("change")); }
+    location.hash = %s;
+    if (location.hash !== before) results.setAttribute("aria-busy", "true")"""
 DRAWN = """
     const seen = [...document.querySelectorAll(".net, table, .unseen:not(#status)")].filter((each) => each.checkVisibility());
     return seen.map((each) => [each.ariaLabel ?? each.caption?.textContent, each.localName === "table" ? "" : each.textContent])"""
 
 
-def shown(window: Window, address: str, act: str) -> dict[str, object]:
-    """What a window shows of a state, once all is answered."""
-    window.open("about:blank")
-    window.open(address)
-    window.script(REFUSED)
-    # so that none of them is further than another
-    window.script("document.getElementById('best-further').checked = false")
+def shown(window: Window, page: str, address: str, act: str) -> dict[str, object]:
+    """What a window shows of a state, once all is answered: the first is loaded, and the page that is open goes to the others."""
+    if window.script(GO % json.dumps(address)):
+        window.open(page + address)
+        window.script(REFUSED)
+        # so that none of them is further than another
+        window.script("document.getElementById('best-further').checked = false")
     if not window.until(DONE):
         raise TimeoutError(f"no answer at {address}")
     if act != "":
@@ -95,7 +93,7 @@ def all_shown(browser: str, page: str) -> list[dict[str, object]]:
         try:
             for size, chosen in SIZES.items():
                 window.resize(*size)
-                found += [shown(window, page + address, act) for _, address, act in map(STATES.__getitem__, chosen)]
+                found += [shown(window, page, address, act) for _, address, act in map(STATES.__getitem__, chosen)]
             found.append({"labels": window.labels("button, input, select, textarea, progress")})
         finally:
             window.end()

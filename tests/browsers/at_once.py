@@ -10,6 +10,7 @@ from wanted import SIDES, TITLES, Position
 
 CUT = 10_000
 SHOWN = 168
+HAS_FOCUS = "return document.activeElement.dataset.key === arguments[0]"
 # keeps what each worker is asked, and the steps that it counted beside a cube
 LISTEN = """window.asked = [];
     const { postMessage } = Worker.prototype;
@@ -28,7 +29,7 @@ LISTEN = """window.asked = [];
 
 
 # keeps the rows that are shown in a part, selects the first one's moves, and counts what is taken away
-STAND = """const holder = document.getElementById(arguments[0]);
+STAND = """const holder = part(arguments[0]);
     window.rowsNow = () => [...holder.querySelectorAll('.take')].map((take) => take.closest('li, tr'));
     window.stood = rowsNow();
     getSelection().selectAllChildren(stood[0].querySelector('.take'));
@@ -41,9 +42,8 @@ STOOD = """const isSelected = getSelection().containsNode(stood[0].querySelector
 
 
 def ahead(tally: Tally, browser: Browser) -> None:
-    """Tables are built while nothing is asked, each once; then a step asks for its counts alone."""
-    browser.command("Page.enable")
-    script = browser.command("Page.addScriptToEvaluateOnNewDocument", source=LISTEN)
+    """Tables are built while nothing is asked, each once; then a step asks for its counts alone, those of orientations first."""
+    script = browser.before_page(LISTEN)
     browser.open(address_of(LONGER))
     browser.wait_best()
     every = "return arguments[0].every((step) => window.asked.includes(`count ${step}`))"
@@ -56,32 +56,29 @@ def ahead(tally: Tally, browser: Browser) -> None:
     tally.holds("a step asks for the counts behind it", browser.until(f"{counted} >= 4"))
     browser.wait_best()
     asked = [each for each in browser.script("return window.asked") if each.startswith("count")]
-    first = asked[:4]
-    tally.equal("orientations are counted before reductions", first, ["count eofb", "count eoud", "count drud-eorl", "count drfb-eorl"])
-    tally.holds(
-        f"the main engine builds no table again: {asked}",
-        not {"count drud-eofb", "count drrl-eofb", "count drrl-eoud", "count drfb-eoud"} & set(asked),
-    )
-    browser.command("Page.removeScriptToEvaluateOnNewDocument", identifier=script["identifier"])
+    tally.equal("orientations come before reductions", asked[:4], ["count eofb", "count eoud", "count drud-eorl", "count drfb-eorl"])
+    others = {"count drud-eofb", "count drrl-eofb", "count drrl-eoud", "count drfb-eoud"}
+    tally.equal(f"the main engine builds no table again: {asked}", others & set(asked), set())
+    browser.no_longer(script)
 
 
 def soon(tally: Tally, browser: Browser) -> None:
     """While a long search goes on the rows that are known stay, and it says how many were tried."""
     browser.open(address_of(LONGER))
     browser.wait_best()
-    seen = """const [done] = [arguments[arguments.length - 1]];
-        const slack = document.getElementById("best-slack"); slack.value = "2"; slack.dispatchEvent(new Event("change"));
-        const look = () => {
-            const rows = document.querySelectorAll("#best-body .take").length, note = document.getElementById("best-note").textContent;
-            if (note.includes(" tried")) done([rows, note, document.getElementById("best-stop").disabled]);
-            else setTimeout(look);
-        };
-        look()"""
-    rows, note, is_done = browser.driver.execute_async_script(seen)
+    seen = """const slack = part("best-slack"); slack.value = "2"; slack.dispatchEvent(new Event("change"));
+        return new Promise((done) => {
+            const look = () => {
+                const rows = all("#best-body .take").length, note = part("best-note").textContent;
+                if (note.includes(" tried")) done([rows, note, part("best-stop").disabled]);
+                else setTimeout(look);
+            };
+            look();
+        })"""
+    rows, note, is_done = browser.script(seen)
     tally.equal("rows are shown, and the search goes on", (rows > 0, is_done), (True, False))
     tally.holds(f"what it says: {note}", re.fullmatch(r"[0-9,]+( of [0-9,]+)? EOs? tried\.", note))
     browser.choose("best-slack", "0")
-    browser.wait_best()
 
 
 def best_of_many(tally: Tally, browser: Browser) -> None:
@@ -92,90 +89,61 @@ def best_of_many(tally: Tally, browser: Browser) -> None:
         ways = ways_of(browser.program, position, step, side, 1)
         count += len({moves for moves, _ in ways})
         totals += [min(each.values())[0] for each in ways.values()]
-    browser.open(address_of(LONGER))
+    browser.go(address_of(LONGER))
     browser.wait_best()
-    browser.script("document.getElementById('best-all').checked = true")
-    browser.choose("best-slack", "1")
-    browser.wait_best()
+    browser.script("part('best-all').checked = true")
+    said = f"{count:,} of {count:,} EOs tried. The best {CUT:,} rows."
+    browser.walk(tally, "of many", ("choose", "best-slack", "1", {}), ("wait_best", {"best-note": said}))
     tally.holds("there are more than are kept", len(totals) > CUT)
-    tally.equal(
-        "what the note says",
-        browser.text("best-note"),
-        f"{count:,} of {count:,} EOs tried. The best {CUT:,} rows.",
-    )
-    while len(browser.script(ROWS)) < SHOWN:
-        browser.script("document.getElementById('best-more').click()")
-    tally.equal("the first are the best", [int(row[0]) for row in browser.script(ROWS)[:SHOWN]], sorted(totals)[:SHOWN])
+    while len(rows := browser.script(ROWS)) < SHOWN:
+        browser.script("part('best-more').click()")
+    tally.equal("the first are the best", [int(row[0]) for row in rows[:SHOWN]], sorted(totals)[:SHOWN])
 
 
 def seen(tally: Tally, browser: Browser) -> None:
     """A row that was taken is marked where one comes back, in the list and in the best, and for this scramble alone."""
+    marked = """return all('#solutions-groups .seen').map((each) => [each.dataset.key, each.ariaLabel.endsWith(', seen')])"""
     browser.open(address_of(LONGER) + "&list=eorl.normal.0")
     browser.wait_best()
-    marked = (
-        "return [...document.querySelectorAll('#solutions-groups .seen')].map((each) => [each.dataset.key, each.ariaLabel.endsWith(', "
-        "seen')])"
-    )
     tally.equal("nothing is marked at first", browser.script(marked), [])
     taken = browser.listed()[1]
-    browser.script("document.querySelectorAll('#solutions-groups .take')[1].click()")
-    browser.settle("return document.querySelectorAll('#line-list li').length === 1")
+    browser.walk(tally, "a row", ("script", "all('#solutions-groups .take')[1].click()", {}), ("comes", "steps", 1, {}))
     back(browser)
     browser.until("return document.querySelector('#solutions-groups .seen') !== null")
     tally.equal("the row that was taken", browser.script(marked), [[taken, True]])
-    browser.open(address_of(LONGER) + " D&list=eorl.normal.0")
-    tally.equal("nothing of another scramble", browser.script(marked), [])
+    browser.go(address_of(LONGER) + "_D&list=eorl.normal.0")
+    tally.equal("nothing of another scramble", (browser.listed() != [], browser.script(marked)), (True, []))
 
 
 def more(tally: Tally, browser: Browser) -> None:
-    """Each row of a list can be reached without a filter, also by Back."""
+    """Each row of a list can be reached without a filter, also by Back; the rows that stood there stay as they are, and what is selected."""
     browser.open(address_of(LONGER) + "&list=eofb.normal.1")
     tally.equal("the first rows", len(browser.listed()), 200)
     browser.script(STAND, "solutions-groups")
     browser.act("#solutions-more")
-    tally.equal("the rows that stood there stay as they are, and what is selected in one", browser.script(STOOD), [200, True, 0])
-    wanted = re.search(r"(\d+) rows: twins", browser.text("solutions-note"))
-    tally.equal("all of them", str(len(browser.listed())), wanted[1] if wanted else "")
-    tally.equal("the first that is new has the focus", browser.focused(), browser.listed()[200])
-    tally.equal("there are no more", browser.text("solutions-more"), "")
-    browser.wait_best()
-    shown = browser.script("return document.querySelectorAll('#best-body tr').length")
+    tally.equal("the rows of a list stay", browser.script(STOOD), [200, True, 0])
+    listed, wanted = browser.listed(), re.search(r"(\d+) rows: twins", browser.text("solutions-note"))
+    tally.equal("all of them", str(len(listed)), wanted[1] if wanted else "")
+    browser.walk(tally, "the first that is new", ("wait_best", {"focus": listed[200], "solutions-more": ""}))
+    shown = browser.look("n #best-body tr")
     browser.script(STAND, "best-body")
     browser.click("#best-more")
     tally.equal("so do those of the best", browser.script(STOOD), [shown, True, 0])
     tally.holds("others follow them", browser.script("return rowsNow().length") > shown > 0)
-    last = browser.listed()[-1]
-    browser.script("const row = [...document.querySelectorAll('#solutions-groups .take')].at(-1); row.focus(); row.click()")
-    browser.settle("return document.querySelectorAll('#line-list li').length === 1")
+    last = "const row = all('#solutions-groups .take').at(-1); row.focus(); row.click()"
+    browser.walk(tally, "the last", ("script", last, {}), ("comes", "steps", 1, {}))
     back(browser)
-    tally.holds("Back leads to the last", browser.until("return document.activeElement.dataset.key === arguments[0]", last))
+    tally.holds("Back leads to the last", browser.until(HAS_FOCUS, listed[-1]))
 
 
 def folded(tally: Tally, browser: Browser) -> None:
-    """On a narrow page the filters of a list are folded, and a key opens them."""
-    browser.command("Emulation.setDeviceMetricsOverride", width=360, height=740, deviceScaleFactor=1, mobile=False)
-    browser.open(address_of(LONGER) + "&list=eorl.normal.0")
-    is_seen = "return document.getElementById('filter').checkVisibility()"
-    tally.equal("they are folded", browser.script(is_seen), False)
-    room = (
-        "const top = (selector) => document.querySelector(selector).getBoundingClientRect().top; return top('#solutions-groups .take') - "
-        "top('#solutions')"
-    )
+    """On a narrow page the filters of a list are folded, and a key opens them; a second way to a reduction has room."""
+    room = """const top = (selector) => document.querySelector(selector).getBoundingClientRect().top;
+        return top('#solutions-groups .take') - top('#solutions')"""
+    browser.resize(360, 740)
+    browser.walk(tally, "they are folded", ("open", address_of(LONGER) + "&list=eorl.normal.0", {"filter?": False}))
     tally.holds(f"the first row is near the list's head: {browser.script(room)}", browser.script(room) < 360)
-    browser.script("document.activeElement.blur()")
-    browser.press("/")
-    tally.equal("a key opens them", (browser.script(is_seen), browser.focused()), (True, "filter"))
-    browser.open(address_of(LONGER) + "&steps=normal.R-_U_F-_R_L_D-_F_B-_L2_D")
-    wide = "return [document.documentElement.scrollWidth, document.documentElement.clientWidth]"
-    tally.holds(
-        f"where a second way to a reduction is named nothing stands beyond the window: {browser.script(wide)}",
-        len(set(browser.script(wide))) == 1,
-    )
-    browser.command("Emulation.setDeviceMetricsOverride", width=1280, height=1000, deviceScaleFactor=1, mobile=False)
-
-
-def try_all(tally: Tally, browser: Browser) -> None:
-    """All of them."""
-    browser.driver.set_script_timeout(90)
-    for part in (ahead, soon, best_of_many, seen, more, folded):
-        part(tally, browser)
+    browser.walk(tally, "a key opens them", ("script", "document.activeElement.blur()", {}), ("press", "/", {"filter?": True, "focus": "filter"}))
+    browser.go(address_of(LONGER) + "&steps=normal.R-_U_F-_R_L_D-_F_B-_L2_D")
+    wide = "return document.documentElement.scrollWidth - document.documentElement.clientWidth"
+    tally.equal("where a second way to a reduction is named: what stands beyond the window", browser.script(wide), 0)

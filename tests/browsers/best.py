@@ -66,10 +66,8 @@ def wanted_rows(program: str, position: Position, is_all: bool = False) -> dict[
             total = min(min(ways.values())[0] for ways in twins.values())
             best = {moves: ways for moves, ways in twins.items() if min(ways.values())[0] == total}
             said = (TITLES[step], TITLES[reduction].split(" after")[0])
-            rows[f"{side} {key} {reduction}"] = {
-                (str(total), moves if side == "normal" else f"({moves})", *said, *(str(ways[each][1]) for each in SIDES))
-                for moves, ways in best.items()
-            }
+            rows[f"{side} {key} {reduction}"] = {(str(total), moves if side == "normal" else f"({moves})", *said,
+                *(str(ways[each][1]) for each in SIDES)) for moves, ways in best.items()}
     return rows
 
 
@@ -89,21 +87,18 @@ def best(tally: Tally, browser: Browser) -> None:
     """All continuations of the shortest orientations, and the way on from the best."""
     browser.open(address_of(SCRAMBLE))
     browser.wait_best()
-    wanted = wanted_rows(browser.program, Position(SCRAMBLE))
-    every = wanted_rows(browser.program, Position(SCRAMBLE), True)
+    wanted, every = (wanted_rows(browser.program, Position(SCRAMBLE), is_all) for is_all in (False, True))
     tally.holds("there are some", len(every) > len(wanted) > 20)
-    note = browser.text("best-note")
-    tally.equal("how many were tried", note.split(" tried")[0], f"{len(every) // 2} of {len(every) // 2} EOs")
+    tried = browser.text("best-note").split(" tried")[0]
+    tally.equal("how many were tried", tried, f"{len(every) // 2} of {len(every) // 2} EOs")
     tally.equal("the first of them are shown", len(browser.script(ROWS)), 6)
     tally.holds("and more when they are asked for", browser.until(MORE))
     rows = [tuple(row) for row in browser.script(ROWS)]
     holds_rows(tally, "twins are one row, the better of them", rows, wanted)
     tally.equal("they are sorted by all moves", [int(row[0]) for row in rows], sorted(int(row[0]) for row in rows))
-    marks = browser.script(
-        "return [...document.querySelectorAll('#best-body tr')].map((row) => [...row.querySelectorAll('td.best')].length)",
-    )
-    titles = "return [...document.querySelectorAll('#best-body .number')].map((each) => each.title)"
-    said = re.findall(r"side, (\d+) in all", "\n".join(browser.script(titles)))
+    marks = browser.script("return all('#best-body tr').map((row) => [...row.querySelectorAll('td.best')].length)")
+    titles = browser.script("return all('#best-body .number').map((each) => each.title)")
+    said = re.findall(r"side, (\d+) in all", "\n".join(titles))
     totals = [said[at : at + 2] for at in range(0, len(said), 2)]
     tally.equal("both sides are marked where all moves are as few", marks, [both.count(row[0]) for row, both in zip(rows, totals)])
     tally.holds("which is seen", {1, 2} <= set(marks))
@@ -114,10 +109,8 @@ def best(tally: Tally, browser: Browser) -> None:
     holds_rows(tally, "are shown by the switch", [tuple(row) for row in browser.script(ROWS)], every)
     line, total, reached = rows[0][1], int(rows[0][0]), rows[0][3]
     browser.open(address_of(SCRAMBLE))
-    browser.wait_best()
-    browser.act("#best-body .take")
-    browser.until("return document.activeElement.closest('#solutions-groups') !== null")
-    tally.equal("the best is taken", browser.text("bracketed"), line)
+    browser.walk(tally, "the best is taken", ("wait_best", {}), ("act", "#best-body .take", {"bracketed": line}),
+        ("until", "return document.activeElement.closest('#solutions-groups') !== null", {}))
     shown = browser.listed()
     tally.holds("and its shortest reductions are listed", shown and len(shown[0].split()) == min(int(rows[0][4]), int(rows[0][5])))
     tally.holds("of its axis", browser.text("solutions-heading").startswith(f"{reached} after"))
@@ -194,34 +187,25 @@ def forgets_filters(tally: Tally, browser: Browser, count: int) -> None:
     tally.equal("before an orientation cases are filtered by", browser.script(SHOWN_FILTERS), [True, False])
     browser.script("history.back()")
     browser.until("return document.getElementById('best-table').classList.contains('of-reductions')")
-    browser.wait_best()
-    tally.equal("a filter of another cube is gone", browser.script("return document.getElementById('best-last').value"), "")
-    tally.equal("so all are there again", browser.text("best-note"), f"{count} rows.")
+    browser.walk(tally, "a filter of another cube is gone, so all are there again", ("wait_best", {"best-last=": "", "best-note": f"{count} rows."}))
 
 
 def after_orientation(tally: Tally, browser: Browser) -> None:
     """After an orientation the best are its reductions on both axes and sides, by all moves; after a reduction there are none."""
-    browser.open(address_of(LONGER) + "&steps=inverse.B_D_R_F2_B_D")
+    browser.go(address_of(LONGER) + "&steps=inverse.B_D_R_F2_B_D")
     browser.wait_best()
     position = Position(LONGER, "", "B D R F2 B D")
-    wanted = []
-    for step in ("drrl-eoud", "drfb-eoud"):
-        for side in SIDES:
-            moves = position.rows(step, side)
-            reached = TITLES[step].split(" after")[0]
-            wanted += [(6 + len(each.split()), each if side == "normal" else f"({each})", reached) for each in moves]
+    wanted = [(6 + len(each.split()), each if side == "normal" else f"({each})", TITLES[step].split(" after")[0])
+        for step, side in product(("drrl-eoud", "drfb-eoud"), SIDES) for each in position.rows(step, side)]
     tally.holds("more of them", browser.until(MORE))
-    cells = (
-        "return [...document.querySelectorAll('#best-body tr')].map((row) => [row.children[0].textContent, "
-        "row.querySelector('.take').textContent, row.children[2].textContent])"
-    )
-    rows = [(int(total), moves, state) for total, moves, state in browser.script(cells)]
+    cells = """return all('#best-body tr').map((row) =>
+        [Number(row.children[0].textContent), row.querySelector('.take').textContent, row.children[2].textContent])"""
+    rows = [(total, moves, state) for total, moves, state in browser.script(cells)]
     tally.equal("its reductions", sorted(rows), sorted(wanted))
     tally.equal("by all moves", [row[0] for row in rows], sorted(row[0] for row in rows))
     filters_reductions(tally, browser, rows)
-    browser.act("#best-body .take")
-    tally.equal("the first finishes", browser.text("finished"), f"{rows[0][2]} is reached: {rows[0][0]} moves. nissy has no step after a DR: go on by hand.")
-    tally.equal("then there is no best", browser.script("return document.getElementById('best').checkVisibility()"), False)
+    said = f"{rows[0][2]} is reached: {rows[0][0]} moves. nissy has no step after a DR: go on by hand."
+    browser.walk(tally, "the first finishes, and then there is no best", ("act", "#best-body .take", {"finished": said, "best?": False}))
 
 
 def stopped(tally: Tally, browser: Browser) -> None:
@@ -263,21 +247,16 @@ def stopped(tally: Tally, browser: Browser) -> None:
 
 def narrowed(tally: Tally, browser: Browser) -> None:
     """Where fewer are asked for, neither a row nor a word of the longer search stays, whether the shorter one was made before or not."""
-    shown = []
-    for slacks in (("0",), ("1", "0"), ("0", "1", "0")):
+    shown, longer = [], ""
+    for slacks in (("1", "0"), ("0", "1", "0")):
         browser.open(address_of(SCRAMBLE))
         for slack in slacks:
-            longer = browser.text("best-note")
             browser.choose("best-slack", slack)
             browser.wait_best()
-        tally.holds(f"all rows of {slacks}", browser.until(MORE))
-        shown.append((sorted(browser.script(ROWS)), browser.text("best-note")))
-        tally.holds("a longer search says other words", longer != shown[-1][1])
-    tally.equal("after a longer search", shown[1], shown[0])
-    tally.equal("and again after it", shown[2], shown[0])
-
-
-def try_all(tally: Tally, browser: Browser) -> None:
-    """All of them."""
-    for part in (best, after_orientation, stopped, narrowed):
-        part(tally, browser)
+            if slack == "0":
+                tally.holds(f"all rows of {slacks}", browser.until(MORE))
+                shown.append((sorted(browser.script(ROWS)), browser.text("best-note")))
+            else:
+                longer = browser.text("best-note")
+    tally.equal("after a longer search, before one, and again after it", shown, shown[:1] * 3)
+    tally.holds("a longer search says other words", longer != shown[0][1])

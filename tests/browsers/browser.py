@@ -1,17 +1,11 @@
-"""A Chromium that shows the page, and what the tests ask of it."""
-import json
+"""The page in Chromium, and what the tests ask of it."""
 import time
 from typing import Any
 
-from selenium import webdriver
-from selenium.webdriver.chrome.service import Service
-from selenium.webdriver.common.action_chains import ActionChains
-from selenium.webdriver.common.by import By
-from selenium.webdriver.common.keys import Keys
-
+from chromium import PATIENCE, Chromium, Tab
 from net import letters_of, stickers_of
+from tally import Tally
 
-PATIENCE = 400
 # longer continuations are looked for by themselves only while the page is seen: for most of what is tried it isn't, so that rows stay
 UNSEEN = 'Object.defineProperty(Document.prototype, "hidden", { configurable: true, get: () => !window.isSeen });'
 IDLE = """
@@ -19,55 +13,99 @@ IDLE = """
         && document.querySelector("[aria-busy=true]:not([hidden], #best, #best-body)") === null"""
 # the best are looked for by themselves, and most of the page doesn't wait for them
 BEST = "return document.querySelector('#best[aria-busy=true], #best-body[aria-busy=true]') === null"
+# a method with its words, and each look with what is wanted of it
+Step = tuple[Any, ...]
+# what may be looked for by a short name, beside what `look` says
+LOOKS = {"hash": "return location.hash", "title": "return document.title",
+    "focus": "const at = document.activeElement; return at.id || at.dataset.cell || at.textContent",
+    "steps": "return all('#line-list li').length", "kept": "return all('#kept-list li').length",
+    "said": "return part('status').textContent", "label": "return document.activeElement.ariaLabel ?? document.activeElement.id"}
+# waits in the page until what another script says is true
+UNTIL = """const [words, end] = [[...arguments], performance.now() + %d];
+    const says = function () { %s\n};
+    return new Promise((done, fails) => {
+        const look = () => {
+            try {
+                if (says(...words)) done(true);
+                else if (performance.now() > end) done(false);
+                else setTimeout(look, 10);
+            } catch (fault) {
+                fails(fault);
+            }
+        };
+        look();
+    })"""
+# the middle of what a selector finds, once it is in view, and what is seen there in its place
+MIDDLE = """const it = document.querySelector(arguments[0]), opened = it.closest("details");
+    if (opened && !it.matches("summary")) opened.open = true;
+    if (!it.checkVisibility()) throw new Error("it isn't seen");
+    const box = () => it.getClientRects()[0];
+    if (box().top < 0 || box().bottom > innerHeight) it.scrollIntoView({ block: "nearest", behavior: "instant" });
+    const [x, y] = [box().left + box().width / 2, box().top + box().height / 2], there = document.elementFromPoint(x, y);
+    if (!it.contains(there)) throw new Error(`${there?.outerHTML.slice(0, 80)} stands on it`);
+    return [x, y]"""
 
 
-class Browser:
+class Keys:
+    """Keys that type no sign."""
+
+    TAB, ENTER, ESCAPE, BACKSPACE, DELETE, HOME, SPACE = "Tab", "Enter", "Escape", "Backspace", "Delete", "Home", " "
+    ARROW_LEFT, ARROW_UP, ARROW_RIGHT, ARROW_DOWN = "ArrowLeft", "ArrowUp", "ArrowRight", "ArrowDown"
+
+
+CODES = {"Tab": 9, "Enter": 13, "Escape": 27, "Backspace": 8, "Delete": 46, "Home": 36, "ArrowLeft": 37, "ArrowUp": 38, "ArrowRight": 39,
+    "ArrowDown": 40}
+
+
+class Browser(Tab):
     """One window with the page."""
 
-    # the built program, and the page as a browser has it that runs no WebAssembly
-    program = ""
-    page_without_engine = ""
+    def __init__(self, chromium: Chromium, page: str) -> None:
+        super().__init__(chromium)
+        # the built program, and the page as a browser has it that runs no WebAssembly
+        self.page, self.program, self.page_without_engine = page, "", ""
+        self.resize()
+        self.media(prefers_color_scheme="light")
+        self.before_page(UNSEEN)
 
-    def __init__(self, page: str, width: int = 1280, height: int = 1000, colours: str = "light") -> None:
-        options = webdriver.ChromeOptions()
-        for word in ("--headless=new", "--no-sandbox", "--disable-dev-shm-usage", f"--window-size={width},{height}"):
-            options.add_argument(word)
-        options.set_capability("goog:loggingPrefs", {"browser": "ALL", "performance": "ALL"})
-        self.driver = webdriver.Chrome(options=options, service=Service("/usr/bin/chromedriver"))
-        self.page = page
-        self.command("Emulation.setDeviceMetricsOverride", width=width, height=height, deviceScaleFactor=1, mobile=False)
-        self.command("Emulation.setEmulatedMedia", features=[{"name": "prefers-color-scheme", "value": colours}])
-        self.command("Page.enable")
-        self.command("Page.addScriptToEvaluateOnNewDocument", source=UNSEEN)
+    def resize(self, width: int = 1280, height: int = 1000, mobile: bool = False) -> None:
+        """Makes the window so large."""
+        self.command("Emulation.setDeviceMetricsOverride", width=width, height=height, deviceScaleFactor=1, mobile=mobile)
 
-    def __enter__(self) -> "Browser":
-        return self
+    def media(self, kind: str = "", **features: str) -> None:
+        """Has the browser tell the page of these wishes, and of no others."""
+        wished = [{"name": name.replace("_", "-"), "value": value} for name, value in features.items()]
+        self.command("Emulation.setEmulatedMedia", media=kind, features=wished)
 
-    def __exit__(self, *_: object) -> None:
-        self.driver.quit()
+    def before_page(self, script: str) -> str:
+        """Has a script run before those of each page that is opened, and returns its name."""
+        return str(self.command("Page.addScriptToEvaluateOnNewDocument", source=script)["identifier"])
 
-    def command(self, name: str, **words: object) -> dict[str, Any]:
-        """A command of the browser's own protocol."""
-        return self.driver.execute_cdp_cmd(name, words)
+    def no_longer(self, name: str) -> None:
+        """Has a script no longer run before those of a page."""
+        self.command("Page.removeScriptToEvaluateOnNewDocument", identifier=name)
 
-    def open(self, address: str = "") -> None:
-        """Loads the page with this text after its address, and waits for its answers."""
-        self.driver.get("about:blank")
-        self.driver.get(self.page + address)
+    def open(self, address: str = "", page: str = "") -> None:
+        """Loads the page anew with this text after its address, and waits for its answers."""
+        self.load("about:blank")
+        self.load((page or self.page) + address)
+        if not page:
+            self.wait()
+
+    def go(self, address: str = "") -> None:
+        """Has the page go to this address, or loads it if it isn't open, and waits for its answers: what was chosen stays."""
+        if self.script("""const before = location.hash, results = part("results");
+                if (results === null) return true;
+                document.activeElement?.blur();
+                scrollTo({ top: 0, behavior: "instant" });
+                location.hash = arguments[0];
+                if (location.hash !== before) results.setAttribute("aria-busy", "true")""", address):
+            self.load(self.page + address)
         self.wait()
-
-    def script(self, text: str, *words: object) -> Any:
-        """What a script answers."""
-        return self.driver.execute_script(text, *words)
 
     def until(self, text: str, *words: object) -> bool:
         """Waits until a script answers with true, and says whether it did in time."""
-        end = time.monotonic() + PATIENCE
-        while not self.script(text, *words):
-            if time.monotonic() > end:
-                return False
-            time.sleep(0.03)
-        return True
+        return bool(self.script(UNTIL % (1000 * PATIENCE, text), *words))
 
     def wait(self) -> None:
         """Waits until nothing on the page waits for an answer."""
@@ -88,70 +126,108 @@ class Browser:
 
     def choose(self, name: str, value: str) -> None:
         """Chooses of a field, without waiting."""
-        self.script(
-            "const it = document.getElementById(arguments[0]); it.value = arguments[1]; it.dispatchEvent(new Event('change'))",
-            name,
-            value,
-        )
+        self.script("const it = part(arguments[0]); it.value = arguments[1]; it.dispatchEvent(new Event('change'))", name, value)
 
     def listed(self) -> list[str]:
         """The solutions that are listed, without their brackets."""
-        return self.script("return [...document.querySelectorAll('#solutions-groups .take')].map((each) => each.dataset.key)")
+        return self.script("return all('#solutions-groups .take').map((each) => each.dataset.key)")
 
     def text(self, name: str) -> str:
         """The text of the part with this id, as it is seen, "" where it is hidden."""
-        return self.driver.find_element(By.ID, name).text
+        return self.script("const it = part(arguments[0]); return it.checkVisibility() ? it.innerText.trim() : ''", name)
 
     def content(self, name: str) -> str:
         """The text of the part with this id, also where it is hidden."""
-        return self.script("return document.getElementById(arguments[0]).textContent", name)
+        return self.script("return part(arguments[0]).textContent", name)
+
+    def value(self, name: str) -> str:
+        """What a field holds."""
+        return self.script("return part(arguments[0]).value", name)
+
+    def hash(self) -> str:
+        """The end of the address, which holds the page's state."""
+        return self.script("return location.hash")
 
     def texts(self, selector: str) -> list[str]:
         """The texts of all elements that a selector finds."""
-        return self.script("return [...document.querySelectorAll(arguments[0])].map((each) => each.textContent)", selector)
+        return self.script("return all(arguments[0]).map((each) => each.textContent)", selector)
 
     def focused(self) -> str:
         """The id of what has the focus, or the name of its cell, or its text."""
-        return self.script("const at = document.activeElement; return at.id || at.dataset.cell || at.textContent")
+        return self.look("focus")
 
-    def press(self, *keys: str) -> None:
-        """Keys, as they come to what has the focus."""
-        ActionChains(self.driver).send_keys(*keys).perform()
+    def look(self, name: str) -> Any:
+        """
+        What is seen by a name: one of LOOKS, what a script or one of some methods here returns, what a field holds (`name=`), whether it is seen (`name?`), how many a selector finds (`n selector`), the
+        texts of what a selector finds that begins with a sign, or the text of a part.
+        """
+        if name in LOOKS or "return " in name:
+            return self.script(LOOKS.get(name, name))
+        if name in ("cells", "listed"):
+            return getattr(self, name)()
+        kind, _, rest = name.partition(" ")
+        if kind in ("letters", "content"):
+            return getattr(self, kind)(rest)
+        if name.endswith("="):
+            return self.value(name[:-1])
+        if name.endswith("?"):
+            return self.script("return part(arguments[0]).checkVisibility()", name[:-1])
+        if name.startswith("n "):
+            return len(self.texts(name[2:]))
+        return self.text(name) if name[0].isalpha() else self.texts(name)
 
-    def press_back(self) -> None:
-        """Shift and Tab."""
-        ActionChains(self.driver).key_down(Keys.SHIFT).send_keys(Keys.TAB).key_up(Keys.SHIFT).perform()
+    def comes(self, name: str, wanted: object) -> bool:
+        """Waits until a look has this value and nothing waits for an answer, and says whether that came in time."""
+        end = time.monotonic() + PATIENCE
+        while self.look(name) != wanted and time.monotonic() < end:
+            time.sleep(0.02)
+        self.wait()
+        return self.look(name) == wanted
+
+    def walk(self, tally: Tally, what: str, *steps: Step) -> None:
+        """Does one step after another: a method of this class with its words, and then each look with what is wanted of it."""
+        for (name, *words), looks in ((step[:-1], step[-1]) for step in steps):
+            did = f"{what}, {name} {', '.join(map(str, words))[:80]}"
+            tally.holds(f"{did}: it comes to its end", getattr(self, name)(*words) is not False)
+            self.wait()
+            for look, wanted in looks.items():
+                tally.equal(f"{did}: {look}", self.look(look), wanted)
+
+    def press(self, *keys: str, modifiers: int = 0) -> None:
+        """Keys, as they come to what has the focus: those of CODES by their names, and each sign of another text."""
+        for key in (each for keys_or_text in keys for each in ([keys_or_text] if keys_or_text in CODES else keys_or_text)):
+            text = {"text": "\r" if key == "Enter" else key} if key == "Enter" or key not in CODES else {}
+            code = {"windowsVirtualKeyCode": CODES.get(key, ord(key.upper()) if len(key) == 1 and key.isalnum() else 0)}
+            for kind in ("keyDown" if text else "rawKeyDown", "keyUp"):
+                words = text if kind == "keyDown" else {}
+                self.command("Input.dispatchKeyEvent", type=kind, key=key, modifiers=modifiers, **code, **words)
 
     def tab_to(self, wanted: str, most: int = 60, back: bool = False) -> bool:
         """Goes by the Tab key until this has the focus, and says whether it came there."""
-        for _ in range(most):
-            if self.focused() == wanted:
-                return True
-            if back:
-                self.press_back()
-            else:
-                self.press(Keys.TAB)
-        return self.focused() == wanted
+        while (is_there := self.focused() == wanted) is False and most > 0:
+            most -= 1
+            self.press(Keys.TAB, modifiers=8 if back else 0)
+        return is_there
 
     def fill(self, name: str, text: str) -> None:
         """Puts a text in place of a field's, and waits for what the page makes of it."""
         self.script(
-            "const field = document.getElementById(arguments[0]); field.value = arguments[1];"
-            'document.getElementById("results").setAttribute("aria-busy", "true"); field.dispatchEvent(new Event("input"))',
-            name,
-            text,
-        )
+            "const field = part(arguments[0]); field.value = arguments[1];"
+            'part("results").setAttribute("aria-busy", "true"); field.dispatchEvent(new Event("input"))', name, text)
         self.wait()
 
     def submit(self, name: str, text: str) -> None:
         """Puts a text in place of a field's, and sends its form, without waiting."""
-        send = "const field = document.getElementById(arguments[0]); field.value = arguments[1]; field.form.requestSubmit()"
+        send = "const field = part(arguments[0]); field.value = arguments[1]; field.form.requestSubmit()"
         self.script(send, name, text)
 
     def click(self, selector: str) -> None:
         """Clicks the first element that a selector finds, in an opened part."""
-        self.script("const part = document.querySelector(arguments[0])?.closest('details'); if (part) part.open = true", selector)
-        self.driver.find_element(By.CSS_SELECTOR, selector).click()
+        x, y = self.script(MIDDLE, selector)
+        for kind in ("mouseMoved", "mousePressed", "mouseReleased"):
+            self.command("Input.dispatchMouseEvent", type=kind, x=x, y=y, button="none" if kind == "mouseMoved" else "left", clickCount=1)
+        # nobody is quicker than the page draws
+        self.script("return new Promise((done) => requestAnimationFrame(() => requestAnimationFrame(() => done())))")
 
     def act(self, selector: str) -> None:
         """Clicks, and waits for the answers."""
@@ -164,17 +240,23 @@ class Browser:
 
     def cells(self) -> list[str]:
         """What the cells of the table are called."""
-        return self.script("return [...document.querySelectorAll('#steps-body .cell')].map((each) => each.ariaLabel)")
+        return self.script("return all('#steps-body .cell').map((each) => each.ariaLabel)")
 
     def workers(self) -> int:
         """How many workers there are."""
-        return sum(target["type"] == "worker" for target in self.command("Target.getTargets")["targetInfos"])
+        targets = self.chromium.command("Target.getTargets")["targetInfos"]
+        return sum(each["type"] == "worker" and each.get("browserContextId") == self.context for each in targets)
 
     def complaints(self) -> list[str]:
         """What the console says beside plain notes."""
-        return [entry["message"] for entry in self.driver.get_log("browser") if entry["level"] in ("SEVERE", "WARNING")]
+        found = []
+        for each in self.told("Runtime.consoleAPICalled", "Runtime.exceptionThrown", "Log.entryAdded"):
+            said = each["params"]
+            if said.get("type") in ("error", "warning", "assert") or "exceptionDetails" in said \
+                    or said.get("entry", {}).get("level") in ("error", "warning"):
+                found.append(str(said))
+        return found
 
     def requests(self) -> list[str]:
         """The addresses that were asked for."""
-        messages = [json.loads(entry["message"])["message"] for entry in self.driver.get_log("performance")]
-        return [each["params"]["request"]["url"] for each in messages if each["method"] == "Network.requestWillBeSent"]
+        return [each["params"]["request"]["url"] for each in self.told("Network.requestWillBeSent")]

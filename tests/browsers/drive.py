@@ -3,50 +3,31 @@
 
     tests/browsers/drive.py [PAGE PROGRAM [PART..]]
 
-PAGE is the joined file, PROGRAM the built nissy, and a PART one of those in PARTS below; all where none is named. The last line is
-`N passed, M failed`, and the status is 1 where M isn't 0. Without a word it prints the names of the parts.
+PAGE is the joined file, PROGRAM the built nissy, and a PART one of those in PARTS below; all where none is named. Of a part each function is tried
+that takes a tally and a browser alone. The last line is
+`N passed, M failed`, and the status is 1 where M isn't 0. Without a word it prints the names of the parts, in lines of which each may be tried
+beside the others.
 """
 import shutil
 import subprocess
 import sys
 import tempfile
+from importlib import import_module
+from inspect import isfunction, signature
 from pathlib import Path
+from typing import Callable
 
 sys.path.insert(0, str(Path(__file__).resolve().parent.parent))
 
-import addresses
-import ahead
-import at_once
-import best
-import desk
-import faults
-import filters
-import first
-import focus
-import further
-import kept
-import keyboard
-import line
-import looks
-import narrow
-import phone
-import searches
-import settings
-import sizes
-import steps
-import still
-import stops
-import teacher
-import trifles
-import turned
-import workers
 from browser import Browser
-from selenium.common.exceptions import WebDriverException
+from chromium import Chromium
 from tally import Tally
 
-PARTS = (keyboard, faults, workers, addresses, best, searches, at_once, turned, steps, line, kept, focus, stops, phone, narrow, sizes, settings, filters,
-    looks, still, trifles, further, desk, first, ahead, teacher)
-
+# in the order in which they are dealt out to the browsers
+PARTS = ("keyboard faults workers addresses best searches at_once turned steps line kept focus stops phone narrow sizes settings filters looks still trifles "
+    "further desk first ahead teacher").split()
+# how many browsers there are, each with some of the parts
+BROWSERS = 6
 TOP = Path(__file__).resolve().parent.parent.parent
 NO_ENGINE = "globalThis.WebAssembly = undefined;\n"
 
@@ -61,25 +42,36 @@ def page_without_engine(room: Path) -> str:
     return (room / "page.html").as_uri()
 
 
+def trials(part: str) -> list[Callable[[Tally, Browser], None]]:
+    """The functions of a part that take a tally and a browser alone, as they stand there."""
+    own = [each for each in vars(import_module(part)).values() if isfunction(each) and each.__module__ == part]
+    return [each for each in own if list(signature(each).parameters) == ["tally", "browser"]]
+
+
 def main() -> None:
-    """Each part in a browser of its own, whose console and requests are looked at in the end."""
+    """Each part in a page of its own, with a storage of its own, whose console and requests are looked at in the end."""
     if len(sys.argv) == 1:
-        print(*(part.__name__ for part in PARTS), sep="\n")
+        for at in range(BROWSERS):
+            print(*PARTS[at::BROWSERS])
         return
     page, program = Path(sys.argv[1]).resolve().as_uri(), str(Path(sys.argv[2]).resolve())
     tally = Tally()
-    chosen = [part for part in PARTS if len(sys.argv) == 3 or part.__name__ in sys.argv[3:]]
-    for part in chosen:
-        with Browser(page) as browser, tempfile.TemporaryDirectory() as room:
-            browser.program, browser.page_without_engine = program, page_without_engine(Path(room))
+    chromium = Chromium()
+    with tempfile.TemporaryDirectory() as room:
+        without = page_without_engine(Path(room))
+        for part in sys.argv[3:] or PARTS:
+            browser = Browser(chromium, page)
+            browser.program, browser.page_without_engine = program, without
             try:
-                part.try_all(tally, browser)
-            except (WebDriverException, TimeoutError, LookupError, TypeError, ValueError) as stop:
-                tally.holds(f"{part.__name__} goes to its end: {str(stop).splitlines()[0]}", False)
-            tally.equal(f"{part.__name__}: the console", browser.complaints(), [])
-            known = (page, browser.page_without_engine)
-            beyond = [url for url in browser.requests() if not url.startswith((*known, "blob:", "data:", "about:"))]
-            tally.equal(f"{part.__name__}: requests beyond the file", beyond, [])
+                for each in trials(part):
+                    each(tally, browser)
+            except (TimeoutError, LookupError, TypeError, ValueError) as stop:
+                tally.holds(f"{part} goes to its end: {str(stop).splitlines()[0]}", False)
+            tally.equal(f"{part}: the console", browser.complaints(), [])
+            beyond = [url for url in browser.requests() if not url.startswith((page, without, "blob:", "data:", "about:"))]
+            tally.equal(f"{part}: requests beyond the file", beyond, [])
+            browser.end()
+    chromium.end()
     tally.end()
 
 

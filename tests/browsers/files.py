@@ -26,18 +26,13 @@ MARKUP = r"(?:inner|outer|set)HTML|insertAdjacent|document\.write|ContextualFrag
 # what would ask a network
 ASKING = r"\bfetch\b|XMLHttpRequest|WebSocket|EventSource|sendBeacon|importScripts|RTCPeer|serviceWorker"
 # a script of the page that is put in place of one, and what it would do
-REFUSED = (
-    ("main.js", 'import { part } from "./element.js";\nconst part = 1;\n', "a name that is declared twice"),
+REFUSED = (("main.js", 'import { part } from "./element.js";\nconst part = 1;\n', "a name that is declared twice"),
     ("main.js", 'import * as element from "./element.js";\n', "an import of another form"),
-    ("main.js", "export default 1;\n", "an export of another form"),
-    ("main.js", 'const text = "</script>";\n', "an end of its element"),
-    ("main.js", 'const text = "<!--";\n', "a comment of the page"),
-    ("main.js", "const text = `R\n  U`;\n", "a text of several lines"),
-    ("style.css", "</style>", "an end of the style"),
-    ("print.css", "</style>", "an end of the style in a part of it"),
+    ("main.js", "export default 1;\n", "an export of another form"), ("main.js", 'const text = "</script>";\n', "an end of its element"),
+    ("main.js", 'const text = "<!--";\n', "a comment of the page"), ("main.js", "const text = `R\n  U`;\n", "a text of several lines"),
+    ("style.css", "</style>", "an end of the style"), ("print.css", "</style>", "an end of the style in a part of it"),
     ("style.css", '@import url("./print.css");', "an import of another form in the style"),
-    ("main.js", "// " + "x" * MOST_BYTES, "a page that is too large"),
-)
+    ("main.js", "// " + "x" * MOST_BYTES, "a page that is too large"))
 
 
 def element(page: str, pattern: str) -> str:
@@ -55,15 +50,9 @@ def is_closed(tally: Tally, page: str) -> None:
     """The policy allows the page's own script, style and worker, and nothing of a network."""
     [policy] = re.findall(r'http-equiv="Content-Security-Policy" content="([^"]*)"', page)
     rules = dict(rule.strip().split(" ", 1) for rule in policy.split(";"))
-    wanted = {
-        "default-src": "'none'",
-        "script-src": hash_of(element(page, 'script type="module"')) + " 'wasm-unsafe-eval'",
-        "worker-src": "blob:",
-        "style-src": hash_of(element(page, "style")),
-        "img-src": "data:",
-        "base-uri": "'none'",
-        "form-action": "'none'",
-    }
+    wanted = {"default-src": "'none'", "script-src": hash_of(element(page, 'script type="module"')) + " 'wasm-unsafe-eval'",
+        "worker-src": "blob:", "style-src": hash_of(element(page, "style")), "img-src": "data:", "base-uri": "'none'",
+        "form-action": "'none'",}
     tally.equal("the policy", rules, wanted)
     tally.holds("it stands before what it rules", page.index("Content-Security-Policy") < min(page.index("<style"), page.index("<link")))
     links = re.findall(r'\b(?:src|href|action|data|poster)="([^"]*)"', page)

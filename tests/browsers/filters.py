@@ -73,9 +73,3 @@ def of_a_list(tally: Tally, browser: Browser) -> None:
     tally.equal("a case", browser.script(SIGNS, "list")[0], "1 on")
     browser.act('[data-cell="eofb.normal"]')
     tally.equal("another list has none", browser.script(SIGNS, "list"), ["", "", ""])
-
-
-def try_all(tally: Tally, browser: Browser) -> None:
-    """All of them."""
-    for part in (of_the_best, of_many, of_a_list):
-        part(tally, browser)

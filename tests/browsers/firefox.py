@@ -7,21 +7,16 @@ import time
 from pathlib import Path
 from typing import Any
 
-from anywhere import PATIENCE, SEEN, Window
-
-
-def free_port() -> int:
-    """A port that nobody listens on."""
-    with socket.socket() as probe:
-        probe.bind(("127.0.0.1", 0))
-        return probe.getsockname()[1]
+from windows import PATIENCE, SEEN, Window
 
 
 class Firefox(Window):
     """A Firefox that is seen nowhere, and a connection to it."""
 
     def __init__(self, room: str) -> None:
-        port = free_port()
+        with socket.socket() as probe:
+            probe.bind(("127.0.0.1", 0))
+            port = probe.getsockname()[1]
         preferences = {"marionette.port": port, "datareporting.policy.dataSubmissionEnabled": False, "app.update.disabledForTesting": True}
         lines = [f"user_pref({json.dumps(name)}, {json.dumps(value)});\n" for name, value in preferences.items()]
         Path(room, "user.js").write_text("".join(lines))

@@ -40,26 +40,45 @@ def begins(browser: Browser, scramble: str) -> None:
 
 def shows_all(browser: Browser) -> list[list[str]]:
     """Has what was found since shown, and as many rows as are compared."""
-    browser.script("const it = document.getElementById('best-new'); if (!it.hidden) it.click()")
-    while len(browser.script(ROWS)) < 48:
-        browser.script("document.getElementById('best-more').click()")
-    return browser.script(ROWS)
+    browser.script("const it = part('best-new'); if (!it.hidden) it.click()")
+    while len(rows := browser.script(ROWS)) < 48:
+        browser.script("part('best-more').click()")
+    return rows
 
 
 def goes_on(tally: Tally, browser: Browser) -> None:
-    """Not while the page isn't seen; then to two moves more, to the same rows as if these had been asked for."""
+    """
+    Not while the page isn't seen; then to two moves more, to the same rows as if these had been asked for. Rows that are seen stay until they are
+    asked to make room; then the first that is new has the focus, and nothing has moved before.
+    """
     begins(browser, WORSE)
-    note = browser.text("best-note")
-    first = browser.script(ROWS)
+    note, first, keys, top = browser.text("best-note"), browser.script(ROWS), browser.script(KEYS), browser.script(FIRST_ROW)
+    height = "return part('best-head').offsetHeight"
+    before = browser.script(height)
     time.sleep(LONGER_THAN_REST)
     seen = (browser.text("best-note"), browser.script(ROWS), browser.script(ENDED))
     tally.equal("it waits while the page isn't seen", seen, (note, first, True))
     browser.script(TURN, True)
     tally.holds("then come those of one move more", browser.until(f"return {NOTE}.startsWith('Up to 1 longer: ')"))
-    tally.holds("and of two", browser.until(f"return {NOTE}.startsWith('Up to 2 longer: ')"))
+    tally.holds("more is found", browser.until(IS_NEW))
+    tally.equal("the rows stay", (browser.script(KEYS), browser.script(FIRST_ROW)), (keys, top))
+    tally.holds("and those of two", browser.until(f"return {NOTE}.startsWith('Up to 2 longer: ')"))
     tally.holds("to their end", browser.until(ENDED))
+    tally.equal("to the end", (browser.script(KEYS), browser.script(FIRST_ROW), browser.script(height)), (keys, top, before))
     done, all_of_them = re.findall("[0-9,]+", browser.text("best-note").removeprefix("Up to 2 longer"))[:2]
     tally.equal("all are tried", done, all_of_them)
+    shows_found(tally, browser, first, top)
+
+
+def shows_found(tally: Tally, browser: Browser, first: list[list[str]], top: int) -> None:
+    """What was found is shown once it is asked for, and is what a search of two moves more finds."""
+    words = browser.text("best-new")
+    said = re.fullmatch(r"[0-9,]+ new rows?: (\d+) moves", words)
+    tally.holds(f"a button says that better ones are there: {words}", said and int(said[1]) < int(first[0][0]))
+    browser.click("#best-new")
+    rows = browser.script(ROWS)
+    tally.equal("which it shows", (rows[0][0], browser.script(FIRST_ROW), browser.script(IS_NEW)), (said[1] if said else "", top, False))
+    tally.equal("the first of them has the focus", browser.script("return document.activeElement.dataset.key"), browser.script(KEYS)[0])
     found = shows_all(browser)
     tally.equal("by all moves", [int(row[0]) for row in found], sorted(int(row[0]) for row in found))
     # by a page that has found none of them yet
@@ -73,30 +92,9 @@ def goes_on(tally: Tally, browser: Browser) -> None:
     tally.holds("which is more than the shortest", found[: len(first)] != first)
 
 
-def keeps_rows(tally: Tally, browser: Browser) -> None:
-    """Rows that are seen stay until they are asked to make room; then the first that is new has the focus, and nothing has moved before."""
-    begins(browser, WORSE)
-    keys, top = browser.script(KEYS), browser.script(FIRST_ROW)
-    best = int(browser.script(ROWS)[0][0])
-    height = "return document.getElementById('best-head').offsetHeight"
-    before = browser.script(height)
-    browser.script(TURN, True)
-    tally.holds("more is found", browser.until(IS_NEW))
-    tally.equal("the rows stay", (browser.script(KEYS), browser.script(FIRST_ROW)), (keys, top))
-    browser.until(ENDED)
-    tally.equal("to the end", (browser.script(KEYS), browser.script(FIRST_ROW), browser.script(height)), (keys, top, before))
-    words = browser.text("best-new")
-    said = re.fullmatch(r"[0-9,]+ new rows?: (\d+) moves", words)
-    tally.holds(f"a button says that better ones are there: {words}", said and int(said[1]) < best)
-    browser.click("#best-new")
-    rows = browser.script(ROWS)
-    tally.equal("which it shows", (rows[0][0], browser.script(FIRST_ROW), browser.script(IS_NEW)), (said[1] if said else "", top, False))
-    tally.equal("the first of them has the focus", browser.script("return document.activeElement.dataset.key"), browser.script(KEYS)[0])
-
-
 def pauses(tally: Tally, browser: Browser) -> None:
     """A page that is left looks for nothing, and goes on once it is seen again; a stop ends it, and a choice keeps it from beginning."""
-    script = browser.command("Page.addScriptToEvaluateOnNewDocument", source=LISTEN)
+    script = browser.before_page(LISTEN)
     begins(browser, WORSE)
     asked = "return window.asked.filter((each) => each === 'best').length"
     count = browser.script(asked)
@@ -119,7 +117,7 @@ def pauses(tally: Tally, browser: Browser) -> None:
     count = browser.script(asked)
     time.sleep(LONGER_THAN_REST)
     tally.equal("and ends it", (browser.script(asked), browser.script(ENDED)), (count, True))
-    browser.command("Page.removeScriptToEvaluateOnNewDocument", identifier=script["identifier"])
+    browser.no_longer(script)
     browser.open(address_of(SCRAMBLE))
     browser.script("document.getElementById('best-further').click()")
     browser.wait_best()
@@ -143,13 +141,6 @@ def has_room(tally: Tally, browser: Browser) -> None:
     """The rows begin at one place in each width, however much the head says."""
     begins(browser, SCRAMBLE)
     for width in WIDTHS:
-        browser.command("Emulation.setDeviceMetricsOverride", width=width, height=900, deviceScaleFactor=1, mobile=False)
+        browser.resize(width, 900)
         tops = browser.script(TOPS)
         tally.equal(f"{width} points: the head has one height", tops, tops[:1] * len(tops))
-    browser.command("Emulation.clearDeviceMetricsOverride")
-
-
-def try_all(tally: Tally, browser: Browser) -> None:
-    """All of them."""
-    for part in (goes_on, keeps_rows, pauses, three_moves, has_room):
-        part(tally, browser)

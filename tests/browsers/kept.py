@@ -22,7 +22,7 @@ def keeps_moves_alone(tally: Tally, browser: Browser) -> None:
     browser.fill("scramble", "R U F // scramble\n\n() // nothing\n\nU R // good\n")
     browser.until("return document.querySelectorAll('#kept-list li').length > 0")
     tally.equal("what has moves is kept", browser.texts("#kept-list .moves"), ["U R"])
-    browser.driver.refresh()
+    browser.load()
     browser.until("return document.querySelectorAll('#kept-list li').length > 0")
     tally.equal("and is in the address", browser.texts("#kept-list .moves"), ["U R"])
 
@@ -155,11 +155,10 @@ def keeps_a_note(tally: Tally, browser: Browser) -> None:
     """The press that ends a note is heard: the row of its button stays where it is."""
     browser.open(f"{ADDRESS}&kept=normal.R,normal.U")
     browser.until(KEPT_SAID)
-    field = browser.driver.find_element("css selector", "#kept-list li:nth-child(1) .note-field")
-    field.click()
-    field.send_keys("a note ")
+    browser.click("#kept-list li:nth-child(1) .note-field")
+    browser.press("a note ")
     second = browser.texts("#kept-list .moves")[1]
-    browser.driver.find_element("css selector", "#kept-list li:nth-child(2) button").click()
+    browser.click("#kept-list li:nth-child(2) button")
     browser.wait()
     tally.equal("the press after a note is heard", browser.text("bracketed"), second)
     notes = "return [...document.querySelectorAll('#kept-list .note-field')].map((each) => each.value)"
@@ -184,6 +183,7 @@ def leaves_kept(tally: Tally, browser: Browser) -> None:
     tally.equal("another one leaves them", (browser.texts("#kept-list .moves"), browser.script(said)), ([], "2 kept lines were left."))
     browser.click("#left-back")
     tally.holds("they come back", browser.until("return document.querySelectorAll('#kept-list li').length === 2"))
+    browser.wait()
     for typed in ("", "B", "B U", "B U F"):
         browser.fill("scramble", typed)
     tally.equal("one that is typed keeps the way back", browser.script(said), "2 kept lines were left.")
@@ -266,9 +266,3 @@ def leads_to_kept(tally: Tally, browser: Browser) -> None:
     tally.holds("the bar has room for all", browser.script(fits))
     browser.command("Emulation.setDeviceMetricsOverride", width=1280, height=1000, deviceScaleFactor=1, mobile=False)
     tally.equal("where the page is wide there is no bar", browser.script(seen), [False, False, False])
-
-
-def try_all(tally: Tally, browser: Browser) -> None:
-    """All of them."""
-    for part in (keeps, keeps_in_address, copies_kept, keeps_a_note, leaves_kept, keeps_lengths, keeps_moves_alone, keeps_reductions, keeps_stages, leads_to_kept):
-        part(tally, browser)

@@ -1,8 +1,7 @@
 """How the page looks and what it is called: contrast in light and dark, names, themes, print, help."""
 import re
 
-from browser import Browser
-from selenium.webdriver.common.keys import Keys
+from browser import Browser, Keys
 from tally import Tally
 
 SCRAMBLE = "#scramble=R-_U-_F_D2_L2_F_R2_U2_R2_B_D2_L_B2_D-_B2_L-_R-_B-_D2_B2_R-_U-_F"
@@ -20,7 +19,7 @@ CONTRAST = """
         return ground.length === 3 || ground[3] === 1 ? ground : behind(node.parentElement);
     };
     const found = [];
-    const seen = [...document.querySelectorAll("body *")].filter((node) => node.checkVisibility() && !node.closest("[inert]"));
+    const seen = all("body *").filter((node) => node.checkVisibility() && !node.closest("[inert]"));
     for (const node of seen) {
         const words = [...node.childNodes].filter((each) => each.nodeType === 3).map((each) => each.data.trim()).join("");
         if (words === "" && !node.matches("textarea, input")) continue;
@@ -33,7 +32,7 @@ CONTRAST = """
 # the buttons and fields without a name, and how many there are
 NAMELESS = ("button", "textbox", "combobox", "img", "progressbar", "searchbox", "checkbox", "table", "region")
 WIDE = """
-    const far = [...document.querySelectorAll("body *")].filter((node) => node.checkVisibility() && !node.closest(".unseen, .scrolled, pre")
+    const far = all("body *").filter((node) => node.checkVisibility() && !node.closest(".unseen, .scrolled, pre")
         && node.getBoundingClientRect().right > document.documentElement.clientWidth + 0.5);
     return [innerWidth, document.documentElement.scrollWidth <= innerWidth, far.map((node) => node.outerHTML.slice(0, 80))]"""
 
@@ -47,32 +46,26 @@ def is_legible(tally: Tally, browser: Browser, what: str) -> None:
 
 def is_named(tally: Tally, browser: Browser, what: str) -> None:
     """What assistive technology is told of each control."""
-    nodes = browser.command("Accessibility.getFullAXTree")["nodes"]
-    controls = [node for node in nodes if not node.get("ignored") and node.get("role", {}).get("value") in NAMELESS]
-    nameless = [node["role"]["value"] for node in controls if not node.get("name", {}).get("value", "").strip()]
+    nodes = [(node.get("role", {}).get("value"), node.get("name", {}).get("value", ""))
+        for node in browser.command("Accessibility.getFullAXTree")["nodes"] if not node.get("ignored")]
+    controls = [(role, name) for role, name in nodes if role in NAMELESS]
     tally.holds(f"{what}: there are controls", len(controls) > 30)
-    tally.equal(f"{what}: controls without a name", nameless, [])
-    names = [node.get("name", {}).get("value", "") for node in controls]
-    tally.equal(f"{what}: buttons of one word", [name for name in names if name in ("Use", "Add", "Copy", "?")], [])
-    texts = [node["name"]["value"] for node in nodes if not node.get("ignored") and node.get("role", {}).get("value") == "StaticText"]
-    tally.equal(f"{what}: letters of stickers beside the label of their net", [text for text in texts if text in list("URFDLB")], [])
-    tally.equal(f"{what}: what only explains a colour", [text for text in texts if text == "shortest"], [])
-    pressed = [node.get("name", {}).get("value", "") for node in controls if node["role"]["value"] == "button"]
+    tally.equal(f"{what}: controls without a name", [role for role, name in controls if not name.strip()], [])
+    tally.equal(f"{what}: buttons of one word", [name for _, name in controls if name in ("Use", "Add", "Copy", "?")], [])
+    texts = [name for role, name in nodes if role == "StaticText"]
+    tally.equal(f"{what}: letters of stickers beside the label of their net, and what only explains a colour",
+        [text for text in texts if text in ("shortest", *"URFDLB")], [])
+    pressed = [name for role, name in controls if role == "button"]
     tally.equal(f"{what}: moves that are said with an apostrophe", [name for name in pressed if "'" in name], [])
     tally.holds(f"{what}: moves that are said", any(" prime" in name for name in pressed))
-    tally.equal(f"{what}: the shortest are said to be", any(name.endswith(", shortest") for name in pressed), True)
-    named = sorted(
-        {node.get("name", {}).get("value", "") for node in nodes if not node.get("ignored") and node["role"]["value"] == "table"},
-    )
-    tally.holds(
-        f"{what}: the tables' names are without help: {named}",
-        {"Best continuations, by all moves", "Shortest next steps"} <= set(named),
-    )
+    tally.holds(f"{what}: the shortest are said to be", any(name.endswith(", shortest") for name in pressed))
+    tables = {name for role, name in nodes if role == "table"}
+    tally.holds(f"{what}: the tables' names are without help: {tables}", {"Best continuations, by all moves", "Shortest next steps"} <= tables)
 
 
 def has_its_words(tally: Tally, browser: Browser, what: str) -> None:
     """What is pressed by the voice is called as it is seen: the words on a button are in its name. Moves and signs aren't said so."""
-    pairs = browser.script("""return [...document.querySelectorAll('button[aria-label]:not(.take, .help, .moves)')]
+    pairs = browser.script("""return all('button[aria-label]:not(.take, .help, .moves)')
         .filter((each) => each.checkVisibility() && /[a-z]{2}/i.test(each.innerText)).map((each) => [each.innerText, each.ariaLabel])""")
     tally.holds(f"{what}: there are words", len(pairs) > 10)
     plain = [[re.sub(r"[\s,]+", " ", words).lower() for words in pair] for pair in pairs]
@@ -82,8 +75,8 @@ def has_its_words(tally: Tally, browser: Browser, what: str) -> None:
 def is_bordered(tally: Tally, browser: Browser, what: str) -> None:
     """The contrast of the borders of what is pressed to the ground of its card."""
     found = browser.script(CONTRAST.split("const found")[0] + """
-        const shown = [...document.querySelectorAll(
-            "#steps .cell, #steps .help, #best-body .take, #solutions .take, #theme, #own, #line .quiet")];
+        const shown = all(
+            "#steps .cell, #steps .help, #best-body .take, #solutions .take, #theme, #own, #line .quiet");
         return shown.filter((node) => node.checkVisibility()).map((node) => {
             const own = getComputedStyle(node);
             if (own.borderTopColor === "rgba(0, 0, 0, 0)") return [99, node.className];
@@ -94,42 +87,66 @@ def is_bordered(tally: Tally, browser: Browser, what: str) -> None:
     tally.equal(f"{what}: borders of less than 3", [each for each in found if each[0] < 3], [])
 
 
+def fits(tally: Tally, browser: Browser, what: str) -> None:
+    """Nothing stands beyond the window."""
+    tally.equal(f"{what}: it fits", browser.script(WIDE), [360, True, []])
+
+
+def in_both_colours(tally: Tally, browser: Browser) -> None:
+    """At 360 points, light and dark."""
+    browser.resize(360, 800)
+    browser.open(ADDRESS)
+    browser.wait_best()
+    for colours in ("light", "dark"):
+        browser.media(prefers_color_scheme=colours)
+        browser.until("return document.getAnimations().length === 0")
+        for part in (is_legible, is_bordered, is_named, has_its_words, fits):
+            part(tally, browser, colours)
+
+
+def is_told_apart(tally: Tally, browser: Browser) -> None:
+    """Where the system forces its colours, the open cell and the shortest ones still differ from the others."""
+    browser.media(forced_colors="active")
+    seen = """const kinds = ["[aria-pressed=true]", ".least:not([aria-pressed=true])", ":not(.least, [aria-pressed=true])"];
+    return kinds.map((kind) => {
+        const own = getComputedStyle(document.querySelector(`#steps-body .cell${kind}`));
+        return [own.backgroundColor, own.outlineStyle].join();
+    })"""
+    tally.equal("kinds of cells that are told apart", len(set(browser.script(seen))), 3)
+    browser.media(prefers_color_scheme="light")
+
+
 def begins(tally: Tally, browser: Browser) -> None:
     """Before the first answer, and with a fault, there are no empty nets, and no welcome beside a scramble."""
-    seen = "return ['cube', 'welcome', 'best'].map((name) => document.getElementById(name).checkVisibility())"
-    browser.open("#scramble=R_q")
-    tally.equal("with a fault: the nets, the welcome, the best", browser.script(seen), [False, False, False])
-    browser.open()
-    tally.equal("without a scramble: the welcome alone", browser.script(seen), [False, True, False])
-    raw = "return [...document.querySelectorAll('.sticker')].filter((each) => !each.dataset.colour).length"
-    tally.equal("stickers without a colour that are seen", browser.script(raw), 0)
-    browser.driver.get("about:blank")
-    browser.driver.get(browser.page_without_engine + "#scramble=R")
-    browser.until("return !document.getElementById('failed').hidden")
+    seen = "return ['cube', 'welcome', 'best'].map((name) => part(name).checkVisibility())"
+    raw = "return all('.sticker').filter((each) => !each.dataset.colour).length"
+    browser.walk(tally, "with a fault, and without a scramble", ("open", "#scramble=R_q", {seen: [False, False, False]}),
+        ("open", {seen: [False, True, False], raw: 0}))
+    # a tint for the mouse is only where there is one that hovers: on a phone it would stick
+    rules = browser.script("""const rules = [...document.styleSheets].flatMap((sheet) => [...sheet.cssRules]);
+        const hovering = (list) => list.filter((rule) => rule.selectorText?.includes(':hover')).map((rule) => rule.selectorText);
+        const media = rules.filter((rule) => rule.media?.mediaText === '(hover: hover)');
+        return [hovering(rules), hovering(media.flatMap((rule) => [...rule.cssRules]))]""")
+    tally.equal("rules for hovering without such a mouse", rules[0], [])
+    tally.holds("rules for hovering with one", len(rules[1]) > 0)
+    browser.open("#scramble=R", browser.page_without_engine)
+    browser.until("return !part('failed').hidden")
     tally.equal("before an answer, and without an engine", browser.script(seen)[:2], [False, False])
 
 
 def prints(tally: Tally, browser: Browser) -> None:
-    """A printed sheet has the scramble, the line and what is kept, and nothing that is pressed."""
+    """A printed sheet has the scramble, the line and what is kept, and nothing that is pressed, cut, or without rows."""
     browser.open(ADDRESS)
     browser.wait_best()
-    browser.command("Emulation.setEmulatedMedia", media="print")
-    pressed = browser.script("""return [...document.querySelectorAll("button, select, input, summary")]
-        .filter((each) => each.checkVisibility()
-        && !each.matches(".cell, .take, .note-field")).map((each) => each.id || each.className)""")
-    tally.equal("what is pressed isn't printed", pressed, [])
-    for name in ("scramble", "net-normal", "line-list", "kept-list", "bracketed"):
-        tally.holds(f"{name} is printed", browser.script("return document.getElementById(arguments[0]).checkVisibility()", name))
-    browser.command("Emulation.setDeviceMetricsOverride", width=794, height=1123, deviceScaleFactor=1, mobile=False)
-    gap = "const [room, rows] = ['rows', 'table'].map((name) => document.getElementById(`best-${name}`).offsetHeight); return room - rows"
-    tally.equal("no room for rows that aren't there is printed", browser.script(gap), 0)
-    browser.command("Emulation.setDeviceMetricsOverride", width=360, height=800, deviceScaleFactor=1, mobile=False)
-    cut = (
-        "return [...document.querySelectorAll('main *')].filter((each) => each.checkVisibility() && !each.matches('.unseen') && "
-        "each.scrollHeight > each.clientHeight + 4 && getComputedStyle(each).overflowY !== 'visible').map((each) => each.id)"
-    )
-    tally.equal("nothing is cut", browser.script(cut), [])
-    browser.command("Emulation.setEmulatedMedia", media="", features=[{"name": "prefers-color-scheme", "value": "light"}])
+    browser.media("print")
+    pressed = """return seen("button, select, input, summary").filter((each) => !each.matches(".cell, .take, .note-field"))
+        .map((each) => each.id || each.className)"""
+    printed = {f"{name}?": True for name in ("scramble", "net-normal", "line-list", "kept-list", "bracketed")}
+    gap = "const [room, rows] = ['rows', 'table'].map((name) => part(`best-${name}`).offsetHeight); return room - rows"
+    cut = """return seen('main *').filter((each) => !each.matches('.unseen') && each.scrollHeight > each.clientHeight + 4
+        && getComputedStyle(each).overflowY !== 'visible').map((each) => each.id)"""
+    browser.walk(tally, "a sheet", ("wait", printed | {pressed: []}), ("resize", 794, 1123, {gap: 0}), ("resize", 360, 800, {cut: []}))
+    browser.media(prefers_color_scheme="light")
 
 
 def themes(tally: Tally, browser: Browser) -> None:
@@ -145,80 +162,34 @@ def themes(tally: Tally, browser: Browser) -> None:
     tally.equal("as the system has it", browser.script(ground), light)
 
 
-def hovers(tally: Tally, browser: Browser) -> None:
-    """A tint for the mouse is only where there is one that hovers: on a phone it would stick."""
-    browser.open()
-    rules = browser.script("""const rules = [...document.styleSheets].flatMap((sheet) => [...sheet.cssRules]);
-        const hovering = (list) => list.filter((rule) => rule.selectorText?.includes(':hover')).map((rule) => rule.selectorText);
-        const media = rules.filter((rule) => rule.media?.mediaText === '(hover: hover)');
-        return [hovering(rules), hovering(media.flatMap((rule) => [...rule.cssRules]))]""")
-    tally.equal("rules for hovering without such a mouse", rules[0], [])
-    tally.holds("rules for hovering with one", len(rules[1]) > 0)
-    browser.open(ADDRESS)
-
-
-def fits(tally: Tally, browser: Browser, what: str) -> None:
-    """Nothing stands beyond the window."""
-    tally.equal(f"{what}: it fits", browser.script(WIDE), [360, True, []])
-
-
-def is_told_apart(tally: Tally, browser: Browser) -> None:
-    """Where the system forces its colours, the open cell and the shortest ones still differ from the others."""
-    browser.command("Emulation.setEmulatedMedia", features=[{"name": "forced-colors", "value": "active"}])
-    seen = """const kinds = ["[aria-pressed=true]", ".least:not([aria-pressed=true])", ":not(.least, [aria-pressed=true])"];
-    return Object.fromEntries(kinds.map((kind) => {
-        const own = getComputedStyle(document.querySelector(`#steps-body .cell${kind}`));
-        return [kind, [own.backgroundColor, own.outlineStyle].join()];
-    }))"""
-    kinds = browser.script(seen)
-    tally.equal(f"kinds of cells that are told apart: {kinds}", len(set(kinds.values())), 3)
-    browser.command("Emulation.setEmulatedMedia", features=[{"name": "prefers-color-scheme", "value": "light"}])
-
-
 def helps(tally: Tally, browser: Browser) -> None:
-    """Each help opens by the keyboard, fits, and closes."""
-    seen = "[...document.querySelectorAll('[popovertarget]')].filter((each) => each.checkVisibility())"
+    """Each help opens by the keyboard, fits, is said, and closes."""
+    seen = "seen('[popovertarget]')"
     buttons = browser.script(f"return {seen}.map((each) => each.ariaLabel)")
     tally.holds("there is help", len(buttons) >= 7)
     for name in buttons:
         browser.script("document.querySelector(`[popovertarget][aria-label='${arguments[0]}']`).focus()", name)
         browser.press(Keys.ENTER)
-        tally.holds(f"{name} opens", browser.until("return document.querySelectorAll('.popover:popover-open').length === 1"))
+        tally.holds(f"{name} opens", browser.until("return all('.popover:popover-open').length === 1"))
         fits(tally, browser, name)
-        said = " ".join(browser.texts(".popover:popover-open")[0].split())
-        tally.equal(f"{name} is said", browser.texts("#status"), [said])
+        tally.equal(f"{name} is said", browser.look("said"), " ".join(browser.texts(".popover:popover-open")[0].split()))
         browser.press(Keys.ESCAPE)
         tally.holds(f"{name} closes", browser.until("return document.querySelector('.popover:popover-open') === null"))
 
 
 def copies(tally: Tally, browser: Browser) -> None:
     """The lines are copied, and said to be."""
-    copied = "return document.getElementById('status').textContent === `Copied: ${arguments[0]}` || String(getSelection()) === arguments[0]"
+    copied = "return part('status').textContent === `Copied: ${arguments[0]}` || String(getSelection()) === arguments[0]"
     for name in ("bracketed", "joined"):
         line = browser.text(name)
         browser.click(f"#copy-{name}")
-        is_copied = browser.until(copied, line)
-        tally.holds(f"{name} is copied: {browser.texts('#status')[0]}", is_copied)
-        words = [browser.text(f"copy-{name}")]
-        tally.holds(f"its button says so: {words}", words[0] in ("Copied", "Selected"))
-        tally.holds("for a moment", browser.until("return document.getElementById(arguments[0]).textContent === 'Copy'", f"copy-{name}"))
+        tally.holds(f"{name} is copied: {browser.look('said')}", browser.until(copied, line))
+        tally.holds("its button says so", browser.text(f"copy-{name}") in ("Copied", "Selected"))
+        tally.holds("for a moment", browser.comes(f"copy-{name}", "Copy"))
 
 
-def try_all(tally: Tally, browser: Browser) -> None:
-    """At 360 points, light and dark, with and without a fault."""
-    browser.command("Emulation.setDeviceMetricsOverride", width=360, height=800, deviceScaleFactor=1, mobile=False)
-    for colours in ("light", "dark"):
-        browser.command("Emulation.setEmulatedMedia", features=[{"name": "prefers-color-scheme", "value": colours}])
-        browser.open(ADDRESS)
-        browser.wait_best()
-        is_legible(tally, browser, colours)
-        is_bordered(tally, browser, colours)
-        is_named(tally, browser, colours)
-        has_its_words(tally, browser, colours)
-        fits(tally, browser, colours)
-    is_told_apart(tally, browser)
-    for part in (begins, prints, themes, hovers, helps, copies):
-        part(tally, browser)
+def with_a_fault(tally: Tally, browser: Browser) -> None:
+    """So is a fault legible, and fits."""
     browser.fill("scramble", "R U q " + "F" * 300)
     is_legible(tally, browser, "with a fault")
     fits(tally, browser, "with a fault")

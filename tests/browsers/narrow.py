@@ -13,6 +13,7 @@ MOST_OF_ROW = 56
 LEAST_SIGN = 10
 # and beside a mouse
 LEAST_BESIDE_MOUSE = 12.5
+FIRST_ROWS = 46
 # how wide and high what a selector finds is for a finger, each: the points around its middle that reach it
 REACHED = """
     const far = (each, x, y, [right, down]) => {
@@ -20,13 +21,13 @@ REACHED = """
         while (steps < 99 && document.elementFromPoint(x + (steps + 1) * right, y + (steps + 1) * down) === each) steps++;
         return steps;
     };
-    return [...document.querySelectorAll(arguments[0])].map((each) => {
+    return all(arguments[0]).map((each) => {
         each.scrollIntoView({ block: 'center', behavior: 'instant' });
         const { left, top, width, height } = each.getBoundingClientRect();
         const [back, right, up, down] = [[-1, 0], [1, 0], [0, -1], [0, 1]].map((way) => far(each, left + width / 2, top + height / 2, way));
         return [back + 1 + right, up + 1 + down];
     })"""
-HEIGHTS = "return [...document.querySelectorAll(arguments[0])].map((each) => each.getBoundingClientRect().height)"
+HEIGHTS = "return all(arguments[0]).map((each) => each.getBoundingClientRect().height)"
 ROWS_OF_BEST = """
     const areOn = (one, other) => one.left < other.right - 0.5 && other.left < one.right - 0.5
         && one.top < other.bottom - 0.5 && other.top < one.bottom - 0.5;
@@ -35,7 +36,7 @@ ROWS_OF_BEST = """
         range.selectNodeContents(node);
         return range.getBoundingClientRect();
     };
-    return [...document.querySelectorAll('#best-body tr')].map((row) => {
+    return all('#best-body tr').map((row) => {
         const [take, twins, star] = ['.take', '.twins', '.star'].map((name) => row.querySelector(name));
         const parts = [take, twins, star, ...row.querySelectorAll('th, .axis, .number')].filter((each) => each?.checkVisibility())
             .map((each) => each === star ? star.getBoundingClientRect() : textOf(each));
@@ -44,30 +45,29 @@ ROWS_OF_BEST = """
             size: parseFloat(own.fontSize), lines: Math.round(textOf(take).height / (1.5 * parseFloat(own.fontSize))),
             on: parts.some((one, at) => parts.some((other, next) => next > at && areOn(one, other))) };
     })"""
+# what is pressed and is less high or wide than a finger needs, but for what a selector finds
+SMALL = """return all("button, select, summary, input:not([type=checkbox]), textarea")
+    .filter((each) => each.checkVisibility() && !each.closest(arguments[1]))
+    .map((each) => [each.id || each.className || each.textContent, each.getBoundingClientRect()])
+    .filter(([, { width, height }]) => Math.min(width, height) < arguments[0]).map(([name]) => name)"""
 IN_VIEW = """
-    const { top, bottom, height } = document.getElementById(arguments[0]).getBoundingClientRect();
+    const { top, bottom, height } = part(arguments[0]).getBoundingClientRect();
     return height > 0 && top >= 0 && bottom <= innerHeight"""
 BROKEN = """
-    return [...document.querySelectorAll("#solutions-groups .take")].filter((each) => each.textContent.split(" ").length <= 8
+    return all("#solutions-groups .take").filter((each) => each.textContent.split(" ").length <= 8
         && each.clientHeight >= 2 * parseFloat(getComputedStyle(each).lineHeight)).map((each) => each.textContent)"""
 
 
 def presses(tally: Tally, browser: Browser) -> None:
     """On a phone what is pressed is large enough for a finger: a row of the best by its whole row."""
+    browser.resize(360, 800)
     browser.open(ADDRESS)
     browser.wait_best()
-    small = browser.script("""return [...document.querySelectorAll("button, select, summary, input:not([type=checkbox]), textarea")]
-        .filter((each) => each.checkVisibility() && !each.closest(".skip, #best-body, .popover"))
-        .map((each) => [each.id || each.className || each.textContent, each.getBoundingClientRect()])
-        .map(([name, { width, height }]) => [name, width, height])
-        .filter(([, width, height]) => Math.min(width, height) < arguments[0])""", TARGET)
-    tally.equal("what is too small", small, [])
-    chips = browser.script(HEIGHTS, "#best-body .take")
-    tally.holds(f"the moves of the best: {chips}", chips and min(chips) >= LEAST_TARGET)
-    notes = browser.script(HEIGHTS, ".note-field")
-    tally.holds(f"notes: {notes}", notes and min(notes) >= TARGET)
-    rows = browser.script(HEIGHTS, "#best-body tr")
-    tally.holds(f"rows of the best: {rows}", rows and min(rows) >= TARGET)
+    tally.equal("what is too small", browser.script(SMALL, TARGET, ".skip, #best-body, .popover"), [])
+    for what, selector, least in (("the moves of the best", "#best-body .take", LEAST_TARGET), ("notes", ".note-field", TARGET),
+            ("rows of the best", "#best-body tr", TARGET)):
+        heights = browser.script(HEIGHTS, selector)
+        tally.holds(f"{what}: {heights}", heights and min(heights) >= least)
     hit = """const row = document.querySelector('#best-body tr'); row.scrollIntoView({ block: 'center' });
         const { left, right, bottom } = row.getBoundingClientRect();
         return document.elementFromPoint((left + right) / 2, bottom - 4).className"""
@@ -76,103 +76,82 @@ def presses(tally: Tally, browser: Browser) -> None:
 
 def has_heads(tally: Tally, browser: Browser) -> None:
     """On a phone what stands beside a heading has no line of its own, though the heading may have two."""
-    beside = """return [...document.querySelectorAll('.head')].flatMap((head) => {
+    beside = """return all('.head').flatMap((head) => {
         const { bottom } = head.querySelector('h2').getBoundingClientRect();
         return [...head.querySelectorAll('button, select')].filter((each) => each.checkVisibility()
             && each.getBoundingClientRect().top > bottom).map((each) => each.id || each.ariaLabel);
     })"""
+    browser.go(SCRAMBLE + "&steps=inverse.B_D_R_F2_B_D&list=drfb-eoud.inverse.0")
+    browser.wait_best()
     for width in (390, 320):
-        browser.command("Emulation.setDeviceMetricsOverride", width=width, height=800, deviceScaleFactor=1, mobile=False)
-        browser.open(SCRAMBLE + "&steps=inverse.B_D_R_F2_B_D&list=drfb-eoud.inverse.0")
-        browser.wait_best()
+        browser.resize(width, 800)
         tally.equal(f"{width}: what stands below a heading", browser.script(beside), [])
-    browser.command("Emulation.setDeviceMetricsOverride", width=360, height=800, deviceScaleFactor=1, mobile=False)
 
 
-def has_two_lines(tally: Tally, browser: Browser) -> None:
-    """On a phone a row of the best has two lines at most, however long its moves are; nothing in it stands on something else."""
-    for after in ("", "&steps=inverse.B_D_R_F2_B_D"):
+def has_rows(tally: Tally, browser: Browser) -> None:
+    """
+    On a phone a row of the best has two lines at most, however long its moves are; beside a mouse moves and twins are as large as can be read, in rows of
+    one height. Nothing in a row stands on something else.
+    """
+    for after in ("&steps=inverse.B_D_R_F2_B_D", ""):
+        browser.resize(360, 800)
         browser.open(SCRAMBLE + after)
         browser.choose("best-slack", "2")
         browser.wait_best()
         browser.choose("best-sort", "case")
         for _ in range(3):
-            browser.script("document.getElementById('best-more').click()")
+            browser.script("part('best-more').click()")
         rows = browser.script(ROWS_OF_BEST)
         longest = max(len(row["moves"]) for row in rows)
         tally.holds(f"{after}: there are long rows and twins: {longest}", longest > 15 and any(row["hasTwins"] for row in rows))
         # before an orientation the first reduction has a line of its own
         most = MOST_OF_ROW + (0 if after else LINE_OF_FIRST)
-        tally.equal(f"{after}: rows of more lines", [row for row in rows if row["lines"] > 1 or row["height"] > most], [])
-        tally.equal(f"{after}: parts of a row on each other", [row for row in rows if row["on"]], [])
-        tally.equal(f"{after}: signs that are too small", [row for row in rows if row["size"] < LEAST_SIGN], [])
-        tally.equal(f"{after}: stars that are too small", [row for row in rows if min(row["star"]) < LEAST_TARGET], [])
+        for what, wrong in (("rows of more lines", lambda row: row["lines"] > 1 or row["height"] > most), ("parts of a row on each other", lambda row: row["on"]),
+                ("signs that are too small", lambda row: row["size"] < LEAST_SIGN), ("stars that are too small", lambda row: min(row["star"]) < LEAST_TARGET)):
+            tally.equal(f"{after}: {what}", [row for row in rows if wrong(row)], [])
         least = min(min(each) for each in browser.script(REACHED, "#best-body .star"))
         tally.holds(f"{after}: stars that a finger misses: {least}", least >= TARGET)
-    browser.choose("best-sort", "total")
-
-
-def is_legible(tally: Tally, browser: Browser) -> None:
-    """Beside a mouse long moves of the best, and their twins, are as large as can be read, in rows of one height."""
-    browser.open(SCRAMBLE)
-    browser.choose("best-slack", "2")
-    browser.wait_best()
-    browser.choose("best-sort", "case")
-    browser.script("document.getElementById('best-more').click()")
     for width in (601, 768, 960, 1180, 1440):
-        browser.command("Emulation.setDeviceMetricsOverride", width=width, height=900, deviceScaleFactor=1, mobile=False)
+        browser.resize(width, 900)
         rows = browser.script(ROWS_OF_BEST)
         longest = max(len(row["moves"]) for row in rows if row["hasTwins"])
         tally.holds(f"{width}: there are long rows with twins: {longest}", longest > 20)
-        sizes = browser.script("""return [...document.querySelectorAll('#best-body :is(.take, .twins)')]
-            .map((each) => parseFloat(getComputedStyle(each).fontSize))""")
+        sizes = browser.script("""return all('#best-body :is(.take, .twins)').map((each) => parseFloat(getComputedStyle(each).fontSize))""")
         tally.holds(f"{width}: the least sign: {min(sizes)}", min(sizes) >= LEAST_BESIDE_MOUSE)
-        heights = [row["height"] for row in rows]
-        # the last row has half of a border less
+        # further down a row with several twins is higher; the last row has half of a border less
+        heights = [row["height"] for row in rows[:FIRST_ROWS]]
         tally.holds(f"{width}: heights of rows: {min(heights)}, {max(heights)}", max(heights) - min(heights) <= 0.5)
         tally.equal(f"{width}: parts of a row on each other", [row for row in rows if row["on"]], [])
-    browser.choose("best-sort", "total")
-    browser.choose("best-slack", "0")
 
 
-def places(tally: Tally, browser: Browser, width: int, height: int) -> None:
+def places(tally: Tally, browser: Browser) -> None:
     """After a step what follows is in view, and the line; after the last one the line and how it ends are."""
-    browser.command("Emulation.setDeviceMetricsOverride", width=width, height=height, deviceScaleFactor=1, mobile=False)
-    browser.open(SCRAMBLE + "&list=eoud.inverse.0")
-    browser.script("document.querySelector('#solutions-groups').scrollIntoView()")
-    tally.equal(
-        f"{width}: the scramble is folded",
-        browser.script("return !document.getElementById('scramble').checkVisibility()"),
-        width < 960,
-    )
-    browser.act("#solutions-groups .take")
-    browser.wait_best()
-    for name in ("bar-line", "bar-undo") if width < 960 else ("line-list", "whole", "net-normal"):
-        tally.holds(f"{width}: after a step {name} is in view", browser.script(IN_VIEW, name))
-    top = browser.script("return document.getElementById('steps-table').getBoundingClientRect().top")
-    tally.holds(f"{width}: after a step the table begins at {top}", 0 <= top < (500 if width < 960 else 600))
-    browser.act("#steps-body .least")
-    tally.holds(f"{width}: there are long solutions", any(len(moves.split()) == 8 for moves in browser.listed()))
-    tally.equal(f"{width}: solutions of more than one line", browser.script(BROKEN), [])
-    browser.act("#solutions-groups .take")
-    beside = () if width < 960 else ("net-normal", "net-inverse")
-    for name in ("line-list", "finished", "bracketed", "joined", "copy-bracketed", "copy-fmc", *beside):
-        tally.holds(f"{width}: after the last step {name} is in view", browser.script(IN_VIEW, name))
-    inner = """return [...document.querySelectorAll('main *')]
-        .filter((each) => each.checkVisibility() && ['auto', 'scroll'].includes(getComputedStyle(each).overflowY)
+    table = "return part('steps-table').getBoundingClientRect().top"
+    inner = """return all('main *').filter((each) => each.checkVisibility() && ['auto', 'scroll'].includes(getComputedStyle(each).overflowY)
         && !each.matches('pre, textarea')).length"""
-    tally.equal(f"{width}: parts with a scroll area", browser.script(inner), 0)
-    browser.open(SCRAMBLE)
-    browser.wait_best()
-    top = browser.script("return document.getElementById('steps-table').getBoundingClientRect().top")
-    tally.holds(f"{width}: the table begins at {top}", 0 <= top < 500 if width < 960 else top < 700)
 
+    def in_view(what: str, *names: str) -> None:
+        tally.equal(f"{width}: after {what} what isn't in view", [name for name in names if not browser.script(IN_VIEW, name)], [])
 
-def try_all(tally: Tally, browser: Browser) -> None:
-    """At 360 points of width, and what is in view at 1200 too."""
-    browser.command("Emulation.setDeviceMetricsOverride", width=360, height=800, deviceScaleFactor=1, mobile=False)
-    for part in (presses, has_heads, has_two_lines):
-        part(tally, browser)
-    is_legible(tally, browser)
     for width, height in ((1200, 900), (360, 800)):
-        places(tally, browser, width, height)
+        is_narrow = width < 960
+        browser.resize(width, height)
+        browser.open(SCRAMBLE)
+        browser.wait_best()
+        top = browser.script(table)
+        tally.holds(f"{width}: the table begins at {top}", 0 <= top < 500 if is_narrow else top < 700)
+        browser.go(SCRAMBLE + "&list=eoud.inverse.0")
+        browser.script("document.querySelector('#solutions-groups').scrollIntoView()")
+        tally.equal(f"{width}: the scramble is folded", browser.look("scramble?"), not is_narrow)
+        browser.act("#solutions-groups .take")
+        browser.wait_best()
+        in_view("a step", *(("bar-line", "bar-undo") if is_narrow else ("line-list", "whole", "net-normal")))
+        top = browser.script(table)
+        tally.holds(f"{width}: after a step the table begins at {top}", 0 <= top < (500 if is_narrow else 600))
+        browser.act("#steps-body .least")
+        tally.holds(f"{width}: there are long solutions", any(len(moves.split()) == 8 for moves in browser.listed()))
+        tally.equal(f"{width}: solutions of more than one line", browser.script(BROKEN), [])
+        browser.act("#solutions-groups .take")
+        in_view("the last step", "line-list", "finished", "bracketed", "joined", "copy-bracketed", "copy-fmc",
+            *(() if is_narrow else ("net-normal", "net-inverse")))
+        tally.equal(f"{width}: parts with a scroll area", browser.script(inner), 0)

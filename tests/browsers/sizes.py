@@ -4,17 +4,15 @@ from browser import Browser
 from looks import ADDRESS, SCRAMBLE
 from tally import Tally
 
-STATES = (
-    ("empty", ""), ("a scramble", SCRAMBLE), ("all cards", ADDRESS), ("an EO", SCRAMBLE + "&steps=inverse.B_D_R_F2_B_D"),
+STATES = (("empty", ""), ("a scramble", SCRAMBLE), ("all cards", ADDRESS), ("an EO", SCRAMBLE + "&steps=inverse.B_D_R_F2_B_D"),
     ("a fault", "#scramble=R_U_q_" + "_".join("F" * 60)), ("a list", SCRAMBLE + "&list=eorl.inverse.1"),
-    ("a DR", SCRAMBLE + "&steps=inverse.B_D_R_F2_B_D~normal.R_B-~normal.D2_R"),
-)
+    ("a DR", SCRAMBLE + "&steps=inverse.B_D_R_F2_B_D~normal.R_B-~normal.D2_R"))
 # what is beyond the window, cut, or on something else: the text of each line, by its middle, since the heights of lines may meet; a line
 # that shows its end alone is meant to be cut
 BROKEN = """
     const seen = (node) => node.checkVisibility({ visibilityProperty: true })
         && !node.closest(".unseen, .skip, pre, [popover], #scramble-marks, option");
-    const nodes = [...document.querySelectorAll("body *")].filter(seen);
+    const nodes = all("body *").filter(seen);
     const said = (node) => `${node.localName}#${node.id}.${node.className?.baseVal ?? node.className}: ${node.textContent.trim().slice(0, 30)}`;
     const far = nodes.filter((node) => {
         const { left, right, width } = node.getBoundingClientRect();
@@ -33,42 +31,25 @@ BROKEN = """
     const on = lines.flatMap((one, at) => lines.slice(at + 1).filter((other) => other.node !== one.node && isOn(one, other))
         .map((other) => `${said(one.node)} | ${said(other.node)}`));
     return [document.documentElement.scrollWidth <= document.documentElement.clientWidth, far.map(said), cut.map(said), on]"""
-# a page of text of twice the size, by the reader's choice
-LARGE = "document.documentElement.style.fontSize = '200%'"
-# text spacing as a reader may set it, by WCAG 1.4.12
-SPACED = """for (const node of document.querySelectorAll('body, body *')) {
-        node.style.setProperty('line-height', '1.5', 'important');
-        node.style.setProperty('letter-spacing', '0.12em', 'important');
-        node.style.setProperty('word-spacing', '0.16em', 'important');
-        if (node.matches('p')) node.style.setProperty('margin-bottom', '2em', 'important');
-    }"""
-# a name, the width of the window, and what is done there
-SIZES = (
-    ("twice the text", 360, LARGE), ("a zoom of 200", 180, ""), ("spaced", 360, SPACED), ("spaced", 390, SPACED), ("spaced", 1280, SPACED),
-    ("narrow", 320, ""), ("wide", 2560, ""),
-)
+# text of twice the size, by the reader's choice; and its spacing as a reader may set it, by WCAG 1.4.12
+LARGE = "html { font-size: 200% !important }"
+SPACED = """body, body * { line-height: 1.5 !important; letter-spacing: 0.12em !important; word-spacing: 0.16em !important }
+    p { margin-bottom: 2em !important }"""
+STYLE = "const sheet = new CSSStyleSheet(); sheet.replaceSync(arguments[0]); document.adoptedStyleSheets = [sheet]"
+# a name, the width of the window, and the style of the reader
+SIZES = (("twice the text", 360, LARGE), ("a zoom of 200", 180, ""), ("spaced", 360, SPACED), ("spaced", 390, SPACED),
+    ("spaced", 1280, SPACED), ("narrow", 320, ""), ("wide", 2560, ""))
 
 
-def resize(browser: Browser, width: int) -> None:
-    """Makes the window so wide."""
-    browser.command("Emulation.setDeviceMetricsOverride", width=width, height=800, deviceScaleFactor=1, mobile=False)
-
-
-def is_whole(tally: Tally, browser: Browser, what: str) -> None:
-    """Nothing is beyond the window, cut, or on something else."""
-    is_within, far, cut, on = browser.script(BROKEN)
-    tally.holds(f"{what}: the page doesn't scroll sideways", is_within)
-    tally.equal(f"{what}: what is beyond the window", far[-3:], [])
-    tally.equal(f"{what}: what is cut", cut[-3:], [])
-    tally.equal(f"{what}: what stands on something else", on[:3], [])
-
-
-def try_all(tally: Tally, browser: Browser) -> None:
-    """Each state at each size."""
-    for name, width, act in SIZES:
-        resize(browser, width)
-        for state, address in STATES:
-            browser.open(address)
-            browser.wait_best()
-            browser.script(act)
-            is_whole(tally, browser, f"{name} at {width} points, {state}")
+def is_whole(tally: Tally, browser: Browser) -> None:
+    """In each state, at each size, the page doesn't scroll sideways, and nothing is beyond the window, cut, or on something else."""
+    browser.resize(360, 800)
+    for state, address in STATES:
+        browser.open(address)
+        browser.wait_best()
+        for name, width, style in SIZES:
+            browser.resize(width, 800)
+            browser.script(STYLE, style)
+            browser.until("return innerWidth === arguments[0]", width)
+            is_within, far, cut, on = browser.script(BROKEN)
+            tally.equal(f"{name} at {width} points, {state}", (is_within, far[-3:], cut[-3:], on[:3]), (True, [], [], []))

@@ -2,16 +2,12 @@
 import time
 
 from browser import Browser
+from looks import SCRAMBLE
 from tally import Tally
 
-SCRAMBLE = "#scramble=R-_U-_F_D2_L2_F_R2_U2_R2_B_D2_L_B2_D-_B2_L-_R-_B-_D2_B2_R-_U-_F"
-STATES = (
-    ("a scramble", SCRAMBLE),
-    ("an EO", SCRAMBLE + "&steps=inverse.B_D_R_F2_B_D"),
+STATES = (("a scramble", SCRAMBLE), ("an EO", SCRAMBLE + "&steps=inverse.B_D_R_F2_B_D"),
     ("a DR", SCRAMBLE + "&steps=inverse.B_D_R_F2_B_D~normal.R_B-~normal.D2_R"),
-    ("kept lines", SCRAMBLE + "&kept=inverse.B_D_R_F2_B_D;a_note;drfb-eoud,normal.R-_U_F-_R_L"),
-    ("nothing", ""),
-)
+    ("kept lines", SCRAMBLE + "&kept=inverse.B_D_R_F2_B_D;a_note;drfb-eoud,normal.R-_U_F-_R_L"), ("nothing", ""))
 SIZES = ((1440, 900), (1180, 980), (768, 1024), (390, 844), (360, 740))
 # every shift that the browser sees, also one that follows a press, with what moved; and where the first row was pressable
 LISTEN = """window.shifts = [];
@@ -21,7 +17,7 @@ LISTEN = """window.shifts = [];
 SHIFTS = "return window.shifts.filter(([value, time]) => time >= arguments[0]).map(([value, , moved]) => [value.toFixed(3), ...moved])"
 # where some parts are once something is chosen of a field, before there is an answer; of text where its first letter is
 PLACES_AFTER = """const [name, value, selectors] = arguments;
-    const field = document.getElementById(name);
+    const field = part(name);
     field.value = value;
     field.dispatchEvent(new Event('change'));
     return selectors.map((selector) => {
@@ -31,32 +27,36 @@ PLACES_AFTER = """const [name, value, selectors] = arguments;
         return [Math.round(left), Math.round(top)];
     });"""
 COUNTED = """const [text, hidden] = arguments;
-    const more = document.getElementById('best-more');
+    const more = part('best-more');
     Object.assign(more, { textContent: text, hidden });
-    const { left } = document.getElementById('best-clear').getBoundingClientRect();
+    const { left } = part('best-clear').getBoundingClientRect();
     const { right, height } = more.getBoundingClientRect();
     return [left, right, height].map(Math.round);"""
 # takes a row of the best, and keeps for each frame after it whether a cell may be pressed, how far the page is scrolled, how many rows the
 # list has, whether it is hidden, and where the cube's card begins on the page
-TAKE = """window.frames_seen = [];
+TAKE = """scrollTo({ top: 0, behavior: 'instant' });
+    window.frames_seen = [];
     const look = () => {
         const cell = document.querySelector('#steps-body .cell');
-        const { top } = document.getElementById('cube').getBoundingClientRect();
+        const { top } = part('cube').getBoundingClientRect();
         window.frames_seen.push([cell !== null && cell.closest('[inert]') === null, Math.round(scrollY),
-            document.querySelectorAll('#solutions-groups .take').length, document.getElementById('solutions').hidden, Math.round(top + scrollY)]);
+            all('#solutions-groups .take').length, part('solutions').hidden, Math.round(top + scrollY)]);
         if (window.frames_seen.length < 600) requestAnimationFrame(look);
     };
     document.querySelector('#best-body .take').click();
     look()"""
-# answers of a list come so much later
+# answers of a list come so much later as is said in the page
 SLOW = """const { postMessage } = Worker.prototype;
+    window.later = 0;
     Worker.prototype.postMessage = function (...words) {
-        setTimeout(() => postMessage.apply(this, words), words[0].request?.call === "rowsOfList" ? arguments_later : 0);
+        setTimeout(() => postMessage.apply(this, words), words[0].request?.call === "rowsOfList" ? window.later : 0);
     }"""
-PLACES = """return [document.getElementById('bar').getBoundingClientRect().bottom,
+PLACES = """return [part('bar').getBoundingClientRect().bottom,
     ...['#solutions-heading', '#solutions-groups .take'].map((each) => document.querySelector(each).getBoundingClientRect())
         .flatMap(({ top, bottom }) => [top, bottom]), innerHeight]"""
 FIRST_ROW = "return document.querySelector('#best-body .take').getBoundingClientRect().top"
+# until a shift that was would have been told
+QUIET = 0.3
 
 
 def opens(tally: Tally, browser: Browser, width: int) -> None:
@@ -69,7 +69,7 @@ def opens(tally: Tally, browser: Browser, width: int) -> None:
             browser.open(address)
             browser.wait_best()
             was_quick = time.monotonic() - begun < 1.5
-            time.sleep(0.3)
+            time.sleep(QUIET)
             moved = browser.script(SHIFTS, 0)
             if was_quick or not moved:
                 break
@@ -80,20 +80,31 @@ def searches(tally: Tally, browser: Browser, width: int) -> None:
     """A longer search begins, goes on and is stopped, or ends: no row moves."""
     browser.open(SCRAMBLE)
     browser.wait_best()
-    top = browser.script(FIRST_ROW)
-    time.sleep(0.3)
+    browser.script(SLOW)
+    tops = [browser.script(FIRST_ROW)]
+    time.sleep(QUIET)
     since = browser.script("return performance.now()")
     browser.choose("best-slack", "2")
     browser.until("return document.querySelector('#best-body .take') !== null")
-    tally.equal(f"{width}: the first row while more are looked for", browser.script(FIRST_ROW), top)
-    browser.script("document.getElementById('best-stop').click()")
+    tops.append(browser.script(FIRST_ROW))
+    browser.script("part('best-stop').click()")
     browser.wait_best()
-    tally.equal(f"{width}: the first row after a stop", browser.script(FIRST_ROW), top)
+    tops.append(browser.script(FIRST_ROW))
     browser.choose("best-slack", "0")
     browser.wait_best()
-    time.sleep(0.3)
-    tally.equal(f"{width}: the first row after the end", browser.script(FIRST_ROW), top)
+    time.sleep(QUIET)
+    tops.append(browser.script(FIRST_ROW))
+    tally.equal(f"{width}: the first row before, while more are looked for, after a stop, and after the end", tops, tops[:1] * 4)
     tally.equal(f"{width}: what moves meanwhile", browser.script(SHIFTS, since), [])
+
+
+def take(browser: Browser, later: int) -> list[list[int]]:
+    """Takes a row of the best, whose list comes so much later, and returns the frames until it has come."""
+    browser.go(SCRAMBLE)
+    browser.wait_best()
+    browser.script("window.later = arguments[0];" + TAKE, later)
+    browser.settle("return document.activeElement.closest('#solutions-groups') !== null")
+    return list(browser.script("return window.frames_seen.splice(0)"))
 
 
 def takes(tally: Tally, browser: Browser, width: int) -> None:
@@ -101,13 +112,7 @@ def takes(tally: Tally, browser: Browser, width: int) -> None:
     for later in (0, 300):
         # one that takes more than a second, since the machine has other work, isn't waited for: so it is taken again
         for _ in range(4):
-            browser.open(SCRAMBLE)
-            browser.wait_best()
-            browser.script(SLOW.replace("arguments_later", str(later)))
-            browser.script(TAKE)
-            tally.holds(f"{width}: the list comes", browser.until("return document.activeElement.closest('#solutions-groups') !== null"))
-            browser.wait()
-            frames = browser.script("return window.frames_seen.splice(0)")
+            frames = take(browser, later)
             pressable = {scroll for may_press, scroll, _, _, _ in frames if may_press}
             if len(pressable) == 1:
                 break
@@ -120,56 +125,48 @@ def takes(tally: Tally, browser: Browser, width: int) -> None:
         tally.holds(f"{width}: {later}: heading and row from {top} to {bottom}", below <= top < bottom <= height)
 
 
+def stands(tally: Tally, browser: Browser, width: int) -> None:
+    """Neither the count of the best nor a list that is looked for, marks or a move that is played move what stands beside them."""
+    browser.choose("best-axis", "EO F/B")
+    words = "More of" if width <= 600 else "Show more of"
+    counts = [browser.script(COUNTED, *shown) for shown in ((f"{words} 7", False), (f"{words} 10,000", False), (f"{words} 7", True))]
+    tally.equal(f"{width}: beside the count of the best", counts, counts[:1] * len(counts))
+    browser.choose("best-axis", "")
+    browser.go(SCRAMBLE + "&steps=inverse.B_D_R_F2_B_D~normal.R_B-~normal.D2_R&list=eofb.normal.0")
+    of_list = ["[popovertarget=help-list]", "#list-filters", "#solutions-note"]
+    looking = browser.script(PLACES_AFTER, "slack", "3", of_list)
+    browser.wait()
+    tally.equal(f"{width}: the head of a list", looking, browser.script(PLACES_AFTER, "slack", "3", of_list))
+    of_cube = ["figcaption", "#piece", "#play-on"]
+    places = [browser.script(PLACES_AFTER, "marks", mark, of_cube) for mark in ("none", "EO F/B", "DR U/D")]
+    backward = [("play-back", "played", f"{at} of 10") for at in reversed(range(10))]
+    for press, part, words in (*backward, ("play", "play", "Pause"), ("play", "play", "Play")):
+        browser.script("part(arguments[0]).click()", press)
+        browser.until("return part(arguments[0]).textContent.startsWith(arguments[1])", part, words)
+        places.append(browser.script(PLACES_AFTER, "marks", "none", of_cube))
+    tally.equal(f"{width}: the cube's card", places, places[:1] * len(places))
+
+
+def at_sizes(tally: Tally, browser: Browser) -> None:
+    """All of these, on windows of each size."""
+    browser.before_page(LISTEN)
+    for width, height in SIZES:
+        browser.resize(width, height)
+        for part in (opens, searches, stands, takes):
+            part(tally, browser, width)
+    browser.resize(320, 640)
+    takes(tally, browser, 320)
+
+
 def waits(tally: Tally, browser: Browser) -> None:
     """A list that takes long doesn't hold the page, and what is pressed meanwhile stays where it is."""
-    browser.open(SCRAMBLE)
+    browser.go(SCRAMBLE)
     browser.wait_best()
-    browser.script(SLOW.replace("arguments_later", "4000"))
-    browser.script(TAKE)
+    browser.script("window.later = 4000;" + TAKE)
     tally.holds("it may be pressed before there is a list", browser.until("return window.frames_seen.at(-1)[0]"))
     tally.equal("which isn't there yet", browser.script("return window.frames_seen.at(-1)[2]"), 0)
     scroll = browser.script("return scrollY")
     for kind in ("mousePressed", "mouseReleased"):
         browser.command("Input.dispatchMouseEvent", type=kind, x=2, y=300, button="left", clickCount=1)
-    tally.holds("it comes", browser.until("return document.querySelector('#solutions-groups .take') !== null"))
-    browser.wait()
-    tally.equal("and the page stays", browser.script("return scrollY"), scroll)
-
-
-def stands(tally: Tally, browser: Browser, width: int) -> None:
-    """Neither the count of the best nor a list that is looked for, marks or a move that is played move what stands beside them."""
-    browser.open(SCRAMBLE + "&steps=inverse.B_D_R_F2_B_D~normal.R_B-~normal.D2_R&list=eofb.normal.0")
-    looking = browser.script(PLACES_AFTER, "slack", "3", ["[popovertarget=help-list]", "#list-filters", "#solutions-note"])
-    browser.wait()
-    found = browser.script(PLACES_AFTER, "slack", "3", ["[popovertarget=help-list]", "#list-filters", "#solutions-note"])
-    tally.equal(f"{width}: the head of a list", looking, found)
-    of_cube = ["figcaption", "#piece", "#play-on"]
-    places = [browser.script(PLACES_AFTER, "marks", mark, of_cube) for mark in ("none", "EO F/B", "DR U/D")]
-    backward = [("play-back", "played", f"{at} of 10") for at in reversed(range(10))]
-    for press, part, words in (*backward, ("play", "play", "Pause"), ("play", "play", "Play")):
-        browser.script("document.getElementById(arguments[0]).click()", press)
-        browser.until("return document.getElementById(arguments[0]).textContent.startsWith(arguments[1])", part, words)
-        places.append(browser.script(PLACES_AFTER, "marks", "none", of_cube))
-    tally.equal(f"{width}: the cube's card", places, places[:1] * len(places))
-    browser.open(SCRAMBLE)
-    browser.wait_best()
-    browser.choose("best-axis", "EO F/B")
-    words = "More of" if width <= 600 else "Show more of"
-    counts = [browser.script(COUNTED, *shown) for shown in ((f"{words} 7", False), (f"{words} 10,000", False), (f"{words} 7", True))]
-    tally.equal(f"{width}: beside the count of the best", counts, counts[:1] * len(counts))
-
-
-def try_all(tally: Tally, browser: Browser) -> None:
-    """On windows of each size."""
-    browser.command("Page.enable")
-    script = browser.command("Page.addScriptToEvaluateOnNewDocument", source=LISTEN)
-    for width, height in SIZES:
-        browser.command("Emulation.setDeviceMetricsOverride", width=width, height=height, deviceScaleFactor=1, mobile=False)
-        opens(tally, browser, width)
-        searches(tally, browser, width)
-        stands(tally, browser, width)
-        takes(tally, browser, width)
-    waits(tally, browser)
-    browser.command("Emulation.setDeviceMetricsOverride", width=320, height=640, deviceScaleFactor=1, mobile=False)
-    takes(tally, browser, 320)
-    browser.command("Page.removeScriptToEvaluateOnNewDocument", identifier=script["identifier"])
+    browser.settle("return document.querySelector('#solutions-groups .take') !== null")
+    tally.equal("it comes, and the page stays", browser.script("return scrollY"), scroll)

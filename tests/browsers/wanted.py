@@ -10,12 +10,8 @@ import model  # noqa: E402
 
 SIDES = ("normal", "inverse")
 TITLES = {"eofb": "EO F/B", "eorl": "EO R/L", "eoud": "EO U/D"}
-TITLES |= {
-    f"dr{axis}-{start}": f"DR {letters} after {TITLES[start]}"
-    for start, axes in {"eofb": ("ud", "rl"), "eorl": ("ud", "fb"), "eoud": ("rl", "fb")}.items()
-    for axis, letters in {"ud": "U/D", "rl": "R/L", "fb": "F/B"}.items()
-    if axis in axes
-}
+TITLES |= {f"dr{axis}-{start}": f"DR {letters} after {TITLES[start]}" for start, axes in {"eofb": ("ud", "rl"), "eorl": ("ud", "fb"),
+    "eoud": ("rl", "fb")}.items() for axis, letters in {"ud": "U/D", "rl": "R/L", "fb": "F/B"}.items() if axis in axes}
 
 
 @lru_cache(maxsize=None)
@@ -109,18 +105,16 @@ class Position:
     def __init__(self, scramble: str, normal: str = "", inverse: str = "") -> None:
         whole = by_faces(answer("unniss", scramble))
         self.made = {"normal": normal, "inverse": inverse}
-        self.lines = {
-            "normal": " ".join([answer("invert", inverse), whole, normal]),
-            "inverse": " ".join([answer("invert", f"{whole} {normal}"), inverse]),
-        }
+        self.lines = {"normal": " ".join([answer("invert", inverse), whole, normal]), "inverse": " ".join([answer("invert",
+            f"{whole} {normal}"), inverse]),}
 
     def letters(self, side: str) -> str:
         """The 54 letters of the cube on a side."""
         return answer("print", self.lines[side])
 
     def may_start(self, step: str) -> bool:
-        """Whether a step may start."""
-        return run(("count", step, "0"), self.lines["normal"])[2] == 0
+        """Whether a step may start: an orientation does, and a reduction after its own."""
+        return step.startswith("eo") or self.count(step.split("-")[1], "normal")[0] == 0
 
     def count(self, step: str, side: str) -> tuple[int, int, int]:
         """The least length, how many solutions have it, and the looks."""

@@ -16,32 +16,32 @@ SPOILT = """
         }
     };
 """
-FAILED = "return !document.getElementById('failed').hidden"
-MENDED = f"window.sound = true; return document.getElementById('failed').hidden && (() => {{ {IDLE} }})() && (() => {{ {BEST} }})()"
+FAILED = "return !part('failed').hidden"
+MENDED = f"window.sound = true; return part('failed').hidden && (() => {{ {IDLE} }})() && (() => {{ {BEST} }})()"
 SILENCE = "The engine has given no answer for 20 seconds. It may still be at work, or it has ended without a word."
 MUTE = "self.addEventListener('message', (event) => event.stopImmediatePropagation());"
 # what spoils a worker, and what is said of it
-SCRIPTS = (
-    ("throw new Error('spoilt');", "The engine doesn't work here. Uncaught Error: spoilt"),
-    ("close();", SILENCE),
-    (MUTE, SILENCE),
+SCRIPTS = (("throw new Error('spoilt');", "The engine doesn't work here. Uncaught Error: spoilt"), (MUTE, SILENCE),
     ("let asked = 0; self.addEventListener('message', () => { if (++asked === 4) close(); });", SILENCE),
     ("WebAssembly.Memory.prototype.grow = () => { throw new RangeError('no memory is left'); };", "There is no answer: no memory is left."),
-    ("self.addEventListener('message', () => Promise.reject(new Error('uncaught'))); " + MUTE,
-     "The engine doesn't work here. Uncaught Error: uncaught"),
-)
+    ("self.addEventListener('message', () => Promise.reject(new Error('uncaught'))); " + MUTE, "The engine doesn't work here. Uncaught Error: uncaught"))
 UNREADABLE = "made.forEach((each) => each.dispatchEvent(new MessageEvent('messageerror')))"
 # a worker that has crashed: its page is told nothing
 CRASH = "made.forEach((each) => each.terminate())"
+NO_WORDS = {"failed": "", "alert": "", "seed-fault": "", "own-fault": ""}
 
 
-def opened(browser: Browser, script: str, address: str = ADDRESS) -> str:
-    """Goes to the page with workers that a script spoils, and returns the name of what spoils them."""
-    spoiling = browser.command("Page.addScriptToEvaluateOnNewDocument", source=SPOILT % script)["identifier"]
-    browser.driver.get("about:blank")
-    browser.driver.get(browser.page + address)
-    browser.command("Page.removeScriptToEvaluateOnNewDocument", identifier=spoiling)
-    return spoiling
+def opened(browser: Browser, script: str) -> None:
+    """Goes to the page with workers that a script spoils."""
+    spoiling = browser.before_page(SPOILT % script)
+    browser.open(ADDRESS, browser.page)
+    browser.no_longer(spoiling)
+
+
+def fails(tally: Tally, browser: Browser, what: str, said: str) -> None:
+    """It is said, in these words."""
+    tally.holds(f"{what}: something is said", browser.until(FAILED))
+    tally.equal(f"{what}: what is said", browser.text("failed-words"), said)
 
 
 def mends(tally: Tally, browser: Browser, what: str) -> None:
@@ -49,69 +49,49 @@ def mends(tally: Tally, browser: Browser, what: str) -> None:
     browser.script("window.sound = true")
     browser.click("#again")
     tally.holds(f"{what}: it is mended", browser.until(MENDED))
-    tally.equal(f"{what}: no words are left", [browser.text(name) for name in ("failed", "alert", "seed-fault", "own-fault")], [""] * 4)
-    tally.equal(f"{what}: the cells", len(browser.cells()), 6)
-    tally.holds(f"{what}: the best", browser.texts("#best-body .take"))
+    browser.wait_best()
+    browser.walk(tally, what, ("wait", NO_WORDS))
+    tally.holds(f"{what}: there are cells, and the best", browser.cells() and browser.texts("#best-body .take"))
 
 
 def begins(tally: Tally, browser: Browser) -> None:
     """Workers that are spoilt from their start."""
     for script, said in SCRIPTS:
         opened(browser, script)
-        tally.holds(f"{script}: something is said", browser.until(FAILED))
-        tally.equal(f"{script}: what is said", browser.text("failed-words"), said)
+        fails(tally, browser, script, said)
         mends(tally, browser, script)
     opened(browser, MUTE)
-    browser.until("return made.length > 0")
-    browser.script(UNREADABLE)
-    tally.holds("an answer that can't be read is said", browser.until(FAILED))
-    tally.equal("in words", browser.text("failed-words"), "The engine doesn't work here. An answer of it can't be read.")
-    mends(tally, browser, "an answer that can't be read")
+    # until the page waits for one of them
+    browser.until(f"{UNREADABLE}; {FAILED}")
+    fails(tally, browser, "unreadable", "The engine doesn't work here. An answer of it can't be read.")
+    mends(tally, browser, "unreadable")
 
 
 def crashes(tally: Tally, browser: Browser) -> None:
-    """Workers that end later, of which the page is told nothing: it says so once it waits for one."""
-    acts = (
-        ("a step", "document.querySelector('#best-body .take').click()"),
-        ("a list", "document.querySelector('#steps-body .cell').click()"),
-        ("the best", "const field = document.getElementById('best-slack'); field.value = '1'; field.dispatchEvent(new Event('change'))"),
-        ("a random scramble", "document.getElementById('random').click()"),
-        ("moves by hand", "document.getElementById('own').value = 'R'; document.getElementById('own-form').requestSubmit()"),
-    )
-    for what, act in acts:
+    """Workers that end later, of which the page is told nothing: it says so once it waits for one, and then goes on from where it was."""
+    acts = {
+        "a step": "document.querySelector('#best-body .take').click()",
+        "a list": "document.querySelector('#steps-body .cell').click()",
+        "the best": "const field = part('best-slack'); field.value = '1'; field.dispatchEvent(new Event('change'))",
+        "a random scramble": "part('random').click()",
+        "moves by hand": "part('own').value = 'R'; part('own-form').requestSubmit()",
+    }
+    for what, act in acts.items():
         opened(browser, "")
         browser.wait_best()
         # what is prepared meanwhile has come to its end
         tally.holds(f"{what}: nothing failed before", not browser.script(FAILED))
-        browser.script(CRASH)
-        browser.script(act)
-        tally.holds(f"{what}: a silence is said", browser.until(FAILED))
-        tally.equal(f"{what}: in words", browser.text("failed-words"), SILENCE)
-        mends_crash(tally, browser, what)
-
-
-def mends_crash(tally: Tally, browser: Browser, what: str) -> None:
-    """After a crash the page goes on from where it was."""
-    browser.click("#again")
-    tally.holds(f"{what}: it is mended", browser.until(MENDED))
-    browser.wait_best()
-    tally.equal(f"{what}: no words are left", [browser.text(name) for name in ("failed", "alert", "seed-fault", "own-fault")], [""] * 4)
-    tally.holds(f"{what}: there are cells", browser.cells())
+        browser.script(CRASH + ";" + act)
+        fails(tally, browser, what, SILENCE)
+        mends(tally, browser, what)
 
 
 def late(tally: Tally, browser: Browser) -> None:
     """What a worker says late is taken, and the words go."""
     slow = "{ const say = postMessage; self.postMessage = (...words) => setTimeout(() => say(...words), 6000); }"
     opened(browser, slow)
-    tally.holds("a slow engine is said", browser.until(FAILED))
-    tally.equal("as one that may be at work", browser.text("failed-words"), SILENCE)
-    tally.holds("and its answers are taken", browser.until("return document.querySelectorAll('#steps-body .cell').length === 6"))
+    fails(tally, browser, "a slow engine", SILENCE)
+    tally.holds("and its answers are taken", browser.until("return all('#steps-body .cell').length === 6"))
     tally.holds("and the words go", browser.until(MENDED))
-
-
-def try_all(tally: Tally, browser: Browser) -> None:
-    """All of them."""
-    for part in (begins, crashes, late):
-        part(tally, browser)
     # what the spoilt ones threw
     browser.complaints()

@@ -159,9 +159,11 @@ class Domino:
         distance = levels(2187 * SLICES, self.tables, self.deepest)
         if path:
             os.makedirs(os.path.dirname(path), exist_ok=True)
-            with open(path + ".part", "wb") as file:
+            # by another name for each process, since several may work it out at once
+            part = "%s.%d" % (path, os.getpid())
+            with open(part, "wb") as file:
                 file.write(distance)
-            os.replace(path + ".part", path)
+            os.replace(part, path)
         return distance
 
     def position(self, effect: Effect) -> int:

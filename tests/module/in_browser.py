@@ -3,7 +3,7 @@
 
     tests/module/in_browser.py MODULE
 
-The last line is `N passed, M failed`, and the status is 1 where M isn't 0. Run it by Debian's Python, which has Debian's selenium.
+The last line is `N passed, M failed`, and the status is 1 where M isn't 0.
 """
 import shutil
 import sys

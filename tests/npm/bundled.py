@@ -19,10 +19,9 @@ from pathlib import Path
 TOP = Path(__file__).resolve().parent.parent.parent
 sys.path[:0] = [str(TOP / "tests"), str(TOP / "tests/browsers")]
 
-from anywhere import Window
 from served import served
 from tally import Tally
-from windows import BROWSERS, is_here
+from windows import BROWSERS, Window, is_here
 
 OF_TESTS = TOP / "tests/npm/bundled"
 
