@@ -8,7 +8,7 @@ import { Filters, NOT_MOVES, filtersOfBest, offerChoices, offerLastTurns, offerM
 import { KnownSearches, byCase, findContinuations, goingOn } from "./finder.js";
 import { FurtherSearch } from "./further.js";
 import { ShownReductions } from "./reductions.js";
-import { addRows, refreshRows, roveWithin, showRows, takeNamed } from "./rows.js";
+import { addRows, roveWithin, showRows, takeNamed } from "./rows.js";
 import { isReduced, reducedAfter } from "./steps.js";
 import { isNarrow, withoutMoving } from "./view.js";
 
@@ -125,11 +125,6 @@ export class BestContinuations {
   /** Whether the best that were asked for are looked for. */
   isWorking() {
     return this.#isAsked;
-  }
-
-  /** Shows the stars as they are. */
-  mark() {
-    refreshRows(this.#body);
   }
 
   /** Shows what the filters leave, as many as before, and says whether there are rows. */

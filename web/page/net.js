@@ -81,13 +81,6 @@ function pointOf(place) {
   return points[Math.floor(place / 9)];
 }
 
-/** @param {number} place @returns the places of all stickers of the piece that one is on, in their order */
-export function pieceAt(place) {
-  const nameOfCubie = (each) => pointOf(each).map((at) => Math.sign(at)).join();
-  const wanted = nameOfCubie(place);
-  return PLACES.filter((each) => nameOfCubie(each) === wanted);
-}
-
 /** Where each turn of the whole cube takes a point.
  * @type {Record<"x" | "y", (point: number[]) => number[]>} */
 const TURNS_OF_VIEW = {

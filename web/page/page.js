@@ -11,6 +11,7 @@ import { NextFocus } from "./focus.js";
 import { KeptCandidates } from "./kept.js";
 import { LineSoFar } from "./line.js";
 import { Seen, WayBack, dropAddress, keepPlace, placeIn, writeState } from "./places.js";
+import { refreshRows } from "./rows.js";
 import { ScrambleField } from "./scramble.js";
 import { SolutionList } from "./solutions.js";
 import { ORIENTATIONS, bracketed, isReduced, stateOf, stepNamed } from "./steps.js";
@@ -262,7 +263,8 @@ export class Page {
     const { position, reached } = this.#cube;
     // nothing is pressed before the page went on to a list that is to come, or back to a row
     const isHeld = this.#state.list !== null && (this.#nextFocus.waitsFor("list") || this.#wayBack.isOn());
-    if (portions.length > 1) this.#table.expect(this.#cube);
+    // no row moves once it can be pressed, so all are there before they are counted
+    if (portions.length > 1) this.#table.add([], this.#cube, null);
     for (const [at, portion] of portions.entries()) {
       const groups = await portion;
       if (turn !== this.#turn) return;
@@ -321,8 +323,7 @@ export class Page {
   #showKept() {
     const { kept, parts } = this.#state;
     this.#kept.show(kept);
-    this.#best.mark();
-    this.#list.mark();
+    refreshRows(part("choices"));
     this.#line.markKept(this.#kept.has(parts));
     if (kept.length > 0 && this.#cube) this.#kept.describe(this.#cube.scramble, this.#cube.written);
   }
