@@ -4,6 +4,7 @@ import re
 from best import LONGER, SCRAMBLE, TYPE, address_of
 from browser import Browser
 from tally import Tally
+from wanted import twin_key
 
 SIGNS = """return ['on', 'clear', 'none'].map((each) => document.getElementById(`${arguments[0]}-${each}`))
     .map((each) => each.checkVisibility() ? each.textContent : '')"""
@@ -77,7 +78,10 @@ def of_a_list(tally: Tally, browser: Browser) -> None:
 
 def of_both_sides(tally: Tally, browser: Browser) -> None:
     """A list over both sides is filtered by what its rows begin with, and has each beginning together, those with the fewest moves first."""
+    browser.open(address_of(LONGER) + "&list=eorl.inverse.0.all.split1")
+    rows = {(begin, twin_key(moves, "eorl")) for begin, moves in (key.split(", ") for key in browser.listed())}
     browser.open(address_of(LONGER) + "&list=eorl.inverse.0.split1")
+    tally.equal("twins with one beginning have one row", len(browser.listed()), len(rows))
     choices = "return [...document.getElementById(arguments[0]).options].map((each) => each.value)"
     groups = """return [...document.querySelectorAll('#solutions-groups .group')].map((each) => [each.querySelector('h3').textContent,
         [...each.querySelectorAll('.take')].map((take) => take.dataset.key)])"""

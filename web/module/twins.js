@@ -52,15 +52,17 @@ export function withTwins(moves, others) {
 
 /**
  * Puts twins together, each under the first of them.
- * @param {readonly Solution[]} solutions
+ * @template {Solution} Each
+ * @param {readonly Each[]} solutions
  * @param {string} step its name
- * @returns {Twins[]}
+ * @param {(solution: Each) => string} [before] what tells apart solutions of other cubes
+ * @returns {(Each & Twins)[]}
  */
-export function mergeTwins(solutions, step) {
-  /** @type {Map<string, Twins>} */
+export function mergeTwins(solutions, step, before = () => "") {
+  /** @type {Map<string, Each & Twins>} */
   const merged = new Map();
   for (const each of solutions) {
-    const key = twinKey(each.moves, step);
+    const key = [before(each), twinKey(each.moves, step)].join();
     const first = merged.get(key);
     if (first) first.others.push(lastTurnsOf(each.moves, step));
     else merged.set(key, { ...each, others: [] });

@@ -122,11 +122,6 @@ export class BestContinuations {
     for (const finder of this.#finders) finder.end();
   }
 
-  /** Whether the best that were asked for are looked for. */
-  isWorking() {
-    return this.#isAsked;
-  }
-
   /** Shows what the filters leave, as many as before, and says whether there are rows. */
   #filtered() {
     this.#takeNewer();

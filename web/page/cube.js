@@ -2,7 +2,7 @@
 import { AXES } from "../module/best-steps.js";
 import { stickersOf } from "../module/stickers.js";
 import { announce, element, part, tell } from "./element.js";
-import { emptyNet, plainView, showCube, stickerOf, turnedView } from "./net.js";
+import { PLACES, emptyNet, showCube, stickerOf, turnedView } from "./net.js";
 import { SIDES, axisName } from "./steps.js";
 import { PIECES, whyOf } from "./why.js";
 
@@ -32,7 +32,7 @@ export class Cube {
   #frames = null;
   #frame = 0;
   #timer = 0;
-  #view = plainView();
+  #view = PLACES;
   #open = "";
   #pointed = "";
   #choice = part("marks");

@@ -83,7 +83,11 @@ export class FurtherSearch {
   async #look(search, at) {
     search.running.add(at);
     const isStill = () => search === this.#search;
-    const take = (found) => isStill() && this.#take(search, at, found);
+    const take = (found) => {
+      if (!isStill()) return;
+      search.found.take(at, found);
+      this.#acts.found({ ...search.found.progress(), slack: search.question.slack });
+    };
     try {
       await findOnAxis(this.#finders, ORIENTATIONS[at], search.question, take);
     } catch (fault) {
@@ -104,12 +108,6 @@ export class FurtherSearch {
     // it was given up until the page is seen again
     search.left.unshift(at);
     search.found.giveBack(at);
-  }
-
-  /** @param {Search} search @param {number} at @param {import("./finder.js").Progress} found */
-  #take(search, at, found) {
-    search.found.take(at, found);
-    this.#acts.found({ ...search.found.progress(), slack: search.question.slack });
   }
 
   /** Goes on with the next axis, or with one more move, or ends.

@@ -133,8 +133,15 @@ export class KeptCandidates {
     this.#calls = calls;
     this.#acts = acts;
     part("copy-kept").addEventListener("click", (event) => copy(this.#text(), event.currentTarget));
-    part("kept-clear").addEventListener("click", () => this.#clear());
-    part("kept-back").addEventListener("click", () => this.#undo());
+    part("kept-clear").addEventListener("click", () => {
+      this.leave([]);
+      part("kept-back").focus({ preventScroll: true });
+    });
+    part("kept-back").addEventListener("click", () => {
+      const { length } = this.#before;
+      acts.change(this.#before);
+      announce(`${counted(length, "line")} ${length === 1 ? "is" : "are"} kept again.`);
+    });
     part("kept-sort").addEventListener("change", () => this.#draw());
   }
 
@@ -192,17 +199,6 @@ export class KeptCandidates {
     part("kept").parentElement.classList.toggle("none-kept", this.#candidates.length === 0 && count === 0);
     // what is hidden can't keep the focus
     if (isFocused && count === 0) part("kept-heading").focus({ preventScroll: true });
-  }
-
-  #clear() {
-    this.leave([]);
-    part("kept-back").focus({ preventScroll: true });
-  }
-
-  #undo() {
-    const { length } = this.#before;
-    this.#acts.change(this.#before);
-    announce(`${counted(length, "line")} ${length === 1 ? "is" : "are"} kept again.`);
   }
 
   #names() {

@@ -224,7 +224,7 @@ export class Page {
     this.#showCube(cube);
     await this.#showOffers(turn, portions);
     if (turn !== this.#turn) return;
-    this.#readiness.begin(this.#cube.reached, part("choices").hidden, () => this.#best.isWorking());
+    this.#readiness.begin(this.#cube.reached, part("choices").hidden);
     await this.#showAnswered(turn);
   }
 
@@ -371,8 +371,7 @@ export class Page {
     const { parts } = this.#state;
     this.#seen.add(this.#state, [taken], key, next.step);
     const list = { step: next.step, side: next.side, slack: 0, isAll: false };
-    const all = taken.moves === "" ? parts : [...parts, taken];
-    this.#change({ parts: all, side: next.side, list }, { focusNext: "list" });
+    this.#change({ parts: [...parts, taken], side: next.side, list }, { focusNext: "list" });
   }
 
   /** @param {Part[]} parts a line that was kept @param {import("./address.js").List | null} list of its reduction */

@@ -109,8 +109,11 @@ export class SolutionList {
       const rows = await asked;
       if (isStill()) this.#take(rows);
     } catch (fault) {
-      if (isStill()) this.#refuse(fault instanceof Stopped ? "Stopped." : fault.message);
-      return false;
+      if (!isStill()) return false;
+      const why = fault instanceof Stopped ? "Stopped." : fault.message;
+      this.#setWorking(false);
+      tell(part("solutions-note"), why);
+      announce(why);
     }
     return isStill();
   }
@@ -143,7 +146,6 @@ export class SolutionList {
     part("slack").value = String(slack);
     part("split").value = String(split);
     part("twins").checked = isAll;
-    part("twins").disabled = split > 0;
     const orders = { case: stepNamed(step).needs === null, beginning: split > 0 };
     part("case-filters").hidden = !orders.case;
     part("begin-filter").hidden = !orders.beginning;
@@ -163,14 +165,6 @@ export class SolutionList {
     const { step, side } = this.#list;
     const all = `${rows.whole ? "" : "more than "}${counted(rows.all, "solution")}`;
     announce(`${titleOf(stepNamed(step))}, ${side} side: ${all}.`);
-  }
-
-  /** Says why there is no list.
-   * @param {string} text */
-  #refuse(text) {
-    this.#setWorking(false);
-    tell(part("solutions-note"), text);
-    announce(text);
   }
 
   /** Puts the focus on the field of the filter, also where the filters are folded. */
