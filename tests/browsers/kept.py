@@ -133,6 +133,26 @@ def keeps_reductions(tally: Tally, browser: Browser) -> None:
     reads_reductions(tally, browser, said, f"{first.removeprefix('then ')} // {reduction} ({count}/{total})")
 
 
+def keeps_what_is_gone_on_to(tally: Tally, browser: Browser) -> None:
+    """A line is kept as it stands: beside the list of a reduction that its row of the best led to it is kept as that row is."""
+    browser.open(ADDRESS)
+    browser.wait_best()
+    _, line, state, reduction, *_ = browser.script(ROWS)[0]
+    first = browser.texts("#best-body .first")[0]
+    pressed = "return document.querySelector(arguments[0]).ariaPressed"
+    browser.act("#best-body .take")
+    browser.click("#keep-line")
+    browser.until(KEPT_SAID)
+    words = browser.script(KEPT_WORDS)
+    tally.equal("the line with its reduction", [(*each[:2], each[2][:6], each[3]) for each in words], [(line, state, reduction, first)])
+    tally.equal("which the button says", browser.script(pressed, "#keep-line"), "true")
+    browser.click("#solutions-close")
+    tally.equal("without the list the line alone isn't kept", browser.script(pressed, "#keep-line"), "false")
+    browser.act("#undo-step")
+    browser.wait_best()
+    tally.equal("the row has its star", browser.script(pressed, "#best-body .star"), "true")
+
+
 def reads_reductions(tally: Tally, browser: Browser, said: str, step: str) -> None:
     """What is kept with its reduction comes back from the address and from the copy, by what is said of it."""
     note = "const it = document.querySelector('#kept-list .note-field'); it.value = 'a'; it.dispatchEvent(new Event('change'))"
@@ -277,5 +297,5 @@ def leads_to_kept(tally: Tally, browser: Browser) -> None:
 
 def try_all(tally: Tally, browser: Browser) -> None:
     """All of them."""
-    for part in (keeps, keeps_in_address, copies_kept, keeps_a_note, leaves_kept, keeps_lengths, keeps_moves_alone, keeps_reductions, keeps_stages, leads_to_kept):
+    for part in (keeps, keeps_in_address, copies_kept, keeps_a_note, leaves_kept, keeps_lengths, keeps_moves_alone, keeps_reductions, keeps_what_is_gone_on_to, keeps_stages, leads_to_kept):
         part(tally, browser)

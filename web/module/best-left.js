@@ -30,8 +30,8 @@ function boundOnOwn(lengths, position, twins, reduction) {
 }
 
 /**
- * Twins before a reduction: on which sides it is looked for, and with fewer moves in all than which bound there may be a
- * row; `isCut`: whether one with more is left out, and not none.
+ * Twins before a reduction: on which sides it is looked for, and with fewer moves in all than which bound there may be
+ * a row; `isCut`: whether one with more is left out, and not none.
  * @typedef {object} Looked
  * @property {Group} group
  * @property {Tried[]} twins

@@ -56,14 +56,12 @@ export class BestContinuations {
 
   /** @param {import("./calls.js").Calls[]} finders of its own, one an axis
    * @param {import("./calls.js").Calls} calls that tell more of rows that are seen
-   * @param {import("./best-row.js").RowActs & {shown: () => void, isBusy: () => boolean}} acts `isBusy`: whether the
-   * page waits for something else */
+   * @param {import("./best-row.js").RowActs & {shown: () => void}} acts */
   constructor(finders, calls, acts) {
     this.#finders = finders;
     this.#reductions = new ShownReductions(calls, this.#body);
     this.#acts = acts;
     this.#further = new FurtherSearch(finders, {
-      isBusy: acts.isBusy,
       turned: () => this.#working(this.#isAsked),
       found: (progress) => this.#foundFurther(progress),
       ended: (fault) => this.#endedFurther(fault),

@@ -14,10 +14,10 @@ import { Seen, WayBack, dropAddress, keepPlace, placeIn, writeState } from "./pl
 import { refreshRows } from "./rows.js";
 import { ScrambleField } from "./scramble.js";
 import { SolutionList } from "./solutions.js";
-import { ORIENTATIONS, bracketed, isReduced, stateOf, stepNamed } from "./steps.js";
+import { ORIENTATIONS, REDUCTIONS, bracketed, isReduced, stateOf, stepNamed } from "./steps.js";
 import { StepTable, cubeWithOffers } from "./table.js";
 import {
-  awaitAnswer, isBare, keepInView, listenToKeys, setUsable, showBeginning, showStart, star, waitsForAnswers,
+  awaitAnswer, isBare, keepInView, listenToKeys, setUsable, showBeginning, showStart, star,
 } from "./view.js";
 import { tellFailed } from "./watch.js";
 import { titleOfPage, unanswered, whyNotListed, whyUnread } from "./words.js";
@@ -76,7 +76,7 @@ export class Page {
     const finders = ORIENTATIONS.map(newCalls);
     this.#readiness = new Readiness({ calls: this.#calls, byHand: this.#byHand, list, finders });
     this.#best = new BestContinuations(finders, this.#keptCalls, {
-      ...stars, goOn: (row) => this.#goOn(row), shown: () => this.#goBack(), isBusy: waitsForAnswers,
+      ...stars, goOn: (row) => this.#goOn(row), shown: () => this.#goBack(),
     });
     keepInView(part("side-column"));
     part("skip").addEventListener("click", () => this.#table.focus());
@@ -160,6 +160,7 @@ export class Page {
     this.#table.mark(this.#state.list);
     this.#showList();
     if ("kept" in change) this.#showKept();
+    else this.#line.markKept(this.#kept.has(this.#state.parts, this.#next()));
   }
 
   /** @param {string} scramble @param {import("./scramble.js").ScrambleChange} change */
@@ -324,13 +325,17 @@ export class Page {
     const { kept, parts } = this.#state;
     this.#kept.show(kept);
     refreshRows(part("choices"));
-    this.#line.markKept(this.#kept.has(parts));
+    this.#line.markKept(this.#kept.has(parts, this.#next()));
     if (kept.length > 0 && this.#cube) this.#kept.describe(this.#cube.scramble, this.#cube.written);
   }
 
-  /** Keeps the line so far, or takes it away. */
+  /** The reduction that is gone on to, whose list is open, or "". */
+  #next = () => REDUCTIONS.find(({ name }) => name === this.#state.list?.step)?.name ?? "";
+
+  /** Keeps the line so far, with the reduction that is gone on to, or takes it away. */
   #starLine() {
-    if (this.#state.parts.length > 0) this.#kept.star(this.#state, part("keep-line"), this.#state.parts);
+    const { parts } = this.#state;
+    if (parts.length > 0) this.#kept.star(this.#state, part("keep-line"), parts, this.#next());
   }
 
   /** @param {string} step @param {Part["side"]} side of the list, which is opened, or closed if it is open */

@@ -3,7 +3,9 @@
 import { Stopped } from "../module/faults.js";
 import { GREATEST_SLACK, MOST_SPLIT } from "./address.js";
 import { announce, announceLater, button, counted, element, part, setBusy, spoken, tell } from "./element.js";
-import { Filters, NOT_MOVES, caseAtMost, chosen, offerChoices, offerLastTurns, offerMoves, withTurns } from "./filter.js";
+import {
+  Filters, NOT_MOVES, caseAtMost, chosen, offerChoices, offerLastTurns, offerMoves, withTurns,
+} from "./filter.js";
 import { addRows, named, roveWithin, showRows, starButton, takeButton, takeNamed } from "./rows.js";
 import { axisName, bracketed, farnessOf, reductionsAfter, sizeOfCase, stateOf, stepNamed, titleOf } from "./steps.js";
 import { isNarrow } from "./view.js";
