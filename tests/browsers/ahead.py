@@ -65,7 +65,7 @@ def beginnings(count: int) -> list[str]:
 def splits(tally: Tally, browser: Browser) -> None:
     """A step with one or two moves on the other side: the list has all with the fewest moves in all, as the built program finds them."""
     for side, count in product(SIDES, (1, 2)):
-        browser.go(address_of(LONGER) + f"&list=eofb.{side}.0.split{count}")
+        browser.go(address_of(LONGER) + f"&list=eofb.{side}.0.all.split{count}")
         begun = beginnings(count)
         inverted = program_answers(browser.program, ["invert"], begun)
         lines = [f"{each} {Position(LONGER).lines[side]}" for each in inverted]

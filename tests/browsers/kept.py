@@ -49,7 +49,7 @@ def keeps(tally: Tally, browser: Browser) -> None:
     chips = browser.script(KEPT_WORDS.replace(".moves, .chip, .case", ".chip"))
     tally.equal("each with what it reaches", [any(word.startswith("EO ") for word in words) for words in chips], [True] * 3)
     cases = [len(each) for each in browser.script(KEPT_WORDS.replace(".moves, .chip, .case", ".case"))]
-    tally.equal("and its cases, a row of the best with its own alone", cases, [1, 2, 2])
+    tally.equal("and its cases, a row of the best with its own and the moves to it", cases, [2, 2, 2])
 
 
 def keeps_in_address(tally: Tally, browser: Browser) -> None:
@@ -107,6 +107,10 @@ def keeps_reductions(tally: Tally, browser: Browser) -> None:
     case = browser.texts(f"#best-body tr:nth-child({one + 1}) .case")[0]
     total, line, state, reduction, normal, inverse = rows[one]
     said = f"{reduction} {case}: N {normal} I {inverse}, {total} in all"
+    told = """const it = document.querySelectorAll('#best-body .first')[arguments[0]]; it.scrollIntoView({ block: 'center' });
+        return it.textContent"""
+    browser.until(told, one)
+    first = browser.script(told, one)
     browser.act('[data-cell="eorl.normal"]')
     shortest = browser.script("const row = document.querySelector('#solutions-groups li'); row.querySelector('.star').click();"
         "return row.querySelector('.take').textContent")
@@ -115,7 +119,7 @@ def keeps_reductions(tally: Tally, browser: Browser) -> None:
     tally.equal("the star is of the row alone", browser.script(stars), [at == one for at in range(len(rows))])
     named = browser.script("return document.querySelectorAll('#best-body .star')[arguments[0]].ariaLabel", one)
     tally.holds(f"and says so: {named}", named.endswith(f", {reduction} {case}"))
-    tally.equal("it says what the row said, and comes before an orientation alone", browser.script(KEPT_WORDS)[0], [line, state, said])
+    tally.equal("it says what the row said, and comes before an orientation alone", browser.script(KEPT_WORDS)[0], [line, state, said, first])
     tally.equal("which stays as it was", browser.script(KEPT_WORDS)[1][:2], [shortest, "EO R/L"])
     browser.script("document.querySelectorAll('#best-body .star')[arguments[0]].click()", other)
     browser.until(KEPT_SAID)
@@ -125,10 +129,31 @@ def keeps_reductions(tally: Tally, browser: Browser) -> None:
     tally.equal("they are sorted by all moves", totals, [rows[one][0], rows[other][0]])
     names = browser.script("return [...document.querySelectorAll('#kept-list button')].map((each) => each.ariaLabel)")
     tally.equal("no two buttons have one name", len(set(names)), len(names))
-    reads_reductions(tally, browser, said)
+    count = len(first.split()) - 1
+    reads_reductions(tally, browser, said, f"{first.removeprefix('then ')} // {reduction} ({count}/{total})")
 
 
-def reads_reductions(tally: Tally, browser: Browser, said: str) -> None:
+def keeps_what_is_gone_on_to(tally: Tally, browser: Browser) -> None:
+    """A line is kept as it stands: beside the list of a reduction that its row of the best led to it is kept as that row is."""
+    browser.open(ADDRESS)
+    browser.wait_best()
+    _, line, state, reduction, *_ = browser.script(ROWS)[0]
+    first = browser.texts("#best-body .first")[0]
+    pressed = "return document.querySelector(arguments[0]).ariaPressed"
+    browser.act("#best-body .take")
+    browser.click("#keep-line")
+    browser.until(KEPT_SAID)
+    words = browser.script(KEPT_WORDS)
+    tally.equal("the line with its reduction", [(*each[:2], each[2][:6], each[3]) for each in words], [(line, state, reduction, first)])
+    tally.equal("which the button says", browser.script(pressed, "#keep-line"), "true")
+    browser.click("#solutions-close")
+    tally.equal("without the list the line alone isn't kept", browser.script(pressed, "#keep-line"), "false")
+    browser.act("#undo-step")
+    browser.wait_best()
+    tally.equal("the row has its star", browser.script(pressed, "#best-body .star"), "true")
+
+
+def reads_reductions(tally: Tally, browser: Browser, said: str, step: str) -> None:
     """What is kept with its reduction comes back from the address and from the copy, by what is said of it."""
     note = "const it = document.querySelector('#kept-list .note-field'); it.value = 'a'; it.dispatchEvent(new Event('change'))"
     browser.script(note)
@@ -139,13 +164,15 @@ def reads_reductions(tally: Tally, browser: Browser, said: str) -> None:
     tally.equal("they come back from the address", browser.script(KEPT_WORDS), before)
     browser.click("#copy-kept")
     browser.until("return document.getElementById('status').textContent.startsWith('Copied')")
-    tally.holds("the copy says it too", f"\n// {said}\n// a\n" in browser.texts("#status")[0])
+    tally.holds("the copy says it too, below the moves", f"\n{step}\n// {said}\n// a\n" in browser.texts("#status")[0])
     text = browser.texts("#status")[0].removeprefix("Copied: ")
     browser.open()
     browser.fill("scramble", text)
     browser.until("return document.querySelectorAll('#kept-list li').length > 0")
     notes = browser.script("return [...document.querySelectorAll('#kept-list .note-field')].map((each) => each.value)")
     tally.holds("and is read again as a note", f"{said} a" in notes)
+    line = step.split(" //")[0]
+    tally.holds("of a line with these moves", any(line in browser.texts("#kept-list li")[at] for at in range(len(notes)) if notes[at] == f"{said} a"))
     browser.open(f"{ADDRESS}&kept=normal.R;;drud-eofb,normal.R;a;drud-eofb")
     browser.until(KEPT_SAID)
     tally.equal("a reduction that may not follow is not said", browser.script(KEPT_WORDS), [["R"], ["R"]])
@@ -201,7 +228,7 @@ def keeps_lengths(tally: Tally, browser: Browser) -> None:
     browser.script("document.querySelectorAll('#best-body .star').forEach((star) => star.click())")
     browser.choose("kept-sort", "kept")
     browser.until(KEPT_SAID)
-    said = [[words[0], words[-1].split(" ", 3)[3]] for words in browser.script(KEPT_WORDS)]
+    said = [[words[0], words[-2].split(" ", 3)[3]] for words in browser.script(KEPT_WORDS)]
     tally.equal("each as in its row", said, [[row[1], f"N {row[4]} I {row[5]}, {row[0]} in all"] for row in rows])
 
 

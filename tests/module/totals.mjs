@@ -6,6 +6,7 @@
 // The last line is `N passed, M failed`, and the status is 1 where M isn't 0.
 import { continuations } from "../../web/module/best-search.js";
 import { ORIENTATIONS, reductionsAfter } from "../../web/module/best-steps.js";
+import { Engine } from "../../web/module/engine.js";
 import { Nissy } from "../../web/module/nissy.js";
 import { mergeTwins } from "../../web/module/twins.js";
 import { madeBy, totalsWith } from "../../web/module/ways.js";
@@ -13,7 +14,8 @@ import { SIDES, cubeAfter, inAll, merged } from "./counting.mjs";
 import { ended, moduleBytes, same } from "./tally.mjs";
 
 const LEAST_ROWS = 500;
-const nissy = await Nissy.load(moduleBytes);
+const engine = await Engine.start(moduleBytes);
+const nissy = new Nissy(engine);
 
 /** The least count of a line with a reduction after it, and on each side, with the least length there of those that have it. */
 function leastAfter(scramble, parts, step) {
@@ -66,6 +68,32 @@ function tryOrientations(scramble, parts) {
   }
 }
 
+/** Asked of many at once or one by one there are the same rows, by fewer looks than each reduction after each orientation takes. */
+function tryWork(scramble, orientation) {
+  const position = { lines: cubeAfter(nissy, scramble, []), made: madeBy(nissy, []) };
+  const looked = [false, true].map((atOnce) => {
+    let looks = 0;
+    const answer = (request) => {
+      const reply = engine.answer(request);
+      if (request.call !== "solve" || !request.step.startsWith("eo")) for (const { nodes = 0 } of [reply].flat()) looks += Number(nodes);
+      return reply;
+    };
+    const wish = { slack: 1, isAll: false, most: Infinity, atOnce };
+    const found = [...continuations(new Nissy({ answer }), position, [], [orientation], wish)].flatMap(({ rows }) => rows);
+    return { looks, keys: found.map((row) => JSON.stringify(row)).sort() };
+  });
+  same(`${scramble}, ${orientation}: rows at once`, looked[0].keys, looked[1].keys);
+  let looks = 0;
+  for (const side of SIDES) {
+    for (const { moves } of nissy.solve(orientation, position.lines[side], { slack: 1 })) {
+      for (const line of Object.values(cubeAfter(nissy, scramble, [{ side, moves }]))) {
+        for (const { name } of reductionsAfter(orientation)) looks += nissy.count(name, line, { most: 1 }).nodes;
+      }
+    }
+  }
+  for (const each of looked) same(`${scramble}, ${orientation}: ${each.looks} looks of ${looks}`, each.looks < 0.7 * looks, true);
+}
+
 /** The rows after an orientation that holds. */
 function tryReductions(scramble, parts, orientation) {
   for (const { total, part, others } of rowsOf(cubeAfter(nissy, scramble, parts), parts, [orientation], orientation, 1)) {
@@ -95,6 +123,7 @@ for (const scramble of SCRAMBLES) {
   const [first] = nissy.solve("eofb", nissy.invert(scramble), { slack: 0 });
   const parts = [{ side: "inverse", moves: first.moves }];
   tryReductions(scramble, parts, "eofb");
+  tryWork(scramble, "eoud");
   for (const { name } of reductionsAfter("eofb")) tryLists(scramble, parts, name);
   tryLists(scramble, [{ side: "normal", moves: "R U2 D" }, { side: "inverse", moves: "F B2" }], "eorl");
   tryOrientations(scramble, [{ side: "normal", moves: "R U2 D" }, { side: "inverse", moves: "F B2" }]);

@@ -11,9 +11,9 @@ import { twinKey } from "./twins.js";
  */
 
 /**
- * @typedef {Part & {length: number, place: number[], isLonger: boolean}} Sided a solution on its side, its place among
- * all: by sides, and within its list; and whether it goes on after the step was reached, so that only what follows it
- * on the other side is anything new
+ * @typedef {Part & {length: number, place: number[], earlier: string | null}} Sided a solution on its side, its place
+ * among all: by sides, and within its list; and with which beginning the step was reached, if it goes on after that, so
+ * that only what follows it on the other side is anything new
  */
 
 /**

@@ -1,13 +1,15 @@
 // The search for the best continuations of a cube: before an orientation each orientation on both sides, with each
 // reduction that may follow it; after one its reductions. It has the engine at hand, and tells of rows as it finds
 // them.
+import { leftOf } from "./best-left.js";
 import { Bound, batchesOf, twinsOf } from "./best-rows.js";
 import { ORIENTATIONS, reductionsAfter } from "./best-steps.js";
 import { SIDES, otherSide } from "./sides.js";
 import { STEPS } from "./steps.js";
-import { lastTurnsOf, longerAmong } from "./twins.js";
-import { Lengths, afterPart, isWithin, totalWith, wayTo } from "./ways.js";
+import { earlierAmong, lastTurnsOf } from "./twins.js";
+import { Lengths, afterEach, totalWith, wayTo } from "./ways.js";
 
+/** @typedef {import("./best-left.js").Looked} Looked */
 /** @typedef {import("./best-rows.js").Row} Row */
 /** @typedef {import("./best-rows.js").Sided} Sided */
 /** @typedef {import("./best-steps.js").StepOnAxis} StepOnAxis */
@@ -52,9 +54,9 @@ const MOST_SOLUTIONS = 1_000_000;
 function onSides(nissy, step, { lines }, { slack, isAll }) {
   return SIDES.map((side, sideAt) => {
     const solutions = nissy.solve(step, lines[side], { slack, most: MOST_SOLUTIONS });
-    const isLonger = isAll ? () => false : longerAmong(solutions);
+    const earlierOf = isAll ? () => null : earlierAmong(solutions);
     return solutions.map((each, at) => (
-      { side, moves: each.moves, length: each.length, place: [sideAt, at], isLonger: isLonger(each) }));
+      { side, moves: each.moves, length: each.length, place: [sideAt, at], earlier: earlierOf(each) }));
   });
 }
 
@@ -97,32 +99,42 @@ const caseOf = ({ badCorners, misplacedEdges, cases }, { axis }) => (
 const placeOf = (step) => STEPS.indexOf(step);
 
 /**
- * Orientations that are twins, what they are known by, and what is seen after them, which is the same of cases.
- * @typedef {{orientation: StepOnAxis, key: string, twins: Tried[], facts: Facts}} Group
+ * Orientations that are twins, what they are known by, and what is there after each.
+ * @typedef {Untried & {twins: Tried[]}} Group
  */
+
+/** @param {Row | null} row @returns {row is Row} */
+const isRow = (row) => row !== null;
+
+/**
+ * The best of some ways of twins on a side, the first of those that are alike.
+ * @template {Record<Side, Way>} Each
+ * @param {Each[]} ways
+ * @param {Side} side
+ */
+const bestOn = (ways, side) => ways.reduce((best, each) => (byWay(each[side], best[side]) < 0 ? each : best));
 
 /**
  * The row of twins with a reduction: the moves are those of the twin that goes on best, on their own side if the other
  * one isn't better. Those that go on after the orientation was reached have a row if the other side is better: on their
  * own, what they go on with belongs to the reduction after a shorter one.
  * @param {Lengths} lengths
- * @param {Group} group
- * @param {StepOnAxis} reduction
+ * @param {Looked} looked
+ * @param {Facts} facts after any of the twins
  * @returns {Row | null} null if there is none
  */
-function rowOf(lengths, { orientation: { name }, key, twins, facts }, reduction) {
+function rowOf(lengths, { group: { orientation: { name }, key }, twins, reduction }, facts) {
   const ways = twins.map((twin) => ({
     twin,
     normal: wayTo(lengths, reduction.name, twin.after, "normal"),
     inverse: wayTo(lengths, reduction.name, twin.after, "inverse"),
   }));
-  const bestOn = (/** @type {Side} */ each) => ways.slice().sort((one, other) => byWay(one[each], other[each]))[0];
-  const [normal, inverse] = SIDES.map((each) => bestOn(each)[each]);
+  const [normal, inverse] = SIDES.map((each) => bestOn(ways, each)[each]);
   const totals = { normal: normal.total, inverse: inverse.total };
-  const { side: own, place, isLonger } = twins[0].part;
+  const { side: own, place, earlier } = twins[0].part;
   const side = totals[otherSide(own)] < totals[own] ? otherSide(own) : own;
-  if (isLonger && side === own) return null;
-  const { twin: { part }, ...shown } = bestOn(side);
+  if (earlier !== null && side === own) return null;
+  const { twin: { part }, ...shown } = bestOn(ways, side);
   return {
     total: totals[side],
     step: name,
@@ -140,28 +152,6 @@ function rowOf(lengths, { orientation: { name }, key, twins, facts }, reduction)
     place: [placeOf(name), ...place, placeOf(reduction.name)],
     key: `${key}.${reduction.name}`,
   };
-}
-
-/** @param {Row | null} row @returns {row is Row} */
-const isRow = (row) => row !== null;
-
-/**
- * The rows of twins, one at most for each reduction. One with as many moves as the bound is left out.
- * @param {Lengths} lengths
- * @param {Group} group
- * @param {number} bound
- * @returns {(Row | null)[]} null for one that is left out
- */
-function rowsOf(lengths, group, bound) {
-  const { side, isLonger } = group.twins[0].part;
-  const sides = isLonger ? [otherSide(side)] : SIDES;
-  const mayBeWithin = (/** @type {StepOnAxis} */ { name }) =>
-    group.twins.some(({ after }) => isWithin(lengths, name, after, bound, sides));
-  return reductionsAfter(group.orientation.name).flatMap((reduction) => {
-    if (bound !== Infinity && !mayBeWithin(reduction)) return [null];
-    const row = rowOf(lengths, group, reduction);
-    return row === null ? [] : [row.total < bound ? row : null];
-  });
 }
 
 /**
@@ -191,33 +181,29 @@ const sizeOf = (groups) => groups.reduce((sum, { group }) => sum + group.length,
  */
 
 /**
- * Asks for the least lengths of the reductions that may follow some positions, on both sides.
- * @param {Lengths} lengths
- * @param {StepOnAxis} orientation that holds there
- * @param {Position[]} positions
- */
-function askAfter(lengths, { name }, positions) {
-  const lines = positions.flatMap(({ lines: { normal, inverse } }) => [normal, inverse]);
-  if (lines.length > 0) reductionsAfter(name).forEach((reduction) => lengths.ask(reduction.name, lines));
-}
-
-/**
  * The rows of some groups.
  * @param {Nissy} nissy
  * @param {Position} position
  * @param {Untried[]} batch
  * @param {Going} going
+ * @returns {{rows: Row[], isCut: boolean}}
  */
 function rowsOfBatch(nissy, position, batch, { bound, atOnce }) {
-  const lengths = new Lengths(nissy);
-  const tried = batch.map(({ orientation, key, group }) => (
-    { orientation, key, twins: group.map((part) => ({ part, after: afterPart(nissy, position, part) })) }));
-  (atOnce ? ORIENTATIONS : []).forEach((orientation) => {
-    const own = tried.filter((each) => each.orientation === orientation);
-    askAfter(lengths, orientation, own.flatMap(({ twins }) => twins.map(({ after }) => after)));
+  const [lengths, most] = [new Lengths(nissy), bound.get()];
+  const after = afterEach(nissy, position, batch.flatMap(({ group }) => group)).values();
+  const groups = batch.map((untried) => (
+    { ...untried, twins: untried.group.map((part) => ({ part, after: after.next().value })) }));
+  const found = ORIENTATIONS.flatMap((orientation) => {
+    const own = groups.filter((each) => each.orientation === orientation);
+    return reductionsAfter(orientation.name).map((each) => leftOf(lengths, position, own, each, { most, atOnce }));
   });
-  const facts = nissy.factsAll(tried.map(({ twins }) => twins[0].after.lines.normal));
-  return tried.flatMap((group, at) => rowsOf(lengths, { ...group, facts: facts[at] }, bound.get()));
+  const all = found.flatMap(({ left }) => left);
+  const seen = [...new Set(all.map(({ group }) => group))];
+  const facts = nissy.factsAll(seen.map(({ twins }) => twins[0].after.lines.normal));
+  const factsOf = new Map(seen.map((group, at) => [group, facts[at]]));
+  const rows = all.map((each) => rowOf(lengths, each, /** @type {Facts} */ (factsOf.get(each.group)))).filter(isRow);
+  const kept = rows.filter(({ total }) => total < most);
+  return { rows: kept, isCut: kept.length < rows.length || found.some(({ isCut }) => isCut) };
 }
 
 /**
@@ -233,11 +219,10 @@ function* groupsFound(nissy, position, groups, going, isLast) {
   const all = isLast ? going.done + sizeOf(groups) : null;
   yield { done: going.done, all, rows: [], isCut: false };
   for (const batch of batchesOf(groups)) {
-    const rows = rowsOfBatch(nissy, position, batch, going);
-    const kept = rows.filter(isRow);
-    going.bound.add(kept);
+    const found = rowsOfBatch(nissy, position, batch, going);
+    going.bound.add(found.rows);
     going.done += sizeOf(batch);
-    yield { done: going.done, all, rows: kept, isCut: kept.length < rows.length };
+    yield { done: going.done, all, ...found };
   }
 }
 
@@ -296,7 +281,7 @@ function rowOfReduction(nissy, position, { reduction: { name, axis, needs }, kno
 function* reductionsFound(nissy, position, orientations, wish) {
   const facts = nissy.facts(position.lines.normal);
   const rows = orientations.flatMap(({ name }) => reductionsAfter(name)).flatMap((reduction) => {
-    const solutions = onSides(nissy, reduction.name, position, wish).flat().filter(({ isLonger }) => !isLonger);
+    const solutions = onSides(nissy, reduction.name, position, wish).flat().filter(({ earlier }) => earlier === null);
     const groups = twinsOf(solutions, reduction.name, wish.isAll);
     const reached = { reduction, known: caseOf(facts, reduction) };
     return groups.map(({ group }) => rowOfReduction(nissy, position, reached, group));

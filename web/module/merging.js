@@ -69,7 +69,37 @@ function mergedTurn(turn, next) {
   return quarters === 0 ? [] : [turn[0] + POWERS[quarters - 1]];
 }
 
-/** @typedef {{moves: string[], left: string[]}} Merging some turns, and what is left of those before them */
+/**
+ * Some turns, and what is left of those before them: how many these are, and how many moves both save together.
+ * @typedef {{moves: string, count: number, left: string, saved: number}} Merging
+ */
+
+/** @type {Map<string, Merging[]>} by the turns before, and the step */
+const KNOWN = new Map();
+
+/**
+ * The beginnings of a step that merge with the last turns of an axis.
+ * @param {string[]} group
+ * @param {string} name of the step
+ * @returns {Merging[]}
+ */
+function mergingsWith(group, name) {
+  /** @type {{moves: string[], left: string[]}[]} */
+  let ways = [{ moves: [], left: [] }];
+  for (const turn of group) {
+    const turns = turnsOfFace(turn[0], stepNamed(name));
+    ways = ways.flatMap(({ moves, left }) => [
+      { moves, left: [...left, turn] },
+      ...turns.map((next) => ({ moves: [...moves, next], left: [...left, ...mergedTurn(turn, next)] })),
+    ]);
+  }
+  return ways.filter(({ moves }) => moves.length > 0).map(({ moves, left }) => ({
+    moves: moves.join(" "),
+    count: moves.length,
+    left: left.join(" "),
+    saved: moves.length + group.length - left.length,
+  }));
+}
 
 /**
  * The beginnings of a step that merge with the end of a clean line on its side; none after a line that has no room for
@@ -82,22 +112,16 @@ function mergedTurn(turn, next) {
 export function mergersOf(made, name, line) {
   if (made.length === 0 || hasMore(line, MOST_BEFORE)) return [];
   const group = lastOfAxis(made);
-  /** @type {Merging[]} */
-  let ways = [{ moves: [], left: [] }];
-  for (const turn of group) {
-    const turns = turnsOfFace(turn[0], stepNamed(name));
-    ways = ways.flatMap(({ moves, left }) => [
-      { moves, left: [...left, turn] },
-      ...turns.map((next) => ({ moves: [...moves, next], left: [...left, ...mergedTurn(turn, next)] })),
-    ]);
-  }
   const last = group.join(" ");
+  const key = `${name} ${last}`;
+  const known = KNOWN.get(key) ?? mergingsWith(group, name);
+  KNOWN.set(key, known);
   const begin = line.endsWith(last) ? line.slice(0, -last.length).trimEnd() : null;
-  return ways.filter(({ moves }) => moves.length > 0).map(({ moves, left }) => ({
-    count: moves.length,
+  return known.map(({ moves, count, left, saved }) => ({
+    count,
     // twins have one line then, and the engine is asked once
-    after: begin === null ? joined(line, ...moves) : joined(begin, ...left),
-    saved: moves.length + group.length - left.length,
-    before: left.length === 0 ? made.slice(0, -group.length) : [],
+    after: begin === null ? joined(line, moves) : joined(begin, left),
+    saved,
+    before: left === "" ? made.slice(0, -group.length) : [],
   }));
 }

@@ -52,15 +52,17 @@ export function withTwins(moves, others) {
 
 /**
  * Puts twins together, each under the first of them.
- * @param {readonly Solution[]} solutions
+ * @template {Solution} Each
+ * @param {readonly Each[]} solutions
  * @param {string} step its name
- * @returns {Twins[]}
+ * @param {(solution: Each) => string} [before] what tells apart solutions of other cubes
+ * @returns {(Each & Twins)[]}
  */
-export function mergeTwins(solutions, step) {
-  /** @type {Map<string, Twins>} */
+export function mergeTwins(solutions, step, before = () => "") {
+  /** @type {Map<string, Each & Twins>} */
   const merged = new Map();
   for (const each of solutions) {
-    const key = twinKey(each.moves, step);
+    const key = [before(each), twinKey(each.moves, step)].join();
     const first = merged.get(key);
     if (first) first.others.push(lastTurnsOf(each.moves, step));
     else merged.set(key, { ...each, others: [] });
@@ -73,7 +75,7 @@ export function mergeTwins(solutions, step) {
  * @param {string} one
  * @param {string} other
  */
-const areOfOneAxis = (one, other) =>
+export const areOfOneAxis = (one, other) =>
   AXES.some((axis) => FACES_OF[axis].includes(one) && FACES_OF[axis].includes(other));
 
 /**
@@ -96,17 +98,18 @@ function* beginningsOf(moves, length, least) {
 }
 
 /**
- * What tells of each of some solutions whether the step is reached before its last move.
+ * What tells of each of some solutions with which beginning the step is reached before its last move: the longest one,
+ * or null if it is with none.
  * @param {readonly Solution[]} solutions all, from the shortest on
- * @returns {(solution: Solution) => boolean}
+ * @returns {(solution: Solution) => string | null}
  */
-export function longerAmong(solutions) {
+export function earlierAmong(solutions) {
   const least = solutions[0]?.length ?? 0;
-  if (solutions[solutions.length - 1]?.length === least) return () => false;
+  if (solutions[solutions.length - 1]?.length === least) return () => null;
   const known = new Set(solutions.map(({ moves }) => moves));
   return ({ moves, length }) => {
-    for (const beginning of beginningsOf(moves, length, least)) if (known.has(beginning)) return true;
-    return false;
+    for (const beginning of beginningsOf(moves, length, least)) if (known.has(beginning)) return beginning;
+    return null;
   };
 }
 
@@ -116,6 +119,6 @@ export function longerAmong(solutions) {
  * @param {Each[]} solutions all, from the shortest on
  */
 export function withoutEarlier(solutions) {
-  const isLonger = longerAmong(solutions);
-  return solutions.filter((each) => !isLonger(each));
+  const earlierOf = earlierAmong(solutions);
+  return solutions.filter((each) => earlierOf(each) === null);
 }

@@ -1,8 +1,10 @@
 // Ways from a cube to a step: the cube on both sides with the moves that were made there, the least length of the step,
 // and all moves with it, once those of each side are merged.
-import { AXES, FACES_OF } from "./best-steps.js";
+import { AXES, FACES_OF, stepNamed } from "./best-steps.js";
 import { hasMore, mergersOf, movesIn } from "./merging.js";
+import { textIn } from "./natives.js";
 import { SIDES, joined, movesOn, otherSide } from "./sides.js";
+import { areOfOneAxis } from "./twins.js";
 
 /** @typedef {import("./nissy.js").Nissy} Nissy */
 /** @typedef {import("./sides.js").Part} Part */
@@ -60,15 +62,27 @@ function mergedWith(nissy, made, moves) {
  * @param {Nissy} nissy
  * @param {Position} position
  * @param {Part} part
+ * @param {string} [inverted] its moves, if they are inverted already
  * @returns {Position}
  */
-export function afterPart(nissy, { lines, made }, { side, moves }) {
+export function afterPart(nissy, { lines, made }, { side, moves }, inverted = nissy.invert(moves)) {
   const other = otherSide(side);
-  const after = { [side]: joined(lines[side], moves), [other]: joined(nissy.invert(moves), lines[other]) };
+  const after = { [side]: joined(lines[side], moves), [other]: joined(inverted, lines[other]) };
   return {
     lines: /** @type {OnSides<string>} */ (after),
     made: { ...made, [side]: mergedWith(nissy, made[side], moves) },
   };
+}
+
+/**
+ * The positions after each of some parts, whose moves are inverted at once.
+ * @param {Nissy} nissy
+ * @param {Position} position
+ * @param {readonly Part[]} parts
+ */
+export function afterEach(nissy, position, parts) {
+  const inverted = textIn(nissy.run(["invert"], parts.map(({ moves }) => `${moves}\n`).join("")).out).split("\n");
+  return parts.map((part, at) => afterPart(nissy, position, part, inverted[at]));
 }
 
 /**
@@ -83,28 +97,77 @@ export function leastOf(nissy, step, line, limit) {
   return nissy.solve(step, line, { limit: Math.min(MOST_SEARCHED, limit), most: 1 })[0]?.length ?? null;
 }
 
-/** The least lengths of steps: those after many lines are asked of the engine at once, and are known then. */
+/**
+ * A line after which a step has the same lengths: turns at the front that the step's end is free to have count for
+ * nothing there, and neither does the direction of the first other ones, since half turns are free.
+ * @param {Step} step
+ * @param {string} line
+ */
+function withoutFront(step, line) {
+  const { axis, needs } = stepNamed(step);
+  const isFree = (/** @type {string} */ face) => FACES_OF[axis].includes(face) === (needs !== null);
+  let [kept, at] = ["", 0];
+  while (at < line.length && (kept === "" || areOfOneAxis(kept[0], line[at]))) {
+    if (line[at + 1] !== "2" && !isFree(line[at])) kept += `${line[at]} `;
+    const end = line.indexOf(" ", at);
+    at = end < 0 ? line.length : end + 1;
+  }
+  return (kept + line.slice(at)).trimEnd();
+}
+
+/**
+ * A position with the same ways to a step, whose line on a side is alike for many.
+ * @param {Step} step
+ * @param {Position} position
+ * @param {Side} side
+ * @returns {Position}
+ */
+export function alikeOn(step, { lines, made }, side) {
+  // a line that is too long for the engine is refused
+  const alike = hasMore(lines[side], MOST_ASKED_BEHIND) ? lines[side] : withoutFront(step, lines[side]);
+  return { lines: { ...lines, [side]: alike }, made };
+}
+
+/**
+ * Whether a length isn't known up to a limit: one that is more than another limit is told by the complement of that.
+ * @param {number | undefined} told
+ * @param {number} limit
+ */
+const isOpen = (told, limit) => told === undefined || (told < 0 && ~told < limit);
+
+/** The least lengths of steps after lines: each is asked of the engine once, and those after many at once. */
 export class Lengths {
   nissy;
-  /** @type {Map<string, Map<string, number | null>>} by steps, and by lines */ #known = new Map();
+  /** @type {Map<Step, Map<string, number>>} by lines */
+  #known = new Map();
 
   /** @param {Nissy} nissy */
   constructor(nissy) {
     this.nissy = nissy;
   }
 
-  /**
-   * Asks for a step after many lines.
-   * @param {Step} step
-   * @param {string[]} lines
-   */
-  ask(step, lines) {
-    const known = new Map();
-    this.nissy.countAll(step, lines, { most: 1, faults: "value" }).forEach((count, at) => {
-      // what is wrong with a line is thrown where it is needed
-      if (!(count instanceof Error)) known.set(lines[at], count.length);
-    });
+  /** @param {Step} step @returns {Map<string, number>} */
+  #of(step) {
+    const known = this.#known.get(step) ?? new Map();
     this.#known.set(step, known);
+    return known;
+  }
+
+  /**
+   * Asks for a step after many lines, for lengths up to a limit.
+   * @param {Step} step
+   * @param {Iterable<string>} lines
+   * @param {number} [limit]
+   */
+  ask(step, lines, limit = MOST_SEARCHED) {
+    if (limit < 0) return;
+    const known = this.#of(step);
+    const unknown = [...new Set(lines)].filter((line) => isOpen(known.get(line), limit));
+    if (unknown.length === 0) return;
+    this.nissy.countAll(step, unknown, { limit, most: 1, faults: "value" }).forEach((count, at) => {
+      // what is wrong with a line is thrown where it is needed
+      if (!(count instanceof Error)) known.set(unknown[at], count.length ?? ~limit);
+    });
   }
 
   /**
@@ -114,9 +177,14 @@ export class Lengths {
    * @param {number} [limit]
    */
   after(step, line, limit = MOST_SEARCHED) {
-    const known = this.#known.get(step)?.get(line);
-    if (known === undefined) return leastOf(this.nissy, step, line, limit);
-    return known !== null && known <= limit ? known : null;
+    if (limit < 0) return null;
+    const known = this.#of(step);
+    let length = known.get(line);
+    if (isOpen(length, limit)) {
+      length = leastOf(this.nissy, step, line, limit) ?? ~limit;
+      known.set(line, length);
+    }
+    return Number(length) >= 0 && Number(length) <= limit ? Number(length) : null;
   }
 }
 
@@ -166,6 +234,18 @@ export function wayTo(lengths, step, position, side, length = lengths.after(step
 }
 
 /**
+ * Up to which length a step on a side may have fewer moves in all than a bound.
+ * @param {Step} step
+ * @param {Position} position
+ * @param {number} bound
+ * @param {Side} side
+ */
+export function limitWithin(step, position, bound, side) {
+  if (bound === Infinity) return MOST_SEARCHED;
+  return Math.min(MOST_SEARCHED, bound - 1 - countOf(position) + mostMerged(position.made[side], step));
+}
+
+/**
  * Whether a step may be had on one of some sides with fewer moves in all than a bound; one that can't isn't looked for
  * further.
  * @param {Lengths} lengths
@@ -174,11 +254,8 @@ export function wayTo(lengths, step, position, side, length = lengths.after(step
  * @param {number} bound
  * @param {readonly Side[]} sides
  */
-export function isWithin(lengths, step, position, bound, sides) {
-  const left = bound - 1 - countOf(position);
-  const mostOn = (/** @type {Side} */ side) => left + mostMerged(position.made[side], step);
-  return sides.some((side) => lengths.after(step, position.lines[side], mostOn(side)) !== null);
-}
+export const isWithin = (lengths, step, position, bound, sides) => sides.some((side) =>
+  lengths.after(step, position.lines[side], limitWithin(step, position, bound, side)) !== null);
 
 /**
  * All moves with a part that follows.

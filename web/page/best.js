@@ -8,7 +8,7 @@ import { Filters, NOT_MOVES, filtersOfBest, offerChoices, offerLastTurns, offerM
 import { KnownSearches, byCase, findContinuations, goingOn } from "./finder.js";
 import { FurtherSearch } from "./further.js";
 import { ShownReductions } from "./reductions.js";
-import { addRows, refreshRows, roveWithin, showRows, takeNamed } from "./rows.js";
+import { addRows, roveWithin, showRows, takeNamed } from "./rows.js";
 import { isReduced, reducedAfter } from "./steps.js";
 import { isNarrow, withoutMoving } from "./view.js";
 
@@ -56,14 +56,12 @@ export class BestContinuations {
 
   /** @param {import("./calls.js").Calls[]} finders of its own, one an axis
    * @param {import("./calls.js").Calls} calls that tell more of rows that are seen
-   * @param {import("./best-row.js").RowActs & {shown: () => void, isBusy: () => boolean}} acts `isBusy`: whether the
-   * page waits for something else */
+   * @param {import("./best-row.js").RowActs & {shown: () => void}} acts */
   constructor(finders, calls, acts) {
     this.#finders = finders;
     this.#reductions = new ShownReductions(calls, this.#body);
     this.#acts = acts;
     this.#further = new FurtherSearch(finders, {
-      isBusy: acts.isBusy,
       turned: () => this.#working(this.#isAsked),
       found: (progress) => this.#foundFurther(progress),
       ended: (fault) => this.#endedFurther(fault),
@@ -120,16 +118,6 @@ export class BestContinuations {
   /** Ends the workers; a later search starts others. */
   end() {
     for (const finder of this.#finders) finder.end();
-  }
-
-  /** Whether the best that were asked for are looked for. */
-  isWorking() {
-    return this.#isAsked;
-  }
-
-  /** Shows the stars as they are. */
-  mark() {
-    refreshRows(this.#body);
   }
 
   /** Shows what the filters leave, as many as before, and says whether there are rows. */

@@ -3,6 +3,7 @@
 import { NissyFault } from "../module/faults.js";
 import { WorkerQueue } from "../module/worker-queue.js";
 import { ORIENTATIONS, REDUCTIONS, openSteps, reductionsAfter } from "./steps.js";
+import { waitsForAnswers } from "./view.js";
 import { watched } from "./watch.js";
 
 /** @typedef {import("./worker.js").Answers} Answers */
@@ -130,11 +131,11 @@ export class Readiness {
     clearTimeout(this.#timer);
   }
 
-  /** Begins in a moment, and not while the best are looked for.
-   * @param {string[]} reached @param {boolean} isBare whether no scramble is there yet @param {() => boolean} isBusy */
-  begin(reached, isBare, isBusy) {
+  /** Begins in a moment, and not while the page waits for answers.
+   * @param {string[]} reached @param {boolean} isBare whether no scramble is there yet */
+  begin(reached, isBare) {
     this.stop();
-    const go = () => (isBusy() ? this.begin(reached, isBare, isBusy) : this.#build(reached, isBare));
+    const go = () => (waitsForAnswers() ? this.begin(reached, isBare) : this.#build(reached, isBare));
     this.#timer = setTimeout(go, REST);
   }
 

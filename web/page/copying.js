@@ -21,11 +21,16 @@ const stepLines = (walk) => walk.parts.map((_, index) => stepLine(walk, index));
 /** @param {string} scramble @param {Walk} walk */
 export const fmcOf = (scramble, walk) => [scramble, ...stepLines(walk)].join("\n");
 
+/** The first of the reductions that a line was kept with, as its last step.
+ * @param {import("./position.js").KeptWalk} walk @returns {string[]} none without one */
+const lineOfNext = ({ next }) => (!next?.first ? []
+  : [`${bracketed([next.first])} // ${next.state} (${next.first.moves.split(" ").length}/${next.total})`]);
+
 /** Some candidates of a scramble, with their notes.
- * @param {string} scramble @param {{walk: Walk, notes: string[]}[]} candidates */
+ * @param {string} scramble @param {{walk: import("./position.js").KeptWalk, notes: string[]}[]} candidates */
 export function fmcOfAll(scramble, candidates) {
   const blocks = candidates.map(({ walk, notes }) =>
-    [...stepLines(walk), ...notes.map((note) => `// ${note}`)].join("\n"));
+    [...stepLines(walk), ...lineOfNext(walk), ...notes.map((note) => `// ${note}`)].join("\n"));
   return [scramble, ...blocks].join("\n\n");
 }
 

@@ -2,9 +2,9 @@
 import { AXES } from "../module/best-steps.js";
 import { stickersOf } from "../module/stickers.js";
 import { announce, element, part, tell } from "./element.js";
-import { emptyNet, plainView, showCube, stickerOf, turnedView } from "./net.js";
+import { PLACES, emptyNet, showCube, stickerOf, turnedView } from "./net.js";
 import { SIDES, axisName } from "./steps.js";
-import { PIECES, nameOfPiece, whyOf } from "./why.js";
+import { PIECES, whyOf } from "./why.js";
 
 /** @typedef {import("./position.js").View} View */
 /** @typedef {import("./steps.js").Side} Side */
@@ -32,7 +32,7 @@ export class Cube {
   #frames = null;
   #frame = 0;
   #timer = 0;
-  #view = plainView();
+  #view = PLACES;
   #open = "";
   #pointed = "";
   #choice = part("marks");
@@ -45,7 +45,7 @@ export class Cube {
       part(`net-${side}`).prepend(net);
       net.addEventListener("click", ({ target }) => this.#press(side, stickerOf(net, target)));
     }
-    part("piece").append(...PIECES.map((place) => element("option", { value: place }, nameOfPiece(place))));
+    part("piece").append(...PIECES.map((name) => element("option", { value: stickersOf([name])[0] }, name)));
     part("piece").addEventListener("change", () => this.#tellWhy(SIDES));
     part("cube-large").addEventListener("click", () => this.#enlarge(!part("cube").matches(".large")));
     part("cube").addEventListener("keydown", (event) => this.#typed(event));
@@ -85,19 +85,19 @@ export class Cube {
    * @param {Side} side @param {number} sticker */
   #press(side, sticker) {
     if (sticker < 0) return;
-    const name = nameOfPiece(this.#view[sticker]);
-    part("piece").value = PIECES.find((place) => nameOfPiece(place) === name) ?? "";
+    // a centre is no piece of these
+    const at = PIECES.findIndex((name) => stickersOf([name]).includes(this.#view[sticker]));
+    part("piece").selectedIndex = at + 1;
     this.#tellWhy([side]);
   }
 
   /** @param {readonly Side[]} sides on which it is told of the piece that is chosen */
   #tellWhy(sides) {
-    const place = part("piece").value;
+    const piece = PIECES[part("piece").selectedIndex - 1];
     const { views, choice } = this.#shown();
-    const choiceOfPiece = choice === PLAIN ? "" : choice;
-    const why = (side) => whyOf(views[side].letters, Number(place), choiceOfPiece);
-    const told = sides.map((side) => `${side === "normal" ? "Normal" : "Inverse"}: ${why(side)}`);
-    tell(part("why"), place === "" ? "" : told.join(" "));
+    const why = (side) => whyOf(views[side].letters, piece, choice === PLAIN ? "" : choice);
+    const sentences = sides.map((side) => `${side === "normal" ? "Normal" : "Inverse"}: ${piece && why(side)}`);
+    tell(part("why"), piece ? sentences.join(" ") : "");
   }
 
   /** Shows the nets as large as the window, or as they were.

@@ -19,11 +19,11 @@ const TOTALS = ["7", "8", "9", "10", "11", "12", "13"];
 const FIRST_OF_AXIS = { D: "U", L: "R", B: "F" };
 
 /** Offers choices, of which the first leaves all; the one that is chosen stays, if it is among them.
- * @param {string} name of the field @param {string[]} choices */
-export function offerChoices(name, choices) {
+ * @param {string} name of the field @param {string[]} choices @param {string} [first] what the first is called */
+export function offerChoices(name, choices, first = "any") {
   const field = part(name);
   const chosen = field.value;
-  const option = (value) => element("option", { value }, value || "any");
+  const option = (value) => element("option", { value }, value || first);
   field.replaceChildren(...["", ...choices].map(option));
   field.value = choices.includes(chosen) ? chosen : "";
 }

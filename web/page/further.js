@@ -2,6 +2,7 @@
 // seen and waits for nothing else, by workers that leave half of the processor to whatever is asked meanwhile.
 import { Found, findOnAxis, goingOn } from "./finder.js";
 import { ORIENTATIONS } from "./steps.js";
+import { waitsForAnswers } from "./view.js";
 
 /** @typedef {import("./finder.js").Question} Question */
 /** @typedef {import("./finder.js").Progress & {slack: number}} Further by how many moves longer */
@@ -24,8 +25,8 @@ export class FurtherSearch {
   #search = null;
 
   /** @param {import("./calls.js").Calls[]} finders one an axis
-   * @param {{isBusy: () => boolean, turned: () => void, found: (progress: Further) => void, ended: (fault: Error |
-   * null) => void}} acts `turned`: once it goes on, or no more */
+   * @param {{turned: () => void, found: (progress: Further) => void, ended: (fault: Error | null) => void}} acts
+   * `turned`: once it goes on, or no more */
   constructor(finders, acts) {
     this.#finders = finders;
     this.#acts = acts;
@@ -74,7 +75,7 @@ export class FurtherSearch {
   #goOn() {
     // once it is seen it waits anew
     if (document.hidden) return;
-    if (this.#acts.isBusy()) return this.#wait();
+    if (waitsForAnswers()) return this.#wait();
     const { left, running } = this.#search;
     while (left.length > 0 && running.size < mostTogether()) this.#look(this.#search, left.shift());
   }
@@ -83,7 +84,11 @@ export class FurtherSearch {
   async #look(search, at) {
     search.running.add(at);
     const isStill = () => search === this.#search;
-    const take = (found) => isStill() && this.#take(search, at, found);
+    const take = (found) => {
+      if (!isStill()) return;
+      search.found.take(at, found);
+      this.#acts.found({ ...search.found.progress(), slack: search.question.slack });
+    };
     try {
       await findOnAxis(this.#finders, ORIENTATIONS[at], search.question, take);
     } catch (fault) {
@@ -104,12 +109,6 @@ export class FurtherSearch {
     // it was given up until the page is seen again
     search.left.unshift(at);
     search.found.giveBack(at);
-  }
-
-  /** @param {Search} search @param {number} at @param {import("./finder.js").Progress} found */
-  #take(search, at, found) {
-    search.found.take(at, found);
-    this.#acts.found({ ...search.found.progress(), slack: search.question.slack });
   }
 
   /** Goes on with the next axis, or with one more move, or ends.

@@ -42,13 +42,14 @@ function stageOf({ reached, next }) {
 /** @param {KeptWalk} walk @returns how many moves a candidate has, with the reduction that it was kept with */
 const totalOf = ({ totals, next }) => next?.total ?? totals.at(-1);
 
-/** The reduction that a candidate was kept with, as its row says it: `DR F/B 6c4e: N 4 I 7, 9 in all`; or "".
- * @param {KeptWalk} walk */
+/** The reduction that a candidate was kept with, as its row says it: `DR F/B 6c4e: N 4 I 7, 9 in all`, and the first.
+ * @param {KeptWalk} walk @returns {string[]} none without one */
 function wordsOfNext({ next }) {
-  if (next === null) return "";
+  if (next === null) return [];
   const [normal, inverse] = next.lengths.map((length) => length ?? "–");
   const total = Number.isFinite(next.total) ? next.total : "–";
-  return `${next.state} ${next.case}: N ${normal} I ${inverse}, ${total} in all`;
+  const then = next.first === null ? [] : [`then ${bracketed([next.first])}`];
+  return [`${next.state} ${next.case}: N ${normal} I ${inverse}, ${total} in all`, ...then];
 }
 
 /** @typedef {{parts: Part[], states: string[], cases: string[]}} Stage some steps, what they reach, and cases after
@@ -96,7 +97,7 @@ function stagesOf(walk) {
   if (isReduced(reached)) return stagesOfReduced(walk);
   const steps = ORIENTATIONS.filter(({ name }) => reached.includes(name)).flatMap(({ name }) => reductionsAfter(name));
   const cases = [...new Set(steps.map(({ axis }) => `${axisName(axis)} ${facts.at(-1).cases[axis]}`))];
-  return [{ parts, states: statesOf(reached), cases: next === null ? cases : [wordsOfNext(walk)] }];
+  return [{ parts, states: statesOf(reached), cases: next === null ? cases : wordsOfNext(walk) }];
 }
 
 /** What is seen of a candidate: its stages, each together, and the moves in all.
@@ -132,8 +133,15 @@ export class KeptCandidates {
     this.#calls = calls;
     this.#acts = acts;
     part("copy-kept").addEventListener("click", (event) => copy(this.#text(), event.currentTarget));
-    part("kept-clear").addEventListener("click", () => this.#clear());
-    part("kept-back").addEventListener("click", () => this.#undo());
+    part("kept-clear").addEventListener("click", () => {
+      this.leave([]);
+      part("kept-back").focus({ preventScroll: true });
+    });
+    part("kept-back").addEventListener("click", () => {
+      const { length } = this.#before;
+      acts.change(this.#before);
+      announce(`${counted(length, "line")} ${length === 1 ? "is" : "are"} kept again.`);
+    });
     part("kept-sort").addEventListener("change", () => this.#draw());
   }
 
@@ -193,17 +201,6 @@ export class KeptCandidates {
     if (isFocused && count === 0) part("kept-heading").focus({ preventScroll: true });
   }
 
-  #clear() {
-    this.leave([]);
-    part("kept-back").focus({ preventScroll: true });
-  }
-
-  #undo() {
-    const { length } = this.#before;
-    this.#acts.change(this.#before);
-    announce(`${counted(length, "line")} ${length === 1 ? "is" : "are"} kept again.`);
-  }
-
   #names() {
     return this.#candidates.map(nameOfCandidate).join("\n");
   }
@@ -239,7 +236,8 @@ export class KeptCandidates {
 
   #text() {
     if (this.#walks.length !== this.#candidates.length) return "";
-    const notesOf = ({ candidate, walk }) => [wordsOfNext(walk), candidate.note].filter((note) => note !== "");
+    const notesOf = ({ candidate, walk }) =>
+      [...wordsOfNext(walk).slice(0, 1), candidate.note].filter((note) => note !== "");
     return fmcOfAll(this.#scramble, this.#sorted().map((each) => ({ walk: each.walk, notes: notesOf(each) })));
   }
 

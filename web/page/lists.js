@@ -3,7 +3,7 @@
 import { FACES_OF, stepNamed } from "../module/best-steps.js";
 import { turnsOfFace } from "../module/merging.js";
 import { mergeTwins, withoutEarlier } from "../module/twins.js";
-import { afterPart, countOf, leastOf, totalsWith } from "../module/ways.js";
+import { afterPart, countOf, totalsWith } from "../module/ways.js";
 import { joined, otherSide } from "./steps.js";
 
 /** @typedef {import("../module/nissy.js").Nissy} Nissy */
@@ -39,23 +39,16 @@ function beginningsWith(step, count) {
     turns.filter((turn) => mayFollow(before.at(-1), turn)).map((turn) => [...before, turn]));
 }
 
-/** The least length after some beginnings, tried from none on, so that none longer is searched; or null.
- * @param {Nissy} nissy @param {import("./steps.js").OfferedStep} step @param {{line: string}[]} beginnings */
-function leastAfter(nissy, { name }, beginnings) {
-  const limits = Array.from({ length: LONGEST_AFTER + 1 }, (_, limit) => limit);
-  return limits.find((limit) => beginnings.some(({ line }) => leastOf(nissy, name, line, limit) !== null)) ?? null;
-}
-
 /** The solutions of a step with some moves on the other side, the fewest in all and longer ones by a slack.
  * @param {Nissy} nissy @param {List} list @param {Lines} now the cube
  * @returns {{solutions: Entry[], whole: boolean}} */
 function splitSolutions(nissy, { step, side, slack, split }, now) {
   const beginnings = beginningsWith(step, split).map((turns) => turns.join(" ")).map((moves) => (
     { begin: { side: otherSide(side), moves }, line: joined(nissy.invert(moves), now[side]) }));
-  const least = leastAfter(nissy, stepNamed(step), beginnings);
-  if (least === null) return { solutions: [], whole: true };
+  const lines = beginnings.map(({ line }) => line);
+  const least = Math.min(...nissy.countAll(step, lines, { most: 1 }).map(({ length }) => length ?? LONGEST_AFTER));
   const limit = Math.min(LONGEST_AFTER, least + slack);
-  const found = nissy.solveAll(step, beginnings.map(({ line }) => line), { limit, slack, most: MOST_OF_ONE });
+  const found = nissy.solveAll(step, lines, { limit, slack, most: MOST_OF_ONE });
   const solutions = beginnings.flatMap((each, at) =>
     found[at].map(({ moves, length }) => ({ ...each, moves, length: length + split, others: [] })));
   // no moves on this side are no split
@@ -103,11 +96,9 @@ export function rowsOfList(nissy, { list, position }) {
   const now = position.lines;
   const isSplit = list.split > 0;
   const { solutions, whole } = (isSplit ? splitSolutions : ownSolutions)(nissy, list, now);
-  const isEach = list.isAll || isSplit;
-  const wanted = isEach ? solutions : withoutEarlier(solutions);
+  const wanted = list.isAll || isSplit ? solutions : withoutEarlier(solutions);
   const left = withTotals(nissy, wanted, position, list);
-  /** @type {Entry[]} */
-  const entries = isEach ? left : mergeTwins(left, list.step);
+  const entries = list.isAll ? left : mergeTwins(left, list.step, ({ begin }) => begin?.moves ?? "");
   if (stepNamed(list.step).needs === null) {
     const first = entries.slice(0, MOST_WITH_CASES);
     const facts = nissy.factsAll(first.map(({ moves, line = now[list.side] }) => joined(line, moves)));

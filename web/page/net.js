@@ -68,7 +68,8 @@ export function showCube(net, letters, title, { places, view }) {
   });
 }
 
-const PLACES = Array.from({ length: 54 }, (_, place) => place);
+/** Which place is seen at each of the net, where nothing is turned. */
+export const PLACES = Array.from({ length: 54 }, (_, place) => place);
 
 /** Where the sticker of a place is, in space: U is up, R is right, F is towards the eye.
  * @param {number} place @returns {number[]} */
@@ -81,22 +82,12 @@ function pointOf(place) {
   return points[Math.floor(place / 9)];
 }
 
-/** @param {number} place @returns the places of all stickers of the piece that one is on, in their order */
-export function pieceAt(place) {
-  const nameOfCubie = (each) => pointOf(each).map((at) => Math.sign(at)).join();
-  const wanted = nameOfCubie(place);
-  return PLACES.filter((each) => nameOfCubie(each) === wanted);
-}
-
 /** Where each turn of the whole cube takes a point.
  * @type {Record<"x" | "y", (point: number[]) => number[]>} */
 const TURNS_OF_VIEW = {
   y: ([across, up, near]) => [-near, up, across],
   x: ([across, up, near]) => [across, near, -up],
 };
-
-/** Which place is seen at each of the net, where nothing is turned. */
-export const plainView = () => [...PLACES];
 
 /** @param {number[]} view @param {"x" | "y"} turn */
 export function turnedView(view, turn) {

@@ -11,12 +11,13 @@ import { NextFocus } from "./focus.js";
 import { KeptCandidates } from "./kept.js";
 import { LineSoFar } from "./line.js";
 import { Seen, WayBack, dropAddress, keepPlace, placeIn, writeState } from "./places.js";
+import { refreshRows } from "./rows.js";
 import { ScrambleField } from "./scramble.js";
 import { SolutionList } from "./solutions.js";
-import { ORIENTATIONS, bracketed, isReduced, stateOf, stepNamed } from "./steps.js";
+import { ORIENTATIONS, REDUCTIONS, bracketed, isReduced, stateOf, stepNamed } from "./steps.js";
 import { StepTable, cubeWithOffers } from "./table.js";
 import {
-  awaitAnswer, isBare, keepInView, listenToKeys, setUsable, showBeginning, showStart, star, waitsForAnswers,
+  awaitAnswer, isBare, keepInView, listenToKeys, setUsable, showBeginning, showStart, star,
 } from "./view.js";
 import { tellFailed } from "./watch.js";
 import { titleOfPage, unanswered, whyNotListed, whyUnread } from "./words.js";
@@ -75,7 +76,7 @@ export class Page {
     const finders = ORIENTATIONS.map(newCalls);
     this.#readiness = new Readiness({ calls: this.#calls, byHand: this.#byHand, list, finders });
     this.#best = new BestContinuations(finders, this.#keptCalls, {
-      ...stars, goOn: (row) => this.#goOn(row), shown: () => this.#goBack(), isBusy: waitsForAnswers,
+      ...stars, goOn: (row) => this.#goOn(row), shown: () => this.#goBack(),
     });
     keepInView(part("side-column"));
     part("skip").addEventListener("click", () => this.#table.focus());
@@ -159,6 +160,7 @@ export class Page {
     this.#table.mark(this.#state.list);
     this.#showList();
     if ("kept" in change) this.#showKept();
+    else this.#line.markKept(this.#kept.has(this.#state.parts, this.#next()));
   }
 
   /** @param {string} scramble @param {import("./scramble.js").ScrambleChange} change */
@@ -223,7 +225,7 @@ export class Page {
     this.#showCube(cube);
     await this.#showOffers(turn, portions);
     if (turn !== this.#turn) return;
-    this.#readiness.begin(this.#cube.reached, part("choices").hidden, () => this.#best.isWorking());
+    this.#readiness.begin(this.#cube.reached, part("choices").hidden);
     await this.#showAnswered(turn);
   }
 
@@ -262,7 +264,8 @@ export class Page {
     const { position, reached } = this.#cube;
     // nothing is pressed before the page went on to a list that is to come, or back to a row
     const isHeld = this.#state.list !== null && (this.#nextFocus.waitsFor("list") || this.#wayBack.isOn());
-    if (portions.length > 1) this.#table.expect(this.#cube);
+    // no row moves once it can be pressed, so all are there before they are counted
+    if (portions.length > 1) this.#table.add([], this.#cube, null);
     for (const [at, portion] of portions.entries()) {
       const groups = await portion;
       if (turn !== this.#turn) return;
@@ -321,15 +324,18 @@ export class Page {
   #showKept() {
     const { kept, parts } = this.#state;
     this.#kept.show(kept);
-    this.#best.mark();
-    this.#list.mark();
-    this.#line.markKept(this.#kept.has(parts));
+    refreshRows(part("choices"));
+    this.#line.markKept(this.#kept.has(parts, this.#next()));
     if (kept.length > 0 && this.#cube) this.#kept.describe(this.#cube.scramble, this.#cube.written);
   }
 
-  /** Keeps the line so far, or takes it away. */
+  /** The reduction that is gone on to, whose list is open, or "". */
+  #next = () => REDUCTIONS.find(({ name }) => name === this.#state.list?.step)?.name ?? "";
+
+  /** Keeps the line so far, with the reduction that is gone on to, or takes it away. */
   #starLine() {
-    if (this.#state.parts.length > 0) this.#kept.star(this.#state, part("keep-line"), this.#state.parts);
+    const { parts } = this.#state;
+    if (parts.length > 0) this.#kept.star(this.#state, part("keep-line"), parts, this.#next());
   }
 
   /** @param {string} step @param {Part["side"]} side of the list, which is opened, or closed if it is open */
@@ -370,8 +376,7 @@ export class Page {
     const { parts } = this.#state;
     this.#seen.add(this.#state, [taken], key, next.step);
     const list = { step: next.step, side: next.side, slack: 0, isAll: false };
-    const all = taken.moves === "" ? parts : [...parts, taken];
-    this.#change({ parts: all, side: next.side, list }, { focusNext: "list" });
+    this.#change({ parts: [...parts, taken], side: next.side, list }, { focusNext: "list" });
   }
 
   /** @param {Part[]} parts a line that was kept @param {import("./address.js").List | null} list of its reduction */

@@ -102,16 +102,24 @@ export function examine(nissy, typed, tell) {
   for (const steps of inGroups(openSteps(reached.at(-1)))) tell(steps.map((step) => offerOf(nissy, step, now)));
 }
 
-/** @typedef {{state: string, case: string, lengths: (number | null)[], total: number, side: Side}} Next
- * `lengths`: on each side; `total`: in all, on the side where it is least */
+/** The first reduction with which there are as many moves in all, null if there is none.
+ * @param {Nissy} nissy @param {Position} position @param {import("../module/steps.js").Step} step @param {Side} side
+ * @param {number} total @returns {Part | null} */
+const firstOn = (nissy, position, step, side, total) =>
+  (Number.isFinite(total) ? { side, moves: firstOf(nissy, position, step, side, total).moves } : null);
+
+/** @typedef {{state: string, case: string, lengths: (number | null)[], total: number, side: Side, first: Part | null}}
+ * Next `lengths`: on each side; `total`: in all, on the side where it is least; `first`: the first with that, if any */
 /** @typedef {Walk & {next: Next | null}} KeptWalk */
 
-/** @param {Walk} walk @param {Offer} offer @returns {Next} what is said of a reduction that follows a line */
-function nextOf({ facts }, offer) {
+/** What is said of a reduction that follows a line.
+ * @param {Nissy} nissy @param {Walk} walk @param {Offer} offer @returns {Next} */
+function nextOf(nissy, { facts, now }, offer) {
   const total = Math.min(...SIDES.map((side) => offer[side].total));
   const side = SIDES.find((each) => offer[each].total === total);
   const lengths = SIDES.map((each) => offer[each].length);
-  return { state: stateOf(offer.step), case: caseOfStep(facts.at(-1), offer.step), lengths, total, side };
+  const first = firstOn(nissy, now, offer.step.name, side, total);
+  return { state: stateOf(offer.step), case: caseOfStep(facts.at(-1), offer.step), lengths, total, side, first };
 }
 
 /** Walks through the candidates of one scramble, each with the reduction that it was kept with, if that may follow it.
@@ -122,7 +130,7 @@ export function walkKept(nissy, { scramble, candidates }) {
     const walk = walkOf(nissy, scramble, parts);
     const last = walk.reached.at(-1);
     const step = isReduced(last) ? undefined : openSteps(last).find(({ name }) => name === next);
-    return { ...walk, next: step ? nextOf(walk, offerOf(nissy, step, walk.now)) : null };
+    return { ...walk, next: step ? nextOf(nissy, walk, offerOf(nissy, step, walk.now)) : null };
   });
 }
 
@@ -135,6 +143,6 @@ export function reductionsOf(nissy, { row: { part, next, total }, position }) {
   const after = afterPart(nissy, position, part);
   const { step, side, lengths } = next;
   const countOn = (each) => (lengths[each] === null ? null : nissy.count(step, after.lines[each]).solutions);
-  const first = Number.isFinite(total) ? { side, moves: firstOf(nissy, after, step, side, total).moves } : null;
+  const first = firstOn(nissy, after, step, side, total);
   return { counts: { normal: countOn("normal"), inverse: countOn("inverse") }, first };
 }

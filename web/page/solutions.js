@@ -3,8 +3,10 @@
 import { Stopped } from "../module/faults.js";
 import { GREATEST_SLACK, MOST_SPLIT } from "./address.js";
 import { announce, announceLater, button, counted, element, part, setBusy, spoken, tell } from "./element.js";
-import { Filters, NOT_MOVES, caseAtMost, offerLastTurns, offerMoves, withTurns } from "./filter.js";
-import { addRows, named, refreshRows, roveWithin, showRows, starButton, takeButton, takeNamed } from "./rows.js";
+import {
+  Filters, NOT_MOVES, caseAtMost, chosen, offerChoices, offerLastTurns, offerMoves, withTurns,
+} from "./filter.js";
+import { addRows, named, roveWithin, showRows, starButton, takeButton, takeNamed } from "./rows.js";
 import { axisName, bracketed, farnessOf, reductionsAfter, sizeOfCase, stateOf, stepNamed, titleOf } from "./steps.js";
 import { isNarrow } from "./view.js";
 
@@ -58,6 +60,7 @@ export class SolutionList {
   #filters = new Filters("list", part("solutions-note"), [[
     withTurns("filter", "last-turn", (entry) => entry),
     caseAtMost("most", (entry) => this.#casesOf(entry).map(({ name }) => name)),
+    chosen("list-begin", [], ({ begin }, moves) => begin.moves === moves),
   ]], () => this.#filtered());
   #groups = part("solutions-groups");
 
@@ -108,8 +111,11 @@ export class SolutionList {
       const rows = await asked;
       if (isStill()) this.#take(rows);
     } catch (fault) {
-      if (isStill()) this.#refuse(fault instanceof Stopped ? "Stopped." : fault.message);
-      return false;
+      if (!isStill()) return false;
+      const why = fault instanceof Stopped ? "Stopped." : fault.message;
+      this.#setWorking(false);
+      tell(part("solutions-note"), why);
+      announce(why);
     }
     return isStill();
   }
@@ -142,8 +148,11 @@ export class SolutionList {
     part("slack").value = String(slack);
     part("split").value = String(split);
     part("twins").checked = isAll;
-    part("twins").disabled = split > 0;
-    part("case-filters").hidden = stepNamed(step).needs !== null;
+    const orders = { case: stepNamed(step).needs === null, beginning: split > 0 };
+    part("case-filters").hidden = !orders.case;
+    part("begin-filter").hidden = !orders.beginning;
+    offerChoices("list-sort", Object.keys(orders).filter((order) => orders[order]), "length");
+    part("list-order").hidden = !orders.case && !orders.beginning;
     tell(part("solutions-note"), LOOKING);
   }
 
@@ -151,24 +160,13 @@ export class SolutionList {
   #take(rows) {
     this.#rows = rows;
     offerLastTurns("last-turn", rows.entries.map(({ moves }) => moves));
+    // the best first, as the rows are
+    offerChoices("list-begin", [...new Set(rows.entries.flatMap(({ begin }) => begin?.moves ?? []))]);
     this.#setWorking(false);
     this.#order();
     const { step, side } = this.#list;
     const all = `${rows.whole ? "" : "more than "}${counted(rows.all, "solution")}`;
     announce(`${titleOf(stepNamed(step))}, ${side} side: ${all}.`);
-  }
-
-  /** Says why there is no list.
-   * @param {string} text */
-  #refuse(text) {
-    this.#setWorking(false);
-    tell(part("solutions-note"), text);
-    announce(text);
-  }
-
-  /** Shows the stars as they are. */
-  mark() {
-    refreshRows(this.#groups);
   }
 
   /** Puts the focus on the field of the filter, also where the filters are folded. */
@@ -242,7 +240,8 @@ export class SolutionList {
 
   /** @param {Entry[]} matching @returns {Group[]} in the order of their rows */
   #grouped(matching) {
-    const byCase = part("list-sort").value === "case";
+    const order = part("list-sort").value;
+    const byCase = order === "case";
     const nearest = new Map(byCase ? matching.map((entry) => [entry, this.#nearest(entry)]) : []);
     const farOf = (entry) => nearest.get(entry)?.far ?? 0;
     if (byCase) matching.sort((one, other) => farOf(one) - farOf(other) || one.length - other.length);
@@ -251,8 +250,10 @@ export class SolutionList {
     for (const entry of matching) {
       const inAll = entry.total === undefined ? "" : `, ${entry.total} in all`;
       const name = nearest.get(entry)?.name ?? counted(entry.length, "move") + inAll;
-      const group = groups.get(name) ?? { name, entries: [], longest: 0, list: null };
-      groups.set(name, group);
+      const begin = order === "beginning" ? bracketed([entry.begin]) : "";
+      const group = groups.get(begin || name)
+        ?? { name: begin === "" ? name : `${begin} first, from ${name}`, entries: [], longest: 0, list: null };
+      groups.set(begin || name, group);
       group.entries.push(entry);
       group.longest = Math.max(group.longest, signsOf(entry, this.#list.side));
     }

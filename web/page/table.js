@@ -94,19 +94,6 @@ export class StepTable {
       [element("span", { class: "chip", "data-marks": state }, state), " "]));
   }
 
-  /** Adds groups of offers; of all that are shown a reduction comes before an orientation.
-   * @param {Offer[][]} added @param {Cube} cube @param {import("./address.js").List | null} list */
-  add(added, cube, list) {
-    this.#groups.push(...added);
-    this.#draw(cube, list);
-  }
-
-  /** Shows the steps before they are counted, so that no row moves once it can be pressed.
-   * @param {Cube} cube */
-  expect(cube) {
-    this.#draw(cube, null);
-  }
-
   /** The groups of offers, a reduction before an orientation; one that is still to be counted stands in its place.
    * @param {Cube} cube @returns {Offer[][]} */
   #inOrder({ reached }) {
@@ -116,8 +103,10 @@ export class StepTable {
     });
   }
 
-  /** @param {Cube} cube @param {import("./address.js").List | null} list */
-  #draw(cube, list) {
+  /** Adds groups of offers; of all that are shown a reduction comes before an orientation.
+   * @param {Offer[][]} added @param {Cube} cube @param {import("./address.js").List | null} list */
+  add(added, cube, list) {
+    this.#groups.push(...added);
     const groups = this.#inOrder(cube);
     const focused = this.#body.contains(document.activeElement) ? document.activeElement.dataset.cell : null;
     const anew = groups.find((group) => !keepsReached(group, cube.reached));

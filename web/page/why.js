@@ -1,31 +1,11 @@
 // Why a piece is good or bad, in a sentence: which of its colours tells, on which face that belongs, and where it is.
-import { pieceAt } from "./net.js";
+import { CORNER_PLACES, EDGE_PLACES } from "../module/facts.js";
+import { stickersOf } from "../module/stickers.js";
 
-const FACE_LETTERS = "URFDLB";
 /** The axes in the order in which their colours tell; that of the step itself comes second. */
 const TELLING_AXES = ["U/D", "F/B", "R/L"];
-/** In which order the faces of a piece are named. */
-const NAMED_FIRST = "UDFBRL";
-
-/** @param {number} place @returns the face that a place is on */
-const faceAt = (place) => FACE_LETTERS[Math.floor(place / 9)];
-
-/** The places of the piece that a place belongs to, in the order in which its faces are named.
- * @param {number} place */
-function placesOf(place) {
-  const rank = (each) => NAMED_FIRST.indexOf(faceAt(each));
-  return pieceAt(place).sort((one, other) => rank(one) - rank(other));
-}
-
-/** @param {number} place of one of its stickers @returns what a piece is called by its faces, such as `UF` */
-export const nameOfPiece = (place) => placesOf(place).map(faceAt).join("");
-
-/** One place of each edge, and then of each corner. */
-export const PIECES = [2, 3].flatMap((count) =>
-  Array.from({ length: 54 }, (_, place) => place).filter((place) => {
-    const places = placesOf(place);
-    return places.length === count && places[0] === place;
-  }));
+/** The pieces by their faces: each edge, and then each corner. */
+export const PIECES = [...EDGE_PLACES, ...CORNER_PLACES];
 
 /** @param {string} axis @returns the two faces of an axis in words */
 const eitherOf = (axis) => axis.replace("/", " or ");
@@ -65,14 +45,12 @@ function cornerOriented(faces, colours, axis) {
 }
 
 /** Why a piece is good or bad.
- * @param {string} letters of the cube @param {number} place of one of its stickers
+ * @param {string} letters of the cube @param {typeof PIECES[number]} name where it is
  * @param {string} choice what is marked, such as `EO F/B`, or "" for each axis */
-export function whyOf(letters, place, choice) {
-  const places = placesOf(place);
-  const [faces, colours] = [places.map(faceAt), places.map((each) => letters[each])];
+export function whyOf(letters, name, choice) {
+  const [faces, colours] = [[...name], stickersOf([name]).map((place) => letters[place])];
   const [kind, wanted] = choice.split(" ");
-  const told = { 2: kind === "DR" ? edgePlaced : edgeOriented, 3: cornerOriented }[places.length];
-  if (told === undefined) return "";
+  const told = { 2: kind === "DR" ? edgePlaced : edgeOriented, 3: cornerOriented }[faces.length];
   const axes = wanted === undefined ? TELLING_AXES : [wanted];
-  return `${faces.join("")} is ${axes.map((axis) => told(faces, colours, axis)).join("; ")}.`;
+  return `${name} is ${axes.map((axis) => told(faces, colours, axis)).join("; ")}.`;
 }

@@ -1,7 +1,6 @@
 // The script of the page's workers: all that the page asks, each by its name, of the engine that is at hand there.
 import { continuations } from "../module/best-search.js";
 import { NissyFault } from "../module/faults.js";
-import { textIn } from "../module/natives.js";
 import { Nissy } from "../module/nissy.js";
 import { serveBy } from "../module/serve.js";
 import { readAddressed, readByHand, readWritten } from "./lines.js";
@@ -11,17 +10,14 @@ import { stateOf, stepNamed } from "./steps.js";
 
 /** @typedef {import("../module/steps.js").Step} Step */
 
-const SCRAMBLE_TURNS = "25";
-const STREAM = "1";
+const SCRAMBLE_TURNS = 25;
+const STREAM = 1;
 /** How many rows of one axis are told, besides those that are as good as the last: no more are kept of all. */
 const MOST_TOLD_OF_AXIS = 10_000;
 
 /** @param {Nissy} nissy @param {{seed: string}} asked @returns the scramble of a seed, or null if it is none */
-function scrambleOf(nissy, { seed }) {
-  // a word can't hold a zero byte
-  const { status, out } = nissy.run(["scramble", seed.replaceAll("\0", "?"), STREAM, SCRAMBLE_TURNS, "1"]);
-  return status === 0 ? textIn(out).trim() : null;
-}
+const scrambleOf = (nissy, { seed }) => (/^\d+$/.test(seed) && BigInt(seed) < 2n ** 64n
+  ? nissy.scramble(BigInt(seed), STREAM, SCRAMBLE_TURNS) : null);
 
 /** A row as it is told: what it reaches in the page's words, and the lengths after the moves that it shows alone.
  * @param {import("../module/best-rows.js").Row} row @returns {import("./finder.js").Row} */
