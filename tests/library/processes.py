@@ -51,7 +51,7 @@ import nissy
 scrambles = nissy.scrambles(5, 6, 20, 200)
 oriented = [line + " " + nissy.solve("eofb", line, most=1)[0] for line in scrambles]
 whole = nissy.run(["solve", "dr-eofb", "20"], "\\n".join(oriented) + "\\n").out.decode()
-answers = {}
+answers, runs = {}, {}
 def text(found):
     return "".join(f"{it} ({it.length})".strip() + "\\n" for it in found) + "\\n"
 def ask(number):
@@ -59,11 +59,13 @@ def ask(number):
         found = nissy.solve_all("dr-eofb", oriented)
     else:
         found = (nissy.solve("dr-eofb", line) for line in oriented)
+        runs[number] = [nissy.run(["invert"], nissy.invert(line)).out.decode() for line in scrambles]
     answers[number] = "".join(map(text, found))
 threads = [threading.Thread(target=ask, args=(number,)) for number in range(8)]
 for thread in threads: thread.start()
 for thread in threads: thread.join()
 print(len(answers), set(answers.values()) == {whole}, whole.count("(") > 1000)
+print(len(runs), all(run == [line + "\\n" for line in scrambles] for run in runs.values()))
 """
 
 # a child that was forked while another thread built: it has the tables that were whole, and builds the others itself
@@ -271,7 +273,7 @@ def of_process(code: str, **named: str) -> str:
 def processes(tally: Tally) -> None:
     """Each of the codes above, and what it prints where all is well."""
     tally.equal("eight threads are the first to ask", of_process(FIRST_USE), "160 True [b'drud-eofb', b'eofb']\n")
-    tally.equal("eight threads over the same tables", of_process(SAME_TABLES), "8 True True\n")
+    tally.equal("eight threads over the same tables", of_process(SAME_TABLES), "8 True True\n4 True\n")
     tally.equal("a child of a process that builds", of_process(FORK), "0 ['R', \"R'\"]\n")
     tally.equal("parent and child", of_process(BOTH), "0 True\n")
     tally.equal("calls of a signal's handler", of_process(SIGNALS), "True True\n")
