@@ -44,15 +44,11 @@ if missing qemu-aarch64 || missing $cross-gcc; then left_out "qemu-user or gcc-$
 # what the program and the library are
 is_for_arm() { readelf -hW "$1" | grep -q 'Machine: *AArch64'; }
 for file in nissy libnissy.so.2; do holds "$file is for ARM" is_for_arm "$folder/$file"; done
-needed() { $cross-objdump -p "$1" | awk '$1 == "NEEDED" && $2 !~ /^ld-linux-/ { print $2 }'; }
-for file in nissy libnissy.so.2; do holds "$file needs the C library alone" test "$(needed "$folder/$file")" = libc.so.6; done
+shows_calls "$folder" "$cross-"
+holds "the program needs the C library alone" test "$(needed $cross-objdump -p "$folder/nissy")" = libc.so.6
 newest() { $cross-objdump -T "$1" | grep -oE 'GLIBC_[0-9.]+' | sort -Vu | tail -n 1; }
 holds "the library needs its version 2.17" test "$(newest "$folder/libnissy.so.2")" = GLIBC_2.17
 holds "the program 2.34" test "$(newest "$folder/nissy")" = GLIBC_2.34
-exported() { $cross-nm "$@" | awk '$2 ~ /[A-Z]/ && $2 != "U" && $2 != "w" { print $3 }' | sort; }
-declared() { grep -oE '\bnissy_[a-z_]+\(' include/nissy.h | tr -d '(' | sort -u; }
-holds "the shared object exports what the header declares" test "$(exported -D --defined-only "$folder/libnissy.so.2")" = "$(declared)"
-holds "so does the archive" test "$(exported --defined-only "$folder/libnissy.a" | grep .)" = "$(declared)"
 
 # the program
 by_qemu=(qemu-aarch64 -L "/usr/$cross")
@@ -60,24 +56,18 @@ printf '#!/bin/sh\nexec %s "%s/nissy" "$@"\n' "${by_qemu[*]}" "$folder" > "$room
 chmod +x "$room/nissy"
 if missing python3; then skips "rows and drawn runs, since there is no python3 here"; else
     add python3 tests/runs.py "$room/nissy"
-    add python3 tests/arm/beside_program.py "$program" "$room/nissy" 1 0.05
+    add python3 tests/hosts/drawn.py "$program" 1 0.05 "program=$room/nissy"
 fi
 
 # the library
-linked() { # NAME: what the test is linked with
-    case $1 in
-        memory | fuzz | fuzz_facts) echo -Wl,--wrap=malloc,--wrap=realloc,--wrap=free ;;
-        threads | broken_rules) echo -pthread ;;
-    esac
-}
 compiled() { # NAME
     # shellcheck disable=SC2046 # no word or one
-    $cross-gcc "${strict[@]}" -Iinclude -Itests/library -I"$room/rows" $(linked "$1") -o "$room/$1" "tests/library/$1.c" "$folder/libnissy.a"
+    $cross-gcc "${strict[@]}" -Iinclude -Itests/library -I"$room/rows" -pthread $(wraps "$1") -o "$room/$1" "tests/library/$1.c" "$folder/libnissy.a"
 }
 # emulated, each byte takes many times as long
-declare -A fewer=([calls]=few [facts]=few [threads]="1 40" [fuzz]="1 5" [fuzz_facts]="1 5" [broken_rules]=2)
+declare -A fewer=([calls]=few [facts]=few [threads]="1 40" [fuzz]="1 5" [broken_rules]=2)
 rows_in_c "$room/rows"
-for name in calls facts memory threads handlers fuzz fuzz_facts broken_rules; do
+for name in calls facts memory threads handlers fuzz broken_rules; do
     holds "$name.c compiles for ARM" compiled "$name"
     # shellcheck disable=SC2086 # words
     add "${by_qemu[@]}" "$room/$name" ${fewer[$name]-}
@@ -87,7 +77,7 @@ holds "calls.c compiles against the shared object" shared_one
 add "${by_qemu[@]}" -E LD_LIBRARY_PATH="$folder" "$room/shared_calls" few
 if missing $cross-g++; then skips "the library in C++, since g++-$cross isn't installed"; else
     in_cpp() {
-        $cross-g++ -std=c++17 "${strict[@]:1}" -Iinclude -Itests/library -I"$room/rows" -pthread -Wl,--wrap=malloc,--wrap=realloc,--wrap=free -o "$room/cpp" \
+        $cross-g++ -std=c++17 "${strict[@]:1}" -Iinclude -Itests/library -I"$room/rows" -pthread "$(wraps nissy)" -o "$room/cpp" \
             tests/library/nissy.cpp "$folder/libnissy.a"
     }
     holds "nissy.cpp compiles for ARM" in_cpp

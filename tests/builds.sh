@@ -1,6 +1,6 @@
 #!/usr/bin/env bash
 # Tries Makefile and tools in one order after another, also after edits, checks that were killed and a checkout of another commit, on a small
-# workspace of its own, with one function in each of four crates, named as ours are:
+# workspace of its own, with one function in each of three crates, named as ours are:
 #
 #     tests/builds.sh
 #
@@ -33,7 +33,6 @@ $2() -> u8
 }
 END
 }
-exported() { number "$1" $'#[unsafe(no_mangle)]\npub extern "C" fn nissy_number' 'first()' 'use niss_moves::first;'; }
 program() {
     mkdir -p "$here/crates/nissy/src"
     echo 7 > "$here/crates/nissy/stdout"
@@ -52,8 +51,7 @@ END
 by_git() { git -c user.name=tests -c user.email=tests@localhost "$@"; }
 workspace() {
     number niss_moves 'pub fn first' 7
-    exported niss_c
-    exported niss_page
+    number niss_c $'#[unsafe(no_mangle)]\npub extern "C" fn nissy_number' 'first()' 'use niss_moves::first;'
     program
     mkdir -p "$here/tests/wrong-bodies/niss_c"
     printf '%s\n' 'gate: number_is_eight' 'Returns 8.' 'refused: niss_c::nissy_number' '- first()' '+ first() + 1' \
@@ -62,7 +60,6 @@ workspace() {
     cat > crates.txt << END
 niss_moves:
 niss_c staticlib: niss_moves
-niss_page staticlib: niss_moves
 nissy: niss_moves
 END
     printf '%s\n' out build > .gitignore
@@ -91,9 +88,6 @@ takes_proofs() { # CRATE..: the gate passes, and proves none of these again
 holds "the gate takes what make proved" takes_proofs niss_moves nissy
 holds "the library is built after make and the gate" make --no-print-directory lib
 cp build/libnissy.a "$room/first.a"
-if missing wasm-opt; then skips "the module, since there is no binaryen"; else
-    holds "so is the module" make --no-print-directory build/nissy.wasm
-fi
 if missing aarch64-linux-gnu-gcc || missing qemu-aarch64; then skips "what is for ARM, since gcc-aarch64-linux-gnu or qemu-user isn't installed"; else
     by_qemu() { qemu-aarch64 -L /usr/aarch64-linux-gnu "$@"; }
     called_on_arm() {
@@ -106,10 +100,8 @@ if missing aarch64-linux-gnu-gcc || missing qemu-aarch64; then skips "what is fo
     holds "the program runs there" test "$(by_qemu build/aarch64/nissy)" = 7
     holds "the library is called there" called_on_arm
 fi
-is_refused() { tools/wrong-bodies --show number_is_eight; }
-holds "a wrong body is refused after these" is_refused
 
-for crate in niss_moves niss_c niss_page; do edit $crate '7' '9'; done
+for crate in niss_moves niss_c; do edit $crate '7' '9'; done
 echo 9 > crates/nissy/stdout
 by_git commit -qam two
 holds "all is built after an edit of each function" is_built
@@ -120,16 +112,14 @@ holds "all is built in the commit before, with another comment in the lowest cra
 holds "the library is the first one again" is_first
 holds "the program is, too" test "$(build/nissy)" = 7
 
-holds "a check of one crate" env -C crates/niss_c rt check
+holds "a check of one crate" env -C crates/niss_moves rt check
 holds "the tools go on from what it left" goes_on
-edit niss_moves 'One number' 'The number'
-holds "a check is killed" killed_after 1 env -C crates/niss_moves rt lib
-holds "all is built after a check that was killed" is_built
 # a text of its own in each run, since `rt ci` takes what it proved of the same files on this machine
-edit niss_moves 'The number' "The number at $EPOCHREALTIME"
+edit niss_moves 'One number' "The number at $EPOCHREALTIME"
+holds "a check is killed" killed_after 1 env -C crates/niss_moves rt lib
 holds "a gate is killed" killed_after 3 rt ci
-holds "all is built after a gate that was killed" is_built
-holds "a wrong body is refused after it" is_refused
+holds "all is built after both" is_built
+holds "a wrong body is refused after them" tools/wrong-bodies --show number_is_eight
 holds "the gate passes after all of these" rt ci
 holds "all is built after it" is_built
 holds "the library is the first one once more" is_first

@@ -12,7 +12,6 @@ add python3 tests/documents/check.py
 typed tests/runs.py tests/called.py tests/documents/*.py
 typed examples/*.py
 typed tests/model/*.py tests/npm/*.py
-for file in tests/*/beside_program.py; do typed "$file"; done
 # shellcheck disable=SC2046 # no name of a tool has a blank
 typed tools/*.py $(grep -d skip -l '^#!.*python3' tools/*)
 ended

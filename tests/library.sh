@@ -18,14 +18,8 @@ export NISSY_LIBRARY=$folder/libnissy.so.2
 if missing cc || [ ! -e "$folder/libnissy.a" ]; then skips_all "there is no C compiler here, or no library that make lib built"; fi
 holds "the library has its files" test -s "$folder/libnissy.a" -a -s "$folder/libnissy.so.2" -a -s "$folder/libnissy.so"
 
-# what it shows to others
-exported() { nm "$@" | awk '$2 ~ /[A-Z]/ && $2 != "U" && $2 != "w" { print $3 }' | sort; }
-declared() { grep -oE '\bnissy_[a-z_]+\(' include/nissy.h | tr -d '(' | sort -u; }
-holds "the shared object exports what the header declares" test "$(exported -D --defined-only "$folder/libnissy.so.2")" = "$(declared)"
-holds "so does the archive" test "$(exported --defined-only "$folder/libnissy.a" | grep .)" = "$(declared)"
+shows_calls "$folder"
 holds "its soname" test "$(objdump -p "$folder/libnissy.so.2" | awk '$1 == "SONAME" { print $2 }')" = libnissy.so.2
-needed() { objdump -p "$folder/libnissy.so.2" | awk '$1 == "NEEDED" { print $2 }'; }
-holds "it needs the C library alone" test "$(needed)" = libc.so.6
 has_no_runnable_stack() { objdump -p "$folder/libnissy.so.2" | grep -A 1 STACK | grep -q 'flags rw-$'; }
 holds "it asks for no stack that can be run" has_no_runnable_stack
 names_level() { readelf -n "$1" | grep -q 'x86 ISA needed: .*x86-64-v2'; }
@@ -41,18 +35,9 @@ rows_in_c "$room/rows"
 # -O0 behind -O1, by which the sanitizers take a compiler more than twice as long
 sanitized=(-O0 -g1 "-fsanitize=address,undefined" -fno-sanitize-recover=all)
 for_races=(-O0 -g1 -fsanitize=thread)
-wrapped=-Wl,--wrap=malloc,--wrap=realloc,--wrap=free
-linked() { # NAME: what the test is linked with
-    case $1 in
-        memory | fuzz | fuzz_facts) echo $wrapped ;;
-        threads | broken_rules) echo -pthread ;;
-    esac
-}
 compiled() { # PROGRAM NAME WORD..: compiles the test of this name against the archive, with these words too
-    local made=$1 name=$2
-    shift 2
     # shellcheck disable=SC2046 # no word or one
-    cc -std=c11 "${strict[@]}" "$@" $(linked "$name") -o "$made" "tests/library/$name.c" "$folder/libnissy.a"
+    cc -std=c11 "${strict[@]}" "${@:3}" -pthread $(wraps "$2") -o "$1" "tests/library/$2.c" "$folder/libnissy.a"
 }
 has_sanitizer() { # WORD..: programs that are compiled with these words run here
     echo 'int main(void) { return 0; }' > "$room/empty.c"
@@ -68,69 +53,57 @@ tried() { # NAME: the test in C of this name
     local name=$1
     holds "$name.c compiles without a warning" compiled "$made/$name" "$name"
     add "$made/$name"
-    if [ $is_sanitized = yes ]; then
+    if [ $is_sanitized = yes ] && [ "$name" != threads ]; then
         holds "$name.c compiles with the sanitizers" compiled "$made/$name.sanitized" "$name" "${sanitized[@]}"
         add "$made/$name.sanitized"
     fi
-    if [ "$name" = threads ] && [ $sees_races = yes ]; then
-        holds "$name.c compiles with the sanitizer for threads" compiled "$made/$name.raced" "$name" "${for_races[@]}"
-        add "$made/$name.raced"
-    fi
     case $name in
-        # valgrind's own malloc takes no wraps, helgrind tells the races that are meant, and a handler's small stack isn't for either
-        memory | fuzz | fuzz_facts | broken_rules | handlers) ;;
-        # unlike the sanitizer it sees what the library itself reads and writes; searches alone, since a run takes it seconds
-        threads) valgrinds --tool=helgrind "$made/$name" 0 20 ;;
-        # it makes each byte thirty times as slow
+        # It sees what the library itself reads and writes, unlike the sanitizer for threads, by which portable.sh tries the file in C.
+        # Searches alone, since a run takes it seconds.
+        threads) valgrinds --tool=helgrind "$made/$name" 0 10 ;;
+        # It makes each byte thirty times as slow. Its own malloc takes no wraps, and a handler's small stack isn't for it.
         calls | facts) valgrinds --leak-check=full "$made/$name" few ;;
     esac
     ended
 }
-for name in calls pieces facts threads fuzz fuzz_facts memory handlers broken_rules; do part tried $name; done
+for name in calls pieces facts threads fuzz memory handlers broken_rules; do part tried $name; done
 
 # the headers in C++, by each compiler that is here
-compiled_by() { # COMPILER TEST PROGRAM WORD..: compiles the test of this name in C++, with these words too
-    local words=(-pthread)
-    [ "$2" != nissy ] || words+=("$wrapped")
-    "$1" "${strict[@]}" "${@:4}" "${words[@]}" -o "$3" "tests/library/$2.cpp" "$folder/libnissy.a"
+compiled_by() { # COMPILER PROGRAM WORD..: compiles the test in C++, with these words too
+    "$1" "${strict[@]}" "${@:3}" -pthread "$(wraps nissy)" -o "$2" tests/library/nissy.cpp "$folder/libnissy.a"
 }
 tells_older() { # COMPILER
     "$1" -std=c++14 -Iinclude -fsyntax-only -x c++ include/nissy.hpp 2>&1 | head -n 1 | grep -q 'nissy.hpp:.*is for C++17'
 }
-read_strictly() { # COMPILER HEADER: callers have warnings of their own, and it is no header of the system
-    local more=(-Wconversion -Wsign-conversion -Wshadow -Wold-style-cast -Wcast-qual -Wundef)
+read_strictly() { # COMPILER: callers have warnings of their own, and no header is one of the system
+    local header more=(-Wconversion -Wsign-conversion -Wshadow -Wold-style-cast -Wcast-qual -Wundef)
     [ "$1" = clang++ ] || more+=(-Wuseless-cast)
-    "$1" -std=c++17 "${strict[@]}" "${more[@]}" -x c++ -fsyntax-only "$2"
+    for header in include/*.hpp; do "$1" -std=c++17 "${strict[@]}" "${more[@]}" -x c++ -fsyntax-only "$header" || return; done
 }
-# Each compiler makes programs of one standard, and reads their texts by the other: the headers do the same by both.
+# Each compiler makes the program of one standard, and reads its text by the other: the headers do the same by both.
 by_compiler() { # COMPILER STANDARD OTHER
-    local compiler=$1 standard=$2 header test
+    local compiler=$1
     holds "nissy.h is C++98 too, by $compiler" "$compiler" -std=c++98 "${strict[@]}" -x c++ -fsyntax-only include/nissy.h
     # named beside an empty file, since not all of its functions are called in it
     holds "so is nissy_forms.h, by $compiler" "$compiler" -std=c++98 "${strict[@]}" -include nissy_forms.h -x c++ -fsyntax-only /dev/null
     holds "nissy.hpp tells C++14 that it is for C++17, by $compiler" tells_older "$compiler"
-    for header in include/*.hpp; do holds "$header is read without further warnings, by $compiler" read_strictly "$compiler" "$header"; done
-    for test in nissy headers; do
-        holds "$test.cpp compiles as $standard by $compiler" compiled_by "$compiler" $test "$made/$compiler.$test" "-std=$standard"
-        add "$made/$compiler.$test"
-        holds "$test.cpp is read as $3 by $compiler" "$compiler" "-std=$3" "${strict[@]}" -fsyntax-only "tests/library/$test.cpp"
-    done
+    holds "each header is read without further warnings, by $compiler" read_strictly "$compiler"
+    holds "nissy.cpp compiles as $2 by $compiler" compiled_by "$compiler" "$made/$compiler" "-std=$2"
+    add "$made/$compiler"
+    holds "nissy.cpp is read as $3 by $compiler" "$compiler" "-std=$3" "${strict[@]}" -fsyntax-only tests/library/nissy.cpp
     ended
 }
 # g++ alone: with the sanitizers, and by valgrind
 with_sanitizers() {
-    local test
     if [ $is_sanitized = yes ]; then
-        for test in nissy headers; do
-            holds "$test.cpp compiles with the sanitizers" compiled_by g++ $test "$made/$test.sanitized" -std=c++17 "${sanitized[@]}"
-            add "$made/$test.sanitized"
-        done
+        holds "nissy.cpp compiles with the sanitizers" compiled_by g++ "$made/plus.sanitized" -std=c++17 "${sanitized[@]}"
+        add "$made/plus.sanitized"
     fi
-    if [ $sees_races = yes ]; then
-        holds "nissy.cpp compiles with the sanitizer for threads" compiled_by g++ nissy "$made/nissy.raced" -std=c++17 "${for_races[@]}"
-        add "$made/nissy.raced"
+    if [ $sees_races = yes ]; then # of what the header shares between threads
+        holds "nissy.cpp compiles with the sanitizer for threads" compiled_by g++ "$made/plus.raced" -std=c++17 "${for_races[@]}"
+        add "$made/plus.raced"
     fi
-    for test in nissy headers; do valgrinds --leak-check=full "$made/g++.$test"; done
+    valgrinds --leak-check=full "$made/g++"
     ended
 }
 by_gcc=(by_compiler g++ c++17 c++20)
@@ -173,22 +146,10 @@ holds "calls.c compiles against the shared object" shared_one
 part "$made/shared_calls"
 if missing qemu-x86_64; then skips "qemu-user isn't installed, so no other processor is tried"; else part on_old_processors; fi
 
-beside_program() {
-    local caller=() further=()
-    if [ $is_sanitized = yes ]; then further=("${sanitized[@]}"); fi
-    if ! missing g++; then
-        holds "caller.cpp compiles" g++ -std=c++17 "${strict[@]}" "${further[@]}" -o "$made/caller" tests/library/caller.cpp "$folder/libnissy.a"
-        caller=("$made/caller")
-    fi
-    add python3 tests/library/beside_program.py "$program" 1 0.2 "${caller[@]}"
-    add python3 tests/library/beside_model.py 1 1500 "${caller[@]}"
-    ended
-}
 if missing python3; then skips "there is no python3 here"; else
-    part beside_program
-    for trial in processes values module facts best service; do part python3 tests/library/$trial.py; done
+    for trial in processes values module service; do part python3 tests/library/$trial.py; done
     if python3.7 -c "import ctypes" 2> /dev/null; then
-        for trial in module values processes best; do part python3.7 tests/library/$trial.py; done
+        for trial in module values processes; do part python3.7 tests/library/$trial.py; done
     else
         skips "Python 3.7, the oldest that the package is for, isn't installed"
     fi

@@ -1,12 +1,11 @@
 #!/usr/bin/env bash
-# Packs build/nissy.wasm and its JavaScript for npm, installs the package in an empty folder, and tries what it exports, its types and its
-# command there, by rows and by drawn runs beside the model. For more of them tests/model/against.py takes the installed command as its
+# Packs build/nissy.wasm and its JavaScript for npm, installs the package in an empty folder, and tries what it exports, its types, bundles of it and
+# its command there, by drawn runs beside the model. For more of them tests/model/against.py takes the installed command as its
 # program. No network is asked for. The last line is `N passed, M failed`, and the status is 1 if M isn't 0.
 set -u
 # shellcheck source=tests/shared
 . "$(dirname "$0")/shared"
-# shellcheck source=tests/rows
-. "$(dirname "$0")/rows"
+program=$(program_of "$@") || exit 2
 cd "$(dirname "$0")/.." || exit 2
 top=$PWD
 for tool in node npm npx tsc; do
@@ -86,22 +85,14 @@ if ! /usr/bin/python3 -c "import selenium" 2> /dev/null; then skips "the package
     add "${display[@]}" /usr/bin/python3 tests/npm/bundled.py "$user"
 fi
 
-# its command
+# its command, of which drawn.py below tries more
 nissy=$user/node_modules/.bin/nissy
-writes "F2 U R'\n" invert "R U' F2"
-writes 'length 2 solutions 4 nodes 75\n' count eofb 5 F B
-writes "L' D' F'\nL F' L'\n" scramble 42 54 3 2
-takes 'R2\n(U)' "R2\nU'\n" unniss
-stops "R (U)\n\nq" "R U'\n\n" '3, column 1: not a move' unniss
-stops 'F\nR\n' '' '1: eofb does not hold' count drud-eofb 3
 # what reads lines is found by the engine, so that a new command needs no line there
 holds "the command names none that rewrites lines" refuses grep -qE '"(invert|unniss|cleanup|print)"' "$package/command.js"
-for command in invert unniss cleanup print; do takes '' '' $command; done
-writes '' scramble 1 2 3 0
-has_fault ', column 1: not a move' invert q
-usage mirror
-usage
-usage solve eofb 21 F
+for words in "scramble 1 2 3 0" "invert R"; do
+    # shellcheck disable=SC2086 # words
+    answers "$words leaves the input alone" 0 "$("$program" $words | sed 's/$/\\n/')left\n" '' bash -c '"$@"; cat' - "$nissy" $words <<< left
+done
 by_npx() { { printf 'R\n' && sleep 1 && printf 'U\n'; } | in_folder npx --offline nissy invert; }
 answers "npx runs it, and a stream that doesn't wait is waited for" 0 "R'\nU'\n" '' by_npx
 # what README says is otherwise than in the program

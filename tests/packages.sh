@@ -66,12 +66,6 @@ cut_archive() { # what the sums say of it
         ! said=$(env -C "$room/cut" sha256sum --ignore-missing -c SHA256SUMS 2>&1) && grep -qx "$archive.tar.gz: FAILED" <<< "$said"
 }
 holds "an archive that was cut is found" cut_archive
-holds "the packages of the program alone are made" tools/dist "$room/alone" program
-holds "with their archive" tar -C "$room/unpacked" -xpf "$room/alone/$archive-program.tar.gz"
-without_library() { sed '/^The library needs/,$d' docs/archive.txt; }
-holds "its README says nothing of the library" cmp "$room/unpacked/$archive-program/README" <(without_library)
-holds "it has nothing of the library" test "$(stands_in "$room/unpacked/$archive-program")" = \
-    "$(stands_in "$room/installed/usr" | grep -vE '(include|lib|examples)/|/EMBEDDING')"
 
 # the wheel, in an environment of its own
 wheel=$made/nissy-$version-py3-none-manylinux_2_17_x86_64.manylinux2014_x86_64.whl
@@ -158,7 +152,7 @@ fi
 
 # the Python package in C, in an environment of its own, by pip and a compiler alone
 source_package=$made/nissy-$version.tar.gz
-if [ ! -e "$source_package" ] || missing cc || ! /usr/bin/python3 -m venv "$room/venv" > /dev/null 2>&1; then
+if [ ! -e "$source_package" ] || missing cc || { [ ! -e "$room/venv" ] && ! /usr/bin/python3 -m venv "$room/venv" > /dev/null 2>&1; }; then
     skips "the Python package in C, which wasn't made, or has no compiler or no environment here"
 else
     pip() { by_system "${in_pip[@]}" "$room/venv/bin/python" -m pip --disable-pip-version-check "$@"; }
@@ -178,10 +172,8 @@ else
     holds "one that was cut isn't installed" refuses pip install --no-index "$room/${source_package##*/}"
 fi
 
-# what is for Windows, by wine, whose first run makes a folder and says so
+# what is for Windows, by wine
 zip=$made/nissy-$version-win64.zip
-wine=$(command -v wine64 || command -v wine || ls /usr/lib/wine/wine64 2> /dev/null)
-server=$(command -v wineserver64 || ls /usr/lib/wine/wineserver64 2> /dev/null || command -v wineserver)
 if [ ! -e "$zip" ]; then skips "what is for Windows, which wasn't made"; else
     unpacks_zip() { python3 -c 'import sys, zipfile; zipfile.ZipFile(sys.argv[1]).extractall(sys.argv[2])' "$zip" "$room/unpacked"; }
     holds "the zip for Windows is unpacked" unpacks_zip
@@ -190,10 +182,7 @@ if [ ! -e "$zip" ]; then skips "what is for Windows, which wasn't made"; else
     holds "its wheel has the same library" cmp "$windows/nissy.dll" <(in_wheel)
     holds "each link of its pages leads to one of them" test -z "$(dead_links "$windows")"
     holds "they speak of nothing that only the repository has" refuses grep -nE "$of_repository" "$windows"/{*.md,README.txt}
-    if [ -z "$wine" ] || [ -z "$server" ]; then skips "running it, since there is no wine"; else
-        export WINEPREFIX=$room/wine WINEDEBUG=-all
-        mkdir -p "$WINEPREFIX"
-        "$server" -p60 && "$wine" "$windows/nissy.exe" steps > /dev/null 2>&1
+    if ! begin_wine "$room/wine" "$windows/nissy.exe"; then skips "running it, since there is no wine"; else
         # what wine says of itself comes beside it
         holds "the program for Windows" test "$("$wine" "$windows/nissy.exe" invert "R U' F2" 2> /dev/null)" = "F2 U R'"
         calls_library() { # a program that finds the library beside it
@@ -201,7 +190,7 @@ if [ ! -e "$zip" ]; then skips "what is for Windows, which wasn't made"; else
             [ $? -eq 4 ]
         }
         holds "a program that is linked with its library" calls_library
-        "$server" -k
+        end_wine
     fi
 fi
 
@@ -288,6 +277,11 @@ if [ -e build/nissy.html ]; then
             [ "$(grep -cvE 'linux-program.tar.gz$' "$room/less/SHA256SUMS")" -eq 1 ]
     }
     holds "a package whose tool isn't here is left out, and named" leaves_out
+    holds "the archive of the program alone is made" tar -C "$room/unpacked" -xpf "$room/less/$archive-program.tar.gz"
+    without_library() { sed '/^The library needs/,$d' docs/archive.txt; }
+    holds "its README says nothing of the library" cmp "$room/unpacked/$archive-program/README" <(without_library)
+    holds "it has nothing of the library" test "$(stands_in "$room/unpacked/$archive-program")" = \
+        "$(stands_in "$room/installed/usr" | grep -vE '(include|lib|examples)/|/EMBEDDING')"
     stops_at() {
         fails_to_pack 1 && ! said=$(tools/dist "$room/less" program 2>&1) && grep -qx 'there is no npm here' <<< "$said" &&
             grep -qx "the package for npm can't be made" <<< "$said" && [ ! -e "$room/less/SHA256SUMS" ]

@@ -93,7 +93,7 @@ static void tries(void (*caller)(int), const char *name, int processes) {
 }
 
 int main(int count, char **words) {
-    int processes = count > 1 ? atoi(words[1]) : 20;
+    int processes = count > 1 ? atoi(words[1]) : 10;
     tries(shares_a_struct, "threads that build into one struct", processes);
     tries(has_other_fields, "fields that something else wrote", processes);
     tries(has_no_flag, "a flag that something else cleared", processes);

@@ -1,13 +1,9 @@
-/* The calls that judge lines, and those on many lines: rows that a hand finds or that guides for solvers have, cubes beside a model of 54
-   stickers, faults, and rooms to the answer and one less.
+/* The calls that judge lines, and those on many lines: the rows of tests/calls.tsv, faults, texts of lines, and what is longest.
 
        facts [few]      `few` takes no longest input */
 #include "faults.h"
 #include "nissy_forms.h"
 #include "searches.h"
-#include "stickers.h"
-
-enum { ALL_STEPS = (1 << 13) - 1, OF_R = 0x911, CORNERS_OF_R = 0x99 };
 
 static nissy_facts_answer facts_of(const char *line) {
     guarded read = copied(line, strlen(line));
@@ -23,81 +19,36 @@ static nissy_check_answer check_of(const char *scramble, const char *solution) {
     return got;
 }
 
-/* Lines with the moves that they count, those that are left, whether they solve the cube, and the case on the axis of U and D. */
+/* A line, whether it is solved, its moves, and the masks of steps and, on each axis, of bad edges, bad corners and misplaced edges. */
 static const struct judged {
     const char *line;
-    int moves, clean_moves, solved, corners, edges;
+    int solved, moves, clean_moves, holds;
+    unsigned masks[3][3];
 } JUDGED[] = {
-    {"", 0, 0, 1, 0, 0},
-    {"R", 1, 1, 0, 4, 4},
-    {"R2", 1, 1, 0, 0, 0},
-    {"R U2 R", 3, 3, 0, 4, 2},
-    {"R U R", 3, 3, 0, 3, 2},
-    {"U", 1, 1, 0, 0, 0},
-    {"M", 2, 2, 0, 8, 8},
-    {"M2 E2 S2", 6, 6, 0, 0, 0},
-    {"x y' z2", 0, 0, 1, 0, 0},
-    {"Rw L'", 2, 0, 1, 0, 0},
-    {"r l'", 2, 2, 0, 8, 8},
-    {"R (R)", 2, 0, 1, 0, 0},
-    {"R (U U) R'", 4, 1, 0, 0, 0},
-    {"R (U F') D", 4, 4, 0, -1, -1},
-    {"R R R R", 4, 0, 1, 0, 0},
+#include "facts.inc"
 };
 
 static void lines_are_judged(void) {
-    for (size_t at = 0; at < sizeof JUDGED / sizeof *JUDGED; at++) {
-        const struct judged *row = &JUDGED[at];
+    static const int AXES[] = {NISSY_FB, NISSY_RL, NISSY_UD};
+    for (const struct judged *row = JUDGED; row < JUDGED + sizeof JUDGED / sizeof *JUDGED; row++) {
         nissy_facts_answer got = facts_of(row->line);
-        char letters[NISSY_LINE_ROOM];
-        nissy_facelets((const uint8_t *)row->line, strlen(row->line), (uint8_t *)letters, sizeof letters);
         holds(got.status == NISSY_DONE && got.fault == 0 && got.column == 0, "its status", row->line);
         holds(got.moves == row->moves && got.clean_moves == row->clean_moves, "its moves", row->line);
-        holds(got.solved == row->solved, "whether it is solved", row->line);
-        if (row->corners >= 0)
-            holds(got.axes[NISSY_UD].bad_corners == row->corners && got.axes[NISSY_UD].misplaced_edges == row->edges, "its case", row->line);
-        holds(are_of(&got, letters), "what its stickers say", row->line);
+        holds(got.solved == row->solved && got.holds == row->holds, "whether it is solved, and the steps that hold", row->line);
+        for (int at = 0; at < 3; at++) {
+            const unsigned *masks = row->masks[at];
+            nissy_axis_facts wanted = {(uint16_t)masks[0], (uint16_t)masks[1], (uint16_t)masks[2], (uint8_t)__builtin_popcount(masks[0]),
+                                       (uint8_t)__builtin_popcount(masks[1]), (uint8_t)__builtin_popcount(masks[2])};
+            holds(is_same_axis(got.axes[AXES[at]], wanted), "its pieces on an axis", row->line);
+        }
     }
-}
-
-/* R turns the pieces of four edges and four corners. */
-static void places_are_told(void) {
-    static const nissy_axis_facts crossed = {0, CORNERS_OF_R, OF_R, 0, 4, 4}, own = {OF_R, 0, 0, 4, 0, 0};
-    nissy_facts_answer got = facts_of("R");
-    holds(is_same_axis(got.axes[NISSY_FB], crossed) && is_same_axis(got.axes[NISSY_UD], crossed), "the axes beside it", "R");
-    holds(is_same_axis(got.axes[NISSY_RL], own), "its own axis", "R");
-    /* eofb, eoud and eo, and what reduces to the axis of R: drrl-eofb, drrl-eoud, dr-eofb and dr-eoud */
-    holds(got.holds == (1 << 0 | 1 << 2 | 1 << 9 | 1 << 4 | 1 << 7 | 1 << 10 | 1 << 12), "the steps that hold", "R");
-    holds(facts_of("").holds == ALL_STEPS && facts_of("y").holds == ALL_STEPS, "all steps hold", "a solved cube");
-    /* by the centres: after x the turned face is still R, and after z it is U that stands at the right */
-    got = facts_of("x R");
-    holds(is_same_axis(got.axes[NISSY_RL], own), "its own axis", "x R");
-    got = facts_of("z U");
-    holds(got.axes[NISSY_RL].bad_edges == 4 && got.axes[NISSY_UD].bad_edges == 0, "the axis of the centres", "z U");
-    holds(facts_of("F B").axes[NISSY_FB].bad_edges == 8, "its bad edges", "F B");
 }
 
 static const struct checked {
     const char *scramble, *solution;
     int solved, moves, clean_moves, forms;
 } CHECKED[] = {
-    {"", "", 1, 0, 0, 0},
-    {"R U", "U' R'", 1, 2, 2, 0},
-    {"R U", "U' R' x y", 1, 2, 2, 0},
-    {"R U", "U'", 0, 1, 1, 0},
-    {"R U", "R' U'", 0, 2, 2, 0},
-    {"R (U)", "U R'", 1, 2, 2, 0},
-    {"R U", "(R U)", 1, 2, 2, NISSY_BRACKETS},
-    {"R", "R' ()", 1, 1, 1, NISSY_BRACKETS},
-    {"M", "M'", 1, 2, 2, NISSY_SLICES},
-    {"E S", "S' E'", 1, 4, 4, NISSY_SLICES},
-    {"r", "Rw'", 1, 1, 1, 0},
-    {"Rw", "r'", 1, 1, 1, NISSY_LOWER_CASE},
-    {"R U", "U\xe2\x80\x99 R\xe2\x80\x99", 1, 2, 2, NISSY_APOSTROPHE},
-    {"R2", "R2'", 1, 1, 1, NISSY_HALF_PRIME},
-    {"R2", "R2\xe2\x80\x99", 1, 1, 1, NISSY_APOSTROPHE + NISSY_HALF_PRIME},
-    {"M d2", "(M d2')", 1, 3, 3, NISSY_SLICES + NISSY_LOWER_CASE + NISSY_BRACKETS + NISSY_HALF_PRIME},
-    {"R", "R R R", 1, 3, 1, 0},
+#include "checks.inc"
 };
 
 static void is_fault(nissy_check_answer got, int line, int fault, unsigned column, const char *of) {
@@ -158,64 +109,16 @@ static void most_moves_are_judged(void) {
     holds(check.solved && check.moves == 256 && check.clean_moves == 0, "its inverse solves it", "256 moves");
 }
 
-/* A text of lines, of which the fifth is empty and the last one has no line feed, and where each ends. */
+/* A text of lines, of which the fifth is empty and the last one has no line feed. That each is answered as by itself, in rooms of any size, is
+   drawn by fuzz.c. */
 static const char LINES[] = "F\nR q\nR U F\nF B\n\n(U\nF";
-static const char *const EACH_LINE[] = {"F", "R q", "R U F", "F B", "", "(U", "F"};
-static const size_t LINE_ENDS[] = {0, 2, 6, 12, 16, 17, 20, 21};
 enum { LINE_COUNT = 7 };
 
-static void is_taken(nissy_lines_answer got, size_t room, const char *of) {
-    size_t lines = room < LINE_COUNT ? room : LINE_COUNT;
-    holds(got.status == NISSY_DONE && got.lines == lines && got.bytes == LINE_ENDS[lines], "the lines that are taken", of);
-}
-
-static void counts_lines(const nissy_tables *tables, uint8_t limit, uint64_t most, uint64_t most_nodes, const char *of) {
-    guarded text = copied(LINES, strlen(LINES));
-    for (size_t room = 0; room <= LINE_COUNT + 1; room++) {
-        guarded out = untouched(room * sizeof(nissy_search_answer));
-        nissy_search_answer *answers = (nissy_search_answer *)(void *)out.bytes;
-        nissy_lines_answer got = nissy_count_lines(tables, text.bytes, text.size, limit, 0, most, most_nodes, answers, room);
-        is_taken(got, room, of);
-        for (size_t at = 0; at < got.lines; at++) {
-            const uint8_t *line = (const uint8_t *)EACH_LINE[at];
-            nissy_search_answer alone = nissy_count(tables, line, strlen(EACH_LINE[at]), limit, 0, most, most_nodes);
-            holds(is_same(answers[at], alone) && !answers[at].length, "the answer to a line", EACH_LINE[at]);
-        }
-        size_t written = (size_t)got.lines * sizeof *answers;
-        holds(are_all(out.bytes + written, out.size - written, UNTOUCHED), "behind the answers it is as it was", of);
-        let_go(out);
-    }
-    let_go(text);
-}
-
-static void judges_lines(void) {
-    guarded text = copied(LINES, strlen(LINES));
-    for (size_t room = 0; room <= LINE_COUNT + 1; room++) {
-        guarded out = untouched(room * sizeof(nissy_facts_answer));
-        nissy_facts_answer *answers = (nissy_facts_answer *)(void *)out.bytes;
-        nissy_lines_answer got = nissy_facts_lines(text.bytes, text.size, answers, room);
-        is_taken(got, room, "facts");
-        for (size_t at = 0; at < got.lines; at++) {
-            nissy_facts_answer alone = facts_of(EACH_LINE[at]);
-            holds(is_same_facts(&answers[at], &alone), "the facts of a line", EACH_LINE[at]);
-        }
-        size_t written = (size_t)got.lines * sizeof *answers;
-        holds(are_all(out.bytes + written, out.size - written, UNTOUCHED), "behind the answers it is as it was", "facts");
-        let_go(out);
-    }
-    let_go(text);
-}
-
-/* What each line of a text answers by a hand, so that the calls on one line aren't all that these are held against. */
 static void many_lines_are_answered(void) {
     nissy_tables tables = built("eofb"), reduction = built("drud-eofb"), none = NISSY_NO_TABLES;
-    nissy_search_answer answers[LINE_COUNT];
-    const uint8_t *text = (const uint8_t *)LINES;
-    counts_lines(&tables, 20, NISSY_ALL, NISSY_ALL, "all solutions");
-    counts_lines(&tables, 20, 1, NISSY_ALL, "one solution each");
-    counts_lines(&tables, 20, NISSY_ALL, 20, "twenty positions each");
-    counts_lines(&tables, 21, NISSY_ALL, NISSY_ALL, "a limit of 21");
-    counts_lines(&reduction, 3, NISSY_ALL, NISSY_ALL, "a reduction");
+    guarded out = untouched(LINE_COUNT * sizeof(nissy_search_answer)), read = copied(LINES, strlen(LINES));
+    nissy_search_answer *answers = (nissy_search_answer *)(void *)out.bytes;
+    const uint8_t *text = read.bytes;
     nissy_lines_answer got = nissy_count_lines(&tables, text, strlen(LINES), 20, 0, NISSY_ALL, 74, answers, LINE_COUNT);
     holds(got.lines == LINE_COUNT && got.bytes == strlen(LINES), "all lines", "eofb");
     holds(answers[0].solutions == 2 && answers[0].least == 1 && answers[2].nodes == 20, "the counts", "F, and R U F");
@@ -231,6 +134,7 @@ static void many_lines_are_answered(void) {
     got = nissy_facts_lines(NULL, 0, NULL, 0);
     holds(got.status == NISSY_DONE && got.lines == 0 && got.bytes == 0, "a null text has no line", "nissy_facts_lines");
     holds(nissy_facts(NULL, 0).solved && nissy_check(NULL, 0, NULL, 0).solved, "a null line is empty", "nissy_facts and nissy_check");
+    let_go(out), let_go(read);
 }
 
 /* Lines at the limit and a byte beyond it. */
@@ -254,11 +158,9 @@ static void limits_are_kept(void) {
 int main(int count, char **words) {
     (void)words;
     lines_are_judged();
-    places_are_told();
     forms_have_places();
     solutions_are_checked();
     most_moves_are_judged();
-    judges_lines();
     many_lines_are_answered();
     if (count == 1) limits_are_kept();
     return ended();

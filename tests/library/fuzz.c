@@ -5,9 +5,48 @@
  * The draws are numbered from SEED on, for two seconds if none are said; `fuzz N 0` makes draw N alone. At the top of the repository:
  *
  *     cc -Iinclude -Itests/library -Wl,--wrap=malloc,--wrap=realloc,--wrap=free -o build/fuzz tests/library/fuzz.c build/libnissy.a */
-#include "questions.h"
+#include "areas.h"
 
-enum { SLOW_SHARE = 40 };
+#include "nissy_forms.h"
+
+enum { SLOW_SHARE = 40, MOST_LINES = 48 };
+
+/* The tables of three steps, and none. */
+static nissy_tables searched[4];
+
+static void build_searched(void) {
+    static const char *const names[] = {"eofb", "eo", "drud-eofb"};
+    snprintf(draw_name, sizeof draw_name, "no draw");
+    for (size_t at = 0; at < 3; at++)
+        is_so(nissy_build(&searched[at], (const uint8_t *)names[at], strlen(names[at])) == NISSY_DONE, "tables are built");
+}
+
+/* What a search is asked: a count of a great slack would take long, but a list has little room. */
+typedef struct question {
+    const nissy_tables *tables;
+    uint8_t limit, slack;
+    uint64_t most, most_nodes;
+    size_t room;
+} question;
+
+static inline question drawn_question(void) {
+    question made_here = {&searched[draw(4)], 0, 0, 0, 0, draw(2) ? ROOM : draw(200)};
+    made_here.limit = (uint8_t)(draw(9) ? draw(21) : draw(256));
+    made_here.slack = (uint8_t)(draw(4) ? draw(2) : draw(9) ? draw(21) : draw(256));
+    made_here.most = draw(3) ? draw(12) : NISSY_ALL;
+    made_here.most_nodes = draw(2) ? NISSY_ALL : draw(draw(2) ? 60 : 5000);
+    return made_here;
+}
+
+static inline nissy_search_answer count_of(question of, text line) {
+    slice read = read_slice(INPUT_AREA, line, 0);
+    made = 0, refused_at = 1, onward = 1;
+    nissy_search_answer is = nissy_count(of.tables, read.bytes, read.size, of.limit, of.slack, of.most, of.most_nodes);
+    refused_at = 0;
+    is_so(made == 0, "a count takes no memory");
+    was_read(read, line);
+    return is;
+}
 
 /* What a run answered, with its texts. */
 typedef struct answer {
@@ -199,18 +238,85 @@ static void try_search(text line) {
     is_so(told.column == all.column && told.least == all.least, "its column, and its least length");
 }
 
+/* A line by the calls that judge it, which take no memory: a check of a line and another one, or, more often, of what undoes it. */
+static void try_judging(text line) {
+    static uint8_t bytes[2 * BLOCK];
+    text solution = {bytes, 0, sizeof bytes};
+    if (draw(3) == 0) add_line(&solution, draw(12), draw(3) == 0);
+    else solution.size = nissy_invert(line.bytes, line.size, bytes, NISSY_LINE_ROOM).length;
+    slice first = read_slice(WORDS_AREA, line, draw(2) != 0), second = read_slice(INPUT_AREA, solution, draw(2) != 0);
+    made = 0, refused_at = 1, onward = 1;
+    nissy_check_answer is = nissy_check(first.bytes, first.size, second.bytes, second.size);
+    nissy_facts_answer one = nissy_facts(first.bytes, first.size), other = nissy_facts(second.bytes, second.size);
+    nissy_line_answer read = nissy_invert(first.bytes, first.size, NULL, 0);
+    refused_at = 0;
+    unsigned forms = 0;
+    for (nissy_form_place it = {0, 0, 0}; (it = nissy_next_form_place(second.bytes, second.size, it.last)).forms;) {
+        is_so(it.last >= it.column && it.last <= second.size, "where a form is");
+        forms |= it.forms;
+    }
+    is_so(made == 0, "facts and a check take no memory");
+    was_read(first, line), was_read(second, solution);
+    is_so(one.fault == read.fault && one.column == read.column && (one.status == NISSY_FAULT) == (read.status == NISSY_FAULT), "the fault of facts");
+    int at_fault = one.status ? 1 : other.status ? 2 : 0;
+    nissy_facts_answer *judge = at_fault == 1 ? &one : &other;
+    is_so(is.status == judge->status && is.line == at_fault && is.fault == judge->fault && is.column == judge->column, "the fault of a check");
+    is_so(is.moves == (at_fault ? 0 : other.moves) && is.clean_moves == (at_fault ? 0 : other.clean_moves), "the moves of a solution");
+    is_so(is.forms == (at_fault ? 0 : forms) && (!at_fault || !is.solved), "the forms of a solution, each of which has a place");
+}
+
+/* The bytes of the first line of a text, with its line feed. */
+static size_t first_line(text of) {
+    const uint8_t *feed = of.size ? memchr(of.bytes, '\n', of.size) : NULL;
+    return feed ? (size_t)(feed - of.bytes) + 1 : of.size;
+}
+
+/* Many lines in one call, in a room of any size: to each what its own call answers. */
+static void try_lines(text lines) {
+    static nissy_facts_answer facts[MOST_LINES + 1];
+    static nissy_search_answer counts[MOST_LINES + 1];
+    question of = drawn_question();
+    of.slack = of.slack > 20 ? of.slack : of.slack & 1;
+    size_t room = draw(2) ? MOST_LINES : draw(8), taken = 0, count = 0;
+    memset(facts, UNTOUCHED, sizeof facts), memset(counts, UNTOUCHED, sizeof counts);
+    slice read = read_slice(INPUT_AREA, lines, draw(2) != 0);
+    made = 0, refused_at = 1, onward = 1;
+    nissy_lines_answer is = nissy_facts_lines(read.bytes, read.size, facts, room);
+    nissy_lines_answer told = nissy_count_lines(of.tables, read.bytes, read.size, of.limit, of.slack, of.most, of.most_nodes, counts, room);
+    refused_at = 0;
+    is_so(made == 0, "many lines take no memory");
+    was_read(read, lines);
+    int has_tables = of.tables != &searched[3];
+    for (text rest = lines; rest.size && count < room; count++) {
+        size_t whole_size = first_line(rest);
+        text line = {rest.bytes, whole_size - (rest.bytes[whole_size - 1] == '\n'), 0};
+        is_so(is_same_facts(facts[count], nissy_facts(line.bytes, line.size)), "the facts of a line among many");
+        is_so(!has_tables || is_same(counts[count], count_of(of, line)), "the count of a line among many");
+        taken += whole_size, rest.bytes += whole_size, rest.size -= whole_size;
+    }
+    is_so(is.status == NISSY_DONE && is.lines == count && is.bytes == taken, "the lines that are taken");
+    is_so(told.status == (has_tables ? NISSY_DONE : NISSY_USAGE), "the status of counts");
+    is_so(told.lines == (has_tables ? count : 0) && told.bytes == (has_tables ? taken : 0), "the lines that are counted");
+    is_so(are_all((uint8_t *)(facts + is.lines), sizeof facts[0], UNTOUCHED), "behind the facts it is as it was");
+    is_so(are_all((uint8_t *)(counts + told.lines), sizeof counts[0], UNTOUCHED), "behind the counts it is as it was");
+}
+
 static void try_draw(unsigned long number) {
-    (void)number;
     static uint8_t word_bytes[BLOCK], line_bytes[4 * BLOCK];
     text words = {word_bytes, 0, sizeof word_bytes}, lines = {line_bytes, 0, sizeof line_bytes};
-    if (draw(3) == 0) {
+    if (number % 3 == 0) {
         add_line(&lines, drawn_moves(), draw(3) == 0);
         try_line(lines);
         try_search(lines);
+        try_judging(lines);
+        return;
+    }
+    add_lines(&lines);
+    if (number % 3 == 1) {
+        try_lines(lines);
         return;
     }
     add_words(&words);
-    add_lines(&lines);
     if (!is_slow(words) || draw(SLOW_SHARE) == 0) try_run(words, lines);
 }
 

@@ -112,23 +112,13 @@ static void all_builds(void) {
     holds(nissy_count(&before, (const uint8_t *)"U", 1, 20, 0, NISSY_ALL, NISSY_ALL).least == 1, "a copy has what it had", "eoud");
 }
 
-/* The calls on one line, and those without one, take no memory. */
+/* The calls without a line take no memory; those on lines are drawn by fuzz.c. */
 static void others_take_none(void) {
     uint8_t out[NISSY_LINE_ROOM];
-    const uint8_t *line = (const uint8_t *)"R U";
-    nissy_facts_answer facts;
-    nissy_search_answer counted;
-    nissy_tables tables = built("eofb");
     made = 0, refused_at = 1, onward = 1;
-    holds(nissy_invert(line, 3, out, sizeof out).status == NISSY_DONE, "it needs no memory", "nissy_invert");
-    holds(nissy_facelets(line, 3, out, sizeof out).status == NISSY_DONE, "it needs no memory", "nissy_facelets");
-    holds(nissy_facts(line, 3).status == NISSY_DONE, "it needs no memory", "nissy_facts");
-    holds(nissy_check(line, 3, line, 3).status == NISSY_DONE, "it needs no memory", "nissy_check");
-    holds(nissy_facts_lines(line, 3, &facts, 1).lines == 1, "it needs no memory", "nissy_facts_lines");
-    holds(nissy_count_lines(&tables, line, 3, 20, 0, 1, 9, &counted, 1).lines == 1, "it needs no memory", "nissy_count_lines");
     holds(nissy_scramble(1, 2, 256, out, sizeof out).status == NISSY_DONE, "it needs no memory", "nissy_scramble");
     holds(nissy_steps(out, sizeof out).status == NISSY_DONE, "it needs no memory", "nissy_steps");
-    holds(nissy_start(line, 3, out, sizeof out).status == NISSY_USAGE, "it needs no memory", "nissy_start");
+    holds(nissy_start((const uint8_t *)"eo", 2, out, sizeof out).status == NISSY_DONE, "it needs no memory", "nissy_start");
     holds(nissy_fault_text(1, out, sizeof out).status == NISSY_DONE, "it needs no memory", "nissy_fault_text");
     holds(made == 0, "nor do they ask for any", "all of them");
     refused_at = 0;

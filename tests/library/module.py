@@ -1,6 +1,6 @@
 #!/usr/bin/env python3
-"""The Python module by itself, its calls on a line and its runs: what they raise, how they take text, room that grows, and threads. What
-returns values is tried by values.py.
+"""The Python package by itself: runs, names and types, forms of values, copies, iterables, many lines, room that grows, and threads. What the
+calls return and raise is tried by values.py.
 
     tests/library/module.py [large]
 
@@ -8,73 +8,53 @@ The library is that of NISSY_LIBRARY. With `large` an output of more than 2 GiB 
 The last line is `N passed, M failed`, and the status is 1 where M isn't 0.
 """
 import copy
+import dataclasses
 import doctest
-import os
+import itertools
+import json
 import pickle
 import sys
 import threading
+import time
 import typing
-from dataclasses import FrozenInstanceError
+from pathlib import Path
+from typing import Any, Iterator, List, Optional, Union, get_type_hints
 
-TOP = os.path.join(os.path.dirname(os.path.abspath(__file__)), "..", "..")
-PYTHON = os.path.join(TOP, "python")
-sys.path[:0] = [PYTHON, os.path.join(TOP, "tests")]
+TOP = Path(__file__).resolve().parents[2]
+sys.path[:0] = [str(TOP / "python"), str(TOP / "tests")]
 
 import nissy
-import called
 from runs import runs as rows_of_all
 from tally import Tally, raised
 
+# the package as one calls it who looks at no types
+untyped: Any = nissy
+COPIES: List[Any] = [copy.copy, copy.deepcopy, lambda it: pickle.loads(pickle.dumps(it))]
 USAGE = b"usage: nissy COMMAND [ARGUMENTS]\n"
 TOO_LONG = b"nissy: input longer than 16777216 bytes\n"
-tally = Tally()
-holds = tally.holds
+# methods of a class that doesn't say what its values hold
+LYING = {"__eq__": lambda it, other: True, "__hash__": lambda it: hash("eorl"), "__len__": lambda it: 10**6, "__index__": lambda it: 3,
+         "encode": lambda it, *how: b"F" * 10, "__bytes__": lambda it: b"F", "__add__": lambda it, other: 0,
+         "__lt__": lambda it, other: True, "__le__": lambda it, other: True, "__ge__": lambda it, other: True}
 
 
-def lines():
-    """The calls on a line, by strings and by bytes."""
-    for name, line, text in called.rows("text"):
-        for form in (line, line.encode(), bytearray(line.encode())):
-            holds("%s of %r" % (name, form), getattr(nissy, name)(form) == text)
-    faults = [(line, int(column), text) for line, column, text in called.rows("fault")]
-    faults += [("U" * 257, 257, "more than 256 moves"), ("\u2019", 1, "not a move"), ("R\ud800", 2, "not a move")]
-    for line, column, text in faults:
-        for call in (nissy.invert, nissy.unniss, nissy.cleanup, nissy.facelets):
-            fault = raised(nissy.LineFault, lambda: call(line))
-            holds("%s refuses %r" % (call.__name__, line), fault and (fault.column, fault.text) == (column, text))
-    fault = raised(nissy.LineFault, lambda: nissy.invert("R Q"))
-    holds("a fault says its column and text", str(fault) == "column 3: not a move")
-    for name, again in (("to another process", lambda: pickle.loads(pickle.dumps(fault))), ("as a copy", lambda: copy.copy(fault))):
-        same = not raised(TypeError, again) and again()
-        holds("a fault comes whole " + name,
-              same and (type(same), str(same), same.column, same.text) == (nissy.LineFault, str(fault), 3, "not a move"))
-    holds("a line that is too long has no column", raised(nissy.Fault, lambda: nissy.invert(b" " * (nissy.MOST_INPUT + 1))))
-    holds("a line of 16,777,216 blanks is read", nissy.invert(b" " * nissy.MOST_INPUT) == "")
-    holds("nothing is no line, nor is a number", all(raised(TypeError, lambda: nissy.invert(it)) for it in (None, 3)))
-
-
-def runs():
+def runs(tally: Tally) -> None:
     """Runs by words: their answers and what is no run."""
-    rows = [(run.words, run.data, (run.status, run.out, run.err)) for run in rows_of_all()]
+    rows: List[Any] = [(run.words, run.data, (run.status, run.out, run.err)) for run in rows_of_all()]
     rows += [(["invert"], "R\u2019", (0, b"R\n", b"")), (("invert", "R"), b"q", (0, b"R'\n", b"")), (["invert", "\udcff"], b"", (2, b"", USAGE)),
              (["invert", "\ud800"], b"", (2, b"", USAGE)), (["invert"], "R\ud800", (1, b"", b"nissy: line 1, column 2: not a move\n")),
              (["invert"], b" " * (nissy.MOST_INPUT + 1), (3, b"", TOO_LONG))]
     for words, data, wanted in rows:
         answer = nissy.run(words, data)
-        holds("run of %r" % (words,), (answer.status, answer.out, answer.err, answer.full) == wanted + (False,))
-    holds("a word with a zero byte is a ValueError", raised(ValueError, lambda: nissy.run(["invert", "R\0U"])))
-    holds("one text is no list of words", all(raised(TypeError, lambda: nissy.run(it)) for it in ("steps", b"steps")))
-    holds("a number is no word", raised(TypeError, lambda: nissy.run(["count", "eofb", 20, "R"])))
-    holds("nor is it an input", raised(TypeError, lambda: nissy.run(["invert"], 3)))
-    holds("an answer can't be changed", raised(FrozenInstanceError, lambda: setattr(nissy.run(["steps"]), "status", 1)))
-    holds("the module's functions have types", typing.get_type_hints(nissy.run)["return"] is nissy.Answer)
-    public = [getattr(nissy, name) for name in nissy.__all__ if callable(getattr(nissy, name))]
-    holds("each function and each class says what it does", len(public) > 10 and all(it.__doc__ for it in public))
+        tally.equal(f"run of {words}", (answer.status, answer.out, answer.err, answer.full), wanted + (False,))
+    tally.equal("a line of 16,777,216 blanks is read", nissy.invert(b" " * nissy.MOST_INPUT), "")
+    tally.holds("a word with a zero byte is a ValueError", raised(ValueError, lambda: nissy.run(["invert", "R\0U"])))
+    tally.holds("an answer can't be changed", raised(dataclasses.FrozenInstanceError, lambda: setattr(nissy.run(["steps"]), "status", 1)))
 
 
-def names():
-    """What an import of all names brings."""
-    brought = {}
+def names(tally: Tally) -> None:
+    """What an import of all names brings, and the examples in the package's own text."""
+    brought: typing.Dict[str, object] = {}
     exec("from nissy import *", brought)
     del brought["__builtins__"]
     wanted = {"invert", "unniss", "cleanup", "facelets", "run", "Answer", "LineFault", "MOST_INPUT", "DONE", "FAULT", "USAGE", "STOPPED",
@@ -82,70 +62,197 @@ def names():
               "StartFault", "Fault", "Cut", "Solutions", "raising", "facts", "facts_all", "check", "Facts", "Check", "Case", "Pieces",
               "tokens", "Token", "solutions", "best", "Continuation", "Orientation", "Reduction", "Lengths", "form_places", "FormPlace",
               "start_of"}
-    holds("an import of all brings what the module is for, and no more", set(brought) == wanted)
+    tally.equal("what an import of all brings", set(brought), wanted)
+    public = [getattr(nissy, name) for name in nissy.__all__ if callable(getattr(nissy, name))]
+    tally.holds("each function and each class says what it does", len(public) > 10 and all(it.__doc__ for it in public))
+    tried = doctest.testmod(nissy)
+    tally.holds("the examples of the package's own text hold", tried.attempted and not tried.failed)
 
 
-def examples():
-    """The examples in the module's own text, as `help` shows them."""
-    tried = []
-    raised(ValueError, lambda: tried.append(doctest.testmod(nissy)))
-    holds("the examples of the module's own text hold", tried and tried[0].attempted and not tried[0].failed)
+def classes(tally: Tally) -> None:
+    """What tools ask of the classes."""
+    hints: List[Any] = [
+        (nissy.Count, {"length": Optional[int], "solutions": int, "nodes": int, "cut": bool}),
+        (nissy.Answer, {"status": int, "out": bytes, "err": bytes, "full": bool}),
+        (nissy.Continuation, {"total": int, "line": str, "eo": Optional[nissy.Orientation], "dr": nissy.Reduction, "case": nissy.Case}),
+        (nissy.solve_all, {"return": Iterator[Union[nissy.Solutions, nissy.Fault, nissy.Cut]]}), (nissy.run, {"return": nissy.Answer})]
+    for of, wanted in hints:
+        got = get_type_hints(of)
+        tally.equal(f"the types of {of.__name__}", {name: got[name] for name in (wanted if "return" in wanted else got)}, wanted)
+    for name in nissy.__all__:
+        if isinstance(getattr(nissy, name), type):
+            tally.equal(f"the place of {name}", getattr(nissy, name).__module__, "nissy")
+    named = tuple(nissy.steps()) if sys.version_info >= (3, 8) else None
+    tally.equal("the names of the type of a step", getattr(nissy.Step, "__args__", None), named)
+    for value, name in ((nissy.Tables("eofb"), "step"), (nissy.facts("R"), "solved"), (nissy.count("eofb", "R"), "nodes")):
+        tally.holds(f"{name} can't be changed", raised(AttributeError, lambda: setattr(value, name, "eorl")))
+    tally.holds("nor a row", raised(dataclasses.FrozenInstanceError, lambda: setattr(nissy.best("R U")[0], "total", 1)))
 
 
-def rooms():
+def liars(tally: Tally) -> None:
+    """Values of classes that say of themselves what isn't so: what they hold counts."""
+    text, data, number = type("T", (str,), LYING), type("B", (bytes,), LYING), type("N", (int,), LYING)
+    tally.equal("a bytes that lies about its length", nissy.invert(data(b"R U")), "U' R'")
+    tally.equal("a str that lies about its bytes", nissy.invert(text("R U")), "U' R'")
+    tally.holds("a number that lies about its order", raised(ValueError, lambda: nissy.solve("eofb", "F", number(276))))
+    tally.holds("a room that lies about its size", raised(MemoryError, lambda: nissy.run(["steps"], room=number(2**62))))
+    tables = nissy.Tables(text("eoud"))
+    tally.equal("a name that says that it is another one", (tables.step, tables.solve("R")), ("eorl", ["R", "R'"]))
+    tally.equal("that step for others", nissy.solve("eorl", "R"), ["R", "R'"])
+    tally.equal("words that lie", nissy.run([text("invert"), data(b"R")]).out, b"R'\n")
+
+
+def copies(tally: Tally) -> None:
+    """What comes to another process, copies, hashes and JSON."""
+    fault = raised(nissy.LineFault, lambda: list(nissy.raising(nissy.solve_all("eofb", ["R\u2019 Q"]))))
+    start = raised(nissy.StartFault, lambda: list(nissy.raising(nissy.solve_all("drfb-eorl", ["R"]))))
+    cut = raised(nissy.Cut, lambda: nissy.near("eofb", "R U F", 20, 2, nodes=100))
+    # what `add_note` of Python 3.11 sets
+    fault.__notes__, start.__notes__ = ["mine"], ["mine too"]
+    row, tables = nissy.best("R' U' F D2 L2 F R2", "R (U')")[0], nissy.Tables("eofb")
+    values: List[Any] = [nissy.solve("eofb", "F B"), nissy.solve("eofb", "F B")[0], nissy.count("eofb", "R U F"), nissy.facts("R"),
+                         nissy.facts("R").bad_edges["rl"], nissy.facts("R").case["ud"], nissy.check("R", "M"), row, row.eo, row.dr]
+    for again in COPIES:
+        for value in values:
+            made = again(value)
+            tally.equal("a copy", (made, type(made), vars(made) if hasattr(made, "__dict__") else 0),
+                        (value, type(value), vars(value) if hasattr(value, "__dict__") else 0))
+        tally.equal("pieces", again(values[4]).places, ("UR", "DR", "FR", "BR"))
+        tally.equal("tables", (again(tables).step, again(tables).solve("F"), repr(again(tables))), ("eofb", ["F", "F'"], "Tables('eofb')"))
+        for value, names_of in ((fault, "column character text line __notes__"), (start, "step start text line __notes__"),
+                                (cut, "count solutions line")):
+            made = again(value)
+            tally.equal("a fault or a cut", (type(made), str(made), *(getattr(made, name) for name in names_of.split())),
+                        (type(value), str(value), *(getattr(value, name) for name in names_of.split())))
+    tally.equal("equal ones have one hash", (len({nissy.facts("R"), nissy.facts("R"), nissy.facts("R'")}), len({row, copy.copy(row)})), (1, 1))
+    tally.holds("others differ", nissy.facts("R") != nissy.facts("L"))
+    seen = nissy.facts("R")
+    tally.equal("facts as JSON", json.dumps([seen.case, seen.bad_edges, seen.moves]),
+                '[{"fb": "4c4e", "rl": "0c0e", "ud": "4c4e"}, {"fb": 0, "rl": 4, "ud": 0}, 1]')
+    tally.equal("a count and a check as JSON", json.dumps([nissy.count("eofb", "R U F"), nissy.check("R", "M")]),
+                '[[1, 2, 20, false], [false, 2, 2, ["slices"]]]')
+    tally.equal("a row as JSON", list(json.loads(json.dumps(dataclasses.asdict(row)))), ["total", "line", "eo", "dr", "case"])
+    tally.equal("a row as a string", str(row), f"{row.line} ({row.total})")
+
+
+def ended(count: int, last: Any, taken: Optional[List[str]] = None) -> Iterator[Any]:
+    """Lines, of which each is noted as it is taken, and what is none after them."""
+    for _ in range(count):
+        if taken is not None:
+            taken.append("F")
+        yield "F"
+    if isinstance(last, Exception):
+        raise last
+    yield last
+    yield from ["F"] * 10
+
+
+def iterables(tally: Tally) -> None:
+    """Lines come one at a time when they are asked for, and what they raise comes through, behind the answers before it; by threads too."""
+    taken: List[str] = []
+    answers: Any = nissy.solve_all("eofb", ended(10**9, "", taken))
+    tally.equal("nothing is taken before it is asked for", taken, [])
+    tally.equal("the first two", (list(itertools.islice(answers, 2)), len(taken)), ([["F", "F'"]] * 2, 2))
+    answers.close()
+    tally.holds("an iterator that was closed is at its end", raised(StopIteration, lambda: next(answers)))
+    tally.holds("arguments are judged at the call", raised(ValueError, lambda: untyped.solve_all("htr", [])))
+    tally.equal("a set, a tuple, a dict", [len(list(nissy.solve_all("eo", it))) for it in ({"R"}, ("R", "U"), {"R": 1})], [1, 2, 1])
+    nested: Any = nissy.solve_all("drud-eofb", (eo for eo, in nissy.raising(nissy.solve_all("eofb", ["U", "R"]))))
+    tally.equal("an iterator over another one", [it[0] for it in nested], ["", ""])
+    for threads in (1, 2, 5):
+        tally.equal("of nothing", (list(nissy.count_all("eofb", [], threads=threads)), list(nissy.facts_all([], threads))), ([], []))
+        for kind, last, said in ((TypeError, 3, "line 21: the line is a str or bytes, not int"), (KeyError, KeyError("mine"), "'mine'"),
+                                 (TypeError, TypeError("mine"), "mine")):
+            answers = nissy.count_all("eofb", ended(20, last), threads=threads)
+            tally.equal("those before the last one", [it[:2] for it in itertools.islice(answers, 20)], [(1, 2)] * 20)
+            tally.equal("what is raised then", str(raised(kind, lambda: next(answers))), said)
+            tally.holds("it ends there", raised(StopIteration, lambda: next(answers)))
+        answers = nissy.count_all("eofb", itertools.repeat("F"), threads=threads)
+        tally.equal("the first two of lines without end", [it[:2] for it in itertools.islice(answers, 2)], [(1, 2)] * 2)
+        answers.close()
+        tally.holds("one that was closed is at its end", raised(StopIteration, lambda: next(answers)))
+
+
+def plain(answer: Any) -> Any:
+    """An answer, or what a fault says."""
+    return (type(answer), answer.column, answer.text) if isinstance(answer, nissy.LineFault) else answer
+
+
+def many(tally: Tally) -> None:
+    """Many lines have the answers of each, in their order, by one thread and by several; other threads go on meanwhile, and none is left."""
+    lines: List[Any] = (["F", "R U F", ""] * 3000 + ["R Q", "(R (U))", "\u2019", "R\ud800", b"R\0", "(R\nU", "\n", b"R", bytearray(b"F B")]) * 3
+    calls: List[Any] = [(lambda threads: nissy.count_all("eofb", lines, threads=threads), lambda it: nissy.count("eofb", it)),
+                        (lambda threads: nissy.facts_all(iter(lines), threads), nissy.facts),
+                        (lambda threads: nissy.solve_all("eofb", lines, threads=threads), lambda it: nissy.solve("eofb", it))]
+    for call, alone in calls:
+        of_each = {str(line): plain(raised(nissy.LineFault, lambda: alone(line)) or alone(line)) for line in lines[-100:]}
+        for threads in (1, 2, 5):
+            answers = list(call(threads))
+            tally.holds(f"{len(lines)} lines by {threads} threads", list(map(plain, answers)) == [of_each[str(line)] for line in lines])
+            faulty = [at for at, it in enumerate(answers, 1) if isinstance(it, nissy.Fault)]
+            tally.equal("the lines of faults", [answers[at - 1].line for at in faulty], faulty)
+    counting, turns = threading.Thread(target=lambda: sum(1 for _ in nissy.count_all("eofb", ["R U F"] * 200_000))), 0
+    counting.start()
+    begun = time.monotonic()
+    while counting.is_alive() and turns < 100:
+        time.sleep(0.0001)
+        turns += 1
+    tally.holds("other threads go on", turns >= 20 or time.monotonic() - begun < 0.02)
+    counting.join()
+    tally.holds("no thread is left", not any(it.name.startswith("nissy") for it in threading.enumerate()))
+
+
+def rooms(tally: Tally) -> None:
     """Room that is given, and room that grows."""
-    answer = nissy.run(["steps"], room=7)
     small = nissy.Answer(3, b"eofb\neo", b"nissy: cannot write\n", True)
-    holds("a room that is too small is full", answer == small)
-    holds("a room of nothing", nissy.run(["steps"], room=0).full)
+    tally.equal("a room that is too small is full", (nissy.run(["steps"], room=7), nissy.run(["steps"], room=0).full), (small, True))
     for room in (b"abc", "7", 7.0, [7]):
-        holds("%r is no room" % (room,), raised(TypeError, lambda: nissy.run(["steps"], room=room)))
-    holds("nor are less than no bytes", raised(ValueError, lambda: nissy.run(["steps"], room=-1)))
-    holds("more than there is memory for can't be had", raised(MemoryError, lambda: nissy.run(["steps"], room=2**62)))
-    few = nissy.run(["scramble", "7", "9", "256", "3"])
-    many = nissy.run(["scramble", "7", "9", "256", "10000"])
-    holds("an output of 7 MB comes whole", many.status == 0 and many.out.count(b"\n") == 10_000 and many.out.startswith(few.out))
-    printed = nissy.run(["print"], b"\n" * 300_000)
+        tally.holds(f"{room!r} is no room", raised(TypeError, lambda: untyped.run(["steps"], room=room)))
+    tally.holds("nor are less than no bytes", raised(ValueError, lambda: nissy.run(["steps"], room=-1)))
+    tally.holds("more than there is memory for can't be had", raised(MemoryError, lambda: nissy.run(["steps"], room=2**62)))
+    few, long_run = (nissy.run(["scramble", "7", "9", "256", count]) for count in ("3", "10000"))
+    tally.holds("an output of 7 MB comes whole", long_run.out.count(b"\n") == 10_000 and long_run.out.startswith(few.out))
     solved = b"".join(bytes([letter]) * 9 for letter in b"URFDLB") + b"\n"
-    holds("55 bytes for each byte of the input come whole", printed.out == solved * 300_000)
-    runs_made, run = [], nissy._library.nissy_run
-    nissy._library.nissy_run = lambda *given: runs_made.append(given) or run(*given)
-    found = nissy.run(["near", "eofb", "5", "20"], b"\n").out
-    nissy._library.nissy_run = run
-    holds("solutions of 2 MB come by one run", len(found) > 2_000_000 and len(runs_made) == 1)
+    tally.holds("55 bytes for each byte of the input come whole", nissy.run(["print"], b"\n" * 300_000).out == solved * 300_000)
+    asked: List[Any] = []
+    library, growth = untyped._library, untyped._rooms._GROWTH
+    run, solve = library.nissy_run, library.nissy_solve
+
+    def noted(call: Any) -> Any:
+        def made(*given: Any) -> Any:
+            asked.append(given)
+            return call(*given)
+        return made
+
+    library.nissy_run, library.nissy_solve = noted(run), noted(solve)
+    written = nissy.run(["near", "eofb", "5", "20"], b"\n").out.decode().splitlines()[:-1]
+    tally.equal("solutions of 2 MB come by one run", len(asked), 1)
+    for larger, times in ((growth, 2), (2, 3)):
+        untyped._rooms._GROWTH = larger
+        asked.clear()
+        found = nissy.near("eofb", "", 5, 20)
+        tally.holds("they come whole", [f"{it} ({it.length})".strip() for it in found] == written)
+        tally.equal("searches that were made", len(asked), times)
+    untyped._rooms._GROWTH = growth
+    asked.clear()
+    tally.equal("so many as there are", nissy.count("eofb", "", 5, 20).solutions, len(found))
+    tally.holds("the first 10,000", nissy.near("eofb", "", 5, 20, 10_000) == found[:10_000] and len(asked) == 1)
+    tally.equal("a short one after it", nissy.solve("eofb", "F"), ["F", "F'"])
+    library.nissy_run, library.nissy_solve = run, solve
 
 
-def large_output():
+def large_output(tally: Tally) -> None:
     """An output whose length has more than 31 bits."""
     room = 2**31 + 100
     answer = nissy.run(["near", "eofb", "20", "20"], b"\n", room=room)
-    holds("an output of more than 2 GiB comes whole", answer.full and len(answer.out) == room and answer.out.startswith(b"(0)\nU (1)\n"))
+    tally.holds("an output of more than 2 GiB comes whole", answer.full and len(answer.out) == room and answer.out.startswith(b"(0)\nU (1)\n"))
 
 
-def threads():
-    """Threads that call side by side. That others go on meanwhile is tried by facts.py."""
-    wrong = []
-
-    def call(number):
-        scramble = nissy.run(["scramble", str(number), "54", "20", "1"]).out
-        for _ in range(50):
-            back = nissy.invert(nissy.invert(scramble.strip())).encode() + b"\n"
-            if back != scramble or nissy.run(["count", "eofb", "5"], b"F B\n").out != b"length 2 solutions 4 nodes 75\n":
-                wrong.append(number)
-
-    calling = [threading.Thread(target=call, args=(number,)) for number in range(8)]
-    for thread in calling:
-        thread.start()
-    for thread in calling:
-        thread.join()
-    holds("each thread has the answers of its own calls", not wrong)
-
-
-def main():
+def main() -> None:
     """All of it."""
-    large = (large_output,) if "large" in sys.argv[1:] else ()
-    for part in (lines, runs, names, examples, rooms, threads) + large:
-        part()
+    tally = Tally()
+    for part in (runs, names, classes, liars, copies, iterables, many, rooms, *([large_output] if "large" in sys.argv[1:] else [])):
+        part(tally)
     tally.end()
 
 

@@ -1,16 +1,51 @@
-/* The header for C++: values out of strings, exceptions with their column, objects that are copied and shared by threads. It is linked with
-   --wrap for malloc, realloc and free, by which the library's memory is refused. */
-#include "nissy.hpp"
+/* The headers for C++: values out of strings, exceptions with their column, objects that are copied and shared by threads, the moves of a line,
+   names, solutions one after another, and the bounds and progress of `best`, whose rows tests/best tries. It is linked with --wrap for malloc,
+   realloc and free, by which the library's memory is refused. */
+#include "nissy_best.hpp"
+#include "nissy_names.hpp"
+#include "nissy_solutions.hpp"
+#include "nissy_tokens.hpp"
 
 #include "faults.h"
 #include "refused.h"
 #include "searches.h"
-#include "thrown.hpp"
 
+#include <functional>
 #include <limits>
+#include <stdexcept>
 #include <thread>
 
 namespace {
+
+using call = std::function<void()>;
+using names = std::vector<std::string>;
+
+// Each of these calls throws this exception, which says something.
+template <typename Thrown> void throw_each(const char *of, std::initializer_list<call> calls) {
+    for (const call &each : calls) {
+        try {
+            each();
+            holds(0, "it throws", of);
+        } catch (const Thrown &thrown) {
+            holds(thrown.what()[0] != 0, "it says what", of);
+        } catch (...) {
+            holds(0, "it throws another exception", of);
+        }
+    }
+}
+
+// A call throws a fault that says this, also in a copy: its code and column, the line of two that has it, and the step that would have to hold.
+void has_fault(const call &asked, int code, std::size_t column, const std::string &what, int line = 0, const char *start = "") {
+    try {
+        asked();
+        holds(0, "it throws", what.c_str());
+    } catch (const nissy::fault &thrown) {
+        const nissy::fault copy = thrown;
+        const std::string text(copy.text()), said = copy.what();
+        holds(copy.code() == code && copy.column() == column && copy.line() == line && copy.start() == start, "its fault", what.c_str());
+        holds(said == what && text.size() < said.size() && said.substr(said.size() - text.size()) == text, "what it says", what.c_str());
+    }
+}
 
 std::string text_of(const std::vector<nissy::solution> &solutions) {
     std::string text;
@@ -28,75 +63,161 @@ void solves(const nissy::tables &tables, const search_row &row) {
         holds(whole.compare(0, text_of(first).size(), text_of(first)) == 0, "they are the first", row.line);
     }
     const nissy::count counted = tables.count(row.line, {row.limit, row.slack});
-    holds(counted.solutions == found.size(), "how many are counted", row.line);
-    holds(counted.length.has_value() == !found.empty(), "there is a least length if there are solutions", row.line);
+    holds(counted.solutions == found.size() && counted.length.has_value() == !found.empty(), "how many are counted", row.line);
     if (counted.length) holds(*counted.length == row.least && found.front().length == row.least, "the least length", row.line);
     if (row.nodes) holds(counted.nodes == row.nodes, "the positions looked at", row.line);
+    std::vector<nissy::solution> each;
+    for (const nissy::solution &one : nissy::solutions(tables, row.line, row.limit, row.slack)) each.push_back(one);
+    holds(each == found, "one after another they are the same", row.line);
 }
 
-// A call throws this fault.
-template <typename Call> void has_fault(Call call, int code, std::size_t column, const char *what, const char *of) {
-    try {
-        call();
-        holds(0, "it throws", of);
-    } catch (const nissy::fault &thrown) {
-        holds(thrown.code() == code && thrown.column() == column, "its fault and column", of);
-        if (what) holds(std::string_view(thrown.what()) == what, "what it says", of);
-        holds(thrown.start().empty() == (code != NISSY_START), "it has a start exactly if a step may not start", of);
+// The rows of tests/calls.tsv for calls on lines.
+void lines_are_read() {
+    static const struct {
+        nissy_line_answer (*call)(const std::uint8_t *, std::size_t, std::uint8_t *, std::size_t);
+        const char *line, *text;
+    } TEXTS[] = {
+#include "texts.inc"
+    };
+    const auto rewritten = [](const auto &row) {
+        return row.call == nissy_invert    ? nissy::invert(row.line)
+               : row.call == nissy_unniss  ? nissy::unniss(row.line)
+               : row.call == nissy_cleanup ? nissy::cleanup(row.line)
+                                           : nissy::facelets(row.line);
+    };
+    for (const auto &row : TEXTS) holds(rewritten(row) == row.text, "what it writes", row.line);
+    holds(nissy::invert(std::string_view()).empty() && nissy::facelets({}).size() == 54, "a view of nothing is an empty line", "");
+    holds(nissy::invert(std::string_view("R U q", 3)) == "U' R'" && nissy::invert(std::string("R U")) == "U' R'", "views and strings", "R U");
+    static const char *const TOKENS[][2] = {
+#include "tokens.inc"
+    };
+    for (const auto &[line, wanted] : TOKENS) {
+        std::string told;
+        for (const nissy::token &it : nissy::tokens(line)) {
+            told += it.text + "/" + it.axis;
+            for (const int layer : it.layers) told += (layer == it.layers.front() ? "/" : ",") + std::to_string(layer);
+            told += "/" + std::to_string(it.quarters) + "/" + std::to_string(it.inverse) + "|";
+        }
+        holds(told == wanted, "its moves", line);
     }
+    holds(nissy::tokens("R") != nissy::tokens("L") && nissy::tokens("r") == nissy::tokens("Rw"), "moves are compared", "R");
 }
 
-// A call throws a fault of which text and start are these, also of a copy.
-template <typename Call> void has_words(Call call, const char *text, const char *start, const char *of) {
-    try {
-        call();
-        holds(0, "it throws", of);
-    } catch (const nissy::fault &thrown) {
-        const nissy::fault copy = thrown;
-        holds(copy.text() == text, "its text", of);
-        holds(copy.start() == start, "its start", of);
-    }
-}
-
-// A call throws a fault of this line of two, or of one line alone if it is 0.
-template <typename Call> void has_line(Call call, int line, const char *of) {
-    try {
-        call();
-        holds(0, "it throws", of);
-    } catch (const nissy::fault &thrown) {
-        holds(nissy::fault(thrown).line() == line, "which line has it", of);
-    }
-}
-
-// What is seen of lines: rows that guides for solvers have, and one whose places a hand finds.
 void lines_are_judged() {
-    for (const auto &[line, wanted] : {std::pair{"R", "4c4e"}, {"R U2 R", "4c2e"}, {"R U R", "3c2e"}, {"", "0c0e"}})
-        holds(nissy::facts(line).ud().dr_case() == wanted, "its case", line);
-    const nissy::line_facts facts = nissy::facts("R"), none = nissy::facts("x y");
-    holds(facts.moves == 1 && facts.clean_moves == 1 && !facts.solved && none.solved && none.moves == 0, "moves, and whether it is solved", "R");
-    holds(facts.rl().bad_edges == 4 && facts.rl().bad_edge_places == 0x911 && facts.fb().bad_edges == 0, "its bad edges", "R");
-    holds(facts.ud().bad_corner_places == 0x99 && facts.ud().misplaced_edge_places == 0x911, "its places", "R");
-    holds(facts.ud().bad_corners == 4 && facts.ud().misplaced_edges == 4 && facts.axes[NISSY_UD].bad_edges == 0, "its numbers", "R");
-    const std::vector<std::string> held = {"eofb", "eoud", "drrl-eofb", "drrl-eoud", "eo", "dr-eofb", "dr-eoud"};
-    holds(facts.holds() == held && none.holds() == nissy::steps(), "the steps that hold", "R");
-    for (const fault_row &row : UNREAD) has_fault([&] { nissy::facts(row.line); }, row.fault, row.column, nullptr, row.line);
+    static const struct {
+        const char *line;
+        int solved, moves, clean_moves, holds;
+        unsigned masks[3][3];
+    } FACTS[] = {
+#include "facts.inc"
+    };
+    for (const auto &row : FACTS) {
+        const nissy::line_facts got = nissy::facts(row.line);
+        holds(got.solved == (row.solved != 0) && got.moves == row.moves && got.clean_moves == row.clean_moves, "its moves", row.line);
+        names steps;
+        for (std::size_t at = 0; at < 13; at++)
+            if (row.holds >> at & 1) steps.push_back(nissy::steps()[at]);
+        holds(got.holds() == steps, "the steps that hold", row.line);
+        const nissy::axis_facts axes[] = {got.fb(), got.rl(), got.ud()};
+        for (int axis = 0; axis < 3; axis++) {
+            const auto &[edges, corners, misplaced] = row.masks[axis];
+            const nissy::axis_facts &it = axes[axis];
+            holds(it.bad_edge_places == edges && it.bad_corner_places == corners && it.misplaced_edge_places == misplaced, "its places", row.line);
+            const auto bits = [](unsigned mask) { return static_cast<int>(std::bitset<12>(mask).count()); };
+            holds(it.bad_edges == bits(edges) && it.bad_corners == bits(corners) && it.misplaced_edges == bits(misplaced), "its pieces", row.line);
+            holds(it.dr_case() == std::to_string(bits(corners)) + "c" + std::to_string(bits(misplaced)) + "e", "its case", row.line);
+        }
+    }
+    static const struct {
+        const char *scramble, *solution;
+        int solved, moves, clean_moves;
+        unsigned forms;
+    } CHECKS[] = {
+#include "checks.inc"
+    };
+    for (const auto &row : CHECKS) {
+        const nissy::verdict got = nissy::check(row.scramble, row.solution);
+        holds(got.solved == (row.solved != 0) && got.moves == row.moves && got.clean_moves == row.clean_moves, "its moves", row.solution);
+        holds(got.forms == row.forms, "its forms", row.solution);
+    }
 }
 
-void solutions_are_checked() {
-    const nissy::verdict solved = nissy::check("R U", "U' R' x"), other = nissy::check("R", "(M u2')");
-    holds(solved.solved && solved.moves == 2 && solved.clean_moves == 2 && solved.forms == 0, "it solves", "R U");
-    const unsigned forms = NISSY_SLICES + NISSY_LOWER_CASE + NISSY_BRACKETS + NISSY_HALF_PRIME;
-    holds(!other.solved && other.moves == 3 && other.forms == forms, "it doesn't", "R");
-    holds(nissy::check({}, {}).solved, "no moves solve a solved cube", "");
-    has_fault([] { nissy::check("R q", "("); }, NISSY_NOT_A_MOVE, 3, "nissy: scramble, column 3: not a move", "R q");
-    has_fault([] { nissy::check("R", "(U"); }, NISSY_UNCLOSED, 1, "nissy: solution, column 1: bracket not closed", "(U");
-    has_words([] { nissy::check("R", "(U"); }, "bracket not closed", "", "(U");
-    has_line([] { nissy::check("R q", "("); }, 1, "R q");
-    has_line([] { nissy::check("R", "(U"); }, 2, "(U");
-    has_line([] { nissy::invert("(U"); }, 0, "(U");
+// The names of places and forms, where lines have forms that the WCA's notation hasn't, and what has to hold before each step.
+void names_are_told() {
+    const nissy::line_facts facts = nissy::facts("R");
+    holds(nissy::edge_names(facts.rl().bad_edge_places) == names{"UR", "DR", "FR", "BR"}, "its bad edges", "R");
+    holds(nissy::corner_names(facts.ud().bad_corner_places) == names{"URF", "UBR", "DFR", "DRB"}, "its bad corners", "R");
+    const names forms = {"slices", "lower_case", "brackets", "apostrophe", "half_prime"};
+    for (unsigned at = 0; at < 5; at++) holds(nissy::form_names(1U << at) == names{forms[at]}, "a form", forms[at].c_str());
+    holds(nissy::edge_names(0xfff).size() == 12 && nissy::corner_names(0xff).size() == 8 && nissy::form_names(31) == forms, "a name for each", "all");
+    static const char *const FORMS[][2] = {
+#include "forms.inc"
+    };
+    for (const auto &[line, wanted] : FORMS) {
+        std::string told;
+        for (const auto &[text, of, column] : nissy::form_places(line)) told += std::to_string(column) + " " + text + " " + std::to_string(of) + "|";
+        holds(told == wanted, "where its forms are", line);
+    }
+    static const char *const STARTS[][2] = {
+#include "starts.inc"
+    };
+    for (const auto &[step, start] : STARTS) holds(nissy::start_of(step).value_or("") == start, "what has to hold before it", step);
+    holds(!nissy::start_of("eo") && nissy::steps().size() == 13 && nissy::steps().back() == "dr-eoud", "the thirteen", "steps");
+}
+
+void faults_are_thrown() {
+    const nissy::tables tables("dr-eofb");
+    for (const fault_row &row : UNREAD) {
+        const std::string text = [&row] {
+            std::uint8_t out[NISSY_LINE_ROOM];
+            return std::string(out, out + nissy_fault_text(static_cast<std::uint8_t>(row.fault), out, sizeof out).length);
+        }();
+        const std::string place = "column " + std::to_string(row.column) + ": " + text;
+        for (const call &each : std::initializer_list<call>{
+                 [&] { nissy::invert(row.line); }, [&] { nissy::facelets(row.line); }, [&] { tables.solve(row.line); },
+                 [&] { tables.count(row.line); }, [&] { nissy::facts(row.line); }, [&] { nissy::tokens(row.line); },
+                 [&] { nissy::form_places(row.line); }, [&] { nissy::solutions(tables, row.line); }})
+            has_fault(each, row.fault, row.column, "nissy: " + place);
+        has_fault([&] { nissy::check(row.line, "("); }, row.fault, row.column, "nissy: scramble, " + place, 1);
+        has_fault([&] { nissy::check("R", row.line); }, row.fault, row.column, "nissy: solution, " + place, 2);
+        has_fault([&] { nissy::best(row.line, "("); }, row.fault, row.column, "nissy: scramble, " + place, 1);
+        has_fault([&] { nissy::best("R", row.line); }, row.fault, row.column, "nissy: moves so far, " + place, 2);
+    }
+    has_fault([&] { tables.solve("F"); }, NISSY_START, 0, "nissy: eofb does not hold", 0, "eofb");
+    has_fault([&] { nissy::solutions(tables, "F"); }, NISSY_START, 0, "nissy: eofb does not hold", 0, "eofb");
+    has_fault([] { nissy::tables("drrl-eoud").count("U"); }, NISSY_START, 0, "nissy: eoud does not hold", 0, "eoud");
+    has_fault([] { nissy::invert(std::string_view("R\0U", 3)); }, NISSY_NOT_A_MOVE, 2, "nissy: column 2: not a move");
+    std::string many;
+    for (int at = 0; at < 200; at++) many += at % 2 ? "U" : "R";
+    has_fault([&] { nissy::best(many, many); }, NISSY_TOO_LONG, 0, "nissy: moves so far, more than 256 moves", 2);
+    try {
+        nissy::invert("R\xe2\x80\x99 U\xe2\x80\x99 q");
+    } catch (const nissy::fault &thrown) {
+        holds(thrown.column() == 11 && thrown.character("R\xe2\x80\x99 U\xe2\x80\x99 q") == 7, "bytes and characters", "R’ U’ q");
+    }
+}
+
+void misuse_is_thrown() {
+    const nissy::tables tables("eofb");
     const std::string blanks(NISSY_MOST_INPUT + 1, ' ');
-    throws<std::length_error>([&] { nissy::check("R", blanks); }, "a solution of 16,777,217 blanks");
-    throws<std::length_error>([&] { nissy::facts(blanks); }, "16,777,217 blanks");
+    for (const char *name : {"htr", "", "EOFB", "eofb "})
+        throw_each<std::invalid_argument>(name, {[=] { nissy::tables{name}; }, [=] { nissy::start_of(name); }});
+    throw_each<std::invalid_argument>("no name", {[] { nissy::tables{std::string_view()}; }});
+    // of some the last 32 bits alone are in the range
+    for (const std::int64_t number : {std::int64_t{-1}, std::int64_t{21}, std::int64_t{256}, std::int64_t{1} << 32, (std::int64_t{1} << 32) + 1,
+                                      std::numeric_limits<std::int64_t>::min(), std::numeric_limits<std::int64_t>::max()}) {
+        throw_each<std::out_of_range>("a limit", {[&] { tables.solve("F", {number}); }, [&] { tables.count("F", {number}); },
+                                                  [&] { tables.count_all("F", {number}); }, [&] { nissy::solutions(tables, "F", number); }});
+        throw_each<std::out_of_range>("a slack", {[&] { tables.solve("F", {20, number}); }, [&] { tables.count("F", {20, number}); },
+                                                  [&] { nissy::solutions(tables, "F", 20, number); }, [&] { nissy::best("R", "", number); }});
+    }
+    for (const std::uint64_t number : {std::uint64_t{10001}, std::uint64_t{0xffffffff}, std::uint64_t{1} << 32, (std::uint64_t{1} << 32) + 1})
+        throw_each<std::out_of_range>("a length or a count", {[&] { nissy::scramble(1, 2, number); }, [&] { nissy::scrambles(1, 2, number, 1); },
+                                                              [&] { nissy::scrambles(1, 2, 3, number); }});
+    throw_each<std::out_of_range>("257 turns", {[] { nissy::scramble(1, 2, 257); }, [] { nissy::scrambles(1, 2, 257, 0); }});
+    throw_each<std::length_error>("16,777,217 blanks", {[&] { nissy::invert(blanks); }, [&] { tables.solve(blanks); }, [&] { tables.count(blanks); },
+                                                        [&] { nissy::check("R", blanks); }, [&] { nissy::facts(blanks); }, [&] { nissy::best(blanks); },
+                                                        [&] { nissy::facts_all(blanks)[0].value(); }});
 }
 
 // Each line of a text has a value, or throws what the call on it alone throws.
@@ -106,15 +227,13 @@ void many_lines_are_answered() {
     holds(counts.size() == 4 && counts[0].value() == nissy::count{1, 2, 20} && counts[2].value().length == 0, "the counts", "four lines");
     holds(counts[3] && counts[3].value() == tables.count("F B") && counts[3].status() == NISSY_DONE, "the last one", "four lines");
     holds(!counts[1] && counts[1].status() == NISSY_FAULT && counts[1].code() == NISSY_NOT_A_MOVE && counts[1].column() == 3, "a fault", "R q");
-    has_fault([&] { counts[1].value(); }, NISSY_NOT_A_MOVE, 3, "nissy: column 3: not a move", "R q");
-    const auto starts = reduction.count_all("F\n");
-    holds(starts.size() == 1, "one line", "F");
-    has_words([&] { starts[0].value(); }, "eofb does not hold", "eofb", "F");
+    has_fault([&] { counts[1].value(); }, NISSY_NOT_A_MOVE, 3, "nissy: column 3: not a move");
+    has_fault([&] { reduction.count_all("F\n")[0].value(); }, NISSY_START, 0, "nissy: eofb does not hold", 0, "eofb");
     const auto cut = tables.count_all("F B\nF", {20, 0, NISSY_ALL, 74});
     holds(cut.size() == 2 && cut[0] && cut[0].status() == NISSY_CUT && cut[0].value().is_cut && !cut[1].value().is_cut, "75 positions", "F B");
     const auto facts = nissy::facts_all("R\n(\nR U R\n");
     holds(facts.size() == 3 && facts[0].value().ud().dr_case() == "4c4e" && facts[2].value().ud().dr_case() == "3c2e", "facts", "three lines");
-    has_fault([&] { facts[1].value(); }, NISSY_UNCLOSED, 1, nullptr, "(");
+    has_fault([&] { facts[1].value(); }, NISSY_UNCLOSED, 1, "nissy: column 1: bracket not closed");
     holds(tables.count_all("").empty() && nissy::facts_all({}).empty(), "no line", "no text");
     std::string many;
     for (int at = 0; at < 1000; at++) many += at % 3 ? "F\n" : "\n";
@@ -122,9 +241,6 @@ void many_lines_are_answered() {
     long wrong = all.size() != 1000;
     for (std::size_t at = 0; at < all.size(); at++) wrong += all[at].value().solutions != (at % 3 ? 2 : 1);
     holds(wrong == 0, "a thousand lines, in their order", "count_all");
-    for (const int number : {-1, 21}) throws<std::out_of_range>([&] { tables.count_all("F", {number}); }, "a limit");
-    const std::string blanks(NISSY_MOST_INPUT + 1, ' ');
-    throws<std::length_error>([&] { nissy::facts_all(blanks)[0].value(); }, "16,777,217 blanks");
 }
 
 // A search with a bound on positions that it would pass, as the manual has its 75.
@@ -132,7 +248,7 @@ void searches_are_cut() {
     const nissy::tables tables("eofb");
     nissy::search bounded;
     bounded.nodes = 74;
-    throws<nissy::cut>([&] { tables.solve("F B", bounded); }, "F B");
+    throw_each<nissy::cut>("F B", {[&] { tables.solve("F B", bounded); }});
     const nissy::found found = tables.find("F B", bounded);
     const auto whole = tables.solve("F B");
     holds(found.count.is_cut && found.count.more && found.count.nodes <= 74 && found.count.solutions == found.solutions.size(), "it is cut", "F B");
@@ -150,99 +266,34 @@ void searches_are_cut() {
     holds(tables.solve("F B", bounded) == whole && tables.find("F B", bounded).count == tables.count("F B"), "as many as it needs", "F B");
     const nissy::found first = tables.find("F B", {20, 0, 1});
     holds(first.solutions.size() == 1 && first.count.more && first.count.length == 2 && !first.count.is_cut, "the first alone", "F B");
-    holds(tables.count("F B", {20, 0, 0}).length == 2 && tables.count("F", {0}).length == std::nullopt, "a length that is known", "F B");
+    // one bound is for all searches of a call
+    nissy::best_search few;
+    few.nodes = 100;
+    throw_each<nissy::cut>("U R F", {[&] { nissy::best("U R F", "", few); }});
 }
 
-// Columns in characters, for programs that show lines.
-void columns_are_told() {
-    try {
-        nissy::invert("R\xe2\x80\x99 U\xe2\x80\x99 q");
-    } catch (const nissy::fault &thrown) {
-        holds(thrown.column() == 11 && thrown.character("R\xe2\x80\x99 U\xe2\x80\x99 q") == 7, "bytes and characters", "R’ U’ q");
-    }
-    try {
-        nissy::tables("dr-eofb").solve("F");
-    } catch (const nissy::fault &thrown) {
-        holds(thrown.column() == 0 && thrown.character("F") == 0, "no column", "F");
-    }
-}
-
-void lines_are_rewritten() {
-    holds(nissy::invert("R U' F2") == "F2 U R'", "its inverse", "R U' F2");
-    holds(nissy::unniss("R (U F') D") == "R D F U'", "its moves", "R (U F') D");
-    holds(nissy::cleanup("Rw U") == "L F x", "its cleaned moves", "Rw U");
-    holds(nissy::facelets("R") == "UUFUUFUUFRRRRRRRRRFFDFFDFFDDDBDDBDDBLLLLLLLLLUBBUBBUBB", "its cube", "R");
-    holds(nissy::invert(std::string_view()).empty() && nissy::facelets({}).size() == 54, "a view of nothing is an empty line", "");
-    holds(nissy::invert(std::string_view("R U q", 3)) == "U' R'", "a view ends at its end", "R U");
-    holds(nissy::invert(std::string("R U")) == "U' R'", "a string is a line", "R U");
-}
-
-void faults_are_thrown() {
-    const nissy::tables tables("dr-eofb");
-    for (const fault_row &row : UNREAD) {
-        has_fault([&] { nissy::invert(row.line); }, row.fault, row.column, nullptr, row.line);
-        has_fault([&] { nissy::facelets(row.line); }, row.fault, row.column, nullptr, row.line);
-        has_fault([&] { tables.solve(row.line); }, row.fault, row.column, nullptr, row.line);
-        has_fault([&] { tables.count(row.line); }, row.fault, row.column, nullptr, row.line);
-    }
-    has_fault([] { nissy::unniss("R (U"); }, NISSY_UNCLOSED, 3, "nissy: column 3: bracket not closed", "R (U");
-    has_fault([&] { tables.solve("F"); }, NISSY_START, 0, "nissy: eofb does not hold", "F");
-    has_fault([&] { tables.count("F"); }, NISSY_START, 0, "nissy: eofb does not hold", "F");
-    has_fault([] { nissy::invert(std::string_view("R\0U", 3)); }, NISSY_NOT_A_MOVE, 2, nullptr, "a zero byte");
-    has_words([] { nissy::unniss("R (U"); }, "bracket not closed", "", "R (U");
-    has_words([&] { tables.solve("F"); }, "eofb does not hold", "eofb", "F");
-    has_words([] { nissy::tables("drrl-eoud").count("U"); }, "eoud does not hold", "eoud", "U");
-}
-
-void values_are_compared() {
-    const nissy::tables tables("eofb");
-    holds(tables.solve("F B") == tables.solve("B F") && tables.solve("F") != tables.solve("F B"), "solutions", "eofb");
-    holds(nissy::solution{"R", 1} != nissy::solution{"L", 1} && nissy::solution{"R", 1} != nissy::solution{"R", 2}, "one solution", "R");
-    holds(tables.count("F") == nissy::count{1, 2, 20} && tables.count("F") != nissy::count{1, 2, 21}, "counts", "F");
-    holds(tables.count("F") != nissy::count{2, 2, 20} && tables.count("F") != nissy::count{1, 3, 20}, "another count", "F");
-}
-
-void misuse_is_thrown() {
-    const nissy::tables tables("eofb");
-    for (const char *name : {"htr", "", "EOFB", "eofb "}) throws<std::invalid_argument>([=] { nissy::tables{name}; }, name);
-    throws<std::invalid_argument>([] { nissy::tables{std::string_view()}; }, "no name");
-    for (int number : {-1, 21, 256, 276, std::numeric_limits<int>::min(), std::numeric_limits<int>::max()}) {
-        throws<std::out_of_range>([&] { tables.solve("F", {number}); }, "a limit");
-        throws<std::out_of_range>([&] { tables.solve("F", {20, number}); }, "a slack");
-        throws<std::out_of_range>([&] { tables.count("F", {number}); }, "a limit");
-        throws<std::out_of_range>([&] { tables.count("F", {20, number}); }, "a slack");
-    }
-    // of these the last 32 bits alone are in the range
-    for (const std::int64_t number : {std::int64_t{1} << 32, (std::int64_t{1} << 32) + 1, std::numeric_limits<std::int64_t>::min()}) {
-        nissy::search far, wide;
-        far.limit = number, wide.slack = number;
-        throws<std::out_of_range>([&] { tables.solve("F", far); }, "a limit of 64 bits");
-        throws<std::out_of_range>([&] { tables.solve("F", wide); }, "a slack of 64 bits");
-        throws<std::out_of_range>([&] { tables.count("F", {number}); }, "a limit of 64 bits");
-        throws<std::out_of_range>([&] { tables.count("F", {20, number}); }, "a slack of 64 bits");
-        const auto length = static_cast<std::uint64_t>(number);
-        throws<std::out_of_range>([&] { nissy::scramble(1, 2, length); }, "a length of 64 bits");
-        throws<std::out_of_range>([&] { nissy::scrambles(1, 2, length, 1); }, "a length of 64 bits");
-        throws<std::out_of_range>([&] { nissy::scrambles(1, 2, 3, length); }, "a count of 64 bits");
-    }
-    throws<std::out_of_range>([] { nissy::scramble(1, 2, 257); }, "a scramble of 257 turns");
-    throws<std::out_of_range>([] { nissy::scrambles(1, 2, 257, 1); }, "scrambles of 257 turns");
-    throws<std::out_of_range>([] { nissy::scrambles(1, 2, 0xffffffff, 0); }, "scrambles of as many turns as there may be");
-    throws<std::out_of_range>([] { nissy::scrambles(1, 2, 1, 10001); }, "10,001 scrambles");
-    throws<std::out_of_range>([] { nissy::scrambles(1, 2, 1, 0xffffffff); }, "as many scrambles as there may be");
-    const std::string blanks(NISSY_MOST_INPUT + 1, ' ');
-    throws<std::length_error>([&] { nissy::invert(blanks); }, "16,777,217 blanks");
-    throws<std::length_error>([&] { tables.solve(blanks); }, "16,777,217 blanks");
-    throws<std::length_error>([&] { tables.count(blanks); }, "16,777,217 blanks");
+// The progress goes from none to all, and what it throws ends the call.
+void progress_is_told() {
+    std::vector<std::pair<std::size_t, std::size_t>> told;
+    nissy::best_search which;
+    which.progress = [&](std::size_t done, std::size_t all) { told.push_back({done, all}); };
+    nissy::best("U R F L D", "", which);
+    holds(told.size() > 7 && told.front() == std::make_pair(std::size_t{0}, std::size_t{0}), "it begins with none", "U R F L D");
+    holds(std::is_sorted(told.begin(), told.end()), "it never goes back", "U R F L D");
+    holds(told.back().first > 0 && told.back().first == told.back().second, "it ends with all", "U R F L D");
+    which.progress = [](std::size_t done, std::size_t) {
+        if (done > 0) throw std::domain_error("enough");
+    };
+    for (const char *line : {"U R F L D", "R U"}) throw_each<std::domain_error>(line, {[&] { nissy::best(line, "", which); }});
 }
 
 // Each allocation of the library refused in turn is an exception, with all memory given back, until none is refused.
-template <typename Call> void refuses_each(Call call, const char *of, long least = 2) {
+void refuses_each(const call &asked, const char *of, long least) {
     long refusals = 0;
     for (bool is_done = false; !is_done; refusals += !is_done) {
         made = 0, refused_at = refusals + 1, onward = 1, held = 0;
         try {
-            call();
+            asked();
             is_done = true;
         } catch (const std::bad_alloc &thrown) {
             refused_at = 0;
@@ -260,7 +311,7 @@ void refused_memory_is_thrown() {
 #else
     const long blocks = 2;
 #endif
-    refuses_each([] { nissy::tables("dr-eoud"); }, "the tables of dr-eoud");
+    refuses_each([] { nissy::tables("dr-eoud"); }, "the tables of dr-eoud", 2);
     holds(nissy::tables("dr-eoud").count("").length == 0, "the tables are built later", "dr-eoud");
     refuses_each([] { holds(nissy::scrambles(1, 2, 3, 4).size() == 4, "they are drawn later", "scrambles"); }, "the words of scrambles", blocks);
 }
@@ -270,26 +321,32 @@ void many_are_whole() {
     const nissy::tables tables("eofb");
     const auto found = tables.solve("F R U B", {20, 2});
     holds(found.size() > 4096 && found.size() == tables.count("F R U B", {20, 2}).solutions, "all are given", "eofb, slack 2");
+    nissy::solutions endless(tables, "F R U B", 20, 9);
+    auto next = endless.begin();
     for (const nissy::solution &one : found) {
         const auto turns = one.length ? std::count(one.moves.begin(), one.moves.end(), ' ') + 1 : 0;
-        holds(turns == one.length, "a solution has its length", one.moves.c_str());
+        holds(turns == one.length && *next++ == one, "a solution has its length, and is the next of very many", one.moves.c_str());
     }
     const auto first = tables.solve("F R U B", {20, 2, 1000});
     holds(first.size() == 1000 && first.back().moves == found[999].moves, "the first thousand", "eofb, slack 2");
+    const std::uint64_t greatest = std::numeric_limits<std::uint64_t>::max();
+    const auto many = nissy::scrambles(greatest, greatest, 256, 10000);
+    const auto has_all_turns = [](const std::string &line) { return std::count(line.begin(), line.end(), ' ') == 255; };
+    holds(many.size() == 10000 && std::all_of(many.begin(), many.end(), has_all_turns), "as many as there may be", "scrambles");
+    holds(many.front() == nissy::scramble(greatest, greatest, 256), "scramble gives the first", "scrambles");
+    holds(nissy::scrambles(42, 54, 3, 2) == names{"L' D' F'", "L F' L'"} && nissy::scrambles(1, 2, 3, 0).empty(), "their turns", "scrambles");
 }
 
 void objects_are_values() {
     nissy::tables one("eofb"), other("eorl");
     const nissy::tables copy = one, again("eofb");
+    holds(one.count("F") == nissy::count{1, 2, 20} && one.count("F") != nissy::count{1, 2, 21}, "counts are compared", "F");
+    holds(one.solve("F B") == one.solve("B F") && nissy::solution{"R", 1} != nissy::solution{"R", 2}, "solutions are compared", "F B");
     one = other;
     holds(one.step() == "eorl" && copy.step() == "eofb", "an object takes another's step", "tables");
     holds(one.count("F").length == 0 && copy.count("F").length == 1 && again.count("F").length == 1, "each asks its own step", "tables");
     const nissy::tables moved = std::move(one);
-    holds(moved.count("F").length == 0, "it can be moved", "tables");
-    holds(one.step() == "eorl" && one.count("F").length == 0, "which leaves it as it was", "tables");
-    nissy::tables start("dr-eofb"), taken = std::move(start);
-    has_fault([&] { start.solve("F"); }, NISSY_START, 0, "nissy: eofb does not hold", "F");
-    has_fault([&] { taken.solve("F"); }, NISSY_START, 0, "nissy: eofb does not hold", "F");
+    holds(moved.count("F").length == 0 && one.step() == "eorl" && one.count("F").length == 0, "it can be moved, and is as it was", "tables");
 }
 
 // Threads that build and ask the same steps side by side.
@@ -300,24 +357,11 @@ void threads_agree() {
     for (int &own : wrong)
         threads.emplace_back([&own] {
             for (int round = 0; round < 20; round++)
-                for (const search_row &row : SEARCHES) {
-                    const nissy::tables tables(row.step);
-                    own += text_of(tables.solve(row.line, {row.limit, row.slack})) != row.text;
-                }
+                for (const search_row &row : SEARCHES)
+                    own += text_of(nissy::tables(row.step).solve(row.line, {row.limit, row.slack})) != row.text;
         });
     for (std::thread &thread : threads) thread.join();
     for (const int own : wrong) holds(own == 0, "each answer of a thread is that of its call", "threads");
-}
-
-void scrambles_are_drawn() {
-    holds(nissy::scramble(42, 54, 6) == "L' D' F' R2 F' L'" && nissy::scramble(1, 2, 0).empty(), "its turns", "scramble");
-    holds(nissy::scrambles(42, 54, 3, 2) == std::vector<std::string>{"L' D' F'", "L F' L'"}, "their turns", "scrambles");
-    holds(nissy::scrambles(1, 2, 0, 2) == std::vector<std::string>(2) && nissy::scrambles(1, 2, 3, 0).empty(), "none", "scrambles");
-    const std::uint64_t greatest = std::numeric_limits<std::uint64_t>::max();
-    const auto many = nissy::scrambles(greatest, greatest, 256, 10000);
-    const auto has_all_turns = [](const std::string &line) { return std::count(line.begin(), line.end(), ' ') == 255; };
-    holds(many.size() == 10000 && std::all_of(many.begin(), many.end(), has_all_turns), "as many as there may be", "scrambles");
-    holds(many.front() == nissy::scramble(greatest, greatest, 256), "scramble gives the first", "scrambles");
 }
 
 } // namespace
@@ -326,20 +370,9 @@ int main() {
     // first, so that each step is built while others ask for it
     threads_agree();
     for (const search_row &row : SEARCHES) solves(nissy::tables(row.step), row);
-    lines_are_rewritten();
-    lines_are_judged();
-    solutions_are_checked();
-    many_lines_are_answered();
-    searches_are_cut();
-    columns_are_told();
-    faults_are_thrown();
-    values_are_compared();
-    misuse_is_thrown();
-    refused_memory_is_thrown();
-    many_are_whole();
-    objects_are_values();
-    scrambles_are_drawn();
-    holds(nissy::steps().size() == 13 && nissy::steps().front() == "eofb" && nissy::steps().back() == "dr-eoud", "the thirteen", "steps");
+    for (const auto trial : {lines_are_read, lines_are_judged, names_are_told, faults_are_thrown, misuse_is_thrown, many_lines_are_answered,
+                             searches_are_cut, progress_is_told, refused_memory_is_thrown, many_are_whole, objects_are_values})
+        trial();
     holds(nissy::version() == nissy_version() && nissy_version() == NISSY_VERSION_NUMBER, "the library's", "version");
     return ended();
 }

@@ -50,7 +50,7 @@ static void in_pieces(const nissy_tables *tables, const search_row *row) {
     holds(behind(tables, row, row->text, size, NISSY_ALL, whole.nodes, out).status == NISSY_DONE, "as many positions as it looks at", row->line);
     // with so many looks it knows the least length
     uint64_t least_at = nissy_count(tables, (const uint8_t *)row->line, strlen(row->line), row->limit, 0, NISSY_ALL, NISSY_ALL).nodes;
-    for (uint64_t bound = 0; bound < whole.nodes; bound++) {
+    for (uint64_t bound = whole.nodes; bound-- > 0; bound /= 2) {
         nissy_search_answer cut = behind(tables, row, row->text, size, NISSY_ALL, bound, out);
         holds(cut.status == NISSY_CUT && cut.more == 1 && cut.nodes <= bound, "a lower bound cuts it", row->line);
         holds(cut.least == row->least || (cut.least == 0 && bound < least_at), "the least length, unless it is cut before that is known", row->line);

@@ -51,7 +51,7 @@ import nissy
 scrambles = nissy.scrambles(5, 6, 20, 200)
 oriented = [line + " " + nissy.solve("eofb", line, most=1)[0] for line in scrambles]
 whole = nissy.run(["solve", "dr-eofb", "20"], "\\n".join(oriented) + "\\n").out.decode()
-answers = {}
+answers, runs = {}, {}
 def text(found):
     return "".join(f"{it} ({it.length})".strip() + "\\n" for it in found) + "\\n"
 def ask(number):
@@ -59,11 +59,13 @@ def ask(number):
         found = nissy.solve_all("dr-eofb", oriented)
     else:
         found = (nissy.solve("dr-eofb", line) for line in oriented)
+        runs[number] = [nissy.run(["invert"], nissy.invert(line)).out.decode() for line in scrambles]
     answers[number] = "".join(map(text, found))
 threads = [threading.Thread(target=ask, args=(number,)) for number in range(8)]
 for thread in threads: thread.start()
 for thread in threads: thread.join()
 print(len(answers), set(answers.values()) == {whole}, whole.count("(") > 1000)
+print(len(runs), all(run == [line + "\\n" for line in scrambles] for run in runs.values()))
 """
 
 # a child that was forked while another thread built: it has the tables that were whole, and builds the others itself
@@ -197,54 +199,32 @@ print(nissy.count("dr-eofb", "R U").solutions)
 """
 
 USER = """
-from typing import Iterator, List, Optional
+from typing import List, Optional
 import nissy
-
-def best(lines: List[str]) -> Iterator[str]:
-    for found in nissy.raising(nissy.solve_all("eofb", lines, most=1)):
-        yield found[0] + " " if found else "none"
-
-def of_lines(lines: List[str]) -> Iterator[Optional[int]]:
-    for count in nissy.count_all("eofb", lines, nodes=1000, threads=2):
-        yield count.length if isinstance(count, nissy.Count) else count.line
-
-def bad(line: str, axis: nissy.Axis) -> str:
-    facts = nissy.facts(line)
-    edges: int = facts.bad_edges[axis]
-    return f"{edges} {facts.bad_edges[axis].places[0]} {facts.case['ud'].corners} {'eofb' in facts.holds} {facts.solved}"
-
-def is_right(scramble: str, solution: bytes) -> bool:
-    solved, moves, *others = nissy.check(scramble, solution)
-    return solved and moves < 80 and not nissy.check(scramble, solution).forms
-
-def of_all_lines(lines: List[str]) -> List[str]:
-    return [it.case["ud"] for it in nissy.raising(nissy.facts_all(lines))]
-
-def bounded(line: str) -> int:
-    try:
-        return len(nissy.solve("eofb", line, slack=9, nodes=1000, partial=True))
-    except nissy.Cut as cut:
-        return cut.count.nodes
-
-def shortest(line: bytes) -> Optional[int]:
-    try:
-        return nissy.count("dr-eofb", bytearray(line), limit=12).length
-    except (nissy.LineFault, nissy.StartFault) as fault:
-        print(fault.text, fault.line)
-        raise
-
-tables = nissy.Tables("drud-eofb")
-lengths: List[int] = [it.length for it in tables.solve("R U")]
+axis: nissy.Axis = "fb"
+step: nissy.Step = nissy.Tables("drud-eofb").step
 line: nissy.Text = nissy.scramble(1, 2, 3)
 answer: nissy.Answer = nissy.run(["steps", b"x"], memoryview(b""), room=3)
-version: str = nissy.__version__
-
-def shortest_of(step: nissy.Step) -> Optional[int]:
-    return nissy.Tables(step).count("").length
-
+found: nissy.Solutions = nissy.solve("eofb", line, slack=9, nodes=1000, partial=True)
+lengths: List[int] = [it.length for it in nissy.Tables(step).solve("R U")] + [it.length for it in found]
+firsts: List[str] = [some[0] + " " if some else "none" for some in nissy.raising(nissy.solve_all("eofb", [line], most=1))]
+counts: List[Optional[int]] = [it.length if isinstance(it, nissy.Count) else it.line
+                               for it in nissy.count_all("eofb", [line], nodes=1000, threads=2)]
+facts = nissy.facts(line)
+edges: int = facts.bad_edges[axis] + facts.case["ud"].corners
+place: str = facts.bad_edges[axis].places[0]
+solved, moves, *others = nissy.check(line, b"R")
+is_right: bool = solved and moves < 80 and not nissy.check(line, b"R").forms and "eofb" in facts.holds and facts.solved
+cases: List[str] = [it.case["ud"] for it in nissy.raising(nissy.facts_all([line]))]
 steps: List[nissy.Step] = nissy.steps()
-of_all: List[Optional[int]] = [shortest_of(step) for step in nissy.steps()]
-asked: nissy.Step = tables.step
+least: List[Optional[int]] = [nissy.count(each, bytearray(b"R"), limit=12).length for each in nissy.steps()]
+version: str = nissy.__version__
+try:
+    nodes: int = nissy.count("eofb", line, nodes=1).nodes
+except nissy.Cut as cut:
+    nodes = cut.count.nodes
+except (nissy.LineFault, nissy.StartFault) as fault:
+    print(fault.text, fault.line)
 """
 
 NAMES_LIBRARY = "import nissy; print(nissy._library.LIBRARY._name)"
@@ -271,7 +251,7 @@ def of_process(code: str, **named: str) -> str:
 def processes(tally: Tally) -> None:
     """Each of the codes above, and what it prints where all is well."""
     tally.equal("eight threads are the first to ask", of_process(FIRST_USE), "160 True [b'drud-eofb', b'eofb']\n")
-    tally.equal("eight threads over the same tables", of_process(SAME_TABLES), "8 True True\n")
+    tally.equal("eight threads over the same tables", of_process(SAME_TABLES), "8 True True\n4 True\n")
     tally.equal("a child of a process that builds", of_process(FORK), "0 ['R', \"R'\"]\n")
     tally.equal("parent and child", of_process(BOTH), "0 True\n")
     tally.equal("calls of a signal's handler", of_process(SIGNALS), "True True\n")

@@ -1,10 +1,9 @@
 #!/usr/bin/env python3
 """The example examples/serve.py: what it tells of requests, and that none of many at once holds it.
 
-    tests/library/service.py [SEED COUNT]
+    tests/library/service.py
 
-The moves that it says are no WCA notation are compared with the forms that the library tells of COUNT drawn lines, 2,000 if no number is
-named. The library is that of NISSY_LIBRARY. The last line is `N passed, M failed`, and the status is 1 where M isn't 0.
+The library is that of NISSY_LIBRARY. The last line is `N passed, M failed`, and the status is 1 where M isn't 0.
 """
 from __future__ import annotations
 
@@ -17,15 +16,13 @@ import sys
 import threading
 import time
 from pathlib import Path
-from typing import Dict, List, Set, Tuple
+from typing import Dict, List, Tuple
 from urllib.parse import urlencode
 
 TOP = Path(__file__).resolve().parents[2]
-sys.path[:0] = [str(TOP / "python"), str(TOP / "examples"), str(TOP / "tests"), str(TOP / "tests/model")]
+sys.path[:0] = [str(TOP / "python"), str(TOP / "examples"), str(TOP / "tests")]
 
-import nissy
 import serve
-from drawing import Drawing
 from tally import Tally
 
 # clients at once, and how long they may wait: the search that each asks for would take days without a bound
@@ -50,13 +47,6 @@ REQUESTS: List[Tuple[str, Dict[str, str], int, Dict[str, object]]] = [
 ]
 
 
-def form_of(text: str) -> Set[str]:
-    """The forms of one move or bracket."""
-    signs = {"slices": text[0] in "MES", "lower_case": text[0] in "udrlfb", "brackets": text in "()", "apostrophe": "\u2019" in text,
-             "half_prime": text[-2:] in ("2'", "2\u2019")}
-    return {form for form, has in signs.items() if has}
-
-
 def requests_are_answered(tally: Tally) -> None:
     """Requests that a person can tell, also some with numbers or steps that there aren't."""
     for path, asked, status, told in REQUESTS:
@@ -64,16 +54,6 @@ def requests_are_answered(tally: Tally) -> None:
     for more in ({"slack": "21"}, {"slack": "-1"}, {"slack": "x"}, {"step": "eofx"}, {"step": ""}, {"step": "\0"}):
         status, told = serve.answer("/search?" + urlencode({"step": "eofb", "line": "F", **more}))
         tally.holds(f"{more} is refused", status == 400 and set(told) == {"error"})
-
-
-def forms_have_places(tally: Tally, drawing: Drawing, count: int) -> None:
-    """What is no WCA notation stands where it is said to, and is of the forms that the library tells."""
-    for _ in range(count):
-        line = drawing.line()
-        foreign, forms = serve.foreign(line), set(nissy.check("", line).forms)
-        tally.equal(f"the forms of {line!r}", {form for it in foreign for form in form_of(it["text"])}, forms)
-        tally.holds(f"each has one, in {line!r}", all(form_of(it["text"]) for it in foreign))
-        tally.holds(f"their places in {line!r}", all(line.startswith(it["text"], it["character"] - 1) for it in foreign))
 
 
 def asked(port: int, path: str, wanted: Dict[str, str]) -> Tuple[int, Dict[str, object]]:
@@ -130,10 +110,8 @@ def ends_amid_searches(tally: Tally, server: subprocess.Popen[str], port: int) -
 
 def main() -> None:
     """Asks the functions, and then a server of its own."""
-    seed, count = (int(sys.argv[1]), int(sys.argv[2])) if len(sys.argv) > 2 else (1, 2000)
     tally = Tally()
     requests_are_answered(tally)
-    forms_have_places(tally, Drawing(seed), count)
     environment = {**os.environ, "PYTHONPATH": str(TOP / "python")}
     with subprocess.Popen([sys.executable, str(TOP / "examples/serve.py"), "0"], env=environment, stdout=subprocess.PIPE, text=True) as server:
         assert server.stdout is not None

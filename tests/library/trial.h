@@ -84,4 +84,16 @@ static inline int is_same(nissy_search_answer one, nissy_search_answer other) {
            one.more == other.more && one.solutions == other.solutions && one.nodes == other.nodes;
 }
 
+static inline int is_same_axis(nissy_axis_facts one, nissy_axis_facts other) {
+    return one.bad_edge_places == other.bad_edge_places && one.bad_corner_places == other.bad_corner_places &&
+           one.misplaced_edge_places == other.misplaced_edge_places && one.bad_edges == other.bad_edges &&
+           one.bad_corners == other.bad_corners && one.misplaced_edges == other.misplaced_edges;
+}
+
+static inline int is_same_facts(nissy_facts_answer one, nissy_facts_answer other) {
+    int is_equal = one.status == other.status && one.fault == other.fault && one.solved == other.solved && one.column == other.column;
+    for (int axis = NISSY_FB; axis <= NISSY_UD; axis++) is_equal = is_equal && is_same_axis(one.axes[axis], other.axes[axis]);
+    return is_equal && one.moves == other.moves && one.clean_moves == other.clean_moves && one.holds == other.holds;
+}
+
 #endif

@@ -1,19 +1,18 @@
 #!/usr/bin/env python3
-"""The calls of the Python module that return values: solutions, counts, scrambles and steps; what they raise, and of what.
+"""The calls of the Python package that return values, by the rows of tests/calls.tsv and a few that Python alone has; what they raise, and of what.
 
     tests/library/values.py
 
-The library is that of NISSY_LIBRARY. Threads, processes and types are tried by processes.py. The last line is `N passed, M failed`, and the
-status is 1 where M isn't 0.
+The library is that of NISSY_LIBRARY. Forms of values, copies, rooms and threads are tried by module.py, drawn lines by beside_model.py, the rows
+of `best` by tests/best. The last line is `N passed, M failed`, and the status is 1 where M isn't 0.
 """
 import array
-import copy
 import ctypes
 import itertools
-import pickle
 import sys
+import time
 from pathlib import Path
-from typing import Any, Callable, Iterator, List, Optional, Tuple, Type, Union, get_type_hints
+from typing import Any, Callable, Dict, Iterable, List, Tuple, Type
 
 TOP = Path(__file__).resolve().parents[2]
 sys.path[:0] = [str(TOP / "python"), str(TOP / "tests")]
@@ -22,21 +21,24 @@ import called as shared
 import nissy
 from tally import Tally, raised
 
-# the steps, each with the one that must hold before it
-STEPS = {name: start for name, start in shared.rows("step")}
-# a turn that flips edges on the axis
-FLIPS = {"eofb": "F", "eorl": "R", "eoud": "U"}
-NEAR_SOLVED = ["", "U", "U2", "U'", "D", "D2", "D'", "R2", "L2", "F2", "B2"]
-FAULTS: List[Any] = [(line, int(column), text) for line, column, text in shared.rows("fault")]
-FAULTS += [("U" * 257, 257, "more than 256 moves"), ("\u2019", 1, "not a move"), ("R\ud800", 2, "not a move"), (b"R\0", 2, "not a move")]
-# methods of a class that doesn't say what its values hold
-LYING = {"__eq__": lambda it, other: True, "__hash__": lambda it: hash("eorl"), "__len__": lambda it: 10**6, "__index__": lambda it: 3,
-         "encode": lambda it, *how: b"F" * 10, "__bytes__": lambda it: b"F", "__add__": lambda it, other: 0,
-         "__lt__": lambda it, other: True, "__le__": lambda it, other: True, "__ge__": lambda it, other: True}
-
-
 # the package as one calls it who looks at no types
 untyped: Any = nissy
+# the steps, each with the one that must hold before it
+STEPS = dict(shared.rows("step"))
+# a turn that flips edges on the axis
+FLIPS = {"eofb": "F", "eorl": "R", "eoud": "U"}
+AXES: Tuple[nissy.Axis, ...] = ("fb", "rl", "ud")
+FORMS = ("slices", "lower_case", "brackets", "apostrophe", "half_prime")
+EDGES = "UR UF UL UB DR DF DL DB FR FL BL BR".split()
+CORNERS = "URF UFL ULB UBR DFR DLF DBL DRB".split()
+# lines with a fault: the column in bytes, the character, and the fault
+FAULTS: List[Any] = [(line, int(column), len(line.encode("utf-8", "surrogateescape")[:int(column) - 1].decode()) + 1, text)
+                     for line, column, text in shared.rows("fault")]
+FAULTS += [("U" * 257, 257, 257, "more than 256 moves"), ("R\ud800", 2, 2, "not a move"), (b"R\0", 2, 2, "not a move"),
+           ("R\u2019 U\u2019 Q", 11, 7, "not a move"), (b"R\xe2\x80\x99 Q", 6, 4, "not a move"), ("R\u2019\udcff", 5, 3, "not a move")]
+BEYOND = b" " * (nissy.MOST_INPUT + 1)
+TOO_LONG = "a line has at most 16,777,216 bytes"
+MOST = 2**64 - 1
 
 
 def says(tally: Tally, kind: Type[BaseException], text: str, call: Callable[[], object]) -> None:
@@ -45,53 +47,87 @@ def says(tally: Tally, kind: Type[BaseException], text: str, call: Callable[[], 
     tally.equal(f"what {kind.__name__} says", str(error), text)
 
 
-def solutions(tally: Tally) -> None:
-    """Solutions and their numbers, of which the manual says what they are."""
-    rows: List[Any] = [((it.step, it.line, it.limit, it.slack), [moves for moves, _ in it.solutions]) for it in shared.searches()]
-    rows += [(("eofb", ""), [""]), (("eofb", b"(F)"), ["F", "F'"]),
-             (("eofb", bytearray(b"F")), ["F", "F'"]), (("eofb", memoryview(b"F F")[::2]), [""]), (("eofb", "F\u2019"), ["F", "F'"]),
-             (("eofb", (ctypes.c_ubyte * 1)(70)), ["F", "F'"]), (("eofb", (ctypes.c_ubyte * 0)()), [""])]
-    for given, wanted in rows:
-        found = nissy.solve(*given)
-        tally.equal(f"solve{given}", found, wanted)
-        tally.equal("their lengths", [it.length for it in found], [len(it.split()) for it in wanted])
-        tally.holds("each is a Solution and a str", all(type(it) is nissy.Solution and isinstance(it, str) for it in found))
-        tables = nissy.Tables(given[0])
-        tally.equal("the same by Tables", tables.solve(*given[1:]), wanted)
-        tally.equal("the same by solve_all", list(nissy.solve_all(given[0], [given[1]] * 2, *given[2:])), [wanted] * 2)
-        tally.equal("the same by Tables.solve_all", list(tables.solve_all([given[1]] * 2, *given[2:])), [wanted] * 2)
+def told(fault: Any) -> Any:
+    """What a fault says."""
+    return fault and (fault.column, fault.character, fault.text, fault.line)
+
+
+def by_each_call(call: str, step: Any, line: Any, *numbers: int) -> Iterable[Any]:
+    """What the calls of a search answer: the function, tables, and both on two lines, of which each answer comes."""
+    tables = nissy.Tables(step)
+    yield getattr(nissy, call)(step, line, *numbers)
+    yield getattr(tables, call)(line, *numbers)
+    yield from getattr(nissy, call + "_all")(step, [line] * 2, *numbers)
+    yield from getattr(tables, call + "_all")([line] * 2, *numbers)
+
+
+def searches(tally: Tally) -> None:
+    """Solutions one after another and as a list, and counts."""
+    rows: List[Any] = [((it.step, it.line, it.limit, it.slack), it.solutions, it.nodes) for it in shared.searches()]
+    of_f = [("F", 1), ("F'", 1)]
+    rows += [(("eofb", line), of_f, None) for line in (b"(F)", bytearray(b"F"), "F\u2019", (ctypes.c_ubyte * 1)(70))]
+    rows += [(("eofb", line), [("", 0)], 1) for line in ("", memoryview(b"F F")[::2], (ctypes.c_ubyte * 0)())]
+    for given, pairs, nodes in rows:
+        wanted = [moves for moves, _ in pairs]
+        for found in by_each_call("solve", *given):
+            tally.equal(f"solve{given}", [(str(it), it.length) for it in found], pairs)
+            tally.holds("each is a Solution and a str", all(type(it) is nissy.Solution and isinstance(it, str) for it in found))
         for most in range(len(wanted) + 2):
-            tally.equal(f"at most {most}", untyped.solve(*given, most=most), wanted[:most])
-    tally.equal("near", nissy.near("drud-eofb", "", 1, 1), NEAR_SOLVED)
-    tally.equal("near, the first three", nissy.near("drud-eofb", "", 1, 1, 3), NEAR_SOLVED[:3])
-    tally.equal("more than any number of solutions", nissy.solve("eofb", "F", most=2**64 - 1), ["F", "F'"])
+            some = untyped.solve(*given, most=most)
+            tally.equal(f"at most {most}", (some, some.more), (wanted[:most], most < len(wanted)))
+        one_by_one = list(untyped.solutions(given[0], given[1], limit=(given + (20,))[2], slack=(given + (0, 0))[3]))
+        tally.equal("one by one", [(str(it), it.length, type(it)) for it in one_by_one], [(*pair, nissy.Solution) for pair in pairs])
+        for count in by_each_call("count", *given):
+            length = pairs[0][1] if pairs else None
+            tally.equal(f"count{given}", count, nissy.Count(length, len(pairs), count.nodes if nodes is None else nodes))
+    near = nissy.near("drud-eofb", "", 1, 1)
+    tally.equal("near", (len(near), nissy.near("drud-eofb", "", 1, 1, 3), nissy.count("drud-eofb", "", 1, 1)[:2]), (11, near[:3], (0, 11)))
+    first = list(itertools.islice(nissy.solutions("eofb", "R U F", slack=9), 3))
+    tally.equal("the first of very many", first, nissy.solve("eofb", "R U F", slack=9, most=3))
+    tally.holds("many", sum(1 for _ in itertools.islice(nissy.solutions("eofb", "R U F", slack=5), 20_000)) == 20_000)
 
 
-def counts(tally: Tally) -> None:
-    """Counts."""
-    rows: List[Any] = [((it.step, it.line, it.limit, it.slack),
-                        nissy.Count(it.solutions[0][1] if it.solutions else None, len(it.solutions), it.nodes))
-                       for it in shared.searches() if it.nodes is not None]
-    rows.append((("eofb", "R U F"), nissy.Count(1, 2, 20)))
-    for given, wanted in rows:
-        tally.equal(f"count{given}", nissy.count(*given), wanted)
-        tally.equal("the same by Tables", nissy.Tables(given[0]).count(*given[1:]), wanted)
-        tally.equal("the same by count_all", list(nissy.count_all(given[0], [given[1]] * 2, *given[2:])), [wanted] * 2)
-        tally.equal("the same by Tables.count_all", list(nissy.Tables(given[0]).count_all([given[1]] * 2, *given[2:])), [wanted] * 2)
-    with_slack = nissy.count("drud-eofb", "", 1, 1)
-    tally.equal("with a slack", (with_slack.length, with_slack.solutions), (0, len(NEAR_SOLVED)))
-    tally.holds("a count can't be changed", raised(AttributeError, lambda: setattr(with_slack, "nodes", 1)))
+def lines(tally: Tally) -> None:
+    """What is told of lines without a search."""
+    for name, line, text in shared.rows("text"):
+        for form in (line, line.encode(), bytearray(line.encode())):
+            tally.equal(f"{name} of {form!r}", getattr(nissy, name)(form), text)
+    for line, moves in shared.rows("tokens"):
+        got = ["/".join([it.text, it.axis, ",".join(map(str, it.layers)), str(it.quarters), str(int(it.inverse))]) for it in nissy.tokens(line)]
+        tally.equal(f"tokens of {line!r}", "|".join(got), moves)
+    for line, solved, count, clean, steps, *masks in shared.rows("facts"):
+        seen = nissy.facts(line)
+        tally.equal(f"facts of {line!r}", (seen.solved, seen.moves, seen.clean_moves), (solved == "1", int(count), int(clean)))
+        tally.equal("the steps that hold", seen.holds, {step for at, step in enumerate(STEPS) if int(steps) >> at & 1})
+        for axis, of_axis in zip(AXES, masks):
+            wanted = [tuple(name for at, name in enumerate(names) if int(mask) >> at & 1)
+                      for mask, names in zip(of_axis.split(), (EDGES, CORNERS, EDGES))]
+            pieces = (seen.bad_edges[axis], seen.bad_corners[axis], seen.misplaced_edges[axis])
+            tally.equal("its pieces", [(it, it.places) for it in pieces], [(len(it), it) for it in wanted])
+            case = seen.case[axis]
+            tally.equal("its case", (str(case), case.corners, case.edges), (f"{pieces[1]}c{pieces[2]}e", pieces[1], pieces[2]))
+    for scramble, solution, solved, count, clean, bits in shared.rows("check"):
+        forms = tuple(form for at, form in enumerate(FORMS) if int(bits) >> at & 1)
+        tally.equal(f"{solution!r} of {scramble!r}", nissy.check(scramble, solution), nissy.Check(solved == "1", int(count), int(clean), forms))
+    for line, places in shared.rows("forms"):
+        at_places = nissy.form_places(line)
+        got = [f"{it.column} {it.text} {sum(1 << FORMS.index(form) for form in it.forms)}" for it in at_places]
+        tally.equal(f"form_places({line!r})", "|".join(got), places)
+        tally.holds("the characters are there", all(line[it.character - 1:].startswith(it.text) for it in at_places))
+        tally.equal("the same of bytes", nissy.form_places(line.encode()), at_places)
 
 
 def without_lines(tally: Tally) -> None:
     """Steps, scrambles and the version."""
     tally.equal("steps", nissy.steps(), list(STEPS))
-    for *numbers, lines in shared.rows("scrambles"):
-        state, stream, length, count = map(int, numbers)
-        wanted = lines.split("|") if count else []
-        tally.equal(f"scrambles of {numbers}", nissy.scrambles(state, stream, length, count), wanted)
-        tally.holds(f"the first of {numbers}", not count or nissy.scramble(state, stream, length) == wanted[0])
-    tally.equal("the longest scramble", len(nissy.scramble(2**64 - 1, 2**64 - 1, 256).split()), 256)
+    for step, start in STEPS.items():
+        tally.equal(f"before {step}", untyped.start_of(step), start or None)
+    for *words, text in shared.rows("scrambles"):
+        state, stream, length, count = map(int, words)
+        wanted = text.split("|") if count else []
+        tally.equal(f"scrambles of {words}", nissy.scrambles(state, stream, length, count), wanted)
+        tally.holds(f"the first of {words}", not count or nissy.scramble(state, stream, length) == wanted[0])
+    tally.equal("the longest scramble", len(nissy.scramble(MOST, MOST, 256).split()), 256)
     tally.equal("the most scrambles", len(nissy.scrambles(7, 9, 1, 10_000)), 10_000)
     run = untyped._library.nissy_run
     untyped._library.nissy_run = lambda *given: untyped._library.RunAnswer(nissy.STOPPED)
@@ -101,98 +137,84 @@ def without_lines(tally: Tally) -> None:
     tally.holds("the version is that of the header", f'#define NISSY_VERSION "{nissy.__version__}"' in header)
 
 
-def forms(tally: Tally) -> None:
-    """Where lines have forms that the WCA's notation hasn't."""
-    names = ("slices", "lower_case", "brackets", "apostrophe", "half_prime")
-    for line, wanted in shared.rows("forms"):
-        places = nissy.form_places(line)
-        told = [f"{it.column} {it.text} {sum(1 << names.index(form) for form in it.forms)}" for it in places]
-        tally.equal(f"form_places({line!r})", "|".join(told), wanted)
-        tally.holds("the characters are there", all(line[it.character - 1:].startswith(it.text) for it in places))
-        tally.equal("the same of bytes", nissy.form_places(line.encode()), places)
-        tally.equal("all of them", {form for it in places for form in it.forms}, set(nissy.check("", line).forms))
-
-
-def starts(tally: Tally) -> None:
-    """What has to hold before each step."""
-    for step, start in STEPS.items():
-        tally.equal(f"before {step}", untyped.start_of(step), start or None)
-    for wrong in ("htr", "", "eofb ", "EOFB"):
-        tally.holds(f"{wrong!r} is no step", raised(ValueError, lambda: untyped.start_of(wrong)))
-    for none in (None, 3, b"eofb"):
-        tally.holds(f"nor is {none!r}", raised(TypeError, lambda: untyped.start_of(none)))
+ON_A_LINE: Dict[str, Callable[[Any], object]] = {
+    "invert": untyped.invert, "unniss": untyped.unniss, "cleanup": untyped.cleanup, "facelets": untyped.facelets, "facts": untyped.facts,
+    "tokens": untyped.tokens, "form_places": untyped.form_places, "solve": lambda it: untyped.solve("eofb", it),
+    "count": lambda it: untyped.count("eofb", it), "near": lambda it: untyped.near("eofb", it, 1, 1),
+    "solutions": lambda it: untyped.solutions("eofb", it)}
+# calls on a scramble and another line
+ON_TWO: List[Callable[[Any, Any], object]] = [untyped.check, untyped.best]
+# those on many lines, each with that on one
+ON_MANY: List[Tuple[Callable[[Any], Any], Callable[[Any], object]]] = [
+    (lambda it: untyped.solve_all("eofb", it), ON_A_LINE["solve"]), (lambda it: untyped.count_all("eofb", it), ON_A_LINE["count"]),
+    (untyped.facts_all, untyped.facts)]
 
 
 def faults(tally: Tally) -> None:
-    """Lines with a fault, and steps that may not start."""
-    for line, column, text in FAULTS:
-        fault = raised(nissy.LineFault, lambda: nissy.form_places(line))
-        tally.holds(f"form_places refuses {line!r}", fault and (fault.column, fault.text, fault.line) == (column, text, None))
-        for call in (untyped.solve, untyped.count):
-            fault = raised(nissy.LineFault, lambda: call("eofb", line))
-            tally.holds(f"{call.__name__} refuses {line!r}", fault and (fault.column, fault.text, fault.line) == (column, text, None))
-        for call in (untyped.solve_all, untyped.count_all):
-            before, fault, behind = call("eofb", ["F", line, "R"])
-            told = type(fault) is nissy.LineFault and (fault.column, fault.text, fault.line)
-            tally.equal(f"{call.__name__} tells of {line!r}", told, (column, text, 2))
-            tally.equal("the lines beside it", [before, behind], [getattr(nissy, call.__name__[:5])("eofb", it) for it in "FR"])
-            answers: Iterator[Any] = nissy.raising(call("eofb", ["F", line, "R"]))
+    """Lines with a fault: by each call on one line, on two, and on many, where it ends nothing."""
+    for line, *place, text in FAULTS:
+        for name, call in ON_A_LINE.items():
+            tally.equal(f"{name} of {line!r}", told(raised(nissy.LineFault, lambda: call(line))), (*place, text, None))
+        for pair in ON_TWO:
+            tally.equal(f"a first line {line!r}", told(raised(nissy.LineFault, lambda: pair(line, "R Q"))), (*place, text, 1))
+            tally.equal(f"a second line {line!r}", told(raised(nissy.LineFault, lambda: pair("R", line))), (*place, text, 2))
+        for many, one in ON_MANY:
+            before, fault, behind = many(["F", line, "R"])
+            tally.equal(f"one of many, {line!r}", (type(fault), told(fault)), (nissy.LineFault, (*place, text, 2)))
+            tally.equal("the lines beside it", [before, behind], [one("F"), one("R")])
+            answers: Any = nissy.raising(many(["F", line, "R"]))
             next(answers)
-            fault = raised(nissy.LineFault, lambda: next(answers))
-            tally.equal("the same raised", fault and (fault.column, fault.text, fault.line), (column, text, 2))
+            tally.equal("the same raised", told(raised(nissy.LineFault, lambda: next(answers))), (*place, text, 2))
             tally.holds("it ends there", raised(StopIteration, lambda: next(answers)))
-    for step, start in STEPS.items():
-        if start:
-            for call in (untyped.solve, untyped.count, lambda step, line: list(nissy.raising(nissy.solve_all(step, [line]))),
-                         lambda step, line: list(nissy.raising(nissy.count_all(step, [line])))):
-                fault = raised(nissy.StartFault, lambda: call(step, FLIPS[start]))
-                told = fault and (fault.step, fault.start, fault.text)
-                tally.equal(f"{step} may not start", told, (step, start, start + " does not hold"))
-        else:
-            tally.holds(f"{step} may start anywhere", all(untyped.count(step, line).solutions for line in ("F", "R", "U", "F R U B L D")))
-    says(tally, nissy.StartFault, "eorl does not hold", lambda: nissy.solve("drfb-eorl", "R"))
-    says(tally, nissy.StartFault, "line 3: eorl does not hold", lambda: list(nissy.raising(nissy.solve_all("drfb-eorl", ["", "F", "R"]))))
-    says(tally, nissy.LineFault, "line 2, column 3: not a move", lambda: list(nissy.raising(nissy.count_all("eo", ["", "R Q"]))))
     says(tally, nissy.LineFault, "column 3: not a move", lambda: nissy.near("eo", "R Q", 3, 1))
-    long_one = b" " * (nissy.MOST_INPUT + 1)
-    says(tally, nissy.Fault, "a line has at most 16,777,216 bytes", lambda: nissy.solve("eo", long_one))
-    three: List[Any] = ["F", long_one, "R"]
-    for before, fault, _ in (nissy.count_all("eo", three), nissy.solve_all("eo", three), nissy.facts_all(three)):
-        tally.equal("a line that is too long", (type(fault), str(fault)), (nissy.Fault, "line 2: a line has at most 16,777,216 bytes"))
-        tally.holds("the one before it", not isinstance(before, nissy.Fault))
+    says(tally, nissy.LineFault, "line 2, column 3: not a move", lambda: list(nissy.raising(nissy.count_all("eo", ["", "R Q"]))))
+    says(tally, nissy.Fault, "line 2: more than 256 moves", lambda: nissy.best("R U " * 100, "F R " * 50))
+    for call in (untyped.invert, ON_A_LINE["solve"], untyped.facts):
+        says(tally, nissy.Fault, TOO_LONG, lambda: call(BEYOND))
+    says(tally, nissy.Fault, "line 2: " + TOO_LONG, lambda: nissy.check("", BEYOND))
+    for many, one in ON_MANY:
+        before, fault, _ = many(["F", BEYOND, "R"])
+        tally.equal("a line that is too long", (before, type(fault), str(fault)), (one("F"), nissy.Fault, "line 2: " + TOO_LONG))
     tally.holds("faults are ValueErrors", all(issubclass(it, ValueError) for it in (nissy.Fault, nissy.LineFault, nissy.StartFault)))
-    for line, column, character in (("R\u2019 U\u2019 Q", 11, 7), ("R Q", 3, 3), (b"R\xe2\x80\x99 Q", 6, 4), ("R\u2019\udcff", 5, 3),
-                                    ("\u2019", 1, 1)):
-        fault = raised(nissy.LineFault, lambda: untyped.invert(line))
-        tally.equal(f"the columns of {line!r}", (fault.column, fault.character), (column, character))
-        fault, = untyped.count_all("eofb", [line])
-        tally.equal("the same of many lines", (fault.column, fault.character), (column, character))
+
+
+def starts(tally: Tally) -> None:
+    """Steps that may not start."""
+    for step, start in STEPS.items():
+        for name in ("solve", "count", "solutions") if start else ():
+            fault = raised(nissy.StartFault, lambda: getattr(untyped, name)(step, FLIPS[start]))
+            tally.equal(f"{step} may not start", fault and (fault.step, fault.start, fault.text), (step, start, start + " does not hold"))
+        tally.holds(f"{step} may start anywhere", start or all(untyped.count(step, line).solutions for line in ("F", "R", "U", "F R U B L D")))
+    says(tally, nissy.StartFault, "eorl does not hold", lambda: nissy.solve("drfb-eorl", "R"))
+    for call in (untyped.solve_all, untyped.count_all):
+        says(tally, nissy.StartFault, "line 3: eorl does not hold", lambda: list(nissy.raising(call("drfb-eorl", ["", "F", "R"]))))
 
 
 def wrong_types(tally: Tally) -> None:
     """Values of a type that a call doesn't take, told in words of the caller's."""
-    for line, named in ((None, "None"), (3, "int"), (["R"], "list"), (3.5, "float"), (object(), "object")):
-        for call in (untyped.invert, untyped.facelets, lambda it: untyped.solve("eofb", it), lambda it: untyped.count("eofb", it),
-                     lambda it: untyped.near("eofb", it, 1, 1)):
-            says(tally, TypeError, f"the line is a str or bytes, not {named}", lambda: call(line))
-        says(tally, TypeError, f"line 2: the line is a str or bytes, not {named}", lambda: list(untyped.solve_all("eofb", ["R", line])))
-        says(tally, TypeError, f"the input is a str or bytes, not {named}", lambda: untyped.run(["invert"], line))
-        says(tally, TypeError, f"a word is a str or bytes, not {named}", lambda: untyped.run(["invert", line]))
-    wide: Any
-    for wide in (array.array("H", [82, 0x155]), array.array("d", [82.7])):
-        for line in (wide, memoryview(wide)):
-            size = memoryview(wide).itemsize
-            says(tally, TypeError, f"the line is a str or bytes, not items of {size} bytes each", lambda: untyped.invert(line))
-    for lines, named in (("R", "str"), (b"R", "bytes"), (bytearray(b"R"), "bytearray"), (memoryview(b"R"), "memoryview"), (3, "int"),
+    wide: Any = array.array("H", [82, 0x155])
+    kinds: List[Any] = [(None, "None"), (3, "int"), (["R"], "list"), (3.5, "float"), (wide, "items of 2 bytes each"),
+                        (memoryview(wide), "items of 2 bytes each")]
+    for value, named in kinds:
+        for call in ON_A_LINE.values():
+            says(tally, TypeError, f"the line is a str or bytes, not {named}", lambda: call(value))
+        for many, _ in ON_MANY:
+            says(tally, TypeError, f"line 2: the line is a str or bytes, not {named}", lambda: list(many(["R", value])))
+        says(tally, TypeError, f"the input is a str or bytes, not {named}", lambda: untyped.run(["invert"], value))
+        says(tally, TypeError, f"a word is a str or bytes, not {named}", lambda: untyped.run(["invert", value]))
+        tally.holds("nor of two", all(raised(TypeError, lambda: pair(*given)) for pair in ON_TWO for given in ((value, "R"), ("R", value))))
+    says(tally, TypeError, "the line so far is a str or bytes, not int", lambda: untyped.best("R", 3))
+    for value, named in (("R", "str"), (b"R", "bytes"), (bytearray(b"R"), "bytearray"), (memoryview(b"R"), "memoryview"), (3, "int"),
                          (None, "None")):
-        for call in (untyped.solve_all, untyped.count_all):
-            says(tally, TypeError, f"the lines are a list or another iterable, not {named}", lambda: call("eofb", lines))
-        says(tally, TypeError, f"the words are a list or another iterable, not {named}", lambda: untyped.run(lines))
-    for step, named in ((3, "int"), (b"eofb", "bytes"), (None, "None"), (["eofb"], "list")):
-        for call in (untyped.Tables, lambda it: untyped.solve(it, "R"), lambda it: untyped.count_all(it, [])):
-            says(tally, TypeError, f"the step is a str, not {named}", lambda: call(step))
-    for step in ("", "EOFB", "eofb\0", "eofb ", "htr", "\ud800", "x" * 10**6):
-        says(tally, ValueError, "no step has this name; the steps are " + ", ".join(STEPS), lambda: untyped.solve(step, "R"))
+        for many, _ in ON_MANY:
+            says(tally, TypeError, f"the lines are a list or another iterable, not {named}", lambda: many(value))
+        says(tally, TypeError, f"the words are a list or another iterable, not {named}", lambda: untyped.run(value))
+    by_step: List[Callable[[Any], object]] = [untyped.Tables, lambda it: untyped.solve(it, "R"), lambda it: untyped.count_all(it, []), untyped.start_of]
+    for call in by_step:
+        for value, named in ((3, "int"), (b"eofb", "bytes"), (None, "None"), (["eofb"], "list")):
+            says(tally, TypeError, f"the step is a str, not {named}", lambda: call(value))
+        for step in ("", "EOFB", "eofb\0", "eofb ", "htr", "\ud800", "x" * 10**6):
+            says(tally, ValueError, "no step has this name; the steps are " + ", ".join(STEPS), lambda: call(step))
 
 
 def numbers(tally: Tally) -> None:
@@ -200,14 +222,15 @@ def numbers(tally: Tally) -> None:
     calls: List[Tuple[str, int, Callable[[Any], object]]] = [
         ("the limit", 20, lambda it: untyped.solve("eofb", "", it)), ("the limit", 20, lambda it: untyped.count("eofb", "", it)),
         ("the limit", 20, lambda it: untyped.solve_all("eofb", [], it)), ("the limit", 20, lambda it: untyped.near("eofb", "", it, 0)),
+        ("the limit", 20, lambda it: untyped.solutions("eofb", "", limit=it)), ("the slack", 20, lambda it: untyped.solutions("eofb", "", slack=it)),
         ("the slack", 20, lambda it: untyped.near("eofb", "", 0, it)), ("the slack", 20, lambda it: untyped.count_all("eofb", [], 3, it)),
-        ("most", 2**64 - 1, lambda it: untyped.solve("eofb", "", most=it)),
-        ("nodes", 2**64 - 1, lambda it: untyped.count("eofb", "", nodes=it, partial=True)),
-        ("nodes", 2**64 - 1, lambda it: untyped.solve_all("eofb", [], nodes=it)),
-        ("most", 2**64 - 1, lambda it: untyped.count_all("eofb", [], most=it)),
-        ("the state", 2**64 - 1, lambda it: untyped.scramble(it, 1, 1)),
-        ("the stream", 2**64 - 1, lambda it: untyped.scrambles(1, it, 1, 1)), ("the length", 256, lambda it: untyped.scramble(1, 1, it)),
-        ("the length", 256, lambda it: untyped.scrambles(1, 1, it, 1)), ("the count", 10_000, lambda it: untyped.scrambles(1, 1, 1, it))]
+        ("the slack", 20, lambda it: untyped.best("", slack=it)), ("nodes", MOST, lambda it: untyped.best("", nodes=it)),
+        ("most", MOST, lambda it: untyped.solve("eofb", "", most=it)),
+        ("nodes", MOST, lambda it: untyped.count("eofb", "", nodes=it, partial=True)),
+        ("nodes", MOST, lambda it: untyped.solve_all("eofb", [], nodes=it)), ("most", MOST, lambda it: untyped.count_all("eofb", [], most=it)),
+        ("the state", MOST, lambda it: untyped.scramble(it, 1, 1)), ("the stream", MOST, lambda it: untyped.scrambles(1, it, 1, 1)),
+        ("the length", 256, lambda it: untyped.scramble(1, 1, it)), ("the length", 256, lambda it: untyped.scrambles(1, 1, it, 1)),
+        ("the count", 10_000, lambda it: untyped.scrambles(1, 1, 1, it))]
     for what, most, call in calls:
         tally.holds(f"{what} may be {most:,}, 0 and True", not any(raised(ValueError, lambda: call(it)) for it in (most, 0, True)))
         for number in (-1, most + 1, most + 257, 2**64, 2**64 + 1, 2**70, 10**5000, -(10**5000)):
@@ -223,122 +246,65 @@ def numbers(tally: Tally) -> None:
         says(tally, TypeError, "threads is an int, not float", lambda: call(2.0))
 
 
-def liars(tally: Tally) -> None:
-    """Values of classes that say of themselves what isn't so: what they hold counts."""
-    text, data, number = type("T", (str,), LYING), type("B", (bytes,), LYING), type("N", (int,), LYING)
-    tally.equal("a bytes that lies about its length", nissy.invert(data(b"R U")), "U' R'")
-    tally.equal("a str that lies about its bytes", nissy.invert(text("R U")), "U' R'")
-    tally.holds("a number that lies about its order", raised(ValueError, lambda: nissy.solve("eofb", "F", number(276))))
-    tally.holds("a room that lies about its size", raised(MemoryError, lambda: nissy.run(["steps"], room=number(2**62))))
-    tables = nissy.Tables(text("eoud"))
-    tally.equal("a name that says that it is another one", (tables.step, tables.solve("R")), ("eorl", ["R", "R'"]))
-    tally.equal("that step for others", nissy.solve("eorl", "R"), ["R", "R'"])
-    tally.equal("words that lie", nissy.run([text("invert"), data(b"R")]).out, b"R'\n")
+def bounds(tally: Tally) -> None:
+    """Searches with a bound on the positions."""
+    whole, found = nissy.count("eofb", "R U F", slack=2), nissy.solve("eofb", "R U F", slack=2)
+    tally.equal("a whole search", (whole.cut, found.cut, found.more, found.nodes), (False, False, False, whole.nodes))
+    tally.equal("a bound that is just enough", nissy.count("eofb", "R U F", slack=2, nodes=whole.nodes), whole)
+    for nodes in (0, 1, 7, 19, 20, 100, whole.nodes - 1):
+        part = nissy.count("eofb", "R U F", slack=2, nodes=nodes, partial=True)
+        some = nissy.solve("eofb", "R U F", slack=2, nodes=nodes, partial=True)
+        tally.holds(f"{nodes} nodes aren't passed", part.cut and part.nodes <= nodes and part.length in (None, 1))
+        tally.equal("what was found until then", (some, some.cut, some.more, some.nodes), (found[:part.solutions], True, True, part.nodes))
+        cut = raised(nissy.Cut, lambda: nissy.count("eofb", "R U F", slack=2, nodes=nodes))
+        tally.equal("the same raised", (cut.count, cut.solutions, cut.line), (part, [], None))
+        cut = raised(nissy.Cut, lambda: nissy.near("eofb", "R U F", 20, 2, nodes=nodes))
+        tally.equal("with solutions", (cut.count, cut.solutions, str(cut)), (part, some, f"the search was cut after {part.nodes:,} nodes"))
+    begun = time.monotonic()
+    tally.holds("the longest search of all ends", raised(nissy.Cut, lambda: nissy.count("eofb", "R", slack=20, nodes=1_000_000)))
+    tally.holds("soon", time.monotonic() - begun < 20)
+    many = list(nissy.count_all("eofb", ["R U F", "F", "R Q", "L D B"], slack=2, nodes=50))
+    tally.equal("many lines", [(type(it), getattr(it, "line")) for it in many],
+                [(nissy.Cut, 1), (nissy.Cut, 2), (nissy.LineFault, 3), (nissy.Cut, 4)])
+    tally.equal("in part", [it.cut for it in untyped.count_all("eofb", ["R U F", ""], nodes=15, partial=True)], [True, False])
+    tally.equal("solutions of many", [type(it) for it in nissy.solve_all("eofb", ["R U F", "", "R Q"], nodes=15)],
+                [nissy.Cut, nissy.Solutions, nissy.LineFault])
+    first = nissy.count("eofb", "R U F", slack=2, most=1)
+    tally.equal("the first one alone", (first.length, first.solutions, first.cut), (1, 1, False))
 
 
-def of_classes(tally: Tally) -> None:
-    """What tools ask of the classes."""
-    hints = {nissy.Count: {"length": Optional[int], "solutions": int, "nodes": int, "cut": bool},
-             nissy.Answer: {"status": int, "out": bytes, "err": bytes, "full": bool}}
-    for kind, wanted in hints.items():
-        tally.equal(f"the types of {kind.__name__}", get_type_hints(kind), wanted)
-    for kind in (nissy.Answer, nissy.Case, nissy.Check, nissy.Count, nissy.Cut, nissy.Facts, nissy.Fault, nissy.LineFault, nissy.Pieces,
-                 nissy.Solution, nissy.Solutions, nissy.StartFault, nissy.Tables):
-        tally.equal(f"the place of {kind.__name__}", kind.__module__, "nissy")
-    tally.equal("the types of solve_all", get_type_hints(nissy.solve_all)["return"], Iterator[Union[nissy.Solutions, nissy.Fault, nissy.Cut]])
-    named = tuple(STEPS) if sys.version_info >= (3, 8) else None
-    tally.equal("the names of the type of a step", getattr(nissy.Step, "__args__", None), named)
-    tables = nissy.Tables("dr-eofb")
-    tally.holds("the step of tables can't be changed", raised(AttributeError, lambda: setattr(tables, "step", "eorl")))
-    says(tally, nissy.StartFault, "eofb does not hold", lambda: tables.solve("F"))
+def best(tally: Tally) -> None:
+    """One bound is for all searches of `best`, and the progress goes from none to all; what it raises ends the call."""
+    cuts, rows = [], nissy.best("U R F")
+    for least in range(10_000):
+        cut = raised(nissy.Cut, lambda: nissy.best("U R F", nodes=least))
+        if not cut:
+            break
+        cuts.append(cut.count.cut and cut.count.nodes <= least)
+    # an orientation alone has looked at more before it ends
+    tally.holds("the least bound", all(cuts) and nissy.count("eofb", "U R F").nodes < least < 9_999)
+    tally.equal("from there on", [nissy.best("U R F", nodes=nodes) for nodes in (least, least + 1, MOST)], [rows] * 3)
+    tally.equal("a reduction is reached without a search", nissy.best("U R F", "F' R", nodes=0), [])
+    pairs: List[Any] = []
+    tally.equal("the same rows", nissy.best("U R F L D", progress=lambda *told: pairs.append(told)), nissy.best("U R F L D"))
+    tally.equal("it begins with none, and never goes back", (pairs[0], [it for it, _ in pairs]), ((0, None), sorted(it for it, _ in pairs)))
+    tally.holds("it ends with all", 0 < pairs[-1][0] == pairs[-1][1])
 
+    def stop(done: int, _: object) -> None:
+        if done > 0:
+            raise InterruptedError
 
-def iterables(tally: Tally) -> None:
-    """Lines come one at a time, when they are asked for."""
-    taken: List[str] = []
-
-    def lines() -> Iterator[str]:
-        for line in itertools.cycle(["F", "R", "F B"]):
-            taken.append(line)
-            yield line
-
-    answers: Any = nissy.solve_all("eofb", lines())
-    tally.equal("nothing is taken before it is asked for", taken, [])
-    tally.equal("the first two", list(itertools.islice(answers, 2)), [["F", "F'"], [""]])
-    tally.equal("no more are taken", taken, ["F", "R"])
-    answers.close()
-    tally.holds("an iterator that was closed is at its end", raised(StopIteration, lambda: next(answers)))
-    tally.equal("of nothing", (list(nissy.solve_all("eofb", [])), list(nissy.count_all("eofb", iter(())))), ([], []))
-
-    def breaking() -> Iterator[str]:
-        yield "F"
-        raise KeyError("mine")
-
-    answers = nissy.count_all("eofb", breaking())
-    next(answers)
-    tally.holds("what an iterable raises comes through", raised(KeyError, lambda: next(answers)))
-
-    def wrong() -> Iterator[str]:
-        yield "F"
-        raise TypeError("mine")
-
-    says(tally, TypeError, "mine", lambda: list(nissy.count_all("eofb", wrong())))
-    tally.holds("arguments are judged at the call", raised(ValueError, lambda: untyped.solve_all("htr", [])))
-    tally.equal("a set, a tuple, a dict", [len(list(nissy.solve_all("eo", it))) for it in ({"R"}, ("R", "U"), {"R": 1})], [1, 2, 1])
-    nested: Any = nissy.solve_all("drud-eofb", (eo for eo, in nissy.raising(nissy.solve_all("eofb", ["U", "R"]))))
-    tally.equal("an iterator over another one", [it[0] for it in nested], ["", ""])
-
-
-def copies(tally: Tally) -> None:
-    """What comes to another process, and copies."""
-    made: Any
-    first = raised(nissy.LineFault, lambda: list(nissy.raising(nissy.solve_all("eofb", ["R\u2019 Q"]))))
-    second = raised(nissy.StartFault, lambda: list(nissy.raising(nissy.solve_all("drfb-eorl", ["R"]))))
-    # what `add_note` of Python 3.11 sets
-    first.__notes__, second.__notes__ = ["mine"], ["mine too"]
-    for made in (copy.copy, copy.deepcopy, lambda it: pickle.loads(pickle.dumps(it))):
-        fault, start = made(first), made(second)
-        tally.equal("a fault", (type(fault), str(fault), fault.column, fault.character, fault.text, fault.line),
-                    (nissy.LineFault, "line 1, column 6: not a move", 6, 4, "not a move", 1))
-        tally.equal("a start", (type(start), str(start), start.step, start.start, start.text, start.line),
-                    (nissy.StartFault, "line 1: eorl does not hold", "drfb-eorl", "eorl", "eorl does not hold", 1))
-        tally.equal("their notes", (getattr(fault, "__notes__", None), getattr(start, "__notes__", None)), (["mine"], ["mine too"]))
-        solution = made(nissy.solve("eofb", "F B")[0])
-        tally.equal("a solution", (type(solution), solution, solution.length), (nissy.Solution, "F B", 2))
-        tally.equal("a count", made(nissy.count("eofb", "R U F")), nissy.Count(1, 2, 20))
-        tables = made(nissy.Tables("eofb"))
-        tally.equal("tables", (tables.step, tables.solve("F"), repr(tables)), ("eofb", ["F", "F'"], "Tables('eofb')"))
-
-
-def rooms(tally: Tally) -> None:
-    """Solutions that outgrow a room, and one after another that did not."""
-    asked: List[Any] = []
-    solve, growth = untyped._library.nissy_solve, untyped._rooms._GROWTH
-
-    def noted(*given: Any) -> Any:
-        asked.append(given)
-        return solve(*given)
-
-    untyped._library.nissy_solve = noted
-    written = nissy.run(["near", "eofb", "5", "20"], b"\n").out.decode().splitlines()[:-1]
-    for larger, times in ((growth, 2), (2, 3)):
-        untyped._rooms._GROWTH = larger
-        asked.clear()
-        found = nissy.near("eofb", "", 5, 20)
-        tally.holds("solutions of 2 MB come whole", [f"{it} ({it.length})".strip() for it in found] == written)
-        tally.equal("searches that were made", len(asked), times)
-    untyped._rooms._GROWTH = growth
-    asked.clear()
-    tally.equal("so many as there are", nissy.count("eofb", "", 5, 20).solutions, len(found))
-    tally.holds("the first 10,000", nissy.near("eofb", "", 5, 20, 10_000) == found[:10_000] and len(asked) == 1)
-    tally.equal("a short one after it", nissy.solve("eofb", "F"), ["F", "F'"])
-    untyped._library.nissy_solve = solve
+    for line in ("U R F L D", "R U"):
+        tally.holds(f"what it raises, of {line}", raised(InterruptedError, lambda: nissy.best(line, progress=stop)))
+    tally.equal("bytes and wide turns", nissy.best(b"U R F x", bytearray(b"")), nissy.best("U R F x"))
+    for name, value, kind in (("most", -1, ValueError), ("most", 1.5, TypeError), ("slack", None, TypeError), ("progress", 1, TypeError)):
+        tally.holds(f"{name} {value}", raised(kind, lambda: untyped.best("R", **{name: value})))
 
 
 def main() -> None:
     """All of it."""
     tally = Tally()
-    for part in (solutions, counts, without_lines, forms, starts, faults, wrong_types, numbers, liars, of_classes, iterables, copies, rooms):
+    for part in (searches, lines, without_lines, faults, starts, wrong_types, numbers, bounds, best):
         part(tally)
     tally.end()
 

@@ -3,7 +3,7 @@
 
     tests/model/against.py PROGRAM [SEED] [SCALE]
 
-SCALE 1, about five minutes, draws some 8,700 runs, and takes every position of the edge orientations. Below 0.5 the searches
+SCALE 1, about ten minutes, draws some 8,700 runs, and takes every position of the steps of one goal. Below 0.5 the searches
 are short ones, and neither those positions nor all numbers of `near` are tried. The last line is `N passed, M failed`, by
 kinds of runs, and the status is 1 where M isn't 0.
 """
@@ -14,6 +14,9 @@ from drawing import DAMAGES, FACES, LETTERS, NUMBERS, VOCABULARY, Drawing
 from model import REWRITES
 from notation import word_of
 from trial import LOOKS, Trial, seed_and_scale
+
+# how many lines of one run stay within its longest input
+AT_ONCE = 200_000
 
 
 def rewriting(trial: Trial, draw: Drawing, count: int) -> None:
@@ -43,17 +46,16 @@ def faults(trial: Trial, draw: Drawing, count: int) -> None:
         trial.compare("faults, drawn", [draw.choice(REWRITES)], data)
 
 
-def faults_everywhere(trial: Trial) -> None:
-    """Each damage at each byte of one line of all kinds of items, and each byte value after each kind of beginning."""
+def faults_everywhere(trial: Trial, every: int) -> None:
+    """Each damage at each byte of one line of all kinds of items, and each byte value after each kind of beginning, or every so manieth."""
     whole = "R2\u2019 (Uw) x'2' M(r\u2019)".encode()
-    for at in range(len(whole) + 1):
-        trial.compare("faults, each byte", ["unniss"], b"F\n" + whole[:at])
-        for damage in DAMAGES:
-            trial.compare("faults, each byte", ["unniss"], whole[:at] + damage + whole[at:])
+    runs = [("each byte", ["unniss"], b"F\n" + whole[:at]) for at in range(len(whole) + 1)]
+    runs += [("each byte", ["unniss"], whole[:at] + damage + whole[at:]) for at in range(len(whole) + 1) for damage in DAMAGES]
     beginnings = (b"", b"R", b"R\xe2", b"R2", b"R'", b"(", b"R\xe2\x80", b"R\xe2\x80\x99", b"(U", b"Rw", b"2")
-    for byte in range(256):
-        for before in beginnings if byte % 4 == 0 else beginnings[:3]:
-            trial.compare("faults, each byte value", ["invert"], before + bytes([byte]))
+    runs += [("each byte value", ["invert"], before + bytes([byte]))
+             for byte in range(256) for before in (beginnings if byte % 4 == 0 else beginnings[:3])]
+    for kind, words, data in runs[::every]:
+        trial.compare("faults, " + kind, words, data)
 
 
 def most_moves(trial: Trial, draw: Drawing, count: int) -> None:
@@ -163,8 +165,8 @@ def distances(trial: Trial, draw: Drawing, count: int, most_lines: int) -> None:
         trial.compare("positions by distance", words, draw.ended(searchable(trial, words, lines[:10])))
 
 
-def lines_of_orientations(step: solving.Step) -> dict[int, str]:
-    """A line at each of the 2,048 positions of an edge orientation, grown turn by turn."""
+def lines_of_positions(step: solving.Step) -> dict[int, str]:
+    """A line at each position of a step's first goal, grown turn by turn."""
     lines, queue = {0: ""}, [0]
     for position in queue:
         for index, turn in enumerate(step.turns):
@@ -172,7 +174,7 @@ def lines_of_orientations(step: solving.Step) -> dict[int, str]:
             if turned not in lines:
                 lines[turned] = lines[position] + word_of(turn)
                 queue.append(turned)
-    assert len(lines) == 2048, len(lines)
+    assert len(lines) == len(step.goals[0].distance), len(lines)
     return lines
 
 
@@ -180,10 +182,22 @@ def every_orientation(trial: Trial) -> None:
     """All positions of the edge orientations on one axis."""
     solving.Bounds.looks = None
     for name in solving.ORIENTATIONS[:3]:
-        lines = lines_of_orientations(solving.step(name))
+        lines = lines_of_positions(solving.step(name))
         data = "".join(lines[position] + "\n" for position in sorted(lines)).encode()
         for command in ("count", "solve"):
             trial.compare("every edge orientation", [command, name, "20"], data, True)
+
+
+def every_reduction(trial: Trial) -> None:
+    """All positions of the domino reductions on one axis: of each the least length is the model's."""
+    for name in solving.DOMINOES[:6]:
+        words, distance = ["count", name, "20"], solving.step(name).goals[0].distance
+        lines = list(lines_of_positions(solving.step(name)).items())
+        for at in range(0, len(lines), AT_ONCE):
+            some = lines[at:at + AT_ONCE]
+            answers = trial.run(words, "".join(line + "\n" for _, line in some).encode())[0].splitlines()
+            wrong = [line for (position, line), answer in zip(some, answers) if not answer.startswith(b"length %d " % distance[position])]
+            trial.check("every domino reduction", words, None, (len(answers), wrong[:3]), (len(some), []))
 
 
 def all_kinds(trial: Trial, draw: Drawing, scale: float) -> None:
@@ -195,7 +209,8 @@ def all_kinds(trial: Trial, draw: Drawing, scale: float) -> None:
     rewriting(trial, draw, scaled(1500))
     rewriting_words(trial, draw, scaled(700))
     faults(trial, draw, scaled(1500))
-    faults_everywhere(trial)
+    # all of these at the scale of model.sh
+    faults_everywhere(trial, max(1, round(0.4 / scale)))
     most_moves(trial, draw, scaled(150))
     usage(trial, draw, scaled(700))
     scrambles(trial, draw, scaled(250))
@@ -208,6 +223,7 @@ def all_kinds(trial: Trial, draw: Drawing, scale: float) -> None:
     if whole:
         near_numbers(trial)
         every_orientation(trial)
+        every_reduction(trial)
 
 
 def main() -> None:

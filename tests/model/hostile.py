@@ -66,7 +66,8 @@ def main() -> None:
     if len(sys.argv) < 2:
         sys.exit(__doc__)
     seed, scale = seed_and_scale(sys.argv[2:])
-    solving.Bounds.looks = LOOKS
+    # what is tried here is the streams, so a share takes searches of few moves
+    solving.Bounds.looks, solving.Bounds.depth = LOOKS, solving.FARTHEST if scale >= 0.5 else 6
     trial = Trial(sys.argv[1])
     parts = parts_of(trial, Drawing(seed), scale)
     print("hostile use, seed %d, scale %g" % (seed, scale))

@@ -27,58 +27,17 @@ def lines(draw: Drawing, count: int, most: int) -> bytes:
     return b"\n".join(line(draw, most) for _ in range(count))
 
 
-def any_bytes(draw: Drawing) -> bytes:
-    """Bytes of every value."""
-    return draw.randbytes(draw.randrange(0, 200))
-
-
-def bytes_of_the_notation(draw: Drawing) -> bytes:
-    """Bytes that moves are spelled with, and a few more."""
-    return bytes(draw.choice(ALPHABET) for _ in range(draw.randrange(0, 60)))
-
-
-def one_damaged_byte(draw: Drawing) -> bytes:
-    """Lines of which one byte is changed."""
-    data = bytearray(lines(draw, draw.randrange(1, 12), 10) + b"\n")
-    data[draw.randrange(len(data))] = draw.randrange(256)
-    return bytes(data)
-
-
-def block_boundaries(draw: Drawing) -> bytes:
-    """A move, a bracket or a fault across the end of a block."""
-    block = draw.choice([4096, 8192, 12288, 65536]) if draw.random() < 0.97 else 131072
-    across = draw.choice(ACROSS) + draw.choice([b"", b"\n", b"U\n", b" "])
-    size = block - draw.randrange(0, len(across) + 2)
-    unit = draw.choice([b" ", b"R U'\n", b"\n", b"R" * 250 + b" " * draw.randrange(0, 300) + b"\n"])
-    return (unit * (size // len(unit) + 1))[:size] + across + draw.choice([b"", b"R\n", b"M x\n" * 2000, b" " * 5000])
-
-
-def no_final_line_feed(draw: Drawing) -> bytes:
-    """A last line that just ends."""
-    return lines(draw, draw.randrange(1, 6), 12).rstrip(b"\n") + draw.choice([b"R", b"2", b" ", b"(", b"\xe2\x80", b"\xe2", b""])
-
-
-def most_moves(draw: Drawing) -> bytes:
-    """A line of 256 or 257 moves."""
-    data = draw.choice(["", " ", "\t\r"]).join(draw.moves(draw.choice([256, 256, 257]))).encode()
-    return draw.choice([b"", b"U\n"]) + data + draw.choice([b"", b"\n", b"\nR\n", b" q\n"])
-
-
-def blanks_and_brackets(draw: Drawing) -> bytes:
-    """Hardly any moves."""
-    return bytes(draw.choice(b" \t\r\n()R'") for _ in range(draw.randrange(0, 40)))
-
-
-FILES = [any_bytes, bytes_of_the_notation, one_damaged_byte, block_boundaries, no_final_line_feed, most_moves, blanks_and_brackets]
-
-
 def files(trial: Trial, draw: Drawing, count: int) -> None:
-    """Files of each kind, for the commands that rewrite and now and then for a search."""
-    searching = [["solve", "eofb", "2"], ["count", "eorl", "9"], ["near", "eo", "3", "1"], ["solve", "eoud", "20"]]
+    """Files of bytes of every value, of those that moves are spelled with, and with a move, a bracket or a fault across the end of a block."""
     for at in range(count):
-        make = draw.choice(FILES)
-        words = [draw.choice(model.REWRITES)] if draw.random() < 0.93 else draw.choice(searching)
-        trial.compare("files, " + make.__name__.replace("_", " "), words, make(draw), at % 2 == 0)
+        block = draw.choice([4096, 8192, 12288, 65536, 131072])
+        across = draw.choice(ACROSS) + draw.choice([b"", b"\n", b"U\n", b" "])
+        unit = draw.choice([b" ", b"R U'\n", b"\n", b"R" * 250 + b" " * draw.randrange(0, 300) + b"\n"])
+        before = (unit * (block // len(unit) + 1))[:block - draw.randrange(0, len(across) + 2)]
+        data = draw.choice([draw.randbytes(draw.randrange(0, 200)), bytes(draw.choice(ALPHABET) for _ in range(draw.randrange(0, 60))),
+                            before + across + draw.choice([b"", b"R\n", b"M x\n" * 2000, b" " * 5000])])
+        words = draw.choice([[draw.choice(model.REWRITES)]] * 9 + [["solve", "eofb", "2"], ["near", "eo", "3", "1"]])
+        trial.compare("files of any bytes", words, data, at % 2 == 0)
 
 
 def large(trial: Trial) -> None:
@@ -86,12 +45,9 @@ def large(trial: Trial) -> None:
     most = model.MOST_INPUT
     filled = (b"R" + b" " * 8190 + b"\n") * (most // 8192)
     cases = [
-        b" " * most, b" " * (most + 1), b" " * (most - 1) + b"\n", b" " * most + b"\n", b"\n" * 4096 + b" " * (most - 4096), filled,
-        filled + b"\n", filled + b"R", filled[:-1], filled[:-1] + b"\r\n", filled[:-2] + b"q\n", filled[:-2] + b"q\nR",
-        filled[:-1] + b"qR", filled[:-1] + b"(", filled[:-2] + b"\n(", filled[:-2] + b"\nqq", b"U" * 257 + b" " * (most - 258) + b"\n",
-        b"U" * 257 + b" " * (most - 257) + b"\n", b"q" + b" " * (most - 1), b"q" + b" " * most, b"R" * most, b"R" * (most + 1),
-        b"(" + b" " * (most - 1), b"R\nq" + b" " * most, filled[:-3] + b"\xe2\x80\x99", filled[:-2] + b"\xe2\x80\x99",
-        b"R" + b" " * (most - 1) + b"2", filled + filled[:100000],
+        b" " * most, b" " * (most + 1), b" " * (most - 1) + b"\n", b" " * most + b"\n", filled, filled + b"R", filled[:-1], filled[:-2] + b"q\n",
+        filled[:-2] + b"q\nR", filled[:-1] + b"(", filled[:-2] + b"\nqq", b"U" * 257 + b" " * (most - 257) + b"\n", b"q" + b" " * most,
+        b"R" * (most + 1), b"(" + b" " * (most - 1), filled[:-3] + b"\xe2\x80\x99", filled[:-2] + b"\xe2\x80\x99", filled + filled[:100000],
     ]
     for at, data in enumerate(cases):
         trial.compare("input of 16 MiB and about", [model.REWRITES[at % 4]], data, at % 2 == 0)

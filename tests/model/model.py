@@ -4,7 +4,7 @@
     tests/model/model.py COMMAND [ARGUMENTS]
 
 It answers as nissy does, by slow and plain means. `run` says for words and input what the output, the text of faults and the
-status are; `against.py`, `hostile.py` and `exhaustive.py` compare the program with it.
+status are; `against.py` and `hostile.py` compare the program with it.
 """
 import sys
 

@@ -1,4 +1,4 @@
-"""Running the program and comparing it with the independent model: counts by kind of run, and each difference made small."""
+"""Running the program and comparing it with the independent model: counts by kind of run, and the first differences."""
 import collections
 import os
 import subprocess
@@ -19,8 +19,6 @@ HANGS = b"(hangs)"
 # the most positions that the model's search may look at in one deepening
 LOOKS = 60_000
 SHOWN = 15
-SHRUNK = 3
-SHRINKING = 8
 
 
 def seed_and_scale(arguments: list[str]) -> tuple[int, float]:
@@ -104,9 +102,6 @@ class Trial:
         got = self.run(words, data, by_file)
         if got == expected:
             return
-        if sum(self.differences.values()) < SHRUNK:
-            words, data = self.shrunk(words, data)
-            got, expected = self.run(words, data), model.run(words, data)
         self.differs(kind, words, data, got, expected)
 
     def awaits(self, *kinds: str) -> None:
@@ -130,47 +125,6 @@ class Trial:
             if mine != wanted:
                 print("  {0} of the program: {1}\n  {0} of the model:   {2}".format(name, *apart(mine, wanted)))
         sys.stdout.flush()
-
-    def is_different(self, words: list[str], data: bytes) -> bool:
-        """Whether program and model differ here too."""
-        try:
-            return self.run(words, data) != model.run(words, data)
-        except TooMuch:
-            return False
-
-    def shrunk(self, words: list[str], data: bytes) -> tuple[list[str], bytes]:
-        """A smaller run that still differs, found in a few seconds."""
-        end, before = time.time() + SHRINKING, None
-        while before != (words, data) and time.time() < end:
-            before = words, data
-            data = self.shrunk_data(words, data, end)
-            words = self.shrunk_words(words, data, end)
-        return words, data
-
-    def shrunk_data(self, words: list[str], data: bytes, end: float) -> bytes:
-        """The input with pieces left out, of half its size at first."""
-        size = max(len(data) // 2, 1)
-        while size and data:
-            at = 0
-            while at < len(data) and time.time() < end:
-                less = data[:at] + data[at + size:]
-                if self.is_different(words, less):
-                    data = less
-                else:
-                    at += size
-            size //= 2
-        return data
-
-    def shrunk_words(self, words: list[str], data: bytes, end: float) -> list[str]:
-        """The words with one word or one of its first characters left out."""
-        for at in range(len(words) - 1, 0, -1):
-            word = words[at]
-            shorter = [words[:at] + words[at + 1:]]
-            shorter += [words[:at] + [word[:cut] + word[cut + 1:]] + words[at + 1:] for cut in range(min(len(word), 20))]
-            for less in shorter:
-                if time.time() < end and self.is_different(less, data):
-                    return less
-        return words
 
     def report(self) -> int:
         """Shows the counts and, as the last line, how many kinds passed and failed, as one does that was left out wholly; the status."""

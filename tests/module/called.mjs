@@ -17,20 +17,13 @@ const ROWS = [
   ["a number of solutions that no search has", ["solve", "eofb", "F", { most: Number.MAX_SAFE_INTEGER }], F_OR_ITS_INVERSE],
   ["no options", ["solve", "eofb", "F", {}], F_OR_ITS_INVERSE],
   ["options that are left open", ["solve", "eofb", "F", { limit: undefined, slack: undefined, most: undefined }], F_OR_ITS_INVERSE],
-  ["the moves of a line", ["tokens", "R (u2' M) F\u2019"], [
-    { text: "R", axis: "x", layers: [1], quarters: 1, inverse: false },
-    { text: "Uw2", axis: "y", layers: [0, 1], quarters: 2, inverse: true },
-    { text: "M", axis: "x", layers: [0], quarters: -1, inverse: true },
-    { text: "F'", axis: "z", layers: [1], quarters: -1, inverse: false },
-  ]],
-  ["no moves of a line", ["tokens", " ()"], []],
   ["the steps", ["steps"], STEPS],
   ["the characters of a form", ["formPlaces", "U\u2019 M"], [
     { text: "U\u2019", forms: ["apostrophe"], column: 1, character: 1 }, { text: "M", forms: ["slices"], column: 6, character: 4 },
   ]],
 ];
 
-const FORMS = ["slices", "lower-case", "brackets", "apostrophe", "half-prime"];
+export const FORMS = ["slices", "lower-case", "brackets", "apostrophe", "half-prime"];
 
 // a call, and the fault that it throws: text, column, step, what would have to hold before it, and message
 const FAULTS = [
@@ -43,6 +36,12 @@ const FAULTS = [
 /** The rows that each host is tried with. */
 function* sharedRows() {
   for (const [call, line, wanted] of callsOf("text")) yield [`${call} ${line}`, [call, textOf(line)], wanted];
+  for (const [line, wanted] of callsOf("tokens")) {
+    const moves = partsOf(wanted).map((each) => each.split("/"));
+    const tokens = moves.map(([text, axis, layers, quarters, inverse]) => (
+      { text, axis, layers: layers.split(",").map(Number), quarters: Number(quarters), inverse: inverse === "1" }));
+    yield [`tokens ${line}`, ["tokens", textOf(line)], tokens];
+  }
   for (const [state, stream, length, count, wanted] of callsOf("scrambles")) {
     const lines = count === "0" ? [] : wanted.split("|");
     yield [`scrambles ${state}`, ["scrambles", Number(state), BigInt(stream), Number(length), Number(count)], lines];

@@ -156,14 +156,6 @@ async function tryMany(worker) {
   same("a run", [answer.status, text(answer.out), text(answer.err), answer.full], [0, "length 1 solutions 2 nodes 20\n", "", false]);
   const cut = await worker.run(["invert"], "R\n", { room: 2 });
   same("a run in a room", [cut.status, text(cut.out), cut.full], [3, "R'", true]);
-  const counts = await worker.countAll("eofb", ["R U F", "", "F"]);
-  same("counts of many lines", counts.map(({ length, solutions }) => [length, solutions]), [[1, 2], [0, 1], [1, 2]]);
-  const found = await worker.solveAll("eofb", ["", "F"], { most: 1 });
-  same("solutions of many lines", found, [[{ moves: "", length: 0 }], [{ moves: "F", length: 1 }]]);
-  same("no lines", await worker.countAll("eofb", []), []);
-  const fault = await worker.countAll("eofb", ["F", "R q"]).catch((stop) => stop);
-  const seen = [fault.name, fault.line, fault.column, fault.message];
-  same("a fault in one of many lines", seen, ["NissyFault", 2, 3, "line 2, column 3: not a move"]);
   const [, step, endless, slack] = LONG;
   const first = await thrown(() => worker.countAll(step, ["R q", endless], { ...slack, signal: AbortSignal.timeout(4 * SOON) }));
   same("no line is searched after a fault", first, ["NissyFault", "line 1, column 3: not a move"]);
@@ -177,9 +169,6 @@ async function tryBest(worker) {
   const rows = await worker.best(scramble, { soFar: "R (U)", slack: 1, most: 5, onProgress: (done, all) => told.push([done, all]) });
   same("the best", rows, nissy.best(scramble, { soFar: "R (U)", slack: 1, most: 5 }));
   same("their progress", [told[0][0], told[told.length - 1][0] === told[told.length - 1][1], told.length > 2], [0, true, true]);
-  same("a fault of the moves so far", await thrown(() => worker.best("R", { soFar: "R q" })), ["NissyFault", "line 2, column 3: not a move"]);
-  const fault = await worker.best("R\u2019 q").catch((stop) => stop);
-  same("all of a fault", [fault.text, fault.line, fault.column, fault.character], ["not a move", 1, 6, 4]);
   const enough = () => {
     throw new RangeError("enough");
   };

@@ -1,43 +1,15 @@
 // What is told of lines without a search, and searches with a bound on nodes: by `Nissy`, and by what has the same calls as promises.
 import { NissyFault, SearchCut } from "../../web/module/nissy.js";
-import { STEPS } from "./called.mjs";
-import { factsByLetters } from "./letters.mjs";
-import { TURNS, drawn, same, thrown } from "./tally.mjs";
+import { FORMS, STEPS } from "./called.mjs";
+import { callsOf, textOf } from "./tables.mjs";
+import { TURNS, same, thrown } from "./tally.mjs";
 
-const LINES = 2_000;
-const NONE = { fb: [], rl: [], ud: [] };
-const RIGHT_EDGES = ["UR", "DR", "FR", "BR"];
-const RIGHT_CORNERS = ["URF", "UBR", "DFR", "DRB"];
+const AXES = ["fb", "rl", "ud"];
+const EDGES = "UR UF UL UB DR DF DL DB FR FL BL BR".split(" ");
+const CORNERS = "URF UFL ULB UBR DFR DLF DBL DRB".split(" ");
 
-// lines with the cases that solvers give them, on the axis of U and D
-const CASES = [["", "0c0e"], ["R", "4c4e"], ["R U2 R", "4c2e"], ["R U R", "3c2e"], ["U R2 F2", "0c0e"], ["M", "8c8e"], ["R L'", "8c8e"]];
-
-// a line, whether it is solved, and its moves as written and cleaned
-const COUNTED = [
-  ["", true, 0, 0],
-  ["R", false, 1, 1],
-  ["R R'", true, 2, 0],
-  ["M", false, 2, 2],
-  ["Rw R' x", false, 2, 2],
-  ["x y2", true, 0, 0],
-  ["R L' M'", true, 4, 0],
-  ["R (U R)", false, 3, 1],
-];
-
-// a scramble and a solution, whether it is solved, the solution's moves as written and cleaned, and its forms
-const CHECKED = [
-  ["R U F", "F' U' R'", true, 3, 3, []],
-  ["R U F", "F' U' R", false, 3, 3, []],
-  ["R", "R2 R", true, 2, 1, []],
-  ["R", "R2' R", true, 2, 1, ["half-prime"]],
-  ["R", "R\u2019", true, 1, 1, ["apostrophe"]],
-  ["R U", "(R U)", true, 2, 2, ["brackets"]],
-  ["M", "M'", true, 2, 2, ["slices"]],
-  ["Rw", "r'", true, 1, 1, ["lower-case"]],
-  ["R L'", "M'", true, 2, 2, ["slices"]],
-  ["R", "R' y", true, 1, 1, []],
-  ["", "", true, 0, 0, []],
-];
+/** The names whose bits a field has. */
+const named = (bits, names) => names.filter((_, at) => (Number(bits) >> at) & 1);
 
 // a call, and the fault that it throws: which line has it, its column and its message
 const FAULTS = [
@@ -49,52 +21,31 @@ const FAULTS = [
   [["factsAll", ["R", "U".repeat(257)]], 2, 257, "line 2, column 257: more than 256 moves"],
 ];
 
-/** Lines of any turns, or of those of half turns and two faces, and then a few of any. */
-function drawnLine() {
-  const kept = TURNS.filter((turn) => turn.endsWith("2") || "UD".includes(turn[0]));
-  const line = (turns, count) => Array.from({ length: count }, () => turns[drawn(turns.length)]);
-  return [...line(drawn(2) === 0 ? TURNS : kept, drawn(20)), ...line(TURNS, drawn(3))].join(" ");
-}
-
-/** Facts of lines with what is known of them, and of drawn ones by their letters. */
+/** Facts of lines, alone and among many. */
 export async function tryFacts(nissy) {
-  const all = { fb: "0c0e", rl: "0c0e", ud: "0c0e" };
-  const none = { badEdges: NONE, badCorners: NONE, misplacedEdges: NONE, cases: all };
-  same("the facts of no moves", await nissy.facts(""), { solved: true, moves: 0, cleanMoves: 0, ...none, holds: STEPS });
-  same("the facts of a turn", await nissy.facts("R"), {
-    solved: false,
-    moves: 1,
-    cleanMoves: 1,
-    badEdges: { ...NONE, rl: RIGHT_EDGES },
-    badCorners: { fb: RIGHT_CORNERS, rl: [], ud: RIGHT_CORNERS },
-    misplacedEdges: { fb: RIGHT_EDGES, rl: [], ud: RIGHT_EDGES },
-    cases: { fb: "4c4e", rl: "0c0e", ud: "4c4e" },
-    holds: ["eofb", "eoud", "drrl-eofb", "drrl-eoud", "eo", "dr-eofb", "dr-eoud"],
-  });
-  for (const [line, ud] of CASES) same(`the case of ${line}`, (await nissy.facts(line)).cases.ud, ud);
-  for (const [line, ...wanted] of COUNTED) {
-    const { solved, moves, cleanMoves } = await nissy.facts(line);
-    same(`whether ${line} is solved, and its moves`, [solved, moves, cleanMoves], wanted);
-  }
-  const lines = Array.from({ length: LINES }, drawnLine);
-  const facts = await nissy.factsAll(lines);
-  for (let at = 0; at < LINES; at += 1) {
-    const { moves, cleanMoves, ...seen } = facts[at];
-    const { holds, ...wanted } = factsByLetters(await nissy.facelets(lines[at]));
-    same(`the facts of ${lines[at]}`, seen, { ...wanted, holds: STEPS.filter((step) => holds.includes(step)) });
-    same(`the moves of ${lines[at]}`, moves, lines[at].split(" ").filter(Boolean).length);
-    same(`the cleaned moves of ${lines[at]}`, cleanMoves, (await nissy.cleanup(lines[at])).split(" ").filter(Boolean).length);
-  }
-  for (const line of lines.slice(0, 50)) {
-    const [one, turned] = [await nissy.facts(line), await nissy.facts(`${line} x y'`)];
-    same(`${line}, held in another way`, turned, one);
+  for (const [field, solved, moves, cleanMoves, steps, ...axes] of callsOf("facts")) {
+    const line = textOf(field);
+    const onEach = (told) => Object.fromEntries(AXES.map((axis, at) => [axis, told(axes[at].split(" "))]));
+    const wanted = {
+      solved: solved === "1",
+      moves: Number(moves),
+      cleanMoves: Number(cleanMoves),
+      badEdges: onEach(([bits]) => named(bits, EDGES)),
+      badCorners: onEach(([, bits]) => named(bits, CORNERS)),
+      misplacedEdges: onEach(([, , bits]) => named(bits, EDGES)),
+      cases: onEach(([, corners, edges]) => `${named(corners, CORNERS).length}c${named(edges, EDGES).length}e`),
+      holds: named(steps, STEPS),
+    };
+    same(`the facts of ${line}`, await nissy.facts(line), wanted);
+    same(`those of ${line} among many`, (await nissy.factsAll(["R", line, "F"]))[1], wanted);
   }
 }
 
 /** Solutions that are judged, and lines at fault. */
 export async function tryChecks(nissy) {
-  for (const [scramble, solution, solved, moves, cleanMoves, forms] of CHECKED) {
-    same(`${solution} after ${scramble}`, await nissy.check(scramble, solution), { solved, moves, cleanMoves, forms });
+  for (const [scramble, solution, solved, moves, cleanMoves, forms] of callsOf("check")) {
+    const wanted = { solved: solved === "1", moves: Number(moves), cleanMoves: Number(cleanMoves), forms: named(forms, FORMS) };
+    same(`${solution} after ${scramble}`, await nissy.check(textOf(scramble), textOf(solution)), wanted);
   }
   for (const [[call, ...given], ...wanted] of FAULTS) {
     const fault = await Promise.resolve().then(() => nissy[call](...given)).catch((stop) => stop);

@@ -1,5 +1,5 @@
-// Scripts that put something of their own in the place of what JavaScript has, or say how arrays are copied and gone through: each call
-// answers as without them, and so shows nothing that an earlier one left in the memory.
+// Scripts that put something of their own in the place of what JavaScript has, say how arrays are copied and gone through, or give all objects
+// something: each call answers as without them, and so shows nothing that an earlier one left in the memory.
 //
 //     node tests/module/overridden.mjs MODULE
 //
@@ -45,6 +45,9 @@ const OVERRIDDEN = [
   ["the memory is another one", WebAssembly.Memory.prototype, "buffer", { get: () => whole.buffer }],
   ["a number of 64 bits is 0", globalThis, "BigInt", { value: () => 0n }],
   ...["call", "apply", "bind"].map((name) => [`${name} calls nothing`, Function.prototype, name, nothing]),
+  // what is given to all objects is no option of a call without any, and no part of a fault
+  ...["most", "limit", "slack", "start"].flatMap((name) =>
+    [0, 1, "x"].map((value) => [`all objects have a ${name} of ${value}`, Object.prototype, name, { value, writable: true }])),
 ];
 
 // a call, and what is wanted of it
@@ -95,5 +98,11 @@ for (const [what, ...overridden] of OVERRIDDEN) {
     nissy.invert(SECRET);
     same(`${what}: call ${at + 1}`, shown(during(overridden, () => call(nissy))), wanted);
   });
+}
+// A place that all arrays have is none in the memory: no line is written there, where the module has its texts behind its stack.
+for (const at of [0, 1]) {
+  const lost = [Array.prototype, at, { get: () => 1_048_576, set() {} }];
+  same(`a call if each array has a place ${at}`, during(lost, () => nissy.invert(`R U F${" ".repeat(4_096)}`)), "F' U' R'");
+  same("the steps after it", nissy.steps().includes("drud-eofb"), true);
 }
 ended();

@@ -3,6 +3,7 @@
 //     node tests/module/plain.mjs MODULE
 //
 // The last line is `N passed, M failed`, and the status is 1 where M isn't 0.
+import { AXIS_FACTS, CHECK_ANSWER, FACTS_ANSWER, HEAD, LINES_ANSWER, LINE_ANSWER, SEARCH_ANSWER } from "../../web/module/layout.js";
 import { ended, moduleBytes as module, same, text } from "./tally.mjs";
 
 const USAGE = "usage: nissy COMMAND [ARGUMENTS]\n";
@@ -91,177 +92,145 @@ function tryRooms(call) {
   }
 }
 
-/** An instance with places for what calls read and write, each filled with one byte before a call. */
-async function placed() {
+/** An instance whose calls are asked by name. */
+async function opened() {
   const { instance } = await WebAssembly.instantiate(module, {});
   const { exports } = instance;
   const base = Math.ceil(Number(exports.__heap_base.value) / 16) * 16;
-  exports.memory.grow(Math.ceil((3 * LARGE) / 65_536));
-  const bytes = new Uint8Array(exports.memory.buffer);
-  const view = new DataView(exports.memory.buffer);
-  const number = (at) => Number(view.getBigUint64(at, true));
-  return { exports, base, bytes, view, number };
+  exports.memory.grow(Math.ceil((4 * LARGE) / 65_536));
+  const [bytes, view] = [new Uint8Array(exports.memory.buffer), new DataView(exports.memory.buffer)];
+  const long = (at) => Number(view.getBigUint64(at, true));
+  const [answer, out, texts] = [512, 4_096, 8_192].map((at) => base + at);
+  const put = (moves, at) => {
+    bytes.set(new TextEncoder().encode(moves), texts + 512 * at);
+    return [BigInt(texts + 512 * at), BigInt(moves.length)];
+  };
+  // a text is handed over as its address and length, `{ out }` as room for so many bytes or answers, a number as it is
+  const given = (value, at) => (typeof value === "string" ? put(value, at) : value.out === undefined ? [value] : [BigInt(out), BigInt(value.out)]);
+  const ask = (name, size, ...values) => {
+    bytes.fill(FILLED, answer, answer + 64);
+    bytes.fill(FILLED, out, texts);
+    exports[`nissy_${name}`](BigInt(answer), ...values.flatMap(given));
+    const isKept = bytes.subarray(answer + size, answer + 64).every((byte) => byte === FILLED);
+    return [bytes[answer], bytes[answer + HEAD.fault], view.getUint32(answer + HEAD.column, true), isKept];
+  };
+  const written = (length) => [text(bytes.slice(out, out + length)), bytes.subarray(out + length, texts).every((byte) => byte === FILLED)];
+  return { exports, base, bytes, view, long, answer, out, put, ask, written };
 }
 
 /** Builds tables in rooms of these sizes, and returns the status and what became of the rooms and the struct. */
-function built({ exports, base, bytes, view, number }, tables, name, blocks, small = SMALL, large = LARGE) {
-  const [rooms, nameAt] = [base, base + 64];
-  bytes.set(new TextEncoder().encode(name), nameAt);
-  [blocks, small, blocks + SMALL, large].forEach((each, at) => view.setBigUint64(rooms + 8 * at, BigInt(each), true));
-  const status = exports.nissy_build(...[rooms, rooms + 16, tables, nameAt, name.length].map(BigInt));
-  return { status, rooms: [number(rooms + 8), number(rooms + 24)], isBuilt: bytes[tables + 8] === 1 };
+function built({ exports, base, bytes, view, long, put }, tables, name, blocks, small = SMALL, large = LARGE) {
+  [blocks, small, blocks + SMALL, large].forEach((each, at) => view.setBigUint64(base + 8 * at, BigInt(each), true));
+  const status = exports.nissy_build(...[base, base + 16, tables].map(BigInt), ...put(name, 0));
+  return { status, rooms: [long(base + 8), long(base + 24)], isBuilt: bytes[tables + 8] === 1 };
 }
 
-/** The searches of an instance, which return each number of their answer, and with a solution's whether nothing else was written. */
-function searching({ exports, base, bytes, view, number }) {
-  const [answer, line, out] = [256, 512, 1024].map((at) => base + at);
-  const put = (moves) => {
-    bytes.set(new TextEncoder().encode(moves), line);
-    return BigInt(moves.length);
-  };
-  const whole = (from, to) => bytes.subarray(from, to).every((byte) => byte === FILLED);
-  const solve = (struct, moves, limit, slack, most, room, nodes = NO_BOUND) => {
-    bytes.fill(FILLED, answer, answer + 48);
-    bytes.fill(FILLED, out, out + 1024);
-    exports.nissy_solve(BigInt(answer), BigInt(struct), BigInt(line), put(moves), limit, slack, most, nodes, BigInt(out), BigInt(room));
-    const [status, fault, least, more] = bytes.subarray(answer, answer + 4);
-    const written = text(bytes.slice(out, out + number(answer + 8)));
-    const isKept = whole(answer + 32, answer + 48) && whole(out + number(answer + 8), out + 1024);
-    return [status, fault, least, more, view.getUint32(answer + 4, true), written, number(answer + 16), isKept];
-  };
-  const count = (struct, moves, limit, slack, most = NO_BOUND, nodes = NO_BOUND) => {
-    exports.nissy_count(BigInt(answer), BigInt(struct), BigInt(line), put(moves), limit, slack, most, nodes);
-    const [status, fault, least, more] = bytes.subarray(answer, answer + 4);
-    return [status, fault, least, more, view.getUint32(answer + 4, true), number(answer + 8), number(answer + 16), number(answer + 24)];
-  };
-  return { solve, count };
-}
+// a call that writes a text, what is given to it, and its status, fault, column and text
+const OUT = { out: 2_048 };
+const LINES = [
+  ["invert", ["R U", OUT], 0, 0, 0, "U' R'"],
+  ["invert", ["R U", { out: 5 }], 0, 0, 0, "U' R'"],
+  ["invert", ["R U", { out: 4 }], 4, 0, 0, ""],
+  ["unniss", ["R\nU", OUT], 1, 1, 2, ""],
+  ["scramble", [1n, 1n, 257, OUT], 2, 0, 0, ""],
+  ["start", ["drud-eofb", OUT], 0, 0, 0, "eofb"],
+  ["start", ["eofb", OUT], 0, 0, 0, ""],
+  ["start", ["eox", OUT], 2, 0, 0, ""],
+  ["fault_text", [4, OUT], 0, 0, 0, "bracket not closed"],
+  ...[0, 7, 255].map((fault) => ["fault_text", [fault, OUT], 2, 0, 0, ""]),
+];
 
-/** The calls by tables: where each number of an answer stands, and each status. */
-async function trySearches() {
-  const place = await placed();
-  const { base, bytes } = place;
-  const { solve, count } = searching(place);
-  const [tables, other, blocks] = [320, 336, 4096].map((at) => base + at);
-  bytes.fill(0, tables, tables + 32);
-  same("a search without tables", solve(tables, "F", 20, 0, NO_BOUND, 1024), [2, 0, 0, 0, 0, "", 0, true]);
-  same("a count without tables", count(tables, "F", 20, 0), [2, 0, 0, 0, 0, 0, 0, 0]);
-  same("tables of no step", built(place, tables, "eox", blocks), { status: 2, rooms: [SMALL, LARGE], isBuilt: false });
-  same("tables in a small room", built(place, tables, "eofb", blocks, SMALL, 4096), { status: 3, rooms: [0, 0], isBuilt: false });
-  const beyond = blocks + SMALL + 4096;
-  same("tables", built(place, tables, "eofb", beyond), { status: 0, rooms: [0, 0], isBuilt: true });
-  same("tables of another step", built(place, other, "drud-eofb", beyond + SMALL + LARGE), { status: 0, rooms: [0, 0], isBuilt: true });
-  same("a search", solve(tables, "F", 20, 0, NO_BOUND, 1024), [0, 0, 1, 0, 0, "F (1)\nF' (1)\n", 2, true]);
-  same("one of two", solve(tables, "F", 20, 0, 1n, 1024), [0, 0, 1, 1, 0, "F (1)\n", 1, true]);
-  same("both of two", solve(tables, "F", 20, 0, 2n, 1024), [0, 0, 1, 0, 0, "F (1)\nF' (1)\n", 2, true]);
-  same("none within the limit", solve(tables, "F", 0, 0, NO_BOUND, 1024), [0, 0, 0, 0, 0, "", 0, true]);
-  same("room to the byte", solve(tables, "F", 20, 0, NO_BOUND, 13).slice(0, 1), [0]);
-  same("a byte of room too few", solve(tables, "F", 20, 0, NO_BOUND, 12).slice(0, 1), [4]);
-  same("a fault", solve(tables, "F q", 20, 0, NO_BOUND, 1024), [1, 1, 0, 0, 3, "", 0, true]);
-  same("a step that can't begin", solve(other, "F", 20, 0, NO_BOUND, 1024), [1, 6, 0, 0, 0, "", 0, true]);
-  same("a limit beyond the greatest", solve(tables, "F", 21, 0, NO_BOUND, 1024)[0], 2);
-  same("a slack beyond the greatest", solve(tables, "F", 20, 21, NO_BOUND, 1024)[0], 2);
-  same("a search that is cut", solve(tables, "F", 20, 0, NO_BOUND, 1024, 0n), [5, 0, 0, 1, 0, "", 0, true]);
-  same("a count", count(tables, "R U F", 20, 0), [0, 0, 1, 0, 0, 0, 2, 20]);
-  same("a count of the first", count(tables, "R U F", 20, 0, 1n).slice(0, 7), [0, 0, 1, 1, 0, 0, 1]);
-  same("a count in its bound", count(tables, "R U F", 20, 0, NO_BOUND, 20n), [0, 0, 1, 0, 0, 0, 2, 20]);
-  same("a count that is cut", count(tables, "R U F", 20, 0, NO_BOUND, 0n), [5, 0, 0, 1, 0, 0, 0, 0]);
-  same("also by one node", [0, 3].map((at) => count(tables, "R U F", 20, 0, NO_BOUND, 19n)[at]), [5, 1]);
-  same("a count of a fault", count(tables, "R)", 20, 0), [1, 3, 0, 0, 2, 0, 0, 0]);
-  bytes.copyWithin(base + 400, tables, tables + 16);
-  same("a copy of the struct", count(base + 400, "R U F", 20, 0), [0, 0, 1, 0, 0, 0, 2, 20]);
-}
-
-/** Tables of a step that are there already: they are built anew, in the new room. */
-async function tryBuildingAgain() {
-  const place = await placed();
-  const { base, bytes, number } = place;
-  const [tables, first, second] = [320, 4096, 4096 + SMALL + LARGE].map((at) => base + at);
-  bytes.fill(0, tables, tables + 16);
-  const stand = (blocks) => number(tables) >= blocks + SMALL && number(tables) < blocks + SMALL + LARGE;
-  const wanted = { status: 0, rooms: [0, 0], isBuilt: true };
-  same("tables in a room", [built(place, tables, "eofb", first), stand(first), stand(second)], [wanted, true, false]);
-  same("those of the same step in another", [built(place, tables, "eofb", second), stand(first), stand(second)], [wanted, false, true]);
-}
-
-/** The calls that write a line: status, fault, column, text, and that nothing else is written. */
+/** The calls that write a line: what they answer, and that nothing else is written. */
 async function tryLines() {
-  const { exports, base, bytes, view, number } = await placed();
-  const [answer, line, out] = [256, 512, 1024].map((at) => base + at);
-  const call = (name, moves, numbers, room) => {
-    bytes.fill(FILLED, answer, answer + 32);
-    bytes.fill(FILLED, out, out + 3000);
-    if (moves !== null) bytes.set(new TextEncoder().encode(moves), line);
-    const read = moves === null ? [] : [BigInt(line), BigInt(moves.length)];
-    exports[`nissy_${name}`](BigInt(answer), ...numbers, ...read, BigInt(out), BigInt(room));
-    const [status, fault] = bytes.subarray(answer, answer + 2);
-    const written = status === 0 ? number(answer + 8) : 0;
-    const beside = [...bytes.subarray(answer + 16, answer + 32), ...bytes.subarray(out + written, out + 3000)];
-    const isKept = beside.every((byte) => byte === FILLED);
-    return [status, fault, view.getUint32(answer + 4, true), text(bytes.slice(out, out + written)), isKept];
-  };
-  same("an inverse", call("invert", "R U", [], 2048), [0, 0, 0, "U' R'", true]);
-  same("an inverse in room to the byte", call("invert", "R U", [], 5), [0, 0, 0, "U' R'", true]);
-  same("an inverse in a byte less", call("invert", "R U", [], 4), [4, 0, 0, "", true]);
-  same("a line feed", call("unniss", "R\nU", [], 2048), [1, 1, 2, "", true]);
-  same("a scramble of too many turns", call("scramble", null, [1n, 1n, 257], 2048).slice(0, 1), [2]);
-  same("what must hold before a reduction", call("start", "drud-eofb", [], 2048), [0, 0, 0, "eofb", true]);
-  same("before an orientation", call("start", "eofb", [], 2048), [0, 0, 0, "", true]);
-  same("before no step", call("start", "eox", [], 2048).slice(0, 1), [2]);
-  same("a fault's name", call("fault_text", null, [4], 2048), [0, 0, 0, "bracket not closed", true]);
-  same("no fault's name", [0, 7, 255].map((fault) => call("fault_text", null, [fault], 2048)[0]), [2, 2, 2]);
+  const { long, answer, ask, written } = await opened();
+  for (const [name, given, status, fault, column, wanted] of LINES) {
+    same(`${name} of ${given}`, ask(name, 16, ...given), [status, fault, column, true]);
+    same(`${name}: its text`, written(status === 0 ? long(answer + LINE_ANSWER.length) : 0), [wanted, true]);
+  }
 }
 
-/** The calls that judge lines, and those on many lines: where each number of an answer stands. */
-async function tryJudging() {
-  const place = await placed();
-  const { exports, base, bytes, view, number } = place;
-  const [answer, answers, line, other, tables] = [256, 512, 1024, 1280, 320].map((at) => base + at);
-  const put = (at, moves) => {
-    bytes.set(new TextEncoder().encode(moves), at);
-    return [BigInt(at), BigInt(moves.length)];
-  };
-  const short = (at) => view.getUint16(at, true);
-  const facts = (at) => [...bytes.subarray(at, at + 3), view.getUint32(at + 4, true), ...Array.from({ length: 18 }, (_, next) => short(at + 8 + 2 * next))];
-  const filled = () => bytes.fill(FILLED, answer, answer + 64);
-  // R moves UR, DR, FR and BR, and URF, UBR, DFR and DRB: bits 0, 4, 8 and 11, and 0, 3, 4 and 7
-  const [edges, corners] = [0x911, 0x99];
-  // and leaves eofb, eoud, drrl-eofb, drrl-eoud, eo, dr-eofb and dr-eoud: steps 0, 2, 4, 7, 9, 10 and 12
-  const holds = 0b1011010010101;
-  const ofTurn = [0, 0, 0, 0, 1, 1, holds, 0, corners, edges, 256 * 4, 4, edges, 0, 0, 4, 0, 0, corners, edges, 256 * 4, 4];
-  filled();
-  exports.nissy_facts(BigInt(answer), ...put(line, "R"));
-  same("the facts of a turn", facts(answer), ofTurn);
-  same("they have 44 bytes", [...bytes.subarray(answer + 44, answer + 64)].every((byte) => byte === FILLED), true);
-  exports.nissy_facts(BigInt(answer), ...put(line, "R q"));
-  same("a fault", facts(answer).slice(0, 4), [1, 1, 0, 3]);
-  filled();
-  exports.nissy_check(BigInt(answer), ...put(line, "R"), ...put(other, "R2' R"));
-  same("a check", [...bytes.subarray(answer, answer + 4), view.getUint32(answer + 4, true), short(answer + 8), short(answer + 10), bytes[answer + 12]], [0, 0, 0, 1, 0, 2, 1, 16]);
-  same("it has 16 bytes", [...bytes.subarray(answer + 16, answer + 64)].every((byte) => byte === FILLED), true);
-  bytes.fill(FILLED, answers, answers + 512);
-  exports.nissy_facts_lines(BigInt(answer), ...put(line, "R\nq\nR\nR"), BigInt(answers), 3n);
-  same("facts of three of four lines", [bytes[answer], number(answer + 8), number(answer + 16)], [0, 3, 6]);
-  same("each beside its line", [facts(answers), facts(answers + 44).slice(0, 4), facts(answers + 88)], [ofTurn, [1, 1, 0, 1], ofTurn]);
-  same("and nothing behind them", bytes[answers + 132], FILLED);
-  bytes.fill(0, tables, tables + 16);
-  const lines = put(line, "F\nR)\nR U F");
-  const counts = () => exports.nissy_count_lines(BigInt(answer), BigInt(tables), ...lines, 20, 0, NO_BOUND, NO_BOUND, BigInt(answers), 9n);
-  counts();
-  same("counts without tables", [bytes[answer], number(answer + 8)], [2, 0]);
-  built(place, tables, "eofb", base + 4096);
-  put(line, "F\nR)\nR U F");
-  counts();
-  same("counts of lines", [bytes[answer], number(answer + 8), number(answer + 16)], [0, 3, 10]);
-  const seen = [0, 1, 2].map((at) => [...bytes.subarray(answers + 32 * at, answers + 32 * at + 2), number(answers + 32 * at + 16)]);
+// of searches which struct is asked, the line and the numbers, the room, and their status, fault, column, least length, whether there are more,
+// and how many solutions and positions there are
+const SEARCHES = [
+  ["none", "F", [20, 0, NO_BOUND, NO_BOUND], 1024, 2, 0, 0, 0, 0, 0, 0],
+  ["eofb", "F", [20, 0, NO_BOUND, NO_BOUND], 1024, 0, 0, 0, 1, 0, 2, 20],
+  ["eofb", "F", [20, 0, 1n, NO_BOUND], 1024, 0, 0, 0, 1, 1, 1, null],
+  ["eofb", "F", [20, 0, 2n, 20n], 13, 0, 0, 0, 1, 0, 2, 20],
+  ["eofb", "F", [20, 0, NO_BOUND, NO_BOUND], 12, 4, 0, 0, 1, 1, 1, null],
+  ["eofb", "F", [0, 0, NO_BOUND, NO_BOUND], 1024, 0, 0, 0, 0, 0, 0, 1],
+  ["eofb", "F q", [20, 0, NO_BOUND, NO_BOUND], 1024, 1, 1, 3, 0, 0, 0, 0],
+  ["drud-eofb", "F", [20, 0, NO_BOUND, NO_BOUND], 1024, 1, 6, 0, 0, 0, 0, 0],
+  ["eofb", "F", [21, 0, NO_BOUND, NO_BOUND], 1024, 2, 0, 0, 0, 0, 0, 0],
+  ["eofb", "F", [20, 21, NO_BOUND, NO_BOUND], 1024, 2, 0, 0, 0, 0, 0, 0],
+  ["eofb", "F", [20, 0, NO_BOUND, 0n], 1024, 5, 0, 0, 0, 1, 0, 0],
+  ["eofb", "R U F", [20, 0, NO_BOUND, 19n], 1024, 5, 0, 0, 0, 1, 0, null],
+];
+
+/** The calls by tables, which are built anew in a new room, also of a step that is there; and a copy of the struct. */
+async function trySearches() {
+  const place = await opened();
+  const { base, bytes, long, answer, ask, written } = place;
+  const tables = { none: base + 96, eofb: base + 112, "drud-eofb": base + 128, copy: base + 144 };
+  bytes.fill(0, base + 96, base + 160);
+  const [first, second, third] = [0, 1, 2].map((at) => base + 65_536 + at * (SMALL + LARGE));
+  const wanted = { status: 0, rooms: [0, 0], isBuilt: true };
+  const stands = (blocks) => long(tables.eofb) >= blocks + SMALL && long(tables.eofb) < blocks + SMALL + LARGE;
+  same("tables of no step", built(place, tables.eofb, "eox", first), { status: 2, rooms: [SMALL, LARGE], isBuilt: false });
+  same("tables in a small room", built(place, tables.eofb, "eofb", first, SMALL, 4096), { status: 3, rooms: [0, 0], isBuilt: false });
+  same("tables in a room", [built(place, tables.eofb, "eofb", first), stands(first), stands(second)], [wanted, true, false]);
+  same("those of the same step in another", [built(place, tables.eofb, "eofb", second), stands(first), stands(second)], [wanted, false, true]);
+  same("tables of another step", built(place, tables["drud-eofb"], "drud-eofb", third), wanted);
+  bytes.copyWithin(tables.copy, tables.eofb, tables.eofb + 16);
+  const rows = [...SEARCHES, ...SEARCHES.filter(([name]) => name === "eofb").map(([, ...row]) => ["copy", ...row])];
+  for (const [name, line, numbers, out, status, fault, column, ...further] of rows) {
+    const is = (nodes) => [bytes[answer + SEARCH_ANSWER.least], bytes[answer + SEARCH_ANSWER.more], long(answer + SEARCH_ANSWER.solutions),
+      nodes === null ? null : long(answer + SEARCH_ANSWER.nodes)];
+    same(`solve ${name} ${line} ${numbers}`, ask("solve", 32, BigInt(tables[name]), line, ...numbers, { out }), [status, fault, column, true]);
+    same("its numbers", is(further[3]), further);
+    same("its text", written(long(answer + SEARCH_ANSWER.length)), ["F (1)\nF' (1)\n".split(/(?<=\n)/).slice(0, further[2]).join(""), true]);
+    const count = ask("count", 32, BigInt(tables[name]), line, ...numbers);
+    if (status === 4) continue;
+    same(`count ${name} ${line} ${numbers}`, [...count, long(answer + SEARCH_ANSWER.length)], [status, fault, column, true, 0]);
+    same("its numbers", is(further[3]), further);
+  }
+  const none = ask("count_lines", 24, BigInt(tables.none), "F", 20, 0, NO_BOUND, NO_BOUND, { out: 9 });
+  same("counts without tables", [none, long(answer + 8)], [[2, 0, 0, true], 0]);
+  same("counts of lines", ask("count_lines", 24, BigInt(tables.eofb), "F\nR)\nR U F", 20, 0, NO_BOUND, NO_BOUND, { out: 9 })[0], 0);
+  same("how many", [long(answer + LINES_ANSWER.lines), long(answer + 16)], [3, 10]);
+  const seen = [0, 1, 2].map((at) => place.out + SEARCH_ANSWER.bytes * at).map((at) => [bytes[at], bytes[at + HEAD.fault], long(at + SEARCH_ANSWER.solutions)]);
   same("each beside its line", seen, [[0, 0, 2], [1, 3, 0], [0, 0, 2]]);
+}
+
+/** The calls that judge lines, alone and among many: where each number of an answer stands. */
+async function tryJudging() {
+  const { bytes, view, long, answer, out, ask, written } = await opened();
+  const short = (at) => view.getUint16(at, true);
+  const masks = (at) => [0, 1, 2].map((axis) => at + FACTS_ANSWER.axes + AXIS_FACTS.bytes * axis).map((from) =>
+    [...[AXIS_FACTS.badEdges, AXIS_FACTS.badCorners, AXIS_FACTS.misplacedEdges].map((next) => short(from + next)), ...bytes.subarray(from + 6, from + 9)]);
+  const { solved, moves, cleanMoves, holds } = FACTS_ANSWER;
+  const facts = (at) => [bytes[at], bytes[at + HEAD.fault], view.getUint32(at + HEAD.column, true), bytes[at + solved],
+    ...[moves, cleanMoves, holds].map((next) => short(at + next)), masks(at)];
+  // R moves UR, DR, FR and BR, and URF, UBR, DFR and DRB, and leaves eofb, eoud, drrl-eofb, drrl-eoud, eo, dr-eofb and dr-eoud
+  const [beside, own] = [[0, 0x99, 0x911, 0, 4, 4], [0x911, 0, 0, 4, 0, 0]];
+  const ofTurn = [0, 0, 0, 0, 1, 1, 0b1011010010101, [beside, own, beside]];
+  same("they have 44 bytes", ask("facts", FACTS_ANSWER.bytes, "R"), [0, 0, 0, true]);
+  same("the facts of a turn", facts(answer), ofTurn);
+  same("a fault", ask("facts", FACTS_ANSWER.bytes, "R q"), [1, 1, 3, true]);
+  same("a check has 16 bytes", ask("check", 16, "R", "R2' R"), [0, 0, 0, true]);
+  const { line, forms, ...check } = CHECK_ANSWER;
+  const numbers = [...[line, check.solved, forms].map((at) => bytes[answer + at]), ...[check.moves, check.cleanMoves].map((at) => short(answer + at))];
+  same("a check", numbers, [0, 1, 16, 2, 1]);
+  same("a fault of the second line", [ask("check", 16, "R", "("), bytes[answer + line]], [[1, 4, 1, true], 2]);
+  same("facts of three of four lines", [ask("facts_lines", 24, "R\nq\nR\nR", { out: 3 })[0], long(answer + LINES_ANSWER.lines), long(answer + 16)], [0, 3, 6]);
+  const each = [0, 1, 2].map((at) => facts(out + FACTS_ANSWER.bytes * at));
+  same("each beside its line", [each[0], each[1].slice(0, 3), each[2]], [ofTurn, [1, 1, 1], ofTurn]);
+  same("and nothing behind them", written(3 * FACTS_ANSWER.bytes)[1], true);
 }
 
 const call = await runner();
 tryRuns(call);
 tryRooms(call);
 await trySearches();
-await tryBuildingAgain();
 await tryLines();
 await tryJudging();
 ended();

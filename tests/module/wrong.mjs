@@ -13,8 +13,6 @@ import { DETACHED, WRONG, elsewhere } from "./values.mjs";
 const SECRET = "R2 U2 F2 D2 L2 B2 R' U' F'\n";
 const INVERTED = "F U R B2 L2 D2 F2 U2 R2\n";
 const CUT_RUNS = 10;
-/** Where the module has its texts, behind its stack. */
-const MODULE_TEXTS = 1_048_576;
 const BYTES = [0x52, 0x20, 0x55];
 const NO_TEXT = "is neither a string nor a Uint8Array";
 
@@ -122,47 +120,9 @@ async function tryNoOtherInstance(nissy) {
   same("a call when there is one again", isRight(nissy), true);
 }
 
-/** Has a call made while all objects, or all arrays, have one property more, which some script gave them. */
-function withProperty(prototype, name, descriptor, call) {
-  Object.defineProperty(prototype, name, { configurable: true, ...descriptor });
-  try {
-    return call();
-  } catch (error) {
-    return error.message;
-  } finally {
-    delete prototype[name];
-  }
-}
-
-/** What some script gave to all objects is no option of a call without any, and no part of a fault. */
-function tryGivenToAll(nissy) {
-  for (const value of [0, 1, "x"]) {
-    const ofAll = (name, call) => withProperty(Object.prototype, name, { value, writable: true }, call);
-    for (const name of ["most", "limit", "slack"]) {
-      const called = () => nissy.solve("eofb", "R U F").map(({ moves }) => moves).join();
-      same(`solutions if each object has a ${name} of ${value}`, ofAll(name, called), "F,F'");
-    }
-    same(`a count if each object has a limit of ${value}`, ofAll("limit", () => nissy.count("eofb", "F B").solutions), 4);
-    same(`a fault if each object has a start of ${value}`, ofAll("start", () => nissy.invert("R Q")), "column 3: not a move");
-  }
-}
-
-/** A place that all arrays have is none in the memory: no line is written there, over what the module has of its own. */
-async function tryPlacesOfAll() {
-  const nissy = await Nissy.load(moduleBytes);
-  const lost = { get: () => MODULE_TEXTS, set() {} };
-  const called = () => nissy.invert(`R U F${" ".repeat(4_096)}`);
-  for (const at of [0, 1]) {
-    same(`a call if each array has a place ${at}`, withProperty(Array.prototype, at, lost, called), "F' U' R'");
-    same("the steps after it", nissy.steps().includes("drud-eofb"), true);
-  }
-}
-
 await tryWrongValues();
 const nissy = await Nissy.load(moduleBytes);
 tryTaken(nissy);
-tryGivenToAll(nissy);
-await tryPlacesOfAll();
 await tryGreatSizes(nissy);
 await tryBrokenOff(nissy);
 await tryNoOtherInstance(nissy);

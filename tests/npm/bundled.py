@@ -83,12 +83,13 @@ def plain(package: Path, user: Path) -> Path:
     return folder
 
 
-def elsewhere(user: Path) -> Path:
-    """Makes the folder of a page that takes the package from another server."""
-    folder = user / "elsewhere"
+def with_script(package: Path, user: Path, name: str) -> Path:
+    """Makes the folder of a page with a script of these tests, which may take the package from its node_modules."""
+    folder = user / name
     folder.mkdir()
-    shutil.copy(OF_TESTS / "elsewhere.js", folder)
-    site(folder, "elsewhere.js")
+    (folder / "node_modules").symlink_to(package.parent)
+    shutil.copy(OF_TESTS / f"{name}.js", folder)
+    site(folder, f"{name}.js")
     return folder
 
 
@@ -101,11 +102,12 @@ def seen(window: Window, address: str) -> object:
 
 @dataclass
 class Trial:
-    """The folders that servers have: those whose page shows a solution, by what made them, of a bundle without the worker's script, of a page that
-    takes the package from another server, and of the package."""
+    """The folders that servers have: those whose page shows a solution, by what made them, of a bundle without the worker's script, of a page
+    that makes calls without a bundler, of one that takes the package from another server, and of the package."""
 
     solving: dict[str, Path]
     unmade: list[Path]
+    calls: Path
     elsewhere: Path
     package: Path
 
@@ -119,6 +121,11 @@ class Trial:
             with served(folder) as address:
                 missing = f"EngineMissing: the worker's script, or one that it imports, can't be loaded from {address}worker.js"
                 tally.equal(f"{browser}: a bundle without the worker's script", seen(window, address + "index.html"), missing)
+        with served(self.calls) as address:
+            window.open(address + "index.html")
+            tally.holds(f"{browser}: the page of calls comes to its end", window.until("return window.seen !== undefined"))
+            for what, got, wanted in window.script("return window.seen"):
+                tally.equal(f"{browser}: {what}", got, wanted)
         with served(self.elsewhere) as address, served(self.package, {"Access-Control-Allow-Origin": "*"}) as server:
             got = seen(window, f"{address}index.html?{server}")
             tally.equal(f"{browser}: the package from another server", got, "AbortError, F2 U R'")
@@ -131,7 +138,8 @@ def main() -> None:
     with tempfile.TemporaryDirectory(dir=sys.argv[1]) as made:
         user = Path(made)
         solving = {**bundle(tally, package, user), "without a bundler": plain(package, user)}
-        trial = Trial(solving, bundle_without(tally, package, user), elsewhere(user), package)
+        calls, elsewhere = (with_script(package, user, name) for name in ("calls", "elsewhere"))
+        trial = Trial(solving, bundle_without(tally, package, user), calls, elsewhere, package)
         for browser in BROWSERS:
             if not is_here(browser):
                 print(f"skipped: the bundles in {browser}, which isn't installed")

@@ -1,7 +1,7 @@
 """Counts what `best` says by slow means: each orientation and each reduction that the program's `near` lists, of which the model of
 tests/model cleans the moves, tells the case and what is reached. All rows are compared, with their totals, lengths, cases and order.
 
-    python3 tests/best/counted.py PROGRAM SEED COUNT
+    python3 tests/hosts/counted.py PROGRAM SEED COUNT
 
 The last line is `N passed, M failed`.
 """

@@ -1,5 +1,5 @@
-/* Makes the calls of nissy.hpp that standard input asks for, one on each line, and answers each on a line: beside_program.py and
-   beside_model.py compare them. Texts come and go as hexadecimal digits behind an `=`. */
+/* Makes the calls of the headers for C++ that standard input asks for, one on each line, and answers each on a line, as hosts.py says. */
+#include "nissy_best.hpp"
 #include "nissy_names.hpp"
 #include "nissy_tokens.hpp"
 
@@ -109,20 +109,43 @@ std::string moves_of(std::string_view line) {
     return text;
 }
 
+std::string joined(const std::vector<std::string> &texts) {
+    std::string text;
+    for (const std::string &each : texts) text += (text.empty() ? "" : ",") + each;
+    return text;
+}
+
 // Where the line has forms that the WCA's notation hasn't.
 std::string forms_of(std::string_view line) {
     std::string text;
-    for (const nissy::form_place &it : nissy::form_places(line)) {
-        std::string names;
-        for (const std::string &name : nissy::form_names(it.forms)) names += (names.empty() ? "" : ",") + name;
-        text += (text.empty() ? "" : " ") + std::to_string(it.column) + "/" + it.text + "/" + names;
-    }
+    for (const nissy::form_place &it : nissy::form_places(line))
+        text += (text.empty() ? "" : " ") + std::to_string(it.column) + "/" + it.text + "/" + joined(nissy::form_names(it.forms));
+    return text;
+}
+
+// What an orientation and a reduction have in common.
+template <typename Step> std::string part(const Step &it) {
+    const std::string side = it.side == nissy::side::normal ? "normal" : "inverse";
+    return it.step + ";" + side + ";" + it.moves + ";" + std::to_string(it.length) + ";" + joined(it.twins);
+}
+
+// The rows of `best`, each in a line.
+std::string continued(std::istream &asked) {
+    std::string scramble, so_far, text;
+    nissy::best_search which;
+    asked >> scramble >> so_far >> which.slack >> which.most >> which.nodes;
+    const auto said = [](const std::optional<int> &number) { return number ? std::to_string(*number) : "none"; };
+    for (const nissy::continuation &it : nissy::best(exact(scramble).view(), exact(so_far).view(), which))
+        text += std::to_string(it.total) + ";" + it.line + ";" + (it.eo ? part(*it.eo) : "none") + ";" + part(it.dr) + ";" +
+                said(it.dr.lengths.normal) + ";" + said(it.dr.lengths.inverse) + ";" + it.dr_case + "\n";
     return text;
 }
 
 std::string called(const std::string &call, std::istream &asked) {
     if (call == "solve" || call == "count") return searched(call, asked);
     if (call == "scrambles") return drawn(asked);
+    if (call == "best") return continued(asked);
+    if (call == "steps") return lines(nissy::steps());
     std::string hex, other;
     asked >> hex >> other;
     const exact line(hex);
@@ -146,7 +169,9 @@ int main() {
         try {
             std::cout << to_hex(called(call, asked)) << std::endl;
         } catch (const nissy::fault &fault) {
-            std::cout << "fault " << fault.code() << " " << fault.column() << " " << to_hex(fault.what()) << std::endl;
+            std::cout << fault.line() << " " << fault.column() << " " << to_hex(fault.text()) << std::endl;
+        } catch (const nissy::cut &) {
+            std::cout << "0 0 " << to_hex("cut") << std::endl;
         }
     }
     return 0;

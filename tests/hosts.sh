@@ -1,0 +1,32 @@
+#!/usr/bin/env bash
+# Asks Python, C++ and JavaScript by drawn calls, over the library and the module that were built, beside PROGRAM and the independent model; and for
+# the best continuations, of which what Python says is counted anew:
+#
+#     tests/hosts.sh [PROGRAM [FOLDER]]
+#
+# The program is build/nissy if none is named, and the folder of library and module build. What needs a tool that isn't here is skipped, and
+# named. The scripts of tests/hosts ask more by other numbers. The last line is `N passed, M failed`, and the status is 1 if M isn't 0.
+set -u
+# shellcheck source=tests/shared
+. "$(dirname "$0")/shared"
+program=$(program_of "$@") || exit 2
+cd "$(dirname "$0")/.." || exit 2
+folder=$(realpath -m -- "${2:-build}")
+export NISSY_LIBRARY=$folder/libnissy.so.2
+
+if missing python3 || [ ! -e "$NISSY_LIBRARY" ]; then skips_all "there is no python3 here, or no library that make lib built"; fi
+typed tests/hosts/*.py
+others=() sanitized=("-fsanitize=address,undefined" -fno-sanitize-recover=all)
+compiled() { g++ -std=c++17 -O1 -Wall -Wextra -Wpedantic -Werror -Iinclude "$@" -o "$room/caller" tests/hosts/caller.cpp "$folder/libnissy.a"; }
+if missing g++; then skips "C++, since there is no g++"; else
+    holds "caller.cpp compiles" eval 'compiled "${sanitized[@]}" || compiled'
+    others+=("c++=$room/caller")
+fi
+if missing node || [ ! -e "$folder/nissy.wasm" ]; then skips "JavaScript, since there is no node, or no module that make page built"; else
+    others+=("js=$folder/nissy.wasm")
+fi
+part python3 tests/hosts/drawn.py "$program" 1 0.12 python "${others[@]}"
+part python3 tests/hosts/best.py 1 24 "${others[@]}"
+part python3 tests/hosts/counted.py "$program" 1 9
+parts_end
+ended

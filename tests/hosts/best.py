@@ -1,0 +1,71 @@
+#!/usr/bin/env python3
+"""Drawn questions to `best`, by each host beside Python, whose rows counted.py counts; and that each is answered so by the least bound on nodes,
+and is cut by one less.
+
+    tests/hosts/best.py SEED COUNT HOST..
+
+A host is one of hosts.py, with the library of NISSY_LIBRARY. The last line is `N passed, M failed`, and the status is 1 if M isn't 0.
+"""
+from __future__ import annotations
+
+import sys
+from typing import List
+
+from hosts import Host, Python, fault_of, hosts_of, told  # isort: skip
+
+from questions import Drawing, Question, drawn
+from tally import Tally
+
+CUT = fault_of(0, 0, "cut")
+# the bound with which a search for the least one begins, and one that no question here needs
+FIRST_BOUND, MOST_BOUND = 100, 10**9
+
+
+def answers(host: Host, questions: List[Question]) -> List[str]:
+    """What a host answers."""
+    return [told(host, "best", it.scramble.encode(), it.so_far.encode(), *it[2:]) for it in questions]
+
+
+def least_bounds(questions: List[Question], host: Host) -> List[int]:
+    """The least number of nodes with which each question is answered and isn't cut. All are asked together."""
+    # by the first number one is cut, and not by the second
+    found = {question: (0, MOST_BOUND) for question in questions}
+    while True:
+        between = {question: 2 * max(low, FIRST_BOUND) if high == MOST_BOUND else (low + high) // 2
+                   for question, (low, high) in found.items() if high - low > 1}
+        if not between:
+            return [high for _, high in found.values()]
+        said = answers(host, [question._replace(nodes=nodes) for question, nodes in between.items()])
+        for (question, nodes), it in zip(between.items(), said):
+            low, high = found[question]
+            found[question] = (nodes, high) if it == CUT else (low, nodes)
+
+
+def bounds(tally: Tally, host: Host, python: Host, seed: int) -> None:
+    """With the least bound there is the answer of Python, and with one less none. It is that of Python in C++, which searches alike."""
+    draw = Drawing(seed)
+    scrambles = [draw.scramble() for _ in range(3)]
+    questions = [Question("U R F"), Question("R U", "", 1), Question(scrambles[0]), Question(scrambles[1], draw.both_sides(), 0, 200),
+                 Question(scrambles[2], draw.orientation(scrambles[2]), 1), Question(" ".join(draw.turns(3)), "", 1, 1)]
+    least = least_bounds(questions, host if host.name == "JavaScript" else python)
+    got = answers(host, [question._replace(nodes=bound - short) for question, bound in zip(questions, least) for short in (1, 0)])
+    tally.equal(f"one less is cut in {host.name}", got[::2], [CUT] * len(questions))
+    tally.equal(f"the least bound is none in {host.name}", got[1::2], answers(python, questions))
+
+
+def main() -> None:
+    """All questions, by each host."""
+    tally, python, (seed, count) = Tally(), Python(), map(int, sys.argv[1:3])
+    questions = list(drawn(seed, count))
+    wanted = answers(python, questions)
+    for host in hosts_of(sys.argv[3:]):
+        for question, ours, theirs in zip(questions, wanted, answers(host, questions)):
+            tally.equal(f"{question} in {host.name}", theirs, ours)
+        bounds(tally, host, python, seed)
+        tally.equal(f"{host.name} ends, and has said no more", host.end(), 0)
+    tally.holds("some have rows, some have none, and some are cut", sum(";" in it for it in wanted) > count / 2 and "" in wanted and CUT in wanted)
+    tally.end()
+
+
+if __name__ == "__main__":
+    main()

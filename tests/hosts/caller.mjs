@@ -1,0 +1,106 @@
+// Makes the calls of the module that standard input asks for, one on each line, and answers each on a line, as hosts.py says; a quarter of those
+// without a room in a worker.
+//
+//     node tests/hosts/caller.mjs MODULE
+import { readFileSync } from "node:fs";
+import { createInterface } from "node:readline";
+import { Nissy, NissyFault, NissyWorker, SearchCut } from "../../web/module/node.js";
+
+const ALL = 2n ** 64n - 1n;
+const AXES = ["fb", "rl", "ud"];
+const decoder = new TextDecoder("utf-8", { fatal: true, ignoreBOM: true });
+const bytesOf = (text) => new Uint8Array(Buffer.from(text.slice(1), "hex"));
+const toHex = (text) => `=${Buffer.from(text).toString("hex")}`;
+const numberOf = (text) => (BigInt(text) === ALL ? undefined : Number(text));
+
+/** Bytes of one's own among others. */
+function copied(bytes, buffer = new ArrayBuffer(bytes.length + 9), begin = 4) {
+  const view = new Uint8Array(buffer).fill("R".charCodeAt(0)).subarray(begin, begin + bytes.length);
+  view.set(bytes);
+  return view;
+}
+
+function string(bytes) {
+  try {
+    return decoder.decode(bytes);
+  } catch {
+    return bytes; // it is no string
+  }
+}
+
+// the forms of a line, one call's after another's
+const FORMS = [string, (bytes) => Uint8Array.from(bytes), copied, Buffer.from, (bytes) => copied(bytes, new SharedArrayBuffer(bytes.length), 0)];
+let calls = 0;
+const lineOf = (text) => FORMS[calls % FORMS.length](bytesOf(text));
+
+const source = readFileSync(process.argv[2]);
+const nissy = await Nissy.load(source);
+const worker = await NissyWorker.start(source);
+const lines = (all) => all.map((line) => `${line}\n`).join("");
+const solved = (found) => lines(found.map(({ moves, length }) => `${moves}${moves && " "}(${length})`));
+const part = ({ step, side, moves, length, twins }) => [step, side, moves, length, twins.join()].join(";");
+
+const seen = ({ solved: is, moves, cleanMoves, holds, cases, ...pieces }) => {
+  const { badEdges, badCorners, misplacedEdges } = pieces;
+  const axes = AXES.map((axis) => [badEdges, badCorners, misplacedEdges].map((each) => each[axis].join()).join("/"));
+  const isCase = AXES.every((axis) => cases[axis] === `${badCorners[axis].length}c${misplacedEdges[axis].length}e`);
+  return isCase ? [Number(is), moves, cleanMoves, holds.join(), ...axes].join(" ") : "another case";
+};
+
+// each call by an engine, and what is given to it
+const CALLS = {
+  facts: async (engine, line) => seen(await engine.facts(lineOf(line))),
+  tokens: async (engine, line) => {
+    const told = (await engine.tokens(lineOf(line))).sort((one, other) => one.inverse - other.inverse);
+    return told.map((it) => [it.text, it.axis, it.layers.join(), it.quarters, Number(it.inverse)].join("/")).join(" ");
+  },
+  form_places: async (engine, line) => {
+    const told = await engine.formPlaces(lineOf(line));
+    return told.map(({ column, text, forms }) => [column, text, forms.join().replaceAll("-", "_")].join("/")).join(" ");
+  },
+  check: async (engine, scramble, solution) => {
+    const { solved: is, moves, cleanMoves, forms } = await engine.check(lineOf(scramble), lineOf(solution));
+    return [Number(is), moves, cleanMoves, forms.join().replaceAll("-", "_")].join(" ");
+  },
+  solve: async (engine, step, limit, slack, most, line) =>
+    solved(await engine.solve(string(bytesOf(step)), lineOf(line), { limit: Number(limit), slack: Number(slack), most: numberOf(most) })),
+  count: async (engine, step, limit, slack, _, line) => {
+    const { length, solutions, nodes } = await engine.count(string(bytesOf(step)), lineOf(line), { limit: Number(limit), slack: Number(slack) });
+    return `${length ?? "none"} ${solutions} ${nodes}`;
+  },
+  scrambles: async (engine, state, stream, length, count) => {
+    const given = [BigInt(state), BigInt(stream), Number(length)];
+    return lines([await engine.scramble(...given), ...(await engine.scrambles(...given, Number(count)))]);
+  },
+  steps: async (engine) => lines(await engine.steps()),
+  best: async (engine, scramble, soFar, slack, most, nodes) => {
+    const rows = await engine.best(lineOf(scramble), { soFar: lineOf(soFar), slack: Number(slack), most: Number(most), nodes: numberOf(nodes) });
+    const told = ({ total, line, eo, dr, case: of }) =>
+      [total, line, eo ? part(eo) : "none", part(dr), dr.lengths.normal ?? "none", dr.lengths.inverse ?? "none", of].join(";");
+    return lines(rows.map(told));
+  },
+};
+
+/** The answer to a call. */
+async function called(call, given) {
+  if (call === "run") {
+    const [room, input, ...words] = given;
+    const { status, out, err, full } = nissy.run(words.map(bytesOf), bytesOf(input), room === "-" ? undefined : Number(room));
+    return Buffer.concat([Buffer.from(`${status} ${Number(full)} ${out.length} `), out, err]);
+  }
+  calls += 1;
+  const engine = calls % 4 === 0 ? worker : nissy;
+  return CALLS[call] ? CALLS[call](engine, ...given) : engine[call](lineOf(given[0]));
+}
+
+for await (const line of createInterface({ input: process.stdin })) {
+  const [call, ...given] = line.split(" ");
+  try {
+    console.log(toHex(await called(call, given)));
+  } catch (fault) {
+    const isCut = fault instanceof SearchCut;
+    if (!(fault instanceof NissyFault) && !isCut) throw fault;
+    console.log(isCut ? `0 0 ${toHex("cut")}` : `${fault.line ?? 0} ${fault.column ?? 0} ${toHex(fault.text)}`);
+  }
+}
+worker.end();

@@ -1,0 +1,225 @@
+"""The hosts of the engine, which are asked by the same calls: Python, callers in C++ and in JavaScript, and other programs.
+
+A call is a name and what is given to it, bytes for a text, else a number or a word. A caller reads it from a line, with blanks between, texts as
+hexadecimal digits behind an `=`, and answers a line: its text so; before that of a fault stand which of two lines has it, or 0, and its column,
+or 0. A search that is cut answers as a fault of that text.
+"""
+from __future__ import annotations
+
+import array
+import ctypes
+import os
+import subprocess
+import sys
+from typing import Any, Callable, Iterable, List, Union
+
+TOP = os.path.dirname(os.path.dirname(os.path.dirname(os.path.abspath(__file__))))
+sys.path[:0] = [os.path.join(TOP, folder) for folder in ("python", "tests", os.path.join("tests", "model"))]
+
+import nissy
+
+Given = Union[bytes, int, str]
+AXES: List[nissy.Axis] = ["fb", "rl", "ud"]
+ALL = 2**64 - 1
+# what wine says of itself, also where one of its services fails, and of a program that crashed
+OF_WINE, OF_CRASH = b"wine: ", b"Unhandled"
+# the same bytes as what a line may be given as
+FORMS: List[Callable[[bytes], Any]] = [
+    bytes, bytearray, memoryview, lambda line: line.decode("utf-8", "surrogateescape"), lambda line: memoryview(line[::-1])[::-1],
+    lambda line: memoryview(b"R U" + line + b"F q")[3:len(line) + 3], lambda line: array.array("b", line),
+    lambda line: (ctypes.c_char * len(line)).from_buffer_copy(line)]
+
+
+class Fault(Exception):
+    """What a host says of a line: which of two has it, or 0, the column, or 0, and the text."""
+
+
+class Host:
+    """What is asked. Some make runs, and some make calls."""
+
+    name = ""
+    has_runs = has_calls = True
+
+    def ask(self, call: str, *given: Given) -> bytes:
+        """The answer to a call. Raises Fault."""
+        raise NotImplementedError
+
+    def run(self, words: List[str], data: bytes, room: int | None = None) -> Any:
+        """What a run answers in so much room, or in room that grows: output, error text, status, and whether the room was full."""
+        listed = [word.encode("utf-8", "surrogateescape") for word in words]
+        status, full, length, texts = self.ask("run", "-" if room is None else room, data, *listed).split(b" ", 3)
+        return texts[:int(length)], texts[int(length):], int(status), full == b"1"
+
+    def end(self) -> int:
+        """The status with which it ends."""
+        return 0
+
+
+def fault_of(*said: object) -> str:
+    """What is said of a fault."""
+    return "fault %s %s %s" % said
+
+
+def told(host: Host, call: str, *given: Given) -> str:
+    """The answer to a call, or its fault."""
+    try:
+        return host.ask(call, *given).decode()
+    except Fault as fault:
+        return fault_of(*fault.args)
+
+
+class Caller(Host):
+    """A program that makes the calls in another language."""
+
+    def __init__(self, name: str, command: List[str]) -> None:
+        self.name, self.has_runs = name, name == "JavaScript"
+        self.process = subprocess.Popen(command, stdin=subprocess.PIPE, stdout=subprocess.PIPE, text=True)
+        assert self.process.stdin is not None and self.process.stdout is not None
+        self.asking, self.answers = self.process.stdin, self.process.stdout
+
+    def ask(self, call: str, *given: Given) -> bytes:
+        print(call, *("=" + it.hex() if isinstance(it, bytes) else it for it in given), file=self.asking, flush=True)
+        *fault, text = self.answers.readline().split(" ")
+        told = bytes.fromhex(text[1:])
+        if fault:
+            raise Fault(int(fault[0]), int(fault[1]), told.decode())
+        return told
+
+    def end(self) -> int:
+        self.asking.close()
+        return self.process.wait() or len(self.answers.read())
+
+
+class Other(Host):
+    """Another program, with what runs it before its name. What wine writes among its error text is left out, and a run of which wine alone
+    says something is made once more: one of its services fails once in some hundred runs on a busy machine."""
+
+    has_calls = False
+
+    def __init__(self, command: List[str]) -> None:
+        self.name, self.command = " ".join(map(os.path.basename, command)), command
+
+    def run(self, words: List[str], data: bytes, room: int | None = None) -> Any:
+        for _ in range(2):
+            done = subprocess.run(self.command + words, input=data, capture_output=True, check=False)
+            text = b"".join(line for line in done.stderr.splitlines(keepends=True) if not line.startswith(OF_WINE))
+            if done.returncode == 0 or text or not done.stderr or OF_CRASH in done.stderr:
+                break
+            print(f"once more, since wine said: {done.stderr!r}")
+        return done.stdout, text, done.returncode, False
+
+
+def lines(texts: Iterable[str]) -> str:
+    """Texts as lines."""
+    return "".join(text + "\n" for text in texts)
+
+
+def part(it: Any) -> str:
+    """What an orientation and a reduction have in common."""
+    return f"{it.step};{it.side};{it.moves};{it.length};{','.join(it.twins)}"
+
+
+def row(it: nissy.Continuation) -> str:
+    """A row of `best`."""
+    normal, inverse = ("none" if length is None else length for length in (it.dr.lengths.normal, it.dr.lengths.inverse))
+    return f"{it.total};{it.line};{part(it.eo) if it.eo else 'none'};{part(it.dr)};{normal};{inverse};{it.case}"
+
+
+def facts(seen: nissy.Facts) -> str:
+    """What is seen of a line."""
+    each = [(seen.bad_edges[axis], seen.bad_corners[axis], seen.misplaced_edges[axis]) for axis in AXES]
+    if any(seen.case[axis] != f"{corners}c{misplaced}e" for axis, (_, corners, misplaced) in zip(AXES, each)):
+        return f"another case: {seen.case}"
+    places = ["/".join(",".join(it.places) for it in pieces) for pieces in each]
+    return " ".join([f"{seen.solved:d} {seen.moves} {seen.clean_moves}", ",".join(step for step in nissy.steps() if step in seen.holds), *places])
+
+
+def tokens(told: List[nissy.Token]) -> str:
+    """The moves of a line, those outside brackets first."""
+    moves = sorted(told, key=lambda it: it.inverse)
+    return " ".join(f"{it.text}/{it.axis}/{','.join(map(str, it.layers))}/{it.quarters}/{it.inverse:d}" for it in moves)
+
+
+def solutions(found: nissy.Solutions) -> str:
+    """Solutions as lines."""
+    return lines(f"{it} ({it.length})".strip() for it in found)
+
+
+def counted(it: nissy.Count) -> str:
+    """A count."""
+    return f"{'none' if it.length is None else it.length} {it.solutions} {it.nodes}"
+
+
+def checked(it: nissy.Check) -> str:
+    """What is said of a solution."""
+    return f"{it.solved:d} {it.moves} {it.clean_moves} {','.join(it.forms)}"
+
+
+def form_places(places: List[nissy.FormPlace]) -> str:
+    """Where a line has forms."""
+    return " ".join(f"{it.column}/{it.text}/{','.join(it.forms)}" for it in places)
+
+
+class Python(Host):
+    """The package, with a line in one form after another, and searches by one call after another."""
+
+    name = "Python"
+
+    def __init__(self) -> None:
+        self.asked = 0
+
+    def line(self, line: bytes) -> Any:
+        """A line in the next form."""
+        return FORMS[self.asked % len(FORMS)](line)
+
+    def solve(self, name: Any, *given: Any) -> nissy.Solutions:
+        """Solutions by the next of the calls."""
+        return [lambda: nissy.near(name, *given), lambda: nissy.Tables(name).solve(*given),
+                lambda: next(nissy.raising(nissy.solve_all(name, given[:1], *given[1:])))][self.asked % 3]()
+
+    def count(self, name: Any, line: Any, limit: int, slack: int) -> nissy.Count:
+        """A count by the next of them."""
+        return [lambda: nissy.count(name, line, limit, slack),
+                lambda: next(nissy.raising(nissy.count_all(name, [line], limit, slack, threads=2)))][self.asked % 2]()
+
+    def told(self, call: str, given: Any) -> str:
+        """What a call tells."""
+        if call in ("solve", "count"):
+            step, limit, slack, most, line = given
+            name, form = step.decode("utf-8", "replace"), self.line(line)
+            return solutions(self.solve(name, form, limit, slack, most)) if call == "solve" else counted(self.count(name, form, limit, slack))
+        if call == "scrambles":
+            return lines([nissy.scramble(*given[:3]), *nissy.scrambles(*given)])
+        if call == "steps":
+            return lines(nissy.steps())
+        if call == "best":
+            scramble, so_far, slack, most, nodes = given
+            return lines(map(row, nissy.best(self.line(scramble), self.line(so_far), slack=slack, most=most, nodes=nodes)))
+        written: Any = {"facts": facts, "tokens": tokens, "form_places": form_places, "check": checked}.get(call, str)
+        return str(written(getattr(nissy, call)(*map(self.line, given))))
+
+    def ask(self, call: str, *given: Given) -> bytes:
+        self.asked += 1
+        try:
+            return self.told(call, given).encode()
+        except nissy.Cut:
+            raise Fault(0, 0, "cut") from None
+        except nissy.Fault as fault:
+            on_two = call in ("check", "best")
+            raise Fault(fault.line or 0 if on_two else 0, getattr(fault, "column", 0), fault.text) from None
+
+    def run(self, words: List[str], data: bytes, room: int | None = None) -> Any:
+        answer = nissy.run(words, data, room)
+        return answer.out, answer.err, answer.status, answer.full
+
+
+def hosts_of(words: List[str]) -> List[Host]:
+    """The hosts that words name: `python`, `c++=CALLER`, `js=MODULE`, or `program=COMMAND`, of which blanks part the words."""
+    made: List[Host] = []
+    for word in words:
+        kind, _, what = word.partition("=")
+        if kind == "js":
+            made.append(Caller("JavaScript", ["node", os.path.join(os.path.dirname(os.path.abspath(__file__)), "caller.mjs"), what]))
+        else:
+            made.append(Python() if kind == "python" else Caller("C++", [what]) if kind == "c++" else Other(what.split(" ")))
+    return made
