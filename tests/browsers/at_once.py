@@ -1,4 +1,4 @@
-"""What is there before it is asked for, rows before all are found, the best of many, and rows that were seen."""
+"""What is there before it is asked for, the best of many, and rows that were seen."""
 import re
 from itertools import product
 
@@ -62,25 +62,6 @@ def ahead(tally: Tally, browser: Browser) -> None:
     browser.no_longer(script)
 
 
-def soon(tally: Tally, browser: Browser) -> None:
-    """While a long search goes on the rows that are known stay, and it says how many were tried."""
-    browser.open(address_of(LONGER))
-    browser.wait_best()
-    seen = """const slack = part("best-slack"); slack.value = "2"; slack.dispatchEvent(new Event("change"));
-        return new Promise((done) => {
-            const look = () => {
-                const rows = all("#best-body .take").length, note = part("best-note").textContent;
-                if (note.includes(" tried")) done([rows, note, part("best-stop").disabled]);
-                else setTimeout(look);
-            };
-            look();
-        })"""
-    rows, note, is_done = browser.script(seen)
-    tally.equal("rows are shown, and the search goes on", (rows > 0, is_done), (True, False))
-    tally.holds(f"what it says: {note}", re.fullmatch(r"[0-9,]+( of [0-9,]+)? EOs? tried\.", note))
-    browser.choose("best-slack", "0")
-
-
 def best_of_many(tally: Tally, browser: Browser) -> None:
     """Of more rows than are kept the best are kept, and the note says so."""
     position = Position(LONGER)
@@ -100,25 +81,14 @@ def best_of_many(tally: Tally, browser: Browser) -> None:
     tally.equal("the first are the best", [int(row[0]) for row in rows[:SHOWN]], sorted(totals)[:SHOWN])
 
 
-def seen(tally: Tally, browser: Browser) -> None:
-    """A row that was taken is marked where one comes back, in the list and in the best, and for this scramble alone."""
-    marked = """return all('#solutions-groups .seen').map((each) => [each.dataset.key, each.ariaLabel.endsWith(', seen')])"""
-    browser.open(address_of(LONGER) + "&list=eorl.normal.0")
-    browser.wait_best()
-    tally.equal("nothing is marked at first", browser.script(marked), [])
-    taken = browser.listed()[1]
-    browser.walk(tally, "a row", ("script", "all('#solutions-groups .take')[1].click()", {}), ("comes", "steps", 1, {}))
-    back(browser)
-    browser.until("return document.querySelector('#solutions-groups .seen') !== null")
-    tally.equal("the row that was taken", browser.script(marked), [[taken, True]])
-    browser.go(address_of(LONGER) + "_D&list=eorl.normal.0")
-    tally.equal("nothing of another scramble", (browser.listed() != [], browser.script(marked)), (True, []))
-
-
 def more(tally: Tally, browser: Browser) -> None:
-    """Each row of a list can be reached without a filter, also by Back; the rows that stood there stay as they are, and what is selected."""
+    """
+    Each row of a list can be reached without a filter, also by Back, which marks it, for this scramble alone; the rows that stood there stay as they are,
+    and what is selected.
+    """
+    marked = "return all('#solutions-groups .seen').map((each) => [each.dataset.key, each.ariaLabel.endsWith(', seen')])"
     browser.open(address_of(LONGER) + "&list=eofb.normal.1")
-    tally.equal("the first rows", len(browser.listed()), 200)
+    tally.equal("the first rows, of which none is marked", (len(browser.listed()), browser.script(marked)), (200, []))
     browser.script(STAND, "solutions-groups")
     browser.act("#solutions-more")
     tally.equal("the rows of a list stay", browser.script(STOOD), [200, True, 0])
@@ -133,7 +103,8 @@ def more(tally: Tally, browser: Browser) -> None:
     last = "const row = all('#solutions-groups .take').at(-1); row.focus(); row.click()"
     browser.walk(tally, "the last", ("script", last, {}), ("comes", "steps", 1, {}))
     back(browser)
-    tally.holds("Back leads to the last", browser.until(HAS_FOCUS, listed[-1]))
+    browser.walk(tally, "Back leads to the last", ("until", HAS_FOCUS, listed[-1], {marked: [[listed[-1], True]]}),
+        ("go", address_of(LONGER) + "_D&list=eofb.normal.1", {marked: [], "n #solutions-groups .take": 200}))
 
 
 def folded(tally: Tally, browser: Browser) -> None:

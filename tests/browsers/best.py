@@ -6,7 +6,7 @@ from itertools import product
 
 from browser import Browser
 from tally import Tally
-from wanted import SIDES, TITLES, Position, merged_count, twin_key
+from wanted import SIDES, TITLES, Position, joined_count, twin_key
 
 SCRAMBLE = "F2 U2 L2 D2 R2 L2 U2 L B R2 B2 L2 D F B2 R2 U' F R L U R2 F' D2 R2"
 LONGER = "R' U' F D2 L2 F R2 U2 R2 B D2 L B2 D' B2 L' R' B' D2 B2 R' U' F"
@@ -50,7 +50,7 @@ def ways_of(program: str, position: Position, step: str, side: str, slack: int =
         same = program_lists(program, ["solve", reduction, "20"], [f"{position.lines[side]} {each}" for each in moves])
         across = program_lists(program, ["solve", reduction, "20"], [f"{each} {position.lines[other]}" for each in inverted])
         for each, one, two in zip(moves, same, across, strict=True):
-            own, beside = min(merged_count(f"{each} {rest}") for rest in one), len(each.split()) + len(two[0].split())
+            own, beside = min(joined_count(each, rest) for rest in one), len(each.split()) + len(two[0].split())
             ways[each, reduction] = {side: (own, len(one[0].split())), other: (beside, len(two[0].split()))}
     return ways
 
@@ -215,6 +215,8 @@ def stopped(tally: Tally, browser: Browser) -> None:
     # of the longer ones, which are thousands
     moving = "const bar = document.getElementById('best-progress'); return !bar.hidden && bar.max > 5000 && bar.value < bar.max"
     tally.holds("the progress is shown", browser.until(moving))
+    rows, note = browser.look("n #best-body .take"), browser.text("best-note")
+    tally.holds(f"and rows, and how many were tried: {note}", rows > 0 and re.fullmatch(r"[0-9,]+( of [0-9,]+)? EOs? tried\.", note))
     browser.click('[data-cell="eofb.normal"]')
     tally.holds("meanwhile a list is answered", browser.until("return document.querySelector('#solutions-groups button') !== null"))
     tally.holds("and the search goes on", browser.script("return !document.getElementById('best-stop').disabled"))

@@ -158,16 +158,14 @@ class Browser(Tab):
 
     def look(self, name: str) -> Any:
         """
-        What is seen by a name: one of LOOKS, what a script or one of some methods here returns, what a field holds (`name=`), whether it is seen (`name?`), how many a selector finds (`n selector`), the
-        texts of what a selector finds that begins with a sign, or the text of a part.
+        What is seen by a name: one of LOOKS, what a script or a method here returns, what a field holds (`name=`), whether it is seen (`name?`), how many
+        a selector finds (`n selector`), the texts of what a selector finds that begins with a sign, or the text of a part.
         """
+        kind, *words = name.split()
         if name in LOOKS or "return " in name:
             return self.script(LOOKS.get(name, name))
-        if name in ("cells", "listed"):
-            return getattr(self, name)()
-        kind, _, rest = name.partition(" ")
-        if kind in ("letters", "content"):
-            return getattr(self, kind)(rest)
+        if kind in ("cells", "listed", "letters", "content"):
+            return getattr(self, kind)(*words)
         if name.endswith("="):
             return self.value(name[:-1])
         if name.endswith("?"):

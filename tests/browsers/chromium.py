@@ -11,8 +11,6 @@ WORDS = ("--headless=new", "--no-sandbox", "--disable-dev-shm-usage", "--no-firs
     "--disable-component-update", "--disable-sync", "--disable-extensions", "--disable-default-apps", "--no-startup-window", "--remote-debugging-pipe")
 # what is kept of what a page tells, until it is asked for
 KEPT_EVENTS = ("Network.requestWillBeSent", "Runtime.consoleAPICalled", "Runtime.exceptionThrown", "Log.entryAdded", "Page.loadEventFired")
-
-
 # what the scripts of the tests call by short names
 HELPERS = """const part = (name) => document.getElementById(name), all = (selector) => [...document.querySelectorAll(selector)];
     const seen = (selector) => all(selector).filter((each) => each.checkVisibility());"""
@@ -35,7 +33,8 @@ class Chromium:
     def take(self) -> dict[str, Any]:
         """The next message, which ends with a zero byte; some events are kept."""
         while (end := self.said.find(0)) < 0:
-            more = os.read(self.output, 1 << 20) if select.select([self.output], [], [], PATIENCE)[0] else b""
+            # longer than what waits in a page
+            more = os.read(self.output, 1 << 20) if select.select([self.output], [], [], PATIENCE + 60)[0] else b""
             if not more:
                 raise TimeoutError("Chromium says nothing more")
             self.said += more
@@ -60,7 +59,7 @@ class Chromium:
     def end(self) -> None:
         """Ends it."""
         self.command("Browser.close")
-        self.process.wait()
+        self.process.wait(PATIENCE)
         os.close(self.input)
         os.close(self.output)
         self.room.cleanup()

@@ -4,9 +4,8 @@
     tests/browsers/drive.py [PAGE PROGRAM [PART..]]
 
 PAGE is the joined file, PROGRAM the built nissy, and a PART one of those in PARTS below; all where none is named. Of a part each function is tried
-that takes a tally and a browser alone. The last line is
-`N passed, M failed`, and the status is 1 where M isn't 0. Without a word it prints the names of the parts, in lines of which each may be tried
-beside the others.
+that takes a tally and a browser alone. The last line is `N passed, M failed`, and the status is 1 where M isn't 0. Without a word it prints the
+names of the parts, in lines of which each may be tried beside the others.
 """
 import shutil
 import subprocess
@@ -24,8 +23,8 @@ from chromium import Chromium
 from tally import Tally
 
 # in the order in which they are dealt out to the browsers
-PARTS = ("keyboard faults workers addresses best searches at_once turned steps line kept focus stops phone narrow sizes settings filters looks still trifles "
-    "further desk first ahead teacher").split()
+PARTS = ("keyboard faults workers addresses best searches at_once turned steps line kept focus stops phone narrow sizes settings filters looks still "
+    "trifles further desk first ahead teacher").split()
 # how many browsers there are, each with some of the parts
 BROWSERS = 6
 TOP = Path(__file__).resolve().parent.parent.parent

@@ -77,6 +77,8 @@ def keeps_in_address(tally: Tally, browser: Browser) -> None:
 
 def copies_kept(tally: Tally, browser: Browser) -> None:
     """Those that are left are copied, with their notes; and no more are kept than the address has room for."""
+    # what was taken away is said first
+    browser.until("return document.getElementById('status').textContent.includes('removed')")
     copied = "Copied: " + "\n\n".join([SCRAMBLE, *browser.script(
         "return [...document.querySelectorAll('#kept-list li')].map((each) => each.querySelector('.moves').textContent)")])
     browser.click("#copy-kept")

@@ -90,8 +90,8 @@ def has_heads(tally: Tally, browser: Browser) -> None:
 
 def has_rows(tally: Tally, browser: Browser) -> None:
     """
-    On a phone a row of the best has two lines at most, however long its moves are; beside a mouse moves and twins are as large as can be read, in rows of
-    one height. Nothing in a row stands on something else.
+    On a phone a row of the best has two lines at most, however long its moves are; beside a mouse moves and twins are as large as can be read, in
+    rows of one height. Nothing in a row stands on something else.
     """
     for after in ("&steps=inverse.B_D_R_F2_B_D", ""):
         browser.resize(360, 800)
@@ -106,9 +106,8 @@ def has_rows(tally: Tally, browser: Browser) -> None:
         tally.holds(f"{after}: there are long rows and twins: {longest}", longest > 15 and any(row["hasTwins"] for row in rows))
         # before an orientation the first reduction has a line of its own
         most = MOST_OF_ROW + (0 if after else LINE_OF_FIRST)
-        for what, wrong in (("rows of more lines", lambda row: row["lines"] > 1 or row["height"] > most), ("parts of a row on each other", lambda row: row["on"]),
-                ("signs that are too small", lambda row: row["size"] < LEAST_SIGN), ("stars that are too small", lambda row: min(row["star"]) < LEAST_TARGET)):
-            tally.equal(f"{after}: {what}", [row for row in rows if wrong(row)], [])
+        tally.equal(f"{after}: rows of more lines, with parts on each other, or with signs or stars that are too small", [row for row in rows
+            if row["lines"] > 1 or row["height"] > most or row["on"] or row["size"] < LEAST_SIGN or min(row["star"]) < LEAST_TARGET], [])
         least = min(min(each) for each in browser.script(REACHED, "#best-body .star"))
         tally.holds(f"{after}: stars that a finger misses: {least}", least >= TARGET)
     for width in (601, 768, 960, 1180, 1440):

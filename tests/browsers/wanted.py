@@ -84,6 +84,7 @@ def rows_of(solutions: list[str], step: str) -> list[str]:
     return rows
 
 
+@lru_cache(maxsize=None)
 def merged_count(line: str) -> int:
     """How many moves a line has once turns of one face are merged that nothing stands between but turns of the opposite one."""
     made: list[tuple[str, int]] = []
@@ -97,6 +98,13 @@ def merged_count(line: str) -> int:
         if quarters:
             made.append((face, quarters))
     return len(made)
+
+
+def joined_count(one: str, other: str) -> int:
+    """The same of two lines that have nothing to merge themselves: what merges is where they meet, unless two moves do, so that others may too."""
+    ends = [*one.split()[-2:], *other.split()[:2]]
+    saved = len(ends) - merged_count(" ".join(ends))
+    return len(one.split()) + len(other.split()) - saved if saved < 2 else merged_count(f"{one} {other}")
 
 
 class Position:

@@ -69,13 +69,9 @@ def begins(tally: Tally, browser: Browser) -> None:
 
 def crashes(tally: Tally, browser: Browser) -> None:
     """Workers that end later, of which the page is told nothing: it says so once it waits for one, and then goes on from where it was."""
-    acts = {
-        "a step": "document.querySelector('#best-body .take').click()",
-        "a list": "document.querySelector('#steps-body .cell').click()",
+    acts = {"a step": "document.querySelector('#best-body .take').click()", "a list": "document.querySelector('#steps-body .cell').click()",
         "the best": "const field = part('best-slack'); field.value = '1'; field.dispatchEvent(new Event('change'))",
-        "a random scramble": "part('random').click()",
-        "moves by hand": "part('own').value = 'R'; part('own-form').requestSubmit()",
-    }
+        "a random scramble": "part('random').click()", "moves by hand": "part('own').value = 'R'; part('own-form').requestSubmit()",}
     for what, act in acts.items():
         opened(browser, "")
         browser.wait_best()
