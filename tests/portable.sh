@@ -71,52 +71,41 @@ for made in "$room"/*.made; do
     passed=$((passed + more)) failed=$((failed + fewer))
 done
 
-# the program as the proved one is tried, and drawn runs by each compiler
-add python3 tests/runs.py "$room/gcc"
-for trial in program limits; do add "tests/$trial.sh" "$room/gcc"; done
-add python3 tests/model/against.py "$room/gcc" 1 0.1
-beside() { # LINES NAME [RUNNER..]: drawn runs by the program of a compiler that was here
-    local count=$1 name=$2
-    shift 2
-    [ -e "$room/$name" ] || return
-    if [ $# -gt 0 ] && missing "$1"; then skips "running nissy.c for $name, since there is no $1" && return; fi
-    add python3 tests/portable/beside.py "$program" 1 "$count" "$@" "$room/$name"
+# the program as the proved one is tried, and the same drawn runs by each compiler; what is slow by itself, or by an emulator, makes fewer
+add tests/program.sh "$room/gcc"
+add python3 tests/model/hostile.py "$room/gcc" 1 0.02 devices,memory,gone
+others=() slow=()
+ran_by() { # LIST NAME [RUNNER]: adds the program of a compiler that was here, with what runs it
+    local -n list=$1
+    [ -e "$room/$2" ] || return
+    if [ $# -gt 2 ] && missing "$3"; then skips "running nissy.c for $2, since there is no $3" && return; fi
+    list+=("program=${3:+$3 }$room/$2")
 }
-beside 60 gcc
-for name in clang musl bytewise i686; do beside 30 "$name"; done
-# what is slow by itself, or by an emulator, takes one line a search
-for name in tcc sanitized; do beside 15 "$name"; done
-beside 15 aarch64 qemu-aarch64
-beside 15 s390x qemu-s390x
-# Wine has a server, which is to stay from run to run, and a folder for what Windows would have; the first run says that it makes it.
-wine=$(command -v wine64 || command -v wine || ls /usr/lib/wine/wine64 2> /dev/null)
-server=$(command -v wineserver64 || ls /usr/lib/wine/wineserver64 2> /dev/null || command -v wineserver)
-if [ -z "$wine" ] || [ -z "$server" ]; then skips "running nissy.c for Windows, since there is no wine"; elif [ -e "$room/windows" ] || [ -e "$room/windows.exe" ]; then
-    export WINEPREFIX=$room/wine WINEDEBUG=-all
-    mkdir -p "$WINEPREFIX"
-    "$server" -p60 && "$wine" "$room/windows.exe" steps > /dev/null 2>&1
-    mv "$room/windows.exe" "$room/windows" 2> /dev/null
-    beside 30 windows "$wine"
-    "$server" -k
-fi
+for name in gcc clang musl bytewise i686; do ran_by others $name; done
+for name in tcc sanitized; do ran_by slow $name; done
+for name in aarch64 s390x; do ran_by slow $name qemu-$name; done
+mv "$room/windows.exe" "$room/windows" 2> /dev/null
+if ! begin_wine "$room/wine" "$room/windows"; then skips "running nissy.c for Windows, since there is no wine"; else ran_by others windows "$wine"; fi
+add python3 tests/hosts/drawn.py "$program" 1 0.04 "${others[@]}"
+add python3 tests/hosts/drawn.py "$program" 1 0.01 "${slow[@]}"
+[ -z "$wine" ] || [ -z "$server" ] || end_wine
 
 # the library's tests over the file, in place of the library
 linked() { # NAME TEST WORD..: the test of this name with the file as it was compiled
-    local wrapped=()
-    [[ $2 == fuzz* ]] && wrapped=("-Wl,--wrap=malloc,--wrap=realloc,--wrap=free")
-    gcc -std=c11 -O1 -g1 "${@:3}" -pthread "${wrapped[@]}" -Iinclude -Itests/library -I"$room/rows" -o "$room/$1.$2" "tests/library/$2.c" "$room/$1.o"
+    # shellcheck disable=SC2046 # no word or one
+    gcc -std=c11 -O1 -g1 "${@:3}" -pthread $(wraps "$2") -Iinclude -Itests/library -I"$room/rows" -o "$room/$1.$2" "tests/library/$2.c" "$room/$1.o"
 }
 rows_in_c "$room/rows"
-for trial in "calls few" "facts few" "fuzz" "fuzz_facts" "threads 0 20"; do
+for trial in "calls few" "facts few" "fuzz" "threads 0 10"; do
     name=${trial%% *} words=()
     [ "$name" = "$trial" ] || read -ra words <<< "${trial#* }"
     holds "$name.c is linked with nissy.c" linked sanitized "$name" "${sanitized[@]:2}"
     add "$room/sanitized.$name" "${words[@]}"
 done
 holds "threads.c is linked with it for races" linked raced threads -fsanitize=thread
-add "$room/raced.threads" 0 20
+add "$room/raced.threads" 0 5
 in_c_plus_plus() { # the headers in C++ over it
-    g++ -std=c++17 -O1 -DNISSY_IN_C -pthread -Wl,--wrap=malloc,--wrap=realloc,--wrap=free -Iinclude -Itests/library -I"$room/rows" -o "$room/plus" tests/library/nissy.cpp "$room/gcc.o"
+    g++ -std=c++17 -O1 -DNISSY_IN_C -pthread "$(wraps nissy)" -Iinclude -Itests/library -I"$room/rows" -o "$room/plus" tests/library/nissy.cpp "$room/gcc.o"
 }
 if missing g++; then skips "nissy.hpp over nissy.c, since there is no g++"; else
     holds "nissy.cpp is linked with it" in_c_plus_plus

@@ -219,7 +219,8 @@ def all_kinds(trial: Trial, draw: Drawing, scale: float) -> None:
     searches(trial, draw, scaled(600), solving.ORIENTATIONS, 12)
     searches(trial, draw, scaled(90), solving.DOMINOES, 25 if whole else 8)
     failing_starts(trial, draw, scaled(60))
-    distances(trial, draw, max(13, scaled(52)), 40 if whole else 8)
+    # each step, or some for a program that is slow
+    distances(trial, draw, max(13 if scale > 0.02 else 5, scaled(52)), 40 if whole else 8)
     if whole:
         near_numbers(trial)
         every_orientation(trial)

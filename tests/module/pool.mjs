@@ -1,4 +1,4 @@
-// Engines in several threads that share many lines: 100,000 of them beside one engine, in order; their faults, their progress, what gives
+// Engines in several threads that share many lines: 40,000 of them beside one engine, in order; their faults, their progress, what gives
 // them up, and threads that end.
 //
 //     node tests/module/pool.mjs MODULE
@@ -15,7 +15,7 @@ import { Nissy } from "../../web/module/nissy.js";
 import { WorkerPool } from "../../web/module/pool.js";
 import { TURNS, drawn, ended, moduleBytes, same, thrown } from "./tally.mjs";
 
-const LINES = 100_000;
+const LINES = 40_000;
 const ENDLESS = "R U F2 L D R B";
 const LONG = { slack: 14 };
 const SOON = 30_000;

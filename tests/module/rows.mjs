@@ -74,7 +74,7 @@ async function tryRefusals(nissy) {
 async function tryMemory() {
   const { nissy, memory } = await loaded(Nissy);
   const lines = "R U F\n".repeat(20);
-  const run = (at) => nissy.run(at % 1000 < 5 ? ["count", "dr-eofb", "1"] : ["invert"], at % 1000 < 5 ? "" : lines);
+  const run = (at) => nissy.run(at % 1000 < 1 ? ["count", "dr-eofb", "1"] : ["invert"], at % 1000 < 1 ? "" : lines);
   let sizeAfterTen = 0;
   let done = 0;
   for (let at = 0; at < CALLS; at += 1) {

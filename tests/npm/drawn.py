@@ -3,7 +3,7 @@
 
     tests/npm/drawn.py COMMAND SEED
 
-Each run starts a node, so they are some hundred and fifty of the kinds of runs by which tests/model tries the program. The last line is
+Each run starts a node, so they are some hundred and twenty of the kinds of runs by which tests/model tries the program. The last line is
 `N passed, M failed`, by kinds of runs, and the status is 1 if M isn't 0.
 """
 import os
@@ -26,15 +26,15 @@ SHARE = 5
 
 def drawn(trial: Trial, draw: Drawing) -> None:
     """Words and lines of each command."""
-    against.rewriting(trial, draw, 10)
-    against.rewriting_words(trial, draw, 8)
-    against.faults(trial, draw, 10)
-    against.usage(trial, draw, 10)
+    against.rewriting(trial, draw, 7)
+    against.rewriting_words(trial, draw, 6)
+    against.faults(trial, draw, 8)
+    against.usage(trial, draw, 8)
     against.scrambles(trial, draw, 2)
-    against.searches(trial, draw, 10, solving.ORIENTATIONS, 12)
-    against.searches(trial, draw, 4, solving.DOMINOES, 8)
-    against.failing_starts(trial, draw, 4)
-    hostile_input.files(trial, draw, 20)
+    against.searches(trial, draw, 6, solving.ORIENTATIONS, 12)
+    against.searches(trial, draw, 3, solving.DOMINOES, 8)
+    against.failing_starts(trial, draw, 2)
+    hostile_input.files(trial, draw, 12)
     hostile_input.word_lists(trial, draw, 6)
 
 
