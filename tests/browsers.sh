@@ -5,7 +5,7 @@
 #     tests/browsers.sh [PAGE [PROGRAM]]
 #
 # The page is build/nissy.html if none is named, and the program build/nissy. What needs a browser that isn't here is skipped, and named.
-# `python3 tests/browsers/drive.py build/nissy.html build/nissy looks` runs one part of Chromium's. Look at the page after a change too: 360 points
+# `/usr/bin/python3 tests/browsers/drive.py build/nissy.html build/nissy looks` runs one part of Chromium's. Look at the page after a change too: 360 points
 # wide, light and dark. docs/page.png has 1180 by 980 points.
 # The last line is `N passed, M failed`, and the status is 1 if M isn't 0.
 set -u
@@ -34,20 +34,22 @@ add python3 tests/browsers/files.py "$page"
 
 # what the model works out once is kept for all parts
 export MODEL_CACHE=$room/model
-if missing chromium; then skips "the page in Chromium, which isn't installed"; else
+# Debian's Python has Debian's selenium, whatever other Python comes first
+python=/usr/bin/python3
+is_driven() { ! missing chromedriver && $python -c "import selenium" 2> /dev/null; }
+if missing chromium || ! is_driven; then skips "the page in Chromium, since chromium, chromedriver or python3-selenium isn't installed"; else
     # each line in a browser of its own, which mostly waits
-    while read -r -a names; do part python3 tests/browsers/drive.py "$page" "$program" "${names[@]}"; done < <(python3 tests/browsers/drive.py)
+    while read -r -a names; do part $python tests/browsers/drive.py "$page" "$program" "${names[@]}"; done < <($python tests/browsers/drive.py)
 fi
 others=no beside=()
 if missing firefox && missing firefox-esr; then skips "the page in Firefox, which isn't installed"; else others=yes; fi
-# Debian's Python has Debian's selenium, whatever other Python comes first
-if missing WebKitWebDriver || missing xvfb-run || ! /usr/bin/python3 -c "import selenium" 2> /dev/null; then
-    skips "the page in WebKit, since webkit2gtk-driver, xvfb or python3-selenium isn't installed"
-else
+if missing WebKitWebDriver || missing xvfb-run; then skips "the page in WebKit, since webkit2gtk-driver or xvfb isn't installed"; else
     others=yes beside=(xvfb-run -a)
 fi
-if [ $others = no ] || missing chromium; then skips "the browsers beside each other, since Chromium or the others aren't installed"; else
-    part "${beside[@]}" /usr/bin/python3 tests/browsers/alike.py "$page"
+if [ $others = no ] || missing chromium || ! is_driven; then
+    skips "the browsers beside each other, since Chromium, the others or python3-selenium isn't installed"
+else
+    part "${beside[@]}" $python tests/browsers/alike.py "$page"
 fi
 parts_end
 ended

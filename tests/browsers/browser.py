@@ -2,7 +2,9 @@
 import time
 from typing import Any
 
-from chromium import PATIENCE, Chromium, Tab
+from selenium.webdriver import Chrome
+
+from chromium import PATIENCE, Tab
 from net import letters_of, stickers_of
 from tally import Tally
 
@@ -60,8 +62,8 @@ CODES = {"Tab": 9, "Enter": 13, "Escape": 27, "Backspace": 8, "Delete": 46, "Hom
 class Browser(Tab):
     """One window with the page."""
 
-    def __init__(self, chromium: Chromium, page: str) -> None:
-        super().__init__(chromium)
+    def __init__(self, driver: Chrome, page: str) -> None:
+        super().__init__(driver)
         # the built program, and the page as a browser has it that runs no WebAssembly
         self.page, self.program, self.page_without_engine = page, "", ""
         self.resize()
@@ -239,22 +241,3 @@ class Browser(Tab):
     def cells(self) -> list[str]:
         """What the cells of the table are called."""
         return self.script("return all('#steps-body .cell').map((each) => each.ariaLabel)")
-
-    def workers(self) -> int:
-        """How many workers there are."""
-        targets = self.chromium.command("Target.getTargets")["targetInfos"]
-        return sum(each["type"] == "worker" and each.get("browserContextId") == self.context for each in targets)
-
-    def complaints(self) -> list[str]:
-        """What the console says beside plain notes."""
-        found = []
-        for each in self.told("Runtime.consoleAPICalled", "Runtime.exceptionThrown", "Log.entryAdded"):
-            said = each["params"]
-            if said.get("type") in ("error", "warning", "assert") or "exceptionDetails" in said \
-                    or said.get("entry", {}).get("level") in ("error", "warning"):
-                found.append(str(said))
-        return found
-
-    def requests(self) -> list[str]:
-        """The addresses that were asked for."""
-        return [each["params"]["request"]["url"] for each in self.told("Network.requestWillBeSent")]

@@ -19,7 +19,7 @@ from typing import Callable
 sys.path.insert(0, str(Path(__file__).resolve().parent.parent))
 
 from browser import Browser
-from chromium import Chromium
+from chromium import chromium
 from tally import Tally
 
 # in the order in which they are dealt out to the browsers
@@ -55,11 +55,11 @@ def main() -> None:
         return
     page, program = Path(sys.argv[1]).resolve().as_uri(), str(Path(sys.argv[2]).resolve())
     tally = Tally()
-    chromium = Chromium()
+    driver = chromium()
     with tempfile.TemporaryDirectory() as room:
         without = page_without_engine(Path(room))
         for part in sys.argv[3:] or PARTS:
-            browser = Browser(chromium, page)
+            browser = Browser(driver, page)
             browser.program, browser.page_without_engine = program, without
             try:
                 for each in trials(part):
@@ -70,7 +70,7 @@ def main() -> None:
             beyond = [url for url in browser.requests() if not url.startswith((page, without, "blob:", "data:", "about:"))]
             tally.equal(f"{part}: requests beyond the file", beyond, [])
             browser.end()
-    chromium.end()
+    driver.quit()
     tally.end()
 
 

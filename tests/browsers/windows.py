@@ -12,7 +12,7 @@ SEEN = "return [...document.querySelectorAll(%s)].filter((each) => each.checkVis
 
 
 class Window:
-    """A window of a browser that selenium drives, which is WebKit here; those of others do the same otherwise."""
+    """A window of a browser that selenium drives; those of Firefox do the same otherwise."""
 
     def __init__(self, driver: Any) -> None:
         self.driver = driver
@@ -51,9 +51,9 @@ class OfChromium(Window):
     """A window of Chromium."""
 
     def __init__(self) -> None:
-        from chromium import Chromium, Tab
+        from chromium import Tab, chromium
 
-        super().__init__(Tab(Chromium()))
+        super().__init__(Tab(chromium()))
 
     def open(self, address: str) -> None:
         self.driver.load(address)
@@ -72,7 +72,7 @@ class OfChromium(Window):
         self.driver.command("Emulation.setDeviceMetricsOverride", width=width, height=height, deviceScaleFactor=1, mobile=False)
 
     def end(self) -> None:
-        self.driver.chromium.end()
+        self.driver.driver.quit()
 
 
 def webkit(_room: str) -> Window:
@@ -90,10 +90,10 @@ def firefox(room: str) -> Window:
 
 
 BROWSERS: dict[str, Callable[[str], Window]] = {"chromium": lambda _room: OfChromium(), "firefox": firefox, "webkit": webkit}
-NEEDS = {"chromium": ["chromium"], "firefox": ["firefox"], "webkit": ["WebKitWebDriver", "xvfb-run"]}
+NEEDS = {"chromium": ["chromium", "chromedriver"], "firefox": ["firefox"], "webkit": ["WebKitWebDriver", "xvfb-run"]}
 
 
 def is_here(browser: str) -> bool:
     """Whether what a browser's window needs is here."""
-    is_driven = browser != "webkit" or find_spec("selenium") is not None
+    is_driven = browser == "firefox" or find_spec("selenium") is not None
     return is_driven and all(shutil.which(name) or shutil.which(f"{name}-esr") for name in NEEDS[browser])
