@@ -52,7 +52,7 @@ def verdict(body: WrongBody, said: str) -> str:
     if body.error:
         return by_compiler(body, said)
     line = re.search(rf"^fn {re.escape(body.refused)}: (.*)", said, re.MULTILINE)
-    if not re.search(r"^only=\d+ holes=", said, re.MULTILINE) or not line or "could not tell" in line[1]:
+    if not re.search(r"^only=\d+ holes=", said, re.MULTILINE) or not line or "could not tell" in line[1] or is_misread(body, said):
         return UNTOLD
     if line[1] in ("no holes", "proved"):
         return "the prover accepts it"
@@ -68,6 +68,16 @@ def verdict(body: WrongBody, said: str) -> str:
     if stands_on_a_false_lemma(body, line[1], said):
         return LEMMA
     return WAITS if "it calls" in line[1] or line[1].startswith("depends on a hole") else UNTOLD
+
+
+def is_misread(body: WrongBody, said: str) -> bool:
+    """Whether a clause of the named function isn't understood, as if a twin lacked what its function has for clauses."""
+    for file, line in re.findall(r"^(src/\S+\.rt):(\d+):\d+: error: `(?:requires|ensures)", said, re.MULTILINE):
+        lines = sources(body.folder, {file})[file].split("\n")
+        span = function_at(lines, int(line) - 1)
+        if span and is_named(body.refused, lines[span.first]):
+            return True
+    return False
 
 
 def stands_on_a_false_lemma(body: WrongBody, line: str, said: str) -> bool:
