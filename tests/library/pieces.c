@@ -3,6 +3,7 @@
 #include "searches.h"
 
 enum { MOST = 20, LINE = 65 };
+static const char LATE[] = "R R R R R R R R R R R R R R R R R R R R R";
 
 /* A search behind a sequence. */
 static nissy_search_answer behind(const nissy_tables *tables, const search_row *row, const char *after, size_t size, uint64_t most,
@@ -56,6 +57,10 @@ static void in_pieces(const nissy_tables *tables, const search_row *row) {
         holds(cut.least == row->least || (cut.least == 0 && bound < least_at), "the least length, unless it is cut before that is known", row->line);
         holds(memcmp(out.bytes, row->text + first, cut.length) == 0, "a beginning of them", row->line);
     }
+    /* behind the last of all sequences there is nothing, and the looks of both searches are told */
+    uint64_t until_first = nissy_count(tables, (const uint8_t *)row->line, strlen(row->line), row->limit, 0, 0, NISSY_ALL).nodes;
+    nissy_search_answer none = behind(tables, row, LATE, strlen(LATE), NISSY_ALL, NISSY_ALL, out);
+    holds(none.status == NISSY_DONE && !none.length && none.nodes >= until_first && until_first > 0, "the looks for the least length", row->line);
     let_go(out);
     out = guard(0);
     whole = behind(tables, row, row->text, size, NISSY_ALL, NISSY_ALL, out);
@@ -90,7 +95,7 @@ static void others(void) {
     is_behind(&tables, " F2 ", "F' (1)\n");
     is_behind(&tables, "B", "");
     is_behind(&tables, "U D", "");
-    is_behind(&tables, "R R R R R R R R R R R R R R R R R R R R R", "");
+    is_behind(&tables, LATE, "");
     for (size_t at = 0; at < sizeof NO_TURNS / sizeof *NO_TURNS; at++)
         is_none(&tables, NO_TURNS[at], MOST, 0, NISSY_USAGE, NISSY_NO_FAULT, "F");
     is_none(&tables, "F", MOST + 1, 0, NISSY_USAGE, NISSY_NO_FAULT, "F");
