@@ -35,12 +35,12 @@ def tells_why(tally: Tally, browser: Browser) -> None:
     said_of_one = browser.script(PRESS, 1)
     tally.equal("without marks each axis is told", [f"EO {axis}" in said_of_one for axis in ("U/D", "F/B", "R/L")], [True] * 3)
     browser.choose("piece", "1")
-    tally.holds("the field tells of both sides", all(side in browser.text("why") for side in ("Normal: UB is ", "Inverse: UB is ")))
+    tally.equal("the field tells of both sides", re.findall(r"(Normal|Inverse): (?:\w\w at )?UB is ", browser.text("why")), ["Normal", "Inverse"])
     # by hand: a quarter turn of F makes its four edges bad for F/B, and UR stays as it was
     browser.go("#scramble=F")
     browser.choose("marks", "EO F/B")
     rule = "(U or D tells, else F or B)"
-    tally.equal("UF", browser.script(PRESS, 7), f"Normal: UF is bad for EO F/B: its F belongs on U, and is on F {rule}.")
+    tally.equal("UF", browser.script(PRESS, 7), f"Normal: FL at UF is bad for EO F/B: its F belongs on U, and is on F {rule}.")
     tally.equal("UR", browser.script(PRESS, 5), f"Normal: UR is good for EO F/B: its U is on U {rule}.")
 
 

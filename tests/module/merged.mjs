@@ -139,7 +139,7 @@ const letters = nissy.facelets("");
 const pieces = [...EDGE_PLACES, ...CORNER_PLACES];
 same("the stickers of pieces", pieces.map((name) => stickersOf([name]).map((place) => letters[place]).join("")), pieces);
 same("no place is that of two", new Set(stickersOf(pieces)).size, 48);
-for (const scramble of [20261127, 20261128].map((seed) => nissy.scramble(seed, 1, 25))) {
+for (const scramble of [20261127, 20261128, 20261129].map((seed) => nissy.scramble(seed, 1, 25))) {
   const turned = [{ side: "normal", moves: "R U2 D" }, { side: "inverse", moves: "F B2" }];
   for (const parts of [[], turned, [{ side: "normal", moves: "R R" }, { side: "inverse", moves: "L' D" }]]) tryRows(scramble, parts);
   tryList(scramble, turned, "eorl");
@@ -150,5 +150,5 @@ for (const scramble of [20261127, 20261128].map((seed) => nissy.scramble(seed, 1
 }
 tryTwins("drud-eofb", "R2 L D' U R L' D");
 same(`rows and lists in which moves merge, and twins: ${JSON.stringify(tried)}`, Object.values(tried).every((count) => count > 0), true);
-same("rows enough", tried.rows >= 300, true);
+same("rows enough", tried.rows >= 500, true);
 ended();

@@ -52,5 +52,6 @@ export function whyOf(letters, name, choice) {
   const [kind, wanted] = choice.split(" ");
   const told = { 2: kind === "DR" ? edgePlaced : edgeOriented, 3: cornerOriented }[faces.length];
   const axes = wanted === undefined ? TELLING_AXES : [wanted];
-  return `${name} is ${axes.map((axis) => told(faces, colours, axis)).join("; ")}.`;
+  const piece = PIECES.find((each) => each.length === colours.length && colours.every((colour) => each.includes(colour)));
+  return `${piece === name ? "" : `${piece} at `}${name} is ${axes.map((axis) => told(faces, colours, axis)).join("; ")}.`;
 }
