@@ -198,14 +198,6 @@ inline candidate candidate_of(searches &by, const cube &before, const twins &eac
     return found;
 }
 
-// The nth least of some numbers, or the greatest if there aren't so many.
-inline int nth_least(std::vector<int> numbers, std::uint64_t nth) {
-    if (numbers.empty() || nth == 0) return -1;
-    const auto place = numbers.begin() + static_cast<std::ptrdiff_t>(std::min<std::uint64_t>(nth, numbers.size()) - 1);
-    std::nth_element(numbers.begin(), place, numbers.end());
-    return *place;
-}
-
 // A candidate with what it is sorted by.
 struct judged {
     candidate one;
@@ -220,9 +212,9 @@ constexpr std::size_t FIRST_BATCH = 32, MOST_BATCH = 256;
 
 // Those that may be among the first `most`: as many have no more moves in all than the bound, and one that can't come down to it is left out.
 inline std::vector<judged> judged_best(searches &by, const std::vector<candidate> &candidates, std::uint64_t most) {
-    std::vector<int> numbers;
-    std::transform(candidates.begin(), candidates.end(), std::back_inserter(numbers), [](const candidate &one) { return one.most(); });
-    const int enough = nth_least(std::move(numbers), most);
+    least_until_now least(most);
+    for (const candidate &one : candidates) least.add(one.most());
+    const int enough = least.enough();
     std::vector<judged> found;
     for (const candidate &one : candidates) {
         const int total = one.least <= enough ? total_of(by, one) : NEVER;

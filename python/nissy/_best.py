@@ -1,7 +1,6 @@
 """The best continuations of a line: each edge orientation on three axes and both sides, with the reduction that follows it best."""
 from __future__ import annotations
 
-from heapq import heappush, heappushpop, nsmallest
 from typing import Dict, Iterable, Iterator, List, NamedTuple, Optional, Tuple
 
 from ._continuations import Continuation, Lengths, Orientation, Reduction, Side
@@ -10,7 +9,8 @@ from ._given import Step, Text, bytes_of, number_of
 from ._lines import MOST_WORD
 from ._twins import grouped, last_turns, longer_among
 from ._values import Fault, LineFault, Solution, raising
-from ._ways import NEVER, NORMAL, SIDES, Cube, Progress, Searches, Start, Way, best_way, bounds, bounds_of, read, totals, turns_of, wanted_on
+from ._ways import NEVER, NORMAL, SIDES, Cube, LeastUntilNow, Progress, Searches, Start, Way, best_way, bounds, bounds_of, read, totals, turns_of, \
+    wanted_on
 
 _NAMES: Tuple[Side, Side] = ("normal", "inverse")
 # the orientations, and the reductions that may follow each, with their axes
@@ -119,20 +119,19 @@ def _batches(every: List[_Twins]) -> Iterator[List[_Twins]]:
 
 def _all_candidates(searches: Searches, cube: Cube, every: List[_Twins], most: int) -> Iterator[_Candidate]:
     """Yields orientations with a reduction, at least all that may be among the best `most`."""
-    # as many of the least numbers of all moves as are asked for, the greatest first
-    least: List[int] = []
+    least = LeastUntilNow(most)
     for batch in _batches(every):
-        enough = NEVER if len(least) < most else -least[0] if least else -1
-        found = list(_candidates(searches, cube, batch, enough))
+        found = list(_candidates(searches, cube, batch, least.enough()))
         yield from found
-        for total in (each.most for each in found if each.most < NEVER):
-            (heappushpop if len(least) >= most else heappush)(least, -total)
+        least.add(each.most for each in found)
         searches.go_on(sum(len(twins.moves) for twins in batch))
 
 
-def _nth_least(numbers: Iterable[int], nth: int) -> int:
-    """Returns the nth least of some numbers, or the greatest if there aren't so many."""
-    return max(nsmallest(nth, numbers), default=-1)
+def _enough(numbers: Iterable[int], most: int) -> int:
+    """Returns the number up to which there are as many as are asked for, NEVER if there are fewer."""
+    least = LeastUntilNow(most)
+    least.add(numbers)
+    return least.enough()
 
 
 def _oriented(searches: Searches, start: Start, slack: int, most: int) -> List[Continuation]:
@@ -141,10 +140,10 @@ def _oriented(searches: Searches, start: Start, slack: int, most: int) -> List[C
     searches.begin(sum(len(twins.moves) for twins in every))
     candidates = list(_all_candidates(searches, start.cube, every, most))
     # as many as are asked for have no more moves in all than this, so one that can't come down to it is left out
-    enough = _nth_least((each.most for each in candidates), most)
+    enough = _enough((each.most for each in candidates), most)
     looked_at = ((each.total(searches), each) for each in candidates if each.least <= enough)
     counted = [(total, each) for total, each in looked_at if total < NEVER]
-    enough = _nth_least((total for total, _ in counted), most)
+    enough = _enough((total for total, _ in counted), most)
     kept = [(total, each) for total, each in counted if total <= enough]
     seen = raising(facts_all([each.cubes[0].lines[NORMAL] for _, each in kept]))
     cased = [(total, each, it.case[each.axis]) for (total, each), it in zip(kept, seen)]

@@ -13,12 +13,12 @@ from ._many import Asking, Piece, in_pieces, one_by_one
 from ._places import place_of
 from ._values import Count, Cut, Fault, Solution, Solutions, StartFault
 
-_MOST_TURNS = 20
+MOST_TURNS = 20
 # A piece of solutions that are asked for one after another has so many at most, and is found by looks at so many positions or fewer, if it has
 # any: that takes some milliseconds, and in between Python hears of signals.
 _MOST_OF_PIECE, _NODES_OF_PIECE = 4096, 1 << 20
 # what stands behind a solution of each length
-_ENDS = ("(0)\n", *(f" ({length})\n" for length in range(1, _MOST_TURNS + 1)))
+_ENDS = ("(0)\n", *(f" ({length})\n" for length in range(1, MOST_TURNS + 1)))
 
 
 # where an answer has the length of the shortest, in bytes, and two other numbers, in words of eight bytes
@@ -64,7 +64,7 @@ class Tables:
     def solutions(self, line: Text, limit: int = 20, slack: int = 0) -> Iterator[Solution]:
         """The solutions of a line one after another, as the function `solutions` returns them."""
         data = bytes_of(line, "the line")
-        pieces = self._pieces(number_of(limit, "the limit", _MOST_TURNS), number_of(slack, "the slack", _MOST_TURNS), data)
+        pieces = self._pieces(number_of(limit, "the limit", MOST_TURNS), number_of(slack, "the slack", MOST_TURNS), data)
         # the first piece tells what is wrong with the line
         return chain.from_iterable(chain((next(pieces),), pieces))
 
@@ -207,7 +207,7 @@ def _solutions(text: str, length: int) -> Solutions:
 
 def _numbers(limit: int, slack: int, most: Optional[int], nodes: Optional[int]) -> _Numbers:
     """Returns the numbers of a search, checked. The library's own greatest number stands for all solutions, and for any number of nodes."""
-    return (number_of(limit, "the limit", _MOST_TURNS), number_of(slack, "the slack", _MOST_TURNS),
+    return (number_of(limit, "the limit", MOST_TURNS), number_of(slack, "the slack", MOST_TURNS),
             MOST_WORD if most is None else number_of(most, "most", MOST_WORD),
             MOST_WORD if nodes is None else number_of(nodes, "nodes", MOST_WORD))
 

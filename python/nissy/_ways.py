@@ -3,19 +3,19 @@ were made before them on the same side."""
 from __future__ import annotations
 
 import re
-from typing import Callable, Dict, Iterator, List, NamedTuple, Optional, Sequence, Tuple
+from heapq import heappush, heappushpop
+from typing import Callable, Dict, Iterable, Iterator, List, NamedTuple, Optional, Sequence, Tuple
 
 from ._facts import facts
 from ._given import Step
 from ._lines import cleanup, invert, unniss
-from ._searches import Tables, count_all, solve
+from ._searches import MOST_TURNS, Tables, count_all, solve
 from ._twins import FACES
 from ._values import Count, Cut, Solution, Solutions, raising
 
 NORMAL, INVERSE = SIDES = (0, 1)
 NEVER = 10_000
 """More moves than there can be in all."""
-MOST_TURNS = 20
 Progress = Callable[[int, Optional[int]], object]
 """Is told how many are done, and of how many, or None until that is known."""
 
@@ -202,6 +202,28 @@ def bounds(before: Cube, after: Cube, side: int, step: Step, length: Optional[in
         return Bounds(NEVER, NEVER)
     most = after.count_made() + length
     return Bounds(most - saved_on(before, after, side, step), most)
+
+
+class LeastUntilNow:
+    """The least of some numbers until now: as many as are asked for, of which the greatest bounds the next ones."""
+
+    __slots__ = ("_most", "_negated")
+
+    def __init__(self, most: int) -> None:
+        self._most = most
+        self._negated: List[int] = []
+
+    def add(self, numbers: Iterable[int]) -> None:
+        """Takes those of some numbers that are less than NEVER."""
+        for number in numbers:
+            if number < NEVER:
+                (heappushpop if len(self._negated) >= self._most else heappush)(self._negated, -number)
+
+    def enough(self) -> int:
+        """Returns the greatest of them, NEVER while there are fewer than are asked for, or -1 if none is."""
+        if len(self._negated) < self._most:
+            return NEVER
+        return -self._negated[0] if self._negated else -1
 
 
 def totals(cube: Cube, side: int, solutions: Sequence[Solution]) -> List[int]:
