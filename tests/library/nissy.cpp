@@ -1,5 +1,5 @@
 /* The headers for C++: values out of strings, exceptions with their column, objects that are copied and shared by threads, the moves of a line,
-   names, solutions one after another, and the bounds and progress of `best`, whose rows tests/best tries. It is linked with --wrap for malloc,
+   names, solutions one after another, and the bounds and progress of `best`, whose rows tests/hosts tries. It is linked with --wrap for malloc,
    realloc and free, by which the library's memory is refused. */
 #include "nissy_best.hpp"
 #include "nissy_names.hpp"

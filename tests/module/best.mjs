@@ -1,5 +1,5 @@
 // Tries `best` with values that no call takes, its progress, and its bound in workers and pools. That its rows are those of a count, and of the
-// other languages, also by the least bound, is tried by tests/best.
+// other languages, also by the least bound, is tried by tests/hosts.
 //
 //     node tests/module/best.mjs MODULE
 //

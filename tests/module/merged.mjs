@@ -1,4 +1,4 @@
-// Tries what pages show of the best continuations beside `best`, whose rows tests/best tries: all moves of a row and of each solution of a list,
+// Tries what pages show of the best continuations beside `best`, whose rows tests/hosts tries: all moves of a row and of each solution of a list,
 // beside a count of the merged lines; twins, which have the same case; what is left out, since it was reached before its last move; and where
 // the stickers of a piece are.
 //
