@@ -4,8 +4,7 @@
 #
 #     tests/arm.sh [PROGRAM [FOLDER]]
 #
-# The program is build/nissy if none is named, and the folder build/aarch64. What was not built, or needs a tool that isn't here, is skipped, and
-# named. The last line is `N passed, M failed`, and the status is 1 if M isn't 0.
+# The program is build/nissy if none is named, and the folder build/aarch64.
 set -u
 # shellcheck source=tests/shared
 . "$(dirname "$0")/shared"

@@ -5,8 +5,7 @@
 #
 #     tests/model.sh [PROGRAM]
 #
-# The program is build/nissy if none is named. The last line is `N passed, M failed`, by kinds of runs, and the status is 1 if
-# M isn't 0. If there is no python3 nothing is compared.
+# If there is no python3 nothing is compared.
 set -u
 # shellcheck source=tests/shared
 . "$(dirname "$0")/shared"

@@ -4,7 +4,7 @@
 #     tests/module.sh [PROGRAM [MODULE]]
 #
 # The module is build/nissy.wasm if none is named; tests/hosts.sh tries it beside the program. If there is no module, or no node, nothing is tried. What needs
-# tsc is skipped if that isn't here, and named. The last line is `N passed, M failed`, and the status is 1 if M isn't 0.
+# tsc is skipped if that isn't here, and named.
 set -u
 # shellcheck source=tests/shared
 . "$(dirname "$0")/shared"

@@ -3,7 +3,7 @@
 #
 #     tests/packages.sh [PROGRAM]
 #
-# What can't be made or tried here is skipped, and named. The last line is `N passed, M failed`, and the status is 1 if M isn't 0.
+# What can't be made or tried here is skipped, and named.
 set -u
 # shellcheck source=tests/shared
 . "$(dirname "$0")/shared"

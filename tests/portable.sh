@@ -3,9 +3,6 @@
 # what each compiler makes of the file, on each system that can be had here.
 #
 #     tests/portable.sh [PROGRAM [FOLDER]]
-#
-# The program is build/nissy if none is named, and the folder build. What needs a tool that isn't here is skipped, and named. The last line is `N
-# passed, M failed`, and the status is 1 if M isn't 0.
 set -u
 # shellcheck source=tests/shared
 . "$(dirname "$0")/shared"

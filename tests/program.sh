@@ -4,8 +4,6 @@
 # model draws such devices and limits by the thousand.
 #
 #     tests/program.sh [PROGRAM]
-#
-# The program is build/nissy if none is named. The last line is `N passed, M failed`, and the status is 1 if M isn't 0.
 set -u
 # shellcheck source=tests/shared
 . "$(dirname "$0")/shared"

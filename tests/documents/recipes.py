@@ -9,7 +9,6 @@ files stay; the whole page is run by each of sh, bash and zsh that is there. A b
 They find the repository's folder `examples` beside them.
 A block ```js is a script of its own, which node runs at the top of the repository, if the module is built. A block that takes a tool of TOOLS, or
 the library, is skipped if that isn't here, and named. So are the examples of a manual page.
-The last line is `N passed, M failed`, and the status is 1 where M isn't 0.
 """
 import difflib
 import os

@@ -5,8 +5,7 @@
 
 A host is `python` by the library of NISSY_LIBRARY, `c++=CALLER` of caller.cpp, `js=MODULE`, or another program as `program=COMMAND`. The draws are
 those by which the program is compared with the model (tests/model/against.py), files of many lines, and lines that are judged. A run is made with
-room that grows and with room of a drawn size, and then by a call for each line of its input. The last line is `N passed, M failed`, by kinds, and
-the status is 1 if M isn't 0.
+room that grows and with room of a drawn size, and then by a call for each line of its input.
 """
 import random
 import re

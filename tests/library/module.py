@@ -5,7 +5,6 @@ calls return and raise is tried by values.py.
     tests/library/module.py [large]
 
 The library is that of NISSY_LIBRARY. With `large` an output of more than 2 GiB is taken too: half a minute, and 5 GB of memory.
-The last line is `N passed, M failed`, and the status is 1 where M isn't 0.
 """
 import copy
 import dataclasses

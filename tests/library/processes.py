@@ -2,9 +2,7 @@
 """The Python module in processes of their own: threads that are first to ask a step, forked children, signals, little memory, libraries
 that aren't its own, and its types by mypy, where that is there.
 
-    tests/library/processes.py
-
-The library is that of NISSY_LIBRARY. The last line is `N passed, M failed`, and the status is 1 where M isn't 0.
+The library is that of NISSY_LIBRARY.
 """
 import os
 import shutil

@@ -1,8 +1,4 @@
 // The engine in a worker, in node: its calls, and calls that are given up.
-//
-//     node tests/module/in_worker.mjs MODULE
-//
-// The last line is `N passed, M failed`, and the status is 1 where M isn't 0.
 import { getEventListeners } from "node:events";
 import { performance } from "node:perf_hooks";
 import { Nissy, NissyWorker, loadNissy } from "../../web/module/node.js";

@@ -1,8 +1,4 @@
 // The module called as web/module/ABI.md says, without its scripts.
-//
-//     node tests/module/plain.mjs MODULE
-//
-// The last line is `N passed, M failed`, and the status is 1 where M isn't 0.
 import { AXIS_FACTS, CHECK_ANSWER, FACTS_ANSWER, HEAD, LINES_ANSWER, LINE_ANSWER, SEARCH_ANSWER } from "../../web/module/layout.js";
 import { ended, moduleBytes as module, same, text } from "./tally.mjs";
 

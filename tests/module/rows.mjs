@@ -1,8 +1,4 @@
 // Calls of the module in node, with the answers that are wanted.
-//
-//     node tests/module/rows.mjs MODULE
-//
-// The last line is `N passed, M failed`, and the status is 1 where M isn't 0.
 import { NoWebAssembly, NoWideMemory, Nissy } from "../../web/module/nissy.js";
 import { bytesOf, partsOf, rowsOf } from "./tables.mjs";
 import { ended, loaded, moduleBytes as module, same, text, thrown } from "./tally.mjs";

@@ -1,8 +1,4 @@
 // The calls of `Nissy` by their names, with what is wanted, and with values and sizes that no call takes.
-//
-//     node tests/module/typed.mjs MODULE
-//
-// The last line is `N passed, M failed`, and the status is 1 where M isn't 0.
 import { runInContext } from "node:vm";
 import { readFileSync } from "node:fs";
 import { Nissy, VERSION } from "../../web/module/nissy.js";

@@ -1,9 +1,5 @@
 // Values that are no text in the words and the input of the module, and calls that break off: nothing of one caller reaches another, and
 // the next call is answered.
-//
-//     node tests/module/wrong.mjs MODULE
-//
-// The last line is `N passed, M failed`, and the status is 1 where M isn't 0.
 import { createContext, runInContext } from "node:vm";
 import { Nissy } from "../../web/module/nissy.js";
 import { tryCutOff, tryDeepCalls } from "./broken_off.mjs";

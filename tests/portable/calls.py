@@ -1,10 +1,6 @@
 #!/usr/bin/env python3
 """Tries how tools/c_calls.py reads what a module's function returns or fills: a struct with numbers of every width, an array of structs and a mark, at
-places that fill every gap, and an array that the caller has. The module writes one byte after another; what C reads of them is reckoned here. By each compiler that is here.
-
-    tests/portable/calls.py
-
-It needs wat2wasm. The last line is `N passed, M failed`, and the status is 1 if M isn't 0.
+places that fill every gap, and an array that the caller has. The module writes one byte after another; what C reads of them is reckoned here. By each compiler that is here. It needs wat2wasm.
 """
 import shutil
 import subprocess
