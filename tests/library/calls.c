@@ -2,7 +2,6 @@
    nothing but what they may, and what a null pointer and a misuse that can be seen give. Rooms of any size are proved, and drawn by fuzz.c.
 
        calls [few]      `few` takes one run of six, and no longest input, where a tool makes each byte slow */
-#include "faults.h"
 #include "rows.h"
 #include "searches.h"
 

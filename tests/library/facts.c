@@ -1,9 +1,9 @@
 /* The calls that judge lines, and those on many lines: the rows of tests/calls.tsv, faults, texts of lines, and what is longest.
 
        facts [few]      `few` takes no longest input */
-#include "faults.h"
-#include "nissy_forms.h"
 #include "searches.h"
+
+#include "nissy_forms.h"
 
 static nissy_facts_answer facts_of(const char *line) {
     guarded read = copied(line, strlen(line));

@@ -15,7 +15,7 @@ TOP = Path(__file__).resolve().parents[2]
 PYTHON = str(TOP / "python")
 sys.path[:0] = [str(TOP / "tests")]
 
-from tally import Tally
+from tally import Tally, tried
 
 SECONDS = 120
 
@@ -325,13 +325,5 @@ def types(tally: Tally) -> None:
             tally.holds(f"mypy refuses {line}", f"wrong.py:{number}: error" in told)
 
 
-def main() -> None:
-    """All of it."""
-    tally = Tally()
-    for part in (processes, libraries, types):
-        part(tally)
-    tally.end()
-
-
 if __name__ == "__main__":
-    main()
+    tried(processes, libraries, types)
