@@ -64,7 +64,7 @@ compiled() { # NAME
     $cross-gcc "${strict[@]}" -Iinclude -Itests/library -I"$room/rows" -pthread $(wraps "$1") -o "$room/$1" "tests/library/$1.c" "$folder/libnissy.a"
 }
 # emulated, each byte takes many times as long
-declare -A fewer=([calls]=few [facts]=few [threads]="1 40" [fuzz]="1 5" [broken_rules]=2)
+declare -A fewer=([calls]=few [threads]="1 40" [fuzz]="1 5" [broken_rules]=2)
 rows_in_c "$room/rows"
 for name in calls facts memory threads handlers fuzz broken_rules; do
     holds "$name.c compiles for ARM" compiled "$name"

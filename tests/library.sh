@@ -59,7 +59,8 @@ tried() { # NAME: the test in C of this name
         # Searches alone, since a run takes it seconds.
         threads) valgrinds --tool=helgrind "$made/$name" 0 10 ;;
         # It makes each byte thirty times as slow. Its own malloc takes no wraps, and a handler's small stack isn't for it.
-        calls | facts) valgrinds --leak-check=full "$made/$name" few ;;
+        calls) valgrinds --leak-check=full "$made/calls" few ;;
+        facts) valgrinds --leak-check=full "$made/facts" ;;
     esac
     ended
 }

@@ -45,7 +45,9 @@ def runs(tally: Tally) -> None:
     for words, data, wanted in rows:
         answer = nissy.run(words, data)
         tally.equal(f"run of {words}", (answer.status, answer.out, answer.err, answer.full), wanted + (False,))
-    tally.equal("a line of 16,777,216 blanks is read", nissy.invert(b" " * nissy.MOST_INPUT), "")
+    most = b" " * nissy.MOST_INPUT
+    told = (nissy.invert(most), nissy.count("eofb", most).solutions, nissy.facts(most).solved, nissy.check(most, most).solved)
+    tally.equal("a line of 16,777,216 blanks is read", told, ("", 1, True, True))
     tally.holds("a word with a zero byte is a ValueError", raised(ValueError, lambda: nissy.run(["invert", "R\0U"])))
     tally.holds("an answer can't be changed", raised(dataclasses.FrozenInstanceError, lambda: setattr(nissy.run(["steps"]), "status", 1)))
 
