@@ -4,8 +4,7 @@
 #
 #     tests/arm.sh [PROGRAM [FOLDER]]
 #
-# The program is build/nissy if none is named, and the folder build/aarch64. What was not built, or needs a tool that isn't here, is skipped, and
-# named. The last line is `N passed, M failed`, and the status is 1 if M isn't 0.
+# The program is build/nissy if none is named, and the folder build/aarch64.
 set -u
 # shellcheck source=tests/shared
 . "$(dirname "$0")/shared"
@@ -65,7 +64,7 @@ compiled() { # NAME
     $cross-gcc "${strict[@]}" -Iinclude -Itests/library -I"$room/rows" -pthread $(wraps "$1") -o "$room/$1" "tests/library/$1.c" "$folder/libnissy.a"
 }
 # emulated, each byte takes many times as long
-declare -A fewer=([calls]=few [facts]=few [threads]="1 40" [fuzz]="1 5" [broken_rules]=2)
+declare -A fewer=([calls]=few [threads]="1 40" [fuzz]="1 5" [broken_rules]=2)
 rows_in_c "$room/rows"
 for name in calls facts memory threads handlers fuzz broken_rules; do
     holds "$name.c compiles for ARM" compiled "$name"

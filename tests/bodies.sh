@@ -1,7 +1,6 @@
 #!/usr/bin/env bash
 # Reads the wrong bodies of tests/wrong-bodies and makes each in the text of its crate, which needs no prover; and sees that one which is
-# written wrongly, or which no longer fits its crate, is refused by its name.
-# The last line is `N passed, M failed`, and the status is 1 if M isn't 0. If there is no python3 nothing is tried.
+# written wrongly, or which no longer fits its crate, is refused by its name. If there is no python3 nothing is tried.
 set -u
 cd "$(dirname "$0")/.." || exit 2
 # shellcheck source=tests/shared

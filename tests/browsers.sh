@@ -7,7 +7,6 @@
 # The page is build/nissy.html if none is named, and the program build/nissy. What needs a browser that isn't here is skipped, and named.
 # `/usr/bin/python3 tests/browsers/drive.py build/nissy.html build/nissy looks` runs one part of Chromium's. Look at the page after a change too: 360 points
 # wide, light and dark. docs/page.png has 1180 by 980 points.
-# The last line is `N passed, M failed`, and the status is 1 if M isn't 0.
 set -u
 # shellcheck source=tests/shared
 . "$(dirname "$0")/shared"

@@ -4,7 +4,7 @@
 #
 #     tests/builds.sh
 #
-# If there is no Rattle kit nothing is tried. The last line is `N passed, M failed`, and the status is 1 if M isn't 0.
+# If there is no Rattle kit nothing is tried.
 set -u
 cd "$(dirname "$0")/.." || exit 2
 # shellcheck source=tests/shared

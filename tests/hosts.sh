@@ -4,8 +4,7 @@
 #
 #     tests/hosts.sh [PROGRAM [FOLDER]]
 #
-# The program is build/nissy if none is named, and the folder of library and module build. What needs a tool that isn't here is skipped, and
-# named. The scripts of tests/hosts ask more by other numbers. The last line is `N passed, M failed`, and the status is 1 if M isn't 0.
+# The scripts of tests/hosts ask more by other numbers.
 set -u
 # shellcheck source=tests/shared
 . "$(dirname "$0")/shared"

@@ -3,8 +3,6 @@
 # completions and manuals give with those of PROGRAM. The library is found by pkg-config and by CMake.
 #
 #     tests/install.sh [PROGRAM]
-#
-# The program is build/nissy if none is named. The last line is `N passed, M failed`, and the status is 1 if M isn't 0.
 set -u
 # shellcheck source=tests/shared
 . "$(dirname "$0")/shared"

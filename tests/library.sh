@@ -4,9 +4,6 @@
 # ends the test.
 #
 #     tests/library.sh [PROGRAM [FOLDER]]
-#
-# The program is build/nissy if none is named, and the folder build. What needs a tool that isn't here is skipped, and named. The last
-# line is `N passed, M failed`, and the status is 1 if M isn't 0.
 set -u
 # shellcheck source=tests/shared
 . "$(dirname "$0")/shared"
@@ -62,7 +59,8 @@ tried() { # NAME: the test in C of this name
         # Searches alone, since a run takes it seconds.
         threads) valgrinds --tool=helgrind "$made/$name" 0 10 ;;
         # It makes each byte thirty times as slow. Its own malloc takes no wraps, and a handler's small stack isn't for it.
-        calls | facts) valgrinds --leak-check=full "$made/$name" few ;;
+        calls) valgrinds --leak-check=full "$made/calls" few ;;
+        facts) valgrinds --leak-check=full "$made/facts" ;;
     esac
     ended
 }

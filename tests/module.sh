@@ -4,7 +4,7 @@
 #     tests/module.sh [PROGRAM [MODULE]]
 #
 # The module is build/nissy.wasm if none is named; tests/hosts.sh tries it beside the program. If there is no module, or no node, nothing is tried. What needs
-# tsc is skipped if that isn't here, and named. The last line is `N passed, M failed`, and the status is 1 if M isn't 0.
+# tsc is skipped if that isn't here, and named.
 set -u
 # shellcheck source=tests/shared
 . "$(dirname "$0")/shared"
@@ -14,7 +14,7 @@ module=$(realpath -m -- "${2:-build/nissy.wasm}")
 if [ ! -e "$module" ] || missing node; then
     skips_all "there is no module that make build/nissy.wasm built, or no node"
 fi
-for trial in typed in_worker wrong overridden rows plain written merged best pool; do part node "tests/module/$trial.mjs" "$module"; done
+for trial in typed in_worker overridden rows plain written merged best pool; do part node "tests/module/$trial.mjs" "$module"; done
 
 if missing tsc; then
     skips "the types of the module's JavaScript, since there is no tsc"

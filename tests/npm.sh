@@ -1,7 +1,7 @@
 #!/usr/bin/env bash
 # Packs build/nissy.wasm and its JavaScript for npm, installs the package in an empty folder, and tries what it exports, its types, bundles of it and
-# its command there, by drawn runs beside the model. For more of them tests/model/against.py takes the installed command as its
-# program. No network is asked for. The last line is `N passed, M failed`, and the status is 1 if M isn't 0.
+# its command there, by drawn runs beside the model. For more of them tests/model/against.py takes the installed command as its program. No network
+# is asked for.
 set -u
 # shellcheck source=tests/shared
 . "$(dirname "$0")/shared"

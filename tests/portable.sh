@@ -3,9 +3,6 @@
 # what each compiler makes of the file, on each system that can be had here.
 #
 #     tests/portable.sh [PROGRAM [FOLDER]]
-#
-# The program is build/nissy if none is named, and the folder build. What needs a tool that isn't here is skipped, and named. The last line is `N
-# passed, M failed`, and the status is 1 if M isn't 0.
 set -u
 # shellcheck source=tests/shared
 . "$(dirname "$0")/shared"
@@ -18,7 +15,6 @@ typed tests/portable/*.py python/source/backend.py
 if missing wat2wasm || missing node; then skips "the translator by itself, since there is no wat2wasm (wabt) or no node"; else
     add python3 tests/portable/rows.py 1 60
     add python3 tests/portable/refused.py
-    add python3 tests/portable/calls.py
     add python3 tests/portable/wrong.py
 fi
 if [ ! -e "$folder/nissy.c" ]; then skips "the rest, since there is no nissy.c that make c made" && ended; exit; fi
@@ -73,7 +69,7 @@ done
 
 # the program as the proved one is tried, and the same drawn runs by each compiler; what is slow by itself, or by an emulator, makes fewer
 add tests/program.sh "$room/gcc"
-add python3 tests/model/hostile.py "$room/gcc" 1 0.02 devices,memory,gone
+add python3 tests/model/hostile.py "$room/gcc" 1 0.02 devices,growing,memory,gone,waiting,words,files
 others=() slow=()
 ran_by() { # LIST NAME [RUNNER]: adds the program of a compiler that was here, with what runs it
     local -n list=$1
@@ -91,18 +87,28 @@ add python3 tests/hosts/drawn.py "$program" 1 0.01 "${slow[@]}"
 [ -z "$wine" ] || [ -z "$server" ] || end_wine
 
 # the library's tests over the file, in place of the library
-linked() { # NAME TEST WORD..: the test of this name with the file as it was compiled
+linked() { # COMPILER NAME TEST WORD..: the test of this name with the file as it was compiled
     # shellcheck disable=SC2046 # no word or one
-    gcc -std=c11 -O1 -g1 "${@:3}" -pthread $(wraps "$2") -Iinclude -Itests/library -I"$room/rows" -o "$room/$1.$2" "tests/library/$2.c" "$room/$1.o"
+    "$1" -std=c11 -O1 -g1 "${@:4}" -pthread $(wraps "$3") -Iinclude -Itests/library -I"$room/rows" -o "$room/$2.$3" "tests/library/$3.c" "$room/$2.o"
 }
 rows_in_c "$room/rows"
-for trial in "calls few" "facts few" "fuzz" "threads 0 10"; do
+for trial in "calls few" facts fuzz "threads 0 10"; do
     name=${trial%% *} words=()
     [ "$name" = "$trial" ] || read -ra words <<< "${trial#* }"
-    holds "$name.c is linked with nissy.c" linked sanitized "$name" "${sanitized[@]:2}"
+    holds "$name.c is linked with nissy.c" linked gcc sanitized "$name" "${sanitized[@]:2}"
     add "$room/sanitized.$name" "${words[@]}"
 done
-holds "threads.c is linked with it for races" linked raced threads -fsanitize=thread
+by_others() { # NAME COMPILER [RUNNER]: each number of an answer, by a processor of another width or byte order
+    local name
+    [ -e "$room/$1.o" ] || return
+    for name in calls facts; do
+        holds "$name.c is linked with it for $1" linked "$2" "$1" "$name" -static
+        add "${@:3}" "$room/$1.$name" few
+    done
+}
+by_others i686 i686-linux-gnu-gcc
+missing qemu-s390x || by_others s390x s390x-linux-gnu-gcc qemu-s390x
+holds "threads.c is linked with it for races" linked gcc raced threads -fsanitize=thread
 add "$room/raced.threads" 0 5
 in_c_plus_plus() { # the headers in C++ over it
     g++ -std=c++17 -O1 -DNISSY_IN_C -pthread "$(wraps nissy)" -Iinclude -Itests/library -I"$room/rows" -o "$room/plus" tests/library/nissy.cpp "$room/gcc.o"
@@ -111,6 +117,6 @@ if missing g++; then skips "nissy.hpp over nissy.c, since there is no g++"; else
     holds "nissy.cpp is linked with it" in_c_plus_plus
     add "$room/plus"
 fi
-holds "handlers.c is linked with it" linked gcc handlers
+holds "handlers.c is linked with it" linked gcc gcc handlers
 add "$room/gcc.handlers"
 ended

@@ -4,10 +4,9 @@
 #     tests/recipes.sh [PROGRAM [PAGE..]]
 #
 # The program is build/nissy if none is named, and the pages are README, COOKBOOK, MANUAL, MANY, EMBEDDING, the module's README and the manual
-# page.
-# If `make lib` built the library, the examples find it, its header and its module; else EMBEDDING is skipped, and so is the module's README
-# if `make build/nissy.wasm` built none. `tests/documents/recipes.py` says how an example is written. The last line is `N passed, M failed`,
-# and the status is 1 if M isn't 0. If there is no python3 nothing is tried.
+# page. If `make lib` built the library, the examples find it, its header and its module; else EMBEDDING is skipped, and so is the module's
+# README if `make build/nissy.wasm` built none. `tests/documents/recipes.py` says how an example is written. If there is no python3 nothing is
+# tried.
 set -u
 # shellcheck source=tests/shared
 . "$(dirname "$0")/shared"

@@ -1,8 +1,6 @@
 """The runs of tests/runs.tsv; as a script it makes each by a program, and compares output, error text and status:
 
     tests/runs.py COMMAND..
-
-The last line is `N passed, M failed`.
 """
 import re
 import subprocess

@@ -27,6 +27,14 @@ class Tally:
         sys.exit(0 if self.passed and not self.failed else 1)
 
 
+def tried(*parts: Callable[[Tally], None]) -> None:
+    """Tries parts one after another, and ends the script."""
+    tally = Tally()
+    for part in parts:
+        part(tally)
+    tally.end()
+
+
 def raised(kind: Type[BaseException], call: Callable[[], object]) -> Any:
     """What a call raises of exactly this kind, or None."""
     try:

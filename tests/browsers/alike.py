@@ -3,8 +3,6 @@
 as they are seen, and what assistive technology is told that buttons and fields are called. WebKit needs a display.
 
     tests/browsers/alike.py PAGE
-
-The last line is `N passed, M failed`, and the status is 1 where M isn't 0.
 """
 import json
 import sys

@@ -4,8 +4,7 @@
     tests/browsers/drive.py [PAGE PROGRAM [PART..]]
 
 PAGE is the joined file, PROGRAM the built nissy, and a PART one of those in PARTS below; all where none is named. Of a part each function is tried
-that takes a tally and a browser alone. The last line is `N passed, M failed`, and the status is 1 where M isn't 0. Without a word it prints the
-names of the parts, in lines of which each may be tried beside the others.
+that takes a tally and a browser alone. Without a word it prints the names of the parts, in lines of which each may be tried beside the others.
 """
 import shutil
 import subprocess

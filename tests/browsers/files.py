@@ -2,8 +2,6 @@
 """Looks at the joined page as text: its size, its policy, what it may ask for, its parts; and at what tools/page refuses.
 
     tests/browsers/files.py PAGE
-
-The last line is `N passed, M failed`, and the status is 1 where M isn't 0.
 """
 import base64
 import gzip

@@ -2,8 +2,6 @@
 """Holds the pages against the repository. With the word `map` it only prints what the maps of docs/ARCHITECTURE.md lack, and what is gone.
 
     tests/documents/check.py [map]
-
-The last line is `N passed, M failed`, and the status is 1 where M isn't 0.
 """
 import re
 import shutil

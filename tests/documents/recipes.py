@@ -9,7 +9,6 @@ files stay; the whole page is run by each of sh, bash and zsh that is there. A b
 They find the repository's folder `examples` beside them.
 A block ```js is a script of its own, which node runs at the top of the repository, if the module is built. A block that takes a tool of TOOLS, or
 the library, is skipped if that isn't here, and named. So are the examples of a manual page.
-The last line is `N passed, M failed`, and the status is 1 where M isn't 0.
 """
 import difflib
 import os
@@ -108,16 +107,8 @@ def run_by(shell: str, examples: list[Example], environment: dict[str, str]) -> 
             place.write_text(NOT_REACHED)
         script.write_text("".join(f"{begin}\n{it.command}\n{end} > {place} 2>&1\n" for it, place in zip(examples, places)))
         try:
-            stray = subprocess.run(
-                [shell, script],
-                cwd=home,
-                env=environment | {"HOME": str(home)},
-                stdin=subprocess.DEVNULL,
-                stdout=subprocess.PIPE,
-                stderr=subprocess.STDOUT,
-                check=False,
-                timeout=SECONDS,
-            ).stdout
+            stray = subprocess.run([shell, script], cwd=home, env=environment | {"HOME": str(home)}, check=False, timeout=SECONDS,
+                                   stdin=subprocess.DEVNULL, stdout=subprocess.PIPE, stderr=subprocess.STDOUT).stdout
         except subprocess.TimeoutExpired as late:
             stray = late.stdout or b""
         sys.stdout.write(stray.decode(errors="replace"))

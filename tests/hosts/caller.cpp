@@ -65,34 +65,31 @@ std::string drawn(std::istream &asked) {
     return nissy::scramble(state, stream, length) + "\n" + lines(nissy::scrambles(state, stream, length, count));
 }
 
-// The names of those whose bits a mask has.
-template <std::size_t SIZE> std::string chosen(const std::bitset<SIZE> &mask, const std::array<const char *, SIZE> &names) {
+std::string joined(const std::vector<std::string> &texts) {
     std::string text;
-    for (std::size_t at = 0; at < SIZE; at++)
-        if (mask[at]) text += (text.empty() ? "" : ",") + std::string(names[at]);
+    for (const std::string &each : texts) text += (text.empty() ? "" : ",") + each;
     return text;
 }
 
 std::string seen(std::string_view line) {
-    static constexpr std::array<const char *, 12> EDGES = {"UR", "UF", "UL", "UB", "DR", "DF", "DL", "DB", "FR", "FL", "BL", "BR"};
-    static constexpr std::array<const char *, 8> CORNERS = {"URF", "UFL", "ULB", "UBR", "DFR", "DLF", "DBL", "DRB"};
     const nissy::line_facts facts = nissy::facts(line);
-    std::string held, axes;
-    for (const std::string &step : facts.holds()) held += (held.empty() ? "" : ",") + step;
-    for (const nissy::axis_facts &it : facts.axes) {
+    std::string axes;
+    for (const nissy::axis_facts &it : {facts.fb(), facts.rl(), facts.ud()}) {
         const auto count = [](const auto &places) { return static_cast<int>(places.count()); };
         if (count(it.bad_edge_places) != it.bad_edges || count(it.bad_corner_places) != it.bad_corners) return "other numbers";
-        if (it.dr_case() != std::to_string(it.bad_corners) + "c" + std::to_string(count(it.misplaced_edge_places)) + "e") return "another case";
-        axes += " " + chosen(it.bad_edge_places, EDGES) + "/" + chosen(it.bad_corner_places, CORNERS) + "/" + chosen(it.misplaced_edge_places, EDGES);
+        if (count(it.misplaced_edge_places) != it.misplaced_edges) return "another number";
+        if (it.dr_case() != std::to_string(it.bad_corners) + "c" + std::to_string(it.misplaced_edges) + "e") return "another case";
+        axes += " " + joined(nissy::edge_names(it.bad_edge_places)) + "/" + joined(nissy::corner_names(it.bad_corner_places)) + "/" +
+                joined(nissy::edge_names(it.misplaced_edge_places));
     }
-    return std::to_string(facts.solved) + " " + std::to_string(facts.moves) + " " + std::to_string(facts.clean_moves) + " " + held + axes;
+    return std::to_string(facts.solved) + " " + std::to_string(facts.moves) + " " + std::to_string(facts.clean_moves) + " " +
+           joined(facts.holds()) + axes;
 }
 
 std::string checked(std::string_view scramble, std::string_view solution) {
-    static constexpr std::array<const char *, 5> FORMS = {"slices", "lower_case", "brackets", "apostrophe", "half_prime"};
     const nissy::verdict it = nissy::check(scramble, solution);
     return std::to_string(it.solved) + " " + std::to_string(it.moves) + " " + std::to_string(it.clean_moves) + " " +
-           chosen(std::bitset<5>(it.forms), FORMS);
+           joined(nissy::form_names(it.forms));
 }
 
 // The moves, those outside brackets first.
@@ -106,12 +103,6 @@ std::string moves_of(std::string_view line) {
         text += (text.empty() ? "" : " ") + move.text + "/" + move.axis + "/" + layers + "/" + std::to_string(move.quarters) + "/" +
                 std::to_string(move.inverse);
     }
-    return text;
-}
-
-std::string joined(const std::vector<std::string> &texts) {
-    std::string text;
-    for (const std::string &each : texts) text += (text.empty() ? "" : ",") + each;
     return text;
 }
 

@@ -2,8 +2,6 @@
 tests/model cleans the moves, tells the case and what is reached. All rows are compared, with their totals, lengths, cases and order.
 
     python3 tests/hosts/counted.py PROGRAM SEED COUNT
-
-The last line is `N passed, M failed`.
 """
 import os
 import subprocess

@@ -4,23 +4,26 @@
     tests/hosts/drawn.py PROGRAM SEED SCALE HOST..
 
 A host is `python` by the library of NISSY_LIBRARY, `c++=CALLER` of caller.cpp, `js=MODULE`, or another program as `program=COMMAND`. The draws are
-those by which the program is compared with the model (tests/model/against.py), files of many lines, and lines that are judged. A run is made with
-room that grows and with room of a drawn size, and then by a call for each line of its input. The last line is `N passed, M failed`, by kinds, and
-the status is 1 if M isn't 0.
+those by which the program is compared with the model (tests/model/against.py), files of many lines, and lines that are judged; hosts with calls have
+the rows of tests/runs.tsv and tests/calls.tsv too. A run is made with room that grows and with room of a drawn size, and then by a call for each line
+of its input.
 """
 import random
 import re
 import sys
+from itertools import chain
 
 from hosts import ALL, Given, Host, fault_of, hosts_of, told  # isort: skip
 
 import against
 import bad_pieces
+import called
 import model
 import solving
 from cube import LAYERS, Move
 from drawing import Drawing
 from notation import ITEM, ReadFault, read, word_of
+from runs import runs
 from trial import Trial
 
 # the calls on a line, by the program's words for them, and how many words each search has before its line
@@ -32,6 +35,8 @@ FILES, JUDGED = 100, 6_000
 REWRITTEN, SEARCHED = 200, 60
 # limit and slack of a search that ends soon on any line
 NUMBERS = [(0, 0), (3, 0), (20, 0), (2, 1), (3, 2), (3, 20)]
+# which fields of a row of tests/calls.tsv are lines
+LINES_OF = {"text": [1], "fault": [0], "forms": [0], "facts": [0], "check": [0, 1], "tokens": [0]}
 # what a system might take for the end of a line or of a file
 OF_SYSTEMS = [b"R\r\nU\r\n", b"R\x1aU\n", b"\x1a", b"U\r", b"\xef\xbb\xbfR\n"]
 # after these alone several steps hold, or all
@@ -138,6 +143,26 @@ def many_lines(trial: Trial, draw: Drawing, files: int) -> None:
         trial.compare("many lines, searched", words, with_damage(lines))
 
 
+def listed_lines() -> list[bytes]:
+    """The lines of tests/calls.tsv but those that are searched."""
+    rows = ((row, places) for kind, places in LINES_OF.items() for row in called.rows(kind))
+    return [row[at].encode("utf-8", "surrogateescape") for row, places in rows for at in places]
+
+
+def listed(trial: BesideHosts) -> None:
+    """The rows of both tables, a line by each command that rewrites and by a search."""
+    for run in runs():
+        trial.compare("listed runs", [word.decode("utf-8", "surrogateescape") for word in run.words], run.data)
+    for line in listed_lines():
+        for words in (*([command] for command in model.REWRITES), ["solve", "eofb", "2"], ["count", "dr-eofb", "2"]):
+            trial.compare("listed lines", words, line)
+    for it in called.searches():
+        for words in (["near", it.step, str(it.limit), str(it.slack)], ["count", it.step, str(it.limit)]):
+            trial.compare("listed searches", words, it.line.encode())
+    for state, stream, length, count, _ in called.rows("scrambles"):
+        trial.compare("listed scrambles", ["scramble", state, stream, length, count])
+
+
 def token_of_model(move: Move, inverse: bool) -> str:
     """A move as it is told."""
     axis, layers, clockwise = LAYERS[move[0]]
@@ -173,16 +198,21 @@ def of_model(call: str, lines: list[bytes]) -> str:
     return facts_of_model(lines[0]) if call == "facts" else form_places_of_model(lines[0])
 
 
+def drawn_line(draw: Drawing) -> bytes:
+    """A line that is judged, damaged now and then."""
+    line = (draw.line(draw.choice([4, 15, 30])) if draw.random() < 0.9 else draw.started_from_solved(HALF_TURNS, 12)).encode()
+    return draw.damaged(line) if draw.random() < 0.15 else line
+
+
 def judged(trial: BesideHosts, draw: Drawing, count: int) -> None:
-    """Calls that the program has no command for, a part of them on damaged lines."""
+    """Calls that the program has no command for, on the lines that are listed and on drawn ones."""
     last = b""
     trial.awaits(*CAME)
-    for _ in range(count):
-        line = (draw.line(draw.choice([4, 15, 30])) if draw.random() < 0.9 else draw.started_from_solved(HALF_TURNS, 12)).encode()
-        line = draw.damaged(line) if draw.random() < 0.15 else line
+    for line in chain(listed_lines(), (drawn_line(draw) for _ in range(count))):
         undone = model.run(["invert"], last + b"\n")[0].rstrip(b"\n") or last
-        # half of the checks may solve
-        for call, lines in (("facts", [line]), ("tokens", [line]), ("form_places", [line]), ("check", [last, line if draw.random() < 0.5 else undone])):
+        # the last of the checks may solve
+        asked = [(call, [line]) for call in ("facts", "tokens", "form_places")] + [("check", [last, line]), ("check", [last, undone])]
+        for call, lines in asked:
             wanted = of_model(call, lines)
             if call == "facts" and not wanted.startswith("fault"):
                 trial.counts["facts, %d steps" % len(wanted.split(" ")[3].replace(",", " ").split())] += 1
@@ -207,6 +237,7 @@ def main() -> None:
         for data in OF_SYSTEMS:
             trial.compare("bytes of systems", words, data)
     if any(host.has_calls for host in trial.hosts):
+        listed(trial)
         judged(trial, Drawing(seed + 2), int(JUDGED * scale))
         trial.awaits(*(f"{host.name}: {call}" for host in trial.hosts for call in (*REWRITINGS.values(), "solve", "count", "scrambles", "steps")))
     for host in trial.hosts:

@@ -3,7 +3,7 @@
 
     tests/library/by_cffi.py DECLARATIONS
 
-The library is that of NISSY_LIBRARY. The last line is `N passed, M failed`, and the status is 1 where M isn't 0.
+The library is that of NISSY_LIBRARY.
 """
 import os
 import sys

@@ -1,8 +1,7 @@
 /* Each call once with each of its rows: that header and library mean the same numbers, in rooms to the byte and a byte less, that they touch
    nothing but what they may, and what a null pointer and a misuse that can be seen give. Rooms of any size are proved, and drawn by fuzz.c.
 
-       calls [few]      `few` takes one run of six, and no longest input, where a tool makes each byte slow */
-#include "faults.h"
+       calls [few]      `few` takes one run of six, where a tool makes each byte slow */
 #include "rows.h"
 #include "searches.h"
 
@@ -261,21 +260,6 @@ static void texts_are_written(void) {
     holds(nissy_version() == version_of_header(), "it is that of the header", "nissy_version");
 }
 
-/* Inputs at the limit and a byte beyond it. */
-static void limits_are_kept(void) {
-    guarded blanks = guard(NISSY_MOST_INPUT + 1), out = untouched(8);
-    memset(blanks.bytes, ' ', blanks.size);
-    is_refused(nissy_invert(blanks.bytes, blanks.size, out.bytes, 8), out, NISSY_STOPPED, 0, 0, "16,777,217 blanks");
-    nissy_line_answer read = nissy_invert(blanks.bytes + 1, NISSY_MOST_INPUT, out.bytes, 8);
-    holds(read.status == NISSY_DONE && read.length == 0, "its inverse", "16,777,216 blanks");
-    nissy_tables tables = built("eofb");
-    holds(nissy_count(&tables, blanks.bytes, blanks.size, MOST, 0, NISSY_ALL, NISSY_ALL).status == NISSY_STOPPED, "its count", "16,777,217 blanks");
-    holds(nissy_count(&tables, blanks.bytes + 1, NISSY_MOST_INPUT, MOST, 0, NISSY_ALL, NISSY_ALL).solutions == 1, "its count", "16,777,216 blanks");
-    nissy_run_answer run = nissy_run((const uint8_t *)"invert", 6, blanks.bytes, blanks.size, out.bytes, 8, NULL, 0);
-    holds(run.status == NISSY_STOPPED && run.out_length == 0, "a run", "16,777,217 blanks");
-    let_go(blanks), let_go(out);
-}
-
 int main(int count, char **words) {
     (void)words;
     reads_lines();
@@ -288,6 +272,5 @@ int main(int count, char **words) {
     copies_stay();
     null_is_empty();
     texts_are_written();
-    if (count == 1) limits_are_kept();
     return ended();
 }

@@ -1,9 +1,7 @@
-/* The calls that judge lines, and those on many lines: the rows of tests/calls.tsv, faults, texts of lines, and what is longest.
-
-       facts [few]      `few` takes no longest input */
-#include "faults.h"
-#include "nissy_forms.h"
+/* The calls that judge lines, and those on many lines: the rows of tests/calls.tsv, faults, and texts of lines. What is longest is tried from Python. */
 #include "searches.h"
+
+#include "nissy_forms.h"
 
 static nissy_facts_answer facts_of(const char *line) {
     guarded read = copied(line, strlen(line));
@@ -137,31 +135,11 @@ static void many_lines_are_answered(void) {
     let_go(out), let_go(read);
 }
 
-/* Lines at the limit and a byte beyond it. */
-static void limits_are_kept(void) {
-    guarded blanks = guard(NISSY_MOST_INPUT + 3);
-    memset(blanks.bytes, ' ', blanks.size);
-    holds(nissy_facts(blanks.bytes, NISSY_MOST_INPUT).solved, "its facts", "16,777,216 blanks");
-    nissy_facts_answer facts[2], got = nissy_facts(blanks.bytes, NISSY_MOST_INPUT + 1);
-    holds(got.status == NISSY_STOPPED && !got.solved && !got.holds, "it is too long", "16,777,217 blanks");
-    nissy_check_answer check = nissy_check(NULL, 0, blanks.bytes, NISSY_MOST_INPUT + 1);
-    holds(check.status == NISSY_STOPPED && check.line == 2 && !check.solved, "the solution is too long", "16,777,217 blanks");
-    check = nissy_check(blanks.bytes, NISSY_MOST_INPUT + 1, (const uint8_t *)"q", 1);
-    holds(check.status == NISSY_STOPPED && check.line == 1, "the scramble is too long", "16,777,217 blanks");
-    blanks.bytes[NISSY_MOST_INPUT + 1] = '\n';
-    nissy_lines_answer taken = nissy_facts_lines(blanks.bytes, blanks.size, facts, 2);
-    holds(taken.lines == 2 && taken.bytes == blanks.size, "a text may be longer", "16,777,217 blanks and another line");
-    holds(facts[0].status == NISSY_STOPPED && facts[1].status == NISSY_DONE && facts[1].solved, "which ends nothing", "16,777,217 blanks");
-    let_go(blanks);
-}
-
-int main(int count, char **words) {
-    (void)words;
+int main(void) {
     lines_are_judged();
     forms_have_places();
     solutions_are_checked();
     most_moves_are_judged();
     many_lines_are_answered();
-    if (count == 1) limits_are_kept();
     return ended();
 }

@@ -84,45 +84,12 @@ static void is_whole_in(size_t out_room, size_t err_room, const char *what) {
     is_so(is_text(got.err, got.is.err_length, err, least(err_length, err_room)) && got.is.err_too_small == (err_length > err_room), what);
 }
 
-/* Adds so many to the column of a fault in line 1. */
-static void move_column(answer *of, size_t by) {
-    static const char head[] = "nissy: line 1, column ";
-    char *err = (char *)of->err, rest[NISSY_ERROR_ROOM + 16], *end;
-    err[of->is.err_length] = 0;
-    if (strncmp(err, head, strlen(head)) != 0) return;
-    unsigned long column = strtoul(err + strlen(head), &end, 10);
-    strcpy(rest, end);
-    of->is.err_length = (size_t)snprintf(err, sizeof of->err, "%s%lu%s", head, column + by, rest);
-}
-
-/* Blanks before the input, so that a block of the reading ends within it: the same answer, with line 1 moved. */
-static void try_moved(text words, text input, uint32_t sides) {
-    static uint8_t bytes[AREA];
-    size_t blanks = BLOCK - draw((uint32_t)input.size + 1) % BLOCK;
-    memset(bytes, ' ', blanks);
-    memcpy(bytes + blanks, input.bytes, input.size);
-    text moved = {bytes, blanks + input.size, AREA};
-    run(&got, words, moved, ROOM, NISSY_ERROR_ROOM, sides, 0);
-    move_column(&whole, blanks);
-    is_whole_in(ROOM, NISSY_ERROR_ROOM, "the answer to an input behind blanks");
-}
-
 /* Whether these words begin with a command whose tables take a while. */
 static int is_slow(text words) {
     return words.size > 6 && (memcmp(words.bytes + 5, "dr", 2) == 0 || memcmp(words.bytes + 6, "dr", 2) == 0);
 }
 
-/* Words alone with what belongs to their command, so that the lines come from the input. */
-static int reads_input(text words) {
-    size_t zeros = 0;
-    for (size_t at = 0; at < words.size; at++) zeros += words.bytes[at] == 0;
-    if (words.size == 0 || words.bytes[words.size - 1] != 0) return 0;
-    const char *command = (const char *)words.bytes;
-    int is_near = strcmp(command, "near") == 0, is_search = is_near || strcmp(command, "solve") == 0 || strcmp(command, "count") == 0;
-    return zeros == (is_near ? 4u : is_search ? 3u : 1u);
-}
-
-/* A run whole, then in other rooms, with memory refused, without the last zero byte, and with its input moved. */
+/* A run whole, then in other rooms, with memory refused, and without the last zero byte. */
 static void try_run(text words, text input) {
     uint32_t sides = draw(16);
     run(&whole, words, input, ROOM, NISSY_ERROR_ROOM, sides, 0);
@@ -143,7 +110,6 @@ static void try_run(text words, text input) {
         run(&got, shorter, input, ROOM, NISSY_ERROR_ROOM, sides, 0);
         is_whole_in(ROOM, NISSY_ERROR_ROOM, "the answer without the last zero byte");
     }
-    if (input.size && reads_input(words)) try_moved(words, input, ~sides);
 }
 
 typedef nissy_line_answer line_call(const uint8_t *, size_t, uint8_t *, size_t);
@@ -160,11 +126,9 @@ static nissy_line_answer call(line_call *of, text line, size_t room, uint32_t si
     return is;
 }
 
-/* A line by its call in rooms of three sizes, and the same line by a run. */
+/* A line by its call in rooms of three sizes. */
 static void try_line(text line) {
     static line_call *const calls[] = {nissy_invert, nissy_unniss, nissy_cleanup, nissy_facelets};
-    static const char *const faults[] = {"", "not a move", "bracket inside a bracket", "bracket closed that was not opened",
-                                         "bracket not closed", "more than 256 moves"};
     static uint8_t first[NISSY_LINE_ROOM + 1], other[NISSY_LINE_ROOM + 1];
     uint32_t which = draw(4), sides = draw(16);
     nissy_line_answer is = call(calls[which], line, NISSY_LINE_ROOM, sides, first);
@@ -177,15 +141,6 @@ static void try_line(text line) {
         is_so(again.fault == is.fault && again.column == is.column, "its fault");
         is_so(again.status != NISSY_DONE || is_text(other, is.length, first, is.length), "its text");
     }
-    if (line.size == 0 || memchr(line.bytes, '\n', line.size)) return;
-    text words = {(uint8_t *)COMMANDS[which], strlen(COMMANDS[which]), 0};
-    run(&got, words, line, ROOM, NISSY_ERROR_ROOM, sides, 0);
-    char fault[NISSY_ERROR_ROOM];
-    int fault_length = snprintf(fault, sizeof fault, "nissy: line 1, column %u: %s\n", is.column, faults[is.fault % 6]);
-    first[is.length] = '\n';
-    is_so(got.is.status == is.status, "a run has the status of the call on its line");
-    is_so(is_text(got.out, got.is.out_length, first, is.status ? 0 : is.length + 1), "a run has the text of the call on its line");
-    is_so(is_text(got.err, got.is.err_length, fault, is.status ? (size_t)fault_length : 0), "a run has the fault of the call on its line");
 }
 
 /* What a search of a line is to be told before it begins: a status, and with it a fault and its column. */

@@ -5,7 +5,6 @@ calls return and raise is tried by values.py.
     tests/library/module.py [large]
 
 The library is that of NISSY_LIBRARY. With `large` an output of more than 2 GiB is taken too: half a minute, and 5 GB of memory.
-The last line is `N passed, M failed`, and the status is 1 where M isn't 0.
 """
 import copy
 import dataclasses
@@ -24,8 +23,7 @@ TOP = Path(__file__).resolve().parents[2]
 sys.path[:0] = [str(TOP / "python"), str(TOP / "tests")]
 
 import nissy
-from runs import runs as rows_of_all
-from tally import Tally, raised
+from tally import Tally, raised, tried
 
 # the package as one calls it who looks at no types
 untyped: Any = nissy
@@ -40,14 +38,16 @@ LYING = {"__eq__": lambda it, other: True, "__hash__": lambda it: hash("eorl"), 
 
 def runs(tally: Tally) -> None:
     """Runs by words: their answers and what is no run."""
-    rows: List[Any] = [(run.words, run.data, (run.status, run.out, run.err)) for run in rows_of_all()]
-    rows += [(["invert"], "R\u2019", (0, b"R\n", b"")), (("invert", "R"), b"q", (0, b"R'\n", b"")), (["invert", "\udcff"], b"", (2, b"", USAGE)),
-             (["invert", "\ud800"], b"", (2, b"", USAGE)), (["invert"], "R\ud800", (1, b"", b"nissy: line 1, column 2: not a move\n")),
-             (["invert"], b" " * (nissy.MOST_INPUT + 1), (3, b"", TOO_LONG))]
+    rows: List[Any] = [
+        (["invert"], "R\u2019", (0, b"R\n", b"")), (("invert", "R"), b"q", (0, b"R'\n", b"")), (["invert", "\udcff"], b"", (2, b"", USAGE)),
+        (["invert", "\ud800"], b"", (2, b"", USAGE)), (["invert"], "R\ud800", (1, b"", b"nissy: line 1, column 2: not a move\n")),
+        (["invert"], b" " * (nissy.MOST_INPUT + 1), (3, b"", TOO_LONG))]
     for words, data, wanted in rows:
         answer = nissy.run(words, data)
         tally.equal(f"run of {words}", (answer.status, answer.out, answer.err, answer.full), wanted + (False,))
-    tally.equal("a line of 16,777,216 blanks is read", nissy.invert(b" " * nissy.MOST_INPUT), "")
+    most = b" " * nissy.MOST_INPUT
+    told = (nissy.invert(most), nissy.count("eofb", most).solutions, nissy.facts(most).solved, nissy.check(most, most).solved)
+    tally.equal("a line of 16,777,216 blanks is read", told, ("", 1, True, True))
     tally.holds("a word with a zero byte is a ValueError", raised(ValueError, lambda: nissy.run(["invert", "R\0U"])))
     tally.holds("an answer can't be changed", raised(dataclasses.FrozenInstanceError, lambda: setattr(nissy.run(["steps"]), "status", 1)))
 
@@ -248,13 +248,5 @@ def large_output(tally: Tally) -> None:
     tally.holds("an output of more than 2 GiB comes whole", answer.full and len(answer.out) == room and answer.out.startswith(b"(0)\nU (1)\n"))
 
 
-def main() -> None:
-    """All of it."""
-    tally = Tally()
-    for part in (runs, names, classes, liars, copies, iterables, many, rooms, *([large_output] if "large" in sys.argv[1:] else [])):
-        part(tally)
-    tally.end()
-
-
 if __name__ == "__main__":
-    main()
+    tried(runs, names, classes, liars, copies, iterables, many, rooms, *([large_output] if "large" in sys.argv[1:] else []))

@@ -6,7 +6,6 @@
 #include "nissy_solutions.hpp"
 #include "nissy_tokens.hpp"
 
-#include "faults.h"
 #include "refused.h"
 #include "searches.h"
 
@@ -54,110 +53,18 @@ std::string text_of(const std::vector<nissy::solution> &solutions) {
 }
 
 void solves(const nissy::tables &tables, const search_row &row) {
-    const std::string whole = row.text;
     const auto found = tables.solve(row.line, {row.limit, row.slack});
-    holds(text_of(found) == whole, "its solutions", row.line);
-    for (std::uint64_t most = 0; most <= found.size() + 1; most++) {
-        const auto first = tables.solve(row.line, {row.limit, row.slack, most});
-        holds(first.size() == std::min<std::size_t>(most, found.size()), "how many there are at most", row.line);
-        holds(whole.compare(0, text_of(first).size(), text_of(first)) == 0, "they are the first", row.line);
-    }
-    const nissy::count counted = tables.count(row.line, {row.limit, row.slack});
-    holds(counted.solutions == found.size() && counted.length.has_value() == !found.empty(), "how many are counted", row.line);
-    if (counted.length) holds(*counted.length == row.least && found.front().length == row.least, "the least length", row.line);
-    if (row.nodes) holds(counted.nodes == row.nodes, "the positions looked at", row.line);
+    holds(text_of(found) == row.text, "its solutions", row.line);
     std::vector<nissy::solution> each;
     for (const nissy::solution &one : nissy::solutions(tables, row.line, row.limit, row.slack)) each.push_back(one);
     holds(each == found, "one after another they are the same", row.line);
 }
 
-// The rows of tests/calls.tsv for calls on lines.
+// What only these headers say of lines; what they read of drawn ones and of tests/calls.tsv is tried by tests/hosts.
 void lines_are_read() {
-    static const struct {
-        nissy_line_answer (*call)(const std::uint8_t *, std::size_t, std::uint8_t *, std::size_t);
-        const char *line, *text;
-    } TEXTS[] = {
-#include "texts.inc"
-    };
-    const auto rewritten = [](const auto &row) {
-        return row.call == nissy_invert    ? nissy::invert(row.line)
-               : row.call == nissy_unniss  ? nissy::unniss(row.line)
-               : row.call == nissy_cleanup ? nissy::cleanup(row.line)
-                                           : nissy::facelets(row.line);
-    };
-    for (const auto &row : TEXTS) holds(rewritten(row) == row.text, "what it writes", row.line);
     holds(nissy::invert(std::string_view()).empty() && nissy::facelets({}).size() == 54, "a view of nothing is an empty line", "");
     holds(nissy::invert(std::string_view("R U q", 3)) == "U' R'" && nissy::invert(std::string("R U")) == "U' R'", "views and strings", "R U");
-    static const char *const TOKENS[][2] = {
-#include "tokens.inc"
-    };
-    for (const auto &[line, wanted] : TOKENS) {
-        std::string told;
-        for (const nissy::token &it : nissy::tokens(line)) {
-            told += it.text + "/" + it.axis;
-            for (const int layer : it.layers) told += (layer == it.layers.front() ? "/" : ",") + std::to_string(layer);
-            told += "/" + std::to_string(it.quarters) + "/" + std::to_string(it.inverse) + "|";
-        }
-        holds(told == wanted, "its moves", line);
-    }
     holds(nissy::tokens("R") != nissy::tokens("L") && nissy::tokens("r") == nissy::tokens("Rw"), "moves are compared", "R");
-}
-
-void lines_are_judged() {
-    static const struct {
-        const char *line;
-        int solved, moves, clean_moves, holds;
-        unsigned masks[3][3];
-    } FACTS[] = {
-#include "facts.inc"
-    };
-    for (const auto &row : FACTS) {
-        const nissy::line_facts got = nissy::facts(row.line);
-        holds(got.solved == (row.solved != 0) && got.moves == row.moves && got.clean_moves == row.clean_moves, "its moves", row.line);
-        names steps;
-        for (std::size_t at = 0; at < 13; at++)
-            if (row.holds >> at & 1) steps.push_back(nissy::steps()[at]);
-        holds(got.holds() == steps, "the steps that hold", row.line);
-        const nissy::axis_facts axes[] = {got.fb(), got.rl(), got.ud()};
-        for (int axis = 0; axis < 3; axis++) {
-            const auto &[edges, corners, misplaced] = row.masks[axis];
-            const nissy::axis_facts &it = axes[axis];
-            holds(it.bad_edge_places == edges && it.bad_corner_places == corners && it.misplaced_edge_places == misplaced, "its places", row.line);
-            const auto bits = [](unsigned mask) { return static_cast<int>(std::bitset<12>(mask).count()); };
-            holds(it.bad_edges == bits(edges) && it.bad_corners == bits(corners) && it.misplaced_edges == bits(misplaced), "its pieces", row.line);
-            holds(it.dr_case() == std::to_string(bits(corners)) + "c" + std::to_string(bits(misplaced)) + "e", "its case", row.line);
-        }
-    }
-    static const struct {
-        const char *scramble, *solution;
-        int solved, moves, clean_moves;
-        unsigned forms;
-    } CHECKS[] = {
-#include "checks.inc"
-    };
-    for (const auto &row : CHECKS) {
-        const nissy::verdict got = nissy::check(row.scramble, row.solution);
-        holds(got.solved == (row.solved != 0) && got.moves == row.moves && got.clean_moves == row.clean_moves, "its moves", row.solution);
-        holds(got.forms == row.forms, "its forms", row.solution);
-    }
-}
-
-// The names of places and forms, where lines have forms that the WCA's notation hasn't, and what has to hold before each step.
-void names_are_told() {
-    const nissy::line_facts facts = nissy::facts("R");
-    holds(nissy::edge_names(facts.rl().bad_edge_places) == names{"UR", "DR", "FR", "BR"}, "its bad edges", "R");
-    holds(nissy::corner_names(facts.ud().bad_corner_places) == names{"URF", "UBR", "DFR", "DRB"}, "its bad corners", "R");
-    const names forms = {"slices", "lower_case", "brackets", "apostrophe", "half_prime"};
-    for (unsigned at = 0; at < 5; at++) holds(nissy::form_names(1U << at) == names{forms[at]}, "a form", forms[at].c_str());
-    holds(nissy::edge_names(0xfff).size() == 12 && nissy::corner_names(0xff).size() == 8 && nissy::form_names(31) == forms, "a name for each", "all");
-    static const char *const FORMS[][2] = {
-#include "forms.inc"
-    };
-    for (const auto &[line, wanted] : FORMS) {
-        std::string told;
-        for (const auto &[text, of, column] : nissy::form_places(line)) told += std::to_string(column) + " " + text + " " + std::to_string(of) + "|";
-        holds(told == wanted, "where its forms are", line);
-    }
     static const char *const STARTS[][2] = {
 #include "starts.inc"
     };
@@ -218,6 +125,7 @@ void misuse_is_thrown() {
     throw_each<std::length_error>("16,777,217 blanks", {[&] { nissy::invert(blanks); }, [&] { tables.solve(blanks); }, [&] { tables.count(blanks); },
                                                         [&] { nissy::check("R", blanks); }, [&] { nissy::facts(blanks); }, [&] { nissy::best(blanks); },
                                                         [&] { nissy::facts_all(blanks)[0].value(); }});
+    holds(nissy::facts_all(blanks + "\nR").at(1).value().moves == 1, "which ends nothing", "16,777,217 blanks, and another line");
 }
 
 // Each line of a text has a value, or throws what the call on it alone throws.
@@ -370,8 +278,8 @@ int main() {
     // first, so that each step is built while others ask for it
     threads_agree();
     for (const search_row &row : SEARCHES) solves(nissy::tables(row.step), row);
-    for (const auto trial : {lines_are_read, lines_are_judged, names_are_told, faults_are_thrown, misuse_is_thrown, many_lines_are_answered,
-                             searches_are_cut, progress_is_told, refused_memory_is_thrown, many_are_whole, objects_are_values})
+    for (const auto trial : {lines_are_read, faults_are_thrown, misuse_is_thrown, many_lines_are_answered, searches_are_cut, progress_is_told,
+                             refused_memory_is_thrown, many_are_whole, objects_are_values})
         trial();
     holds(nissy::version() == nissy_version() && nissy_version() == NISSY_VERSION_NUMBER, "the library's", "version");
     return ended();

@@ -2,9 +2,7 @@
 """The Python module in processes of their own: threads that are first to ask a step, forked children, signals, little memory, libraries
 that aren't its own, and its types by mypy, where that is there.
 
-    tests/library/processes.py
-
-The library is that of NISSY_LIBRARY. The last line is `N passed, M failed`, and the status is 1 where M isn't 0.
+The library is that of NISSY_LIBRARY.
 """
 import os
 import shutil
@@ -17,7 +15,7 @@ TOP = Path(__file__).resolve().parents[2]
 PYTHON = str(TOP / "python")
 sys.path[:0] = [str(TOP / "tests")]
 
-from tally import Tally
+from tally import Tally, tried
 
 SECONDS = 120
 
@@ -25,7 +23,7 @@ SECONDS = 120
 FIRST_USE = """
 import threading, time
 import nissy
-searches, built, answers = nissy._searches, [], []
+built, answers, runs = [], [], []
 build, ready = nissy._library.nissy_build, threading.Barrier(8)
 def slow_build(*given):
     built.append(given[1])
@@ -37,35 +35,12 @@ def ask(number):
     for turn in range(20):
         step, line = ("drud-eofb", "R U") if (number + turn) % 2 else ("eofb", "F B")
         answers.append((step, nissy.solve(step, line), nissy.count(step, line).solutions))
+        runs.append(nissy.run(["cleanup", line]).out.decode() == line + "\\n")
 threads = [threading.Thread(target=ask, args=(number,)) for number in range(8)]
 for thread in threads: thread.start()
 for thread in threads: thread.join()
 wanted = {"drud-eofb": (["U' R", "U' R'"], 2), "eofb": (["F B", "F B'", "F' B", "F' B'"], 4)}
-print(len(answers), all(wanted[step] == (found, count) for step, found, count in answers), sorted(built))
-"""
-
-# eight threads go through the same lines by the same tables, half of them by solve_all; a run says what is right
-SAME_TABLES = """
-import threading
-import nissy
-scrambles = nissy.scrambles(5, 6, 20, 200)
-oriented = [line + " " + nissy.solve("eofb", line, most=1)[0] for line in scrambles]
-whole = nissy.run(["solve", "dr-eofb", "20"], "\\n".join(oriented) + "\\n").out.decode()
-answers, runs = {}, {}
-def text(found):
-    return "".join(f"{it} ({it.length})".strip() + "\\n" for it in found) + "\\n"
-def ask(number):
-    if number % 2:
-        found = nissy.solve_all("dr-eofb", oriented)
-    else:
-        found = (nissy.solve("dr-eofb", line) for line in oriented)
-        runs[number] = [nissy.run(["invert"], nissy.invert(line)).out.decode() for line in scrambles]
-    answers[number] = "".join(map(text, found))
-threads = [threading.Thread(target=ask, args=(number,)) for number in range(8)]
-for thread in threads: thread.start()
-for thread in threads: thread.join()
-print(len(answers), set(answers.values()) == {whole}, whole.count("(") > 1000)
-print(len(runs), all(run == [line + "\\n" for line in scrambles] for run in runs.values()))
+print(len(answers), all(wanted[step] == (found, count) for step, found, count in answers), all(runs), sorted(built))
 """
 
 # a child that was forked while another thread built: it has the tables that were whole, and builds the others itself
@@ -250,8 +225,7 @@ def of_process(code: str, **named: str) -> str:
 
 def processes(tally: Tally) -> None:
     """Each of the codes above, and what it prints where all is well."""
-    tally.equal("eight threads are the first to ask", of_process(FIRST_USE), "160 True [b'drud-eofb', b'eofb']\n")
-    tally.equal("eight threads over the same tables", of_process(SAME_TABLES), "8 True True\n4 True\n")
+    tally.equal("eight threads are the first to ask", of_process(FIRST_USE), "160 True True [b'drud-eofb', b'eofb']\n")
     tally.equal("a child of a process that builds", of_process(FORK), "0 ['R', \"R'\"]\n")
     tally.equal("parent and child", of_process(BOTH), "0 True\n")
     tally.equal("calls of a signal's handler", of_process(SIGNALS), "True True\n")
@@ -327,13 +301,5 @@ def types(tally: Tally) -> None:
             tally.holds(f"mypy refuses {line}", f"wrong.py:{number}: error" in told)
 
 
-def main() -> None:
-    """All of it."""
-    tally = Tally()
-    for part in (processes, libraries, types):
-        part(tally)
-    tally.end()
-
-
 if __name__ == "__main__":
-    main()
+    tried(processes, libraries, types)

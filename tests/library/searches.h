@@ -1,8 +1,21 @@
-/* Searches with what they are to write. */
+/* Searches with what they are to write, and lines that can't be read: those of tests/calls.tsv, which `rows_in_c` of tests/shared writes as C. */
 #ifndef SEARCHES_H
 #define SEARCHES_H
 
 #include "trial.h"
+
+/* a line with its fault and the column of that */
+typedef struct fault_row {
+    const char *line;
+    int fault;
+    unsigned column;
+} fault_row;
+
+static const fault_row UNREAD[] = {
+#include "faults.inc"
+};
+
+enum { UNREAD_COUNT = sizeof UNREAD / sizeof *UNREAD };
 
 typedef struct search_row {
     const char *step, *line;
@@ -12,7 +25,6 @@ typedef struct search_row {
     uint64_t nodes; /* 0: none are named */
 } search_row;
 
-/* those of tests/calls.tsv, which `rows_in_c` of tests/shared writes as C */
 static const search_row SEARCHES[] = {
 #include "searches.inc"
 };

@@ -1,9 +1,7 @@
 #!/usr/bin/env python3
 """The example examples/serve.py: what it tells of requests, and that none of many at once holds it.
 
-    tests/library/service.py
-
-The library is that of NISSY_LIBRARY. The last line is `N passed, M failed`, and the status is 1 where M isn't 0.
+The library is that of NISSY_LIBRARY.
 """
 from __future__ import annotations
 

@@ -4,8 +4,7 @@
     tests/model/against.py PROGRAM [SEED] [SCALE]
 
 SCALE 1, about ten minutes, draws some 8,700 runs, and takes every position of the steps of one goal. Below 0.5 the searches
-are short ones, and neither those positions nor all numbers of `near` are tried. The last line is `N passed, M failed`, by
-kinds of runs, and the status is 1 where M isn't 0.
+are short ones, and neither those positions nor all numbers of `near` are tried.
 """
 import sys
 

@@ -3,13 +3,13 @@
 
     tests/model/hostile.py PROGRAM [SEED] [SCALE] [PART,..]
 
-The parts, by subject: devices, calls (with strace), allocations (with cc), memory, gone, growing, waiting, pipes, words, large,
-endless, files. SCALE makes what is drawn more or less; at 1 all parts take about twelve minutes. The last line is `N passed,
-M failed`, by kinds of runs, and the status is 1 where M isn't 0.
+The parts, by subject: devices, calls (with strace), memory, gone, growing, waiting, pipes, words, large, endless, files.
+SCALE makes what is drawn more or less; at 1 all parts take about twelve minutes.
 """
 import sys
 import time
 from collections.abc import Callable
+from functools import partial
 
 import hostile_calls
 import hostile_input
@@ -20,44 +20,26 @@ from drawing import Drawing
 from trial import LOOKS, Trial, seed_and_scale
 
 
-def devices(trial: Trial) -> None:
-    """Full, odd and closed streams."""
-    hostile_streams.full_devices(trial)
-    hostile_streams.odd_devices(trial)
-    hostile_streams.closed_streams(trial)
-
-
-def waiting(trial: Trial) -> None:
-    """Streams that aren't ready, users who wait, and odd starts."""
-    hostile_streams.not_ready(trial)
-    hostile_streams.line_by_line(trial)
-    hostile_streams.odd_starts(trial)
-
-
-def endless(trial: Trial) -> None:
-    """Input and output without end."""
-    hostile_streams.endless_input(trial)
-    hostile_streams.endless_output(trial)
-
-
-def words(trial: Trial, draw: Drawing, count: int) -> None:
-    """Odd lists of words, and long ones."""
-    hostile_input.word_lists(trial, draw, count)
-    hostile_input.long_words(trial)
-
-
-def parts_of(trial: Trial, draw: Drawing, scale: float) -> dict[str, Callable[[], None]]:
+def parts_of(trial: Trial, draw: Drawing, scale: float) -> dict[str, list[Callable[[], None]]]:
     """What each part does."""
-    def scaled(count: int) -> int:
-        return max(1, int(count * scale))
+    def alone(*tries: Callable[[Trial], None]) -> list[Callable[[], None]]:
+        return [partial(each, trial) for each in tries]
+
+    def drawn(each: Callable[[Trial, Drawing, int], None], count: int) -> list[Callable[[], None]]:
+        return [partial(each, trial, draw, max(1, int(count * scale)))]
+    streams, inputs = hostile_streams, hostile_input
     return {
-        "devices": lambda: devices(trial), "calls": lambda: hostile_calls.calls(trial, draw),
-        "allocations": lambda: hostile_memory.allocations(trial), "memory": lambda: hostile_memory.address_space(trial),
-        "gone": lambda: hostile_streams.gone_readers(trial, draw, scaled(40)),
-        "growing": lambda: hostile_streams.file_limits(trial, draw, scaled(100)), "waiting": lambda: waiting(trial),
-        "pipes": lambda: hostile_streams.pipes(trial, draw, scaled(150)), "words": lambda: words(trial, draw, scaled(2_000)),
-        "large": lambda: hostile_input.large(trial), "endless": lambda: endless(trial),
-        "files": lambda: hostile_input.files(trial, draw, scaled(10_000)),
+        "devices": alone(streams.full_devices, streams.odd_devices, streams.closed_streams),
+        "calls": [partial(hostile_calls.calls, trial, draw)],
+        "memory": alone(hostile_memory.address_space),
+        "gone": drawn(streams.gone_readers, 40),
+        "growing": drawn(streams.file_limits, 100),
+        "waiting": alone(streams.not_ready, streams.line_by_line, streams.odd_starts),
+        "pipes": drawn(streams.pipes, 150),
+        "words": drawn(inputs.word_lists, 2_000) + alone(inputs.long_words),
+        "large": alone(inputs.large),
+        "endless": alone(streams.endless_input, streams.endless_output),
+        "files": drawn(inputs.files, 10_000),
     }
 
 
@@ -73,7 +55,8 @@ def main() -> None:
     print("hostile use, seed %d, scale %g" % (seed, scale))
     for name in sys.argv[4].split(",") if len(sys.argv) > 4 else parts:
         began = time.time()
-        parts[name]()
+        for each in parts[name]:
+            each()
         print("%s: %.0f s" % (name, time.time() - began))
         sys.stdout.flush()
     sys.exit(trial.report())

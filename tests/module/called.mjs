@@ -1,11 +1,13 @@
 // Calls by their names with what is wanted, and values of other types at each place of each call: for `Nissy`, and for what has the same
 // calls as promises.
+import { readFileSync } from "node:fs";
 import { NissyFault, startOf } from "../../web/module/nissy.js";
-import { callsOf, partsOf, textOf } from "./tables.mjs";
 import { fingerprint, same, thrown } from "./tally.mjs";
 import { DETACHED, WRONG } from "./values.mjs";
 
-export const STEPS = callsOf("step").map(([name]) => name);
+// the steps, each with what must hold before it
+const CALLS = readFileSync(new URL("../calls.tsv", import.meta.url), "latin1").split("\n").map((row) => row.split("\t"));
+const STARTS = CALLS.flatMap(([kind, step, start]) => (kind === "step" ? [[step, start]] : []));
 export const F_OR_ITS_INVERSE = [{ moves: "F", length: 1 }, { moves: "F'", length: 1 }];
 
 // what a row shows, the call with what it is given, and what is wanted
@@ -17,13 +19,13 @@ const ROWS = [
   ["a number of solutions that no search has", ["solve", "eofb", "F", { most: Number.MAX_SAFE_INTEGER }], F_OR_ITS_INVERSE],
   ["no options", ["solve", "eofb", "F", {}], F_OR_ITS_INVERSE],
   ["options that are left open", ["solve", "eofb", "F", { limit: undefined, slack: undefined, most: undefined }], F_OR_ITS_INVERSE],
-  ["the steps", ["steps"], STEPS],
+  ["the steps", ["steps"], STARTS.map(([step]) => step)],
+  ["numbers of both kinds", ["scrambles", 42, 54n, 3, 2], ["L' D' F'", "L F' L'"]],
+  ["the first of them", ["scramble", 42n, 54, 3], "L' D' F'"],
   ["the characters of a form", ["formPlaces", "U\u2019 M"], [
     { text: "U\u2019", forms: ["apostrophe"], column: 1, character: 1 }, { text: "M", forms: ["slices"], column: 6, character: 4 },
   ]],
 ];
-
-export const FORMS = ["slices", "lower-case", "brackets", "apostrophe", "half-prime"];
 
 // a call, and the fault that it throws: text, column, step, what would have to hold before it, and message
 const FAULTS = [
@@ -33,51 +35,11 @@ const FAULTS = [
   [["solve", "dr-eorl", "R"], "eorl does not hold", null, "dr-eorl", "eorl", "eorl does not hold"],
 ];
 
-/** The rows that each host is tried with. */
-function* sharedRows() {
-  for (const [call, line, wanted] of callsOf("text")) yield [`${call} ${line}`, [call, textOf(line)], wanted];
-  for (const [line, wanted] of callsOf("tokens")) {
-    const moves = partsOf(wanted).map((each) => each.split("/"));
-    const tokens = moves.map(([text, axis, layers, quarters, inverse]) => (
-      { text, axis, layers: layers.split(",").map(Number), quarters: Number(quarters), inverse: inverse === "1" }));
-    yield [`tokens ${line}`, ["tokens", textOf(line)], tokens];
-  }
-  for (const [state, stream, length, count, wanted] of callsOf("scrambles")) {
-    const lines = count === "0" ? [] : wanted.split("|");
-    yield [`scrambles ${state}`, ["scrambles", Number(state), BigInt(stream), Number(length), Number(count)], lines];
-    if (count === "1") yield [`scramble ${state}`, ["scramble", BigInt(state), Number(stream), Number(length)], wanted];
-  }
-  for (const [step, line, limit, slack, nodes, wanted] of callsOf("search")) {
-    const given = [step, textOf(line), { limit: Number(limit), slack: Number(slack) }];
-    const solutions = partsOf(wanted).map((each) => /^(.*?) ?\((\d+)\)$/.exec(each)).map(([, moves, length]) => ({ moves, length: Number(length) }));
-    yield [`solve ${step} ${line}`, ["solve", ...given], solutions];
-    const least = solutions.length === 0 ? null : solutions[0].length;
-    if (nodes !== "-") yield [`count ${step} ${line}`, ["count", ...given], { length: least, solutions: solutions.length, nodes: Number(nodes) }];
-  }
-}
-
-/** Where lines have forms that the WCA's notation hasn't, and what has to hold before each step. */
-async function tryForms(nissy) {
-  for (const [field, wanted] of callsOf("forms")) {
-    const line = textOf(field);
-    const places = await nissy.formPlaces(line);
-    const bits = (forms) => forms.reduce((sum, form) => sum + (1 << FORMS.indexOf(form)), 0);
-    same(`the forms of ${line}`, places.map(({ column, text, forms }) => `${column} ${text} ${bits(forms)}`), partsOf(textOf(wanted)));
-    same(`their characters in ${line}`, places.map(({ text, character }) => line.startsWith(text, character - 1)), places.map(() => true));
-    same(`all of them in ${line}`, FORMS.filter((form) => places.some(({ forms }) => forms.includes(form))), [...(await nissy.check("", line)).forms]);
-  }
-  for (const [step, start] of callsOf("step")) same(`before ${step}`, startOf(step), start === "" ? null : start);
+/** What has to hold before each step. */
+async function tryStarts() {
+  for (const [step, start] of STARTS) same(`before ${step}`, startOf(step), start === "" ? null : start);
   same("no step", await thrown(() => startOf("htr")), ["RangeError", 'there is no step of the name "htr"']);
   same("a step of another type", await thrown(() => startOf(3)), ["TypeError", "the step is no string"]);
-}
-
-/** Lines with a fault by each call that reads one, as in `FAULTS`. */
-function* sharedFaults() {
-  for (const [line, column, text] of callsOf("fault")) {
-    for (const call of [["invert"], ["unniss"], ["cleanup"], ["facelets"], ["formPlaces"], ["solve", "eofb"], ["count", "eofb"]]) {
-      yield [[...call, textOf(line)], text, Number(column), null, null, `column ${column}: ${text}`];
-    }
-  }
 }
 
 // lines at fault, with the column in bytes and the character
@@ -93,11 +55,11 @@ async function faultOf(nissy, call, given) {
   }
 }
 
-/** Rows, by `Nissy` or by what has the same calls as promises. */
+/** Rows, by `Nissy` or by what has the same calls as promises. What is read of lines is tried by tests/hosts. */
 export async function tryRows(nissy) {
-  await tryForms(nissy);
-  for (const [what, [call, ...given], wanted] of [...ROWS, ...sharedRows()]) same(what, await nissy[call](...given), wanted);
-  for (const [[call, ...given], ...wanted] of [...FAULTS, ...sharedFaults()]) {
+  await tryStarts();
+  for (const [what, [call, ...given], wanted] of ROWS) same(what, await nissy[call](...given), wanted);
+  for (const [[call, ...given], ...wanted] of FAULTS) {
     const fault = await faultOf(nissy, call, given);
     const seen = [fault instanceof NissyFault, fault?.name, fault?.text, fault?.column, fault?.step, fault?.start, fault?.message];
     same(`${call} ${given.join(", ").slice(0, 20)}`, seen, [true, "NissyFault", ...wanted]);
@@ -150,6 +112,7 @@ const MANY = [
   [["countAll", "eofb", ["F", BEYOND]], "RangeError", "line 2 has more bytes than the engine reads"],
   [["solveAll", "eofb", ["F", "R q"]], "NissyFault", "line 2, column 3: not a move"],
   [["countAll", "dr-eofb", ["", "R", "F"]], "NissyFault", "line 3: eofb does not hold"],
+  [["run", [, "R"]], "TypeError", "word 1 is neither a string nor a Uint8Array"],
 ];
 
 /** Calls of many lines that are refused, by `Nissy` or by what has the same calls as promises. */
@@ -252,9 +215,17 @@ const NO_WIDE = "is neither a number nor a bigint";
 const NO_OPTIONS = [["null", null], ["a number", 20], ["a text", "20"], ["a function", () => 1]];
 const WITHOUT = (...kinds) => WRONG.filter(([, value]) => !kinds.includes(typeof value));
 
+// what is no array of words, though some would do as one
+const NO_WORDS = [["nothing", undefined], ["null", null], ["a text", "invert"], ["a number", 1], ["a truth value", true], ["a function", () => ["invert"]],
+  ["words by their places", { length: 1, 0: "invert" }], ["a set", new Set(["invert"])], ["bytes", Uint8Array.of(0x52)]];
+
 /** What each place of a call is called, how it is filled, and which values it doesn't take, with the words that refuse them. */
 const PLACES = [
   ...["invert", "unniss", "cleanup", "facelets", "formPlaces"].map((call) => [call, "the line", (value) => [value], WRONG, NO_TEXT]),
+  ["run", "the input", (value) => [["unniss"], value], WRONG, NO_TEXT],
+  ["run", "word 1", (value) => [[value, value], value], WRONG, NO_TEXT],
+  ["run", "word 2", (value) => [["unniss", value], "R"], WRONG, NO_TEXT],
+  ["run", "the words", (value) => [value, "R"], NO_WORDS, "are no array"],
   ...["solve", "count"].flatMap((call) => [
     [call, "the line", (value) => ["eofb", value], WRONG, NO_TEXT],
     [call, "the step", (value) => [value, "F"], [...WRONG, ["bytes", Uint8Array.of(0x65)]], "is no string"],
@@ -279,7 +250,7 @@ export async function tryWrongValues(nissy, memory = undefined) {
   for (const [call, place, filled, values, words] of PLACES) {
     for (const [what, value] of values) {
       const [kind, message] = await thrown(() => nissy[call](...filled(value)));
-      const wanted = what === DETACHED && place === "the line" ? message : `${place} ${words}`;
+      const wanted = what === DETACHED && words === NO_TEXT ? message : `${place} ${words}`;
       same(`${call}: ${what} as ${place}`, [kind, message], ["TypeError", wanted]);
     }
     if (memory) same(`${call}: the memory after wrong values as ${place}`, fingerprint(memory) === before, true);

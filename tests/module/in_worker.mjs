@@ -1,14 +1,10 @@
 // The engine in a worker, in node: its calls, and calls that are given up.
-//
-//     node tests/module/in_worker.mjs MODULE
-//
-// The last line is `N passed, M failed`, and the status is 1 where M isn't 0.
 import { getEventListeners } from "node:events";
 import { performance } from "node:perf_hooks";
 import { Nissy, NissyWorker, loadNissy } from "../../web/module/node.js";
 import { WorkerCalls } from "../../web/module/worker-calls.js";
 import { tryEach, tryMany as tryManyLines, tryOptions, tryReadOptions, tryRows, tryWrongValues } from "./called.mjs";
-import { tryBounds, tryChecks, tryFacts, tryMixed } from "./judged.mjs";
+import { tryBounds, tryChecks, tryMixed } from "./judged.mjs";
 import { ended, moduleBytes, same, text, thrown } from "./tally.mjs";
 
 const LONG = ["count", "eo", "R U F2 L D R B", { slack: 14 }];
@@ -302,7 +298,7 @@ await tryReadOptions(worker);
 await tryOwnOptions(worker);
 await tryNoOptions(worker);
 await tryMany(worker);
-for (const judge of [tryFacts, tryChecks, tryBounds, tryMixed]) await judge(worker);
+for (const judge of [tryChecks, tryBounds, tryMixed]) await judge(worker);
 await tryBest(worker);
 await tryStopped(worker);
 await trySignals(worker);

@@ -1,15 +1,6 @@
 // What is told of lines without a search, and searches with a bound on nodes: by `Nissy`, and by what has the same calls as promises.
 import { NissyFault, SearchCut } from "../../web/module/nissy.js";
-import { FORMS, STEPS } from "./called.mjs";
-import { callsOf, textOf } from "./tables.mjs";
 import { TURNS, same, thrown } from "./tally.mjs";
-
-const AXES = ["fb", "rl", "ud"];
-const EDGES = "UR UF UL UB DR DF DL DB FR FL BL BR".split(" ");
-const CORNERS = "URF UFL ULB UBR DFR DLF DBL DRB".split(" ");
-
-/** The names whose bits a field has. */
-const named = (bits, names) => names.filter((_, at) => (Number(bits) >> at) & 1);
 
 // a call, and the fault that it throws: which line has it, its column and its message
 const FAULTS = [
@@ -21,32 +12,8 @@ const FAULTS = [
   [["factsAll", ["R", "U".repeat(257)]], 2, 257, "line 2, column 257: more than 256 moves"],
 ];
 
-/** Facts of lines, alone and among many. */
-export async function tryFacts(nissy) {
-  for (const [field, solved, moves, cleanMoves, steps, ...axes] of callsOf("facts")) {
-    const line = textOf(field);
-    const onEach = (told) => Object.fromEntries(AXES.map((axis, at) => [axis, told(axes[at].split(" "))]));
-    const wanted = {
-      solved: solved === "1",
-      moves: Number(moves),
-      cleanMoves: Number(cleanMoves),
-      badEdges: onEach(([bits]) => named(bits, EDGES)),
-      badCorners: onEach(([, bits]) => named(bits, CORNERS)),
-      misplacedEdges: onEach(([, , bits]) => named(bits, EDGES)),
-      cases: onEach(([, corners, edges]) => `${named(corners, CORNERS).length}c${named(edges, EDGES).length}e`),
-      holds: named(steps, STEPS),
-    };
-    same(`the facts of ${line}`, await nissy.facts(line), wanted);
-    same(`those of ${line} among many`, (await nissy.factsAll(["R", line, "F"]))[1], wanted);
-  }
-}
-
-/** Solutions that are judged, and lines at fault. */
+/** Lines at fault, and what is no line. */
 export async function tryChecks(nissy) {
-  for (const [scramble, solution, solved, moves, cleanMoves, forms] of callsOf("check")) {
-    const wanted = { solved: solved === "1", moves: Number(moves), cleanMoves: Number(cleanMoves), forms: named(forms, FORMS) };
-    same(`${solution} after ${scramble}`, await nissy.check(textOf(scramble), textOf(solution)), wanted);
-  }
   for (const [[call, ...given], ...wanted] of FAULTS) {
     const fault = await Promise.resolve().then(() => nissy[call](...given)).catch((stop) => stop);
     same(`${call} ${given.join(", ").slice(0, 20)}`, [fault instanceof NissyFault, fault.line, fault.column, fault.message], [true, ...wanted]);

@@ -1,10 +1,6 @@
 // Tries what pages show of the best continuations beside `best`, whose rows tests/hosts tries: all moves of a row and of each solution of a list,
 // beside a count of the merged lines; twins, which have the same case; what is left out, since it was reached before its last move; and where
 // the stickers of a piece are.
-//
-//     node tests/module/merged.mjs MODULE
-//
-// The last line is `N passed, M failed`, and the status is 1 where M isn't 0.
 import { continuations } from "../../web/module/best-search.js";
 import { ORIENTATIONS, REDUCTIONS, reductionsAfter } from "../../web/module/best-steps.js";
 import { Engine } from "../../web/module/engine.js";

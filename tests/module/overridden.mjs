@@ -1,9 +1,5 @@
 // Scripts that put something of their own in the place of what JavaScript has, say how arrays are copied and gone through, or give all objects
 // something: each call answers as without them, and so shows nothing that an earlier one left in the memory.
-//
-//     node tests/module/overridden.mjs MODULE
-//
-// The last line is `N passed, M failed`, and the status is 1 where M isn't 0.
 import { Nissy } from "../../web/module/nissy.js";
 import { ended, moduleBytes, same, text } from "./tally.mjs";
 

@@ -1,15 +1,9 @@
-// The module called as web/module/ABI.md says, without its scripts.
-//
-//     node tests/module/plain.mjs MODULE
-//
-// The last line is `N passed, M failed`, and the status is 1 where M isn't 0.
-import { AXIS_FACTS, CHECK_ANSWER, FACTS_ANSWER, HEAD, LINES_ANSWER, LINE_ANSWER, SEARCH_ANSWER } from "../../web/module/layout.js";
+// What the module, called as web/module/ABI.md says and without its scripts, does with rooms: those of runs, and those in which it builds.
 import { ended, moduleBytes as module, same, text } from "./tally.mjs";
 
 const USAGE = "usage: nissy COMMAND [ARGUMENTS]\n";
 const OUT_OF_ROOM = "nissy: cannot write\n";
 const OUT_OF_MEMORY = "nissy: out of memory\n";
-const NO_BOUND = 2n ** 64n - 1n;
 const SMALL = 256;
 const LARGE = 2_621_440;
 const FILLED = 0x23;
@@ -92,145 +86,31 @@ function tryRooms(call) {
   }
 }
 
-/** An instance whose calls are asked by name. */
-async function opened() {
+/** Tables are built in rooms that stay, and anew in others if the step's are there already. */
+async function tryBuilds() {
   const { instance } = await WebAssembly.instantiate(module, {});
-  const { exports } = instance;
-  const base = Math.ceil(Number(exports.__heap_base.value) / 16) * 16;
-  exports.memory.grow(Math.ceil((4 * LARGE) / 65_536));
-  const [bytes, view] = [new Uint8Array(exports.memory.buffer), new DataView(exports.memory.buffer)];
+  const { memory, nissy_build: build, __heap_base: heap } = instance.exports;
+  const base = Math.ceil(Number(heap.value) / 16) * 16;
+  memory.grow(Math.ceil((3 * LARGE) / 65_536));
+  const view = new DataView(memory.buffer);
+  const [tables, name, first, second] = [32, 48, 65_536, 65_536 + SMALL + LARGE].map((at) => base + at);
   const long = (at) => Number(view.getBigUint64(at, true));
-  const [answer, out, texts] = [512, 4_096, 8_192].map((at) => base + at);
-  const put = (moves, at) => {
-    bytes.set(new TextEncoder().encode(moves), texts + 512 * at);
-    return [BigInt(texts + 512 * at), BigInt(moves.length)];
+  const stands = (blocks) => long(tables) >= blocks + SMALL && long(tables) < blocks + SMALL + LARGE;
+  // the status, what became of both rooms, whether the struct has tables, and in which of two large rooms they are
+  const built = (step, blocks, large) => {
+    new Uint8Array(memory.buffer).set(new TextEncoder().encode(step), name);
+    [blocks, SMALL, blocks + SMALL, large].forEach((each, at) => view.setBigUint64(base + 8 * at, BigInt(each), true));
+    const status = build(...[base, base + 16, tables, name, step.length].map(BigInt));
+    return [status, [long(base + 8), long(base + 24)], view.getUint8(tables + 8) === 1, stands(first), stands(second)];
   };
-  // a text is handed over as its address and length, `{ out }` as room for so many bytes or answers, a number as it is
-  const given = (value, at) => (typeof value === "string" ? put(value, at) : value.out === undefined ? [value] : [BigInt(out), BigInt(value.out)]);
-  const ask = (name, size, ...values) => {
-    bytes.fill(FILLED, answer, answer + 64);
-    bytes.fill(FILLED, out, texts);
-    exports[`nissy_${name}`](BigInt(answer), ...values.flatMap(given));
-    const isKept = bytes.subarray(answer + size, answer + 64).every((byte) => byte === FILLED);
-    return [bytes[answer], bytes[answer + HEAD.fault], view.getUint32(answer + HEAD.column, true), isKept];
-  };
-  const written = (length) => [text(bytes.slice(out, out + length)), bytes.subarray(out + length, texts).every((byte) => byte === FILLED)];
-  return { exports, base, bytes, view, long, answer, out, put, ask, written };
-}
-
-/** Builds tables in rooms of these sizes, and returns the status and what became of the rooms and the struct. */
-function built({ exports, base, bytes, view, long, put }, tables, name, blocks, small = SMALL, large = LARGE) {
-  [blocks, small, blocks + SMALL, large].forEach((each, at) => view.setBigUint64(base + 8 * at, BigInt(each), true));
-  const status = exports.nissy_build(...[base, base + 16, tables].map(BigInt), ...put(name, 0));
-  return { status, rooms: [long(base + 8), long(base + 24)], isBuilt: bytes[tables + 8] === 1 };
-}
-
-// a call that writes a text, what is given to it, and its status, fault, column and text
-const OUT = { out: 2_048 };
-const LINES = [
-  ["invert", ["R U", OUT], 0, 0, 0, "U' R'"],
-  ["invert", ["R U", { out: 5 }], 0, 0, 0, "U' R'"],
-  ["invert", ["R U", { out: 4 }], 4, 0, 0, ""],
-  ["unniss", ["R\nU", OUT], 1, 1, 2, ""],
-  ["scramble", [1n, 1n, 257, OUT], 2, 0, 0, ""],
-  ["start", ["drud-eofb", OUT], 0, 0, 0, "eofb"],
-  ["start", ["eofb", OUT], 0, 0, 0, ""],
-  ["start", ["eox", OUT], 2, 0, 0, ""],
-  ["fault_text", [4, OUT], 0, 0, 0, "bracket not closed"],
-  ...[0, 7, 255].map((fault) => ["fault_text", [fault, OUT], 2, 0, 0, ""]),
-];
-
-/** The calls that write a line: what they answer, and that nothing else is written. */
-async function tryLines() {
-  const { long, answer, ask, written } = await opened();
-  for (const [name, given, status, fault, column, wanted] of LINES) {
-    same(`${name} of ${given}`, ask(name, 16, ...given), [status, fault, column, true]);
-    same(`${name}: its text`, written(status === 0 ? long(answer + LINE_ANSWER.length) : 0), [wanted, true]);
-  }
-}
-
-// of searches which struct is asked, the line and the numbers, the room, and their status, fault, column, least length, whether there are more,
-// and how many solutions and positions there are
-const SEARCHES = [
-  ["none", "F", [20, 0, NO_BOUND, NO_BOUND], 1024, 2, 0, 0, 0, 0, 0, 0],
-  ["eofb", "F", [20, 0, NO_BOUND, NO_BOUND], 1024, 0, 0, 0, 1, 0, 2, 20],
-  ["eofb", "F", [20, 0, 1n, NO_BOUND], 1024, 0, 0, 0, 1, 1, 1, null],
-  ["eofb", "F", [20, 0, 2n, 20n], 13, 0, 0, 0, 1, 0, 2, 20],
-  ["eofb", "F", [20, 0, NO_BOUND, NO_BOUND], 12, 4, 0, 0, 1, 1, 1, null],
-  ["eofb", "F", [0, 0, NO_BOUND, NO_BOUND], 1024, 0, 0, 0, 0, 0, 0, 1],
-  ["eofb", "F q", [20, 0, NO_BOUND, NO_BOUND], 1024, 1, 1, 3, 0, 0, 0, 0],
-  ["drud-eofb", "F", [20, 0, NO_BOUND, NO_BOUND], 1024, 1, 6, 0, 0, 0, 0, 0],
-  ["eofb", "F", [21, 0, NO_BOUND, NO_BOUND], 1024, 2, 0, 0, 0, 0, 0, 0],
-  ["eofb", "F", [20, 21, NO_BOUND, NO_BOUND], 1024, 2, 0, 0, 0, 0, 0, 0],
-  ["eofb", "F", [20, 0, NO_BOUND, 0n], 1024, 5, 0, 0, 0, 1, 0, 0],
-  ["eofb", "R U F", [20, 0, NO_BOUND, 19n], 1024, 5, 0, 0, 0, 1, 0, null],
-];
-
-/** The calls by tables, which are built anew in a new room, also of a step that is there; and a copy of the struct. */
-async function trySearches() {
-  const place = await opened();
-  const { base, bytes, long, answer, ask, written } = place;
-  const tables = { none: base + 96, eofb: base + 112, "drud-eofb": base + 128, copy: base + 144 };
-  bytes.fill(0, base + 96, base + 160);
-  const [first, second, third] = [0, 1, 2].map((at) => base + 65_536 + at * (SMALL + LARGE));
-  const wanted = { status: 0, rooms: [0, 0], isBuilt: true };
-  const stands = (blocks) => long(tables.eofb) >= blocks + SMALL && long(tables.eofb) < blocks + SMALL + LARGE;
-  same("tables of no step", built(place, tables.eofb, "eox", first), { status: 2, rooms: [SMALL, LARGE], isBuilt: false });
-  same("tables in a small room", built(place, tables.eofb, "eofb", first, SMALL, 4096), { status: 3, rooms: [0, 0], isBuilt: false });
-  same("tables in a room", [built(place, tables.eofb, "eofb", first), stands(first), stands(second)], [wanted, true, false]);
-  same("those of the same step in another", [built(place, tables.eofb, "eofb", second), stands(first), stands(second)], [wanted, false, true]);
-  same("tables of another step", built(place, tables["drud-eofb"], "drud-eofb", third), wanted);
-  bytes.copyWithin(tables.copy, tables.eofb, tables.eofb + 16);
-  const rows = [...SEARCHES, ...SEARCHES.filter(([name]) => name === "eofb").map(([, ...row]) => ["copy", ...row])];
-  for (const [name, line, numbers, out, status, fault, column, ...further] of rows) {
-    const is = (nodes) => [bytes[answer + SEARCH_ANSWER.least], bytes[answer + SEARCH_ANSWER.more], long(answer + SEARCH_ANSWER.solutions),
-      nodes === null ? null : long(answer + SEARCH_ANSWER.nodes)];
-    same(`solve ${name} ${line} ${numbers}`, ask("solve", 32, BigInt(tables[name]), line, ...numbers, { out }), [status, fault, column, true]);
-    same("its numbers", is(further[3]), further);
-    same("its text", written(long(answer + SEARCH_ANSWER.length)), ["F (1)\nF' (1)\n".split(/(?<=\n)/).slice(0, further[2]).join(""), true]);
-    const count = ask("count", 32, BigInt(tables[name]), line, ...numbers);
-    if (status === 4) continue;
-    same(`count ${name} ${line} ${numbers}`, [...count, long(answer + SEARCH_ANSWER.length)], [status, fault, column, true, 0]);
-    same("its numbers", is(further[3]), further);
-  }
-  const none = ask("count_lines", 24, BigInt(tables.none), "F", 20, 0, NO_BOUND, NO_BOUND, { out: 9 });
-  same("counts without tables", [none, long(answer + 8)], [[2, 0, 0, true], 0]);
-  same("counts of lines", ask("count_lines", 24, BigInt(tables.eofb), "F\nR)\nR U F", 20, 0, NO_BOUND, NO_BOUND, { out: 9 })[0], 0);
-  same("how many", [long(answer + LINES_ANSWER.lines), long(answer + 16)], [3, 10]);
-  const seen = [0, 1, 2].map((at) => place.out + SEARCH_ANSWER.bytes * at).map((at) => [bytes[at], bytes[at + HEAD.fault], long(at + SEARCH_ANSWER.solutions)]);
-  same("each beside its line", seen, [[0, 0, 2], [1, 3, 0], [0, 0, 2]]);
-}
-
-/** The calls that judge lines, alone and among many: where each number of an answer stands. */
-async function tryJudging() {
-  const { bytes, view, long, answer, out, ask, written } = await opened();
-  const short = (at) => view.getUint16(at, true);
-  const masks = (at) => [0, 1, 2].map((axis) => at + FACTS_ANSWER.axes + AXIS_FACTS.bytes * axis).map((from) =>
-    [...[AXIS_FACTS.badEdges, AXIS_FACTS.badCorners, AXIS_FACTS.misplacedEdges].map((next) => short(from + next)), ...bytes.subarray(from + 6, from + 9)]);
-  const { solved, moves, cleanMoves, holds } = FACTS_ANSWER;
-  const facts = (at) => [bytes[at], bytes[at + HEAD.fault], view.getUint32(at + HEAD.column, true), bytes[at + solved],
-    ...[moves, cleanMoves, holds].map((next) => short(at + next)), masks(at)];
-  // R moves UR, DR, FR and BR, and URF, UBR, DFR and DRB, and leaves eofb, eoud, drrl-eofb, drrl-eoud, eo, dr-eofb and dr-eoud
-  const [beside, own] = [[0, 0x99, 0x911, 0, 4, 4], [0x911, 0, 0, 4, 0, 0]];
-  const ofTurn = [0, 0, 0, 0, 1, 1, 0b1011010010101, [beside, own, beside]];
-  same("they have 44 bytes", ask("facts", FACTS_ANSWER.bytes, "R"), [0, 0, 0, true]);
-  same("the facts of a turn", facts(answer), ofTurn);
-  same("a fault", ask("facts", FACTS_ANSWER.bytes, "R q"), [1, 1, 3, true]);
-  same("a check has 16 bytes", ask("check", 16, "R", "R2' R"), [0, 0, 0, true]);
-  const { line, forms, ...check } = CHECK_ANSWER;
-  const numbers = [...[line, check.solved, forms].map((at) => bytes[answer + at]), ...[check.moves, check.cleanMoves].map((at) => short(answer + at))];
-  same("a check", numbers, [0, 1, 16, 2, 1]);
-  same("a fault of the second line", [ask("check", 16, "R", "("), bytes[answer + line]], [[1, 4, 1, true], 2]);
-  same("facts of three of four lines", [ask("facts_lines", 24, "R\nq\nR\nR", { out: 3 })[0], long(answer + LINES_ANSWER.lines), long(answer + 16)], [0, 3, 6]);
-  const each = [0, 1, 2].map((at) => facts(out + FACTS_ANSWER.bytes * at));
-  same("each beside its line", [each[0], each[1].slice(0, 3), each[2]], [ofTurn, [1, 1, 1], ofTurn]);
-  same("and nothing behind them", written(3 * FACTS_ANSWER.bytes)[1], true);
+  same("tables of no step", built("eox", first, LARGE), [2, [SMALL, LARGE], false, false, false]);
+  same("tables in a small room", built("eofb", first, 4096), [3, [0, 0], false, false, false]);
+  same("tables in a room", built("eofb", first, LARGE), [0, [0, 0], true, true, false]);
+  same("those of the same step in another", built("eofb", second, LARGE), [0, [0, 0], true, false, true]);
 }
 
 const call = await runner();
 tryRuns(call);
 tryRooms(call);
-await trySearches();
-await tryLines();
-await tryJudging();
+await tryBuilds();
 ended();

@@ -1,16 +1,13 @@
 // Calls of the module in node, with the answers that are wanted.
-//
-//     node tests/module/rows.mjs MODULE
-//
-// The last line is `N passed, M failed`, and the status is 1 where M isn't 0.
+import { runInContext } from "node:vm";
 import { NoWebAssembly, NoWideMemory, Nissy } from "../../web/module/nissy.js";
-import { bytesOf, partsOf, rowsOf } from "./tables.mjs";
 import { ended, loaded, moduleBytes as module, same, text, thrown } from "./tally.mjs";
+import { elsewhere } from "./values.mjs";
 
 const SOLVED = "UUUUUUUUURRRRRRRRRFFFFFFFFFDDDDDDDDDLLLLLLLLLBBBBBBBBB\n";
-const USAGE = "usage: nissy COMMAND [ARGUMENTS]\n";
 const OUT_OF_ROOM = "nissy: cannot write\n";
 const CALLS = 10_000;
+const BYTES = [0x52, 0x20, 0x55];
 const LINE_CALLS = ["invert", "unniss", "cleanup", "facelets", "scramble", "steps", "start", "fault_text"];
 const JUDGING = ["facts", "check", "facts_lines", "count_lines"];
 const EXPORTS = ["__heap_base", "memory", ...["run", "build", "solve", "solve_after", "count", ...LINE_CALLS, ...JUDGING].map((name) => `nissy_${name}`)].sort();
@@ -31,25 +28,36 @@ const ROWS = [
   ["a byte more in words", [["invert", " ".repeat(16_777_215) + "R"]], 3, "", "nissy: input longer than 16777216 bytes\n", false],
 ];
 
-/** The runs that each host is tried with. */
-function tryRuns(nissy) {
-  for (const [status, words, input, out, err] of rowsOf("runs.tsv")) {
-    const answer = nissy.run(partsOf(words).map(bytesOf), bytesOf(input));
-    same(`${words}: ${input}`, [answer.status, text(answer.out), text(answer.err), answer.full], [Number(status), text(bytesOf(out)), text(bytesOf(err)), false]);
-  }
-}
+// bytes that are taken, and what the inverse of them is
+const TAKEN = [
+  ["bytes", Uint8Array.from(BYTES), "U' R'\n"],
+  ["a part of bytes", Uint8Array.of(0x44, ...BYTES, 0x44).subarray(1, 4), "U' R'\n"],
+  ["bytes of node", Buffer.from("R U"), "U' R'\n"],
+  ["shared bytes", new Uint8Array(new SharedArrayBuffer(3)).fill(0x52, 0, 1).fill(0x20, 1), "R'\n"],
+  ["bytes of another realm", runInContext("Uint8Array.of(0x52, 0x20, 0x55)", elsewhere), "U' R'\n"],
+  ["bytes that say that they are more", Object.defineProperty(Uint8Array.from(BYTES), "length", { value: 50_000 }), "U' R'\n"],
+  ["bytes that hand out others", Object.assign(Uint8Array.from(BYTES), { [Symbol.iterator]: () => [][Symbol.iterator]() }), "U' R'\n"],
+];
 
 function tryRows(nissy) {
   for (const [what, given, status, out, err, full] of ROWS) {
     const answer = nissy.run(...given);
     same(what, [answer.status, text(answer.out), text(answer.err), answer.full], [status, out, err, full]);
   }
+  for (const [what, bytes, wanted] of TAKEN) {
+    same(`${what} as the input`, text(nissy.run(["invert"], bytes).out), wanted);
+    same(`${what} as a word`, text(nissy.run(["invert", bytes]).out), wanted);
+  }
 }
 
 async function tryRefusals(nissy) {
   same("a word with a zero byte", await thrown(() => nissy.run(["invert", "R\0U"])), ["RangeError", "a word holds a zero byte"]);
-  for (const room of [-1, 1.5, Number.NaN, 2 ** 45, 2 ** 50, 2 ** 53]) {
+  // some reach the end of what an address of the module can name, or would begin again at its start
+  for (const room of [-1, 1.5, Number.NaN, 2 ** 32 - 1, 2 ** 32, 2 ** 32 + 64, 2 ** 33, 2 ** 40, 2 ** 45, 2 ** 50, 2 ** 53 - 1, 2 ** 53]) {
     same(`a room of ${room} bytes`, (await thrown(() => nissy.run(["steps"], "", room)))[0], "RangeError");
+  }
+  for (const room of [null, "14", 14n, {}, [14], true]) {
+    same(`no room, but ${typeof room}`, await thrown(() => nissy.run(["steps"], "", room)), ["TypeError", "the room is no number"]);
   }
   same("a run after these", text(nissy.run(["invert", "R"]).out), "R'\n");
   same("bytes that are no module", (await thrown(() => Nissy.load(module.subarray(1))))[0], "CompileError");
@@ -104,7 +112,6 @@ const copied = module.buffer.slice(module.byteOffset, module.byteOffset + module
 same("a module in an ArrayBuffer", text((await Nissy.load(copied)).run(["invert", "R"]).out), "R'\n");
 const { nissy } = await loaded(Nissy);
 tryRows(nissy);
-tryRuns(nissy);
 await tryRefusals(nissy);
 await tryMemory();
 await tryRoom();

@@ -1,14 +1,10 @@
 // The calls of `Nissy` by their names, with what is wanted, and with values and sizes that no call takes.
-//
-//     node tests/module/typed.mjs MODULE
-//
-// The last line is `N passed, M failed`, and the status is 1 where M isn't 0.
 import { runInContext } from "node:vm";
 import { readFileSync } from "node:fs";
 import { Nissy, VERSION } from "../../web/module/nissy.js";
-import { tryCutOff, tryDeepCalls } from "./broken_off.mjs";
+import { tryTraps } from "./broken_off.mjs";
 import { F_OR_ITS_INVERSE, tryEach, tryMany, tryOptions, tryReadOptions, tryRows, tryWrongValues } from "./called.mjs";
-import { tryBounds, tryChecks, tryFacts, tryMixed } from "./judged.mjs";
+import { tryBounds, tryChecks, tryMixed } from "./judged.mjs";
 import { elsewhere } from "./values.mjs";
 import { ended, loaded, moduleBytes, same, text, thrown } from "./tally.mjs";
 
@@ -68,20 +64,6 @@ function tryManySolutions(nissy) {
   same("the first thousand of them", nissy.solve("eo", "R U F2 L D R B", { slack: 4, most: 1000 }), wanted.slice(0, 1000));
 }
 
-/** Whether a call is answered as it should be. */
-const isRight = (nissy) => JSON.stringify(nissy.solve("eofb", "F")) === JSON.stringify(F_OR_ITS_INVERSE);
-
-/** Calls that break off in a search and while tables are built. */
-async function tryTraps(nissy) {
-  tryDeepCalls(() => nissy.count("eofb", "R U F"), () => isRight(nissy));
-  for (const [what, code] of [
-    ["a search", 'nissy.count("eo", "R U F2 L D R B", { slack: 12 })'],
-    ["tables", "for (;;) { nissy.count('dr-eoud', 'R'); nissy.count('dr-eorl', 'U'); nissy.count('dr-eofb', 'U') }"],
-  ]) {
-    await tryCutOff(what, nissy, code, [1, 5, 20, 60], () => isRight(nissy));
-  }
-}
-
 /** What the module may be had from. */
 async function trySources() {
   const bytes = new Uint8Array(moduleBytes);
@@ -134,7 +116,7 @@ await tryOptions(nissy);
 await tryReadOptions(nissy, memory);
 await tryMany(nissy);
 await tryEach(nissy);
-for (const judge of [tryFacts, tryChecks, tryBounds, tryMixed]) await judge(nissy);
+for (const judge of [tryChecks, tryBounds, tryMixed]) await judge(nissy);
 await tryRanges(nissy);
 await tryScrambles(nissy);
 await tryBeyond(nissy, memory);

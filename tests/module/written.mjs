@@ -1,8 +1,4 @@
 // Tries how text is read that solvers write, beside lines that were written out by hand; and that the engine reads what comes of it.
-//
-//     node tests/module/written.mjs MODULE
-//
-// The last line is `N passed, M failed`, and the status is 1 where M isn't 0.
 import { Nissy, plainLine, readFmc, stickersOf } from "../../web/module/nissy.js";
 import { ended, moduleBytes, same, thrown } from "./tally.mjs";
 

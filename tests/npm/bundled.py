@@ -4,8 +4,7 @@ another server:
 
     tests/npm/bundled.py FOLDER
 
-FOLDER has the package in node_modules. What needs a tool that isn't here is skipped, and named. The last line is `N passed, M failed`, and the
-status is 1 where M isn't 0. Run it by Debian's Python, which has Debian's selenium, and with a display, which WebKit needs.
+FOLDER has the package in node_modules. Run it by Debian's Python, which has Debian's selenium, and with a display, which WebKit needs.
 """
 import re
 import shlex

@@ -3,8 +3,7 @@
 
     tests/npm/drawn.py COMMAND SEED
 
-Each run starts a node, so they are some hundred and twenty of the kinds of runs by which tests/model tries the program. The last line is
-`N passed, M failed`, by kinds of runs, and the status is 1 if M isn't 0.
+Each run starts a node, so they are some hundred and twenty of the kinds of runs by which tests/model tries the program.
 """
 import os
 import sys

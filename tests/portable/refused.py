@@ -1,10 +1,6 @@
 #!/usr/bin/env python3
 """What the translator doesn't take it refuses by name: what the kit's modules don't have, two modules that aren't one, code whose use of the stack isn't
-known, and calls of a header that the module hasn't. The last line is `N passed, M failed`, and the status is 1 if M isn't 0.
-
-    tests/portable/refused.py
-
-It needs wat2wasm.
+known, and calls of a header that the module hasn't. It needs wat2wasm.
 """
 import subprocess
 import sys

@@ -4,7 +4,7 @@ numbers, and drawn functions of many instructions. What C says is held against w
 
     tests/portable/rows.py [SEED [COUNT]]
 
-COUNT functions are drawn. It needs wat2wasm, node and gcc. The last line is `N passed, M failed`, and the status is 1 if M isn't 0.
+COUNT functions are drawn. It needs wat2wasm, node and gcc.
 """
 import shutil
 import signal

@@ -1,8 +1,5 @@
 #!/usr/bin/env python3
-"""Tries wrong translators: each turns one meaning in a copy of tools/ and portable/, and the small modules of rows.py must see it. The last line is
-`N passed, M failed`, and the status is 1 if M isn't 0.
-
-    tests/portable/wrong.py
+"""Tries wrong translators: each turns one meaning in a copy of tools/ and portable/, and the small modules of rows.py must see it.
 
 It needs wat2wasm, node and gcc; by tcc, where it is, it takes half as long.
 """
