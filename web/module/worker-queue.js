@@ -28,8 +28,8 @@ import { Signals, reasonOf, signalOf } from "./signals.js";
  */
 
 /**
- * @typedef {{id: number, request: Asked, signal: AbortSignal | undefined, followed: TellProgress, answered: (reply: any)
- * => void, refused: (reason: unknown) => void}} Call
+ * @typedef {{id: number, request: Asked, signal: AbortSignal | undefined, followed: TellProgress, answered: (reply:
+ * any) => void, refused: (reason: unknown) => void}} Call
  */
 
 /** How many pieces of a call a worker has: it needs not wait for the second one when it ends the first. */
