@@ -1,5 +1,6 @@
 // Scripts that put something of their own in the place of what JavaScript has, say how arrays are copied and gone through, or give all objects
 // something: each call answers as without them, and so shows nothing that an earlier one left in the memory.
+import { eachOf } from "../../web/module/bytes.js";
 import { Nissy } from "../../web/module/nissy.js";
 import { ended, moduleBytes, same, text } from "./tally.mjs";
 
@@ -100,5 +101,7 @@ for (const at of [0, 1]) {
   const lost = [Array.prototype, at, { get: () => 1_048_576, set() {} }];
   same(`a call if each array has a place ${at}`, during(lost, () => nissy.invert(`R U F${" ".repeat(4_096)}`)), "F' U' R'");
   same("the steps after it", nissy.steps().includes("drud-eofb"), true);
+  const kept = during(lost, () => eachOf(["R", "U"], (line) => line));
+  same(`what is made of each value if each array has a place ${at}`, [kept, Object.getPrototypeOf(kept) === Array.prototype], [["R", "U"], true]);
 }
 ended();

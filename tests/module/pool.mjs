@@ -114,6 +114,10 @@ async function tryGivenUp(pool) {
   }
 }
 
+/** What a worker says of a request if each line has a fault, and how long that took. */
+const faulty = ({ id, request }, milliseconds) =>
+  ({ id, reply: { values: null, others: request.lines.map((_, at) => [at, { status: 1, fault: 1, column: 1, character: 1, text: "here" }]), milliseconds } });
+
 /** Threads that fail: what they had is rejected, and the next call starts others. */
 async function tryDead() {
   let left = 2;
@@ -123,7 +127,7 @@ async function tryDead() {
     return {
       postMessage: (message) => {
         if ("module" in message) return;
-        setTimeout(() => (isDead ? failed("it has ended") : took({ id: message.id, reply: message.request.lines.map(() => ({ status: 1, fault: 1, column: 1, character: 1, text: "here" })) })));
+        setTimeout(() => (isDead ? failed("it has ended") : took(faulty(message, 1))));
       },
       terminate: () => {},
     };
@@ -132,6 +136,48 @@ async function tryDead() {
   same("a worker that ends", await thrown(() => pool.factsAll(["R", "U", "F"])), ["EngineMissing", "it has ended"]);
   const next = await pool.factsAll(["R", "U"], { faults: "value" });
   same("the next call", next.map(({ text }) => text), ["here", "here"]);
+}
+
+/** A worker has a second piece of the same call while it works on a quick one, and none behind a slow one. */
+async function tryAhead() {
+  const workers = [];
+  const pool = new WorkerPool(1, moduleBytes, (took) => {
+    const worker = { sent: [], isEnded: false, answer: (milliseconds) => took(faulty(worker.sent.shift(), milliseconds)) };
+    workers.push(worker);
+    return {
+      postMessage: (message) => "module" in message || worker.sent.push(message),
+      terminate: () => {
+        worker.isEnded = true;
+      },
+    };
+  });
+  const stop = new AbortController();
+  const given = thrown(() => pool.factsAll(Array.from({ length: LINES }, () => "R"), { faults: "value", signal: stop.signal }));
+  const has = async () => {
+    await new Promise((done) => setImmediate(done));
+    return workers[0].sent.length;
+  };
+  same("a piece of which nothing is known is alone", await has(), 1);
+  for (const [milliseconds, wanted] of [[1, 2], [1, 2], [100, 1], [100, 1], [1, 2]]) {
+    workers[0].answer(milliseconds);
+    same(`so many behind one of ${milliseconds} ms`, await has(), wanted);
+  }
+  const other = pool.factsAll(["D"], { faults: "value" });
+  workers[0].answer(1);
+  same("one of another call isn't sent before the last one is answered", [await has(), workers[0].sent[0].request.lines[0]], [1, "R"]);
+  workers[0].answer(1);
+  same("then it is, alone", [await has(), workers[0].sent[0].request.lines], [1, ["D"]]);
+  workers[0].answer(1);
+  same("it has its answer", (await other).map(({ text }) => text), ["here"]);
+  workers[0].answer(1);
+  same("two again", await has(), 2);
+  const later = pool.factsAll(["U"], { faults: "value" });
+  stop.abort(new RangeError("no more"));
+  same("both are given up", await given, ["RangeError", "no more"]);
+  await has();
+  same("by the end of their worker", workers.map(({ isEnded }) => isEnded), [true, false]);
+  workers[1].answer(1);
+  same("another one has what waited", (await later).map(({ text }) => text), ["here"]);
 }
 
 /** The best continuations, an axis a worker. */
@@ -154,10 +200,10 @@ function tryEnd() {
   writeFileSync(script, `import { readFileSync } from "node:fs";
     import { NissyPool } from ${JSON.stringify(new URL("../../web/module/node.js", import.meta.url).href)};
     const pool = await NissyPool.start(3, readFileSync(process.argv[2]));
-    console.log((await pool.countAll("eofb", Array.from({ length: 50 }, () => "R U F"))).length, pool.size);`);
+    console.log((await pool.countAll("eofb", Array.from({ length: 50_000 }, () => "R U F"))).length, pool.size);`);
   const said = String(execFileSync(process.execPath, [script, process.argv[2]], { timeout: 2 * SOON }));
   rmSync(folder, { recursive: true });
-  same("a process ends by itself", said, "50 3\n");
+  same("a process ends by itself", said, "50000 3\n");
 }
 
 const pool = await NissyPool.start(3, moduleBytes);
@@ -167,6 +213,7 @@ await tryWrong(pool);
 await tryGivenUp(pool);
 await tryBest(pool);
 await tryDead();
+await tryAhead();
 const alone = await NissyPool.start(1, moduleBytes);
 await tryFaults(alone);
 await tryBest(alone);

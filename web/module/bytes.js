@@ -1,5 +1,5 @@
 // What callers hand over, checked: nothing of another type reaches the module, and nobody can change it later.
-import { Bytes, encoded, kindOf, lengthOf, putBytes, textIn, wide } from "./natives.js";
+import { Bytes, encoded, kindOf, lengthOf, ofArrays, putBytes, textIn, wide, withPrototype } from "./natives.js";
 
 /** @typedef {string | Uint8Array} Text */
 
@@ -70,7 +70,13 @@ export function characterAt(line, column) {
  * @param {(value: Value, index: number) => Made} make
  * @returns {Made[]}
  */
-export const eachOf = (values, make) => Array.from({ length: values.length }, (_, index) => make(values[index], index));
+export function eachOf(values, make) {
+  // what has no prototype keeps what it is given: a script may give all arrays a place of its own
+  const made = withPrototype(/** @type {Made[]} */ ([]), null);
+  const { length } = values;
+  for (let index = 0; index < length; index += 1) made[index] = make(values[index], index);
+  return withPrototype(made, ofArrays);
+}
 
 /**
  * @param {unknown} words

@@ -53,15 +53,11 @@ export const FORMS = /** @type {const} */ (["slices", "lower-case", "brackets", 
  */
 
 /**
- * @typedef {{badEdges: number, badCorners: number, misplacedEdges: number}} Masks which places of an axis have bad
- * pieces
+ * What the module says of a cube, in so many numbers: 1 if it is solved, the moves, the clean moves, a mask of the
+ * steps that it has reached, and for each axis masks of its bad edges, bad corners and misplaced edges.
+ * @typedef {{status: 0, numbers: number[]}} SeenFacts
  */
-
-/**
- * What the module says of a cube; `holds` is a mask of the steps.
- * @typedef {{status: 0, solved: boolean, moves: number, cleanMoves: number, holds: number, masks: OnEachAxis<Masks>}}
- * SeenFacts
- */
+export const FACTS_NUMBERS = 13;
 
 /**
  * @typedef {{status: 0, solved: boolean, moves: number, cleanMoves: number, forms: number}} SeenCheck what the module
@@ -85,33 +81,39 @@ const cornersIn = maskReader(CORNER_PLACES);
 const stepsIn = maskReader(STEPS);
 const formsIn = maskReader(FORMS);
 
-/**
- * @template Told
- * @param {OnEachAxis<Masks>} masks
- * @param {(ofAxis: Masks) => Told} told
- * @returns {OnEachAxis<Told>}
- */
-const onEachAxis = ({ fb, rl, ud }, told) => ({ fb: told(fb), rl: told(rl), ud: told(ud) });
-
 /** The cases by how many corners and edges they have, since a text of its own for each line takes longer. */
 const CASES = Array.from({ length: CORNER_PLACES.length + 1 }, (_, corners) =>
   Array.from({ length: EDGE_PLACES.length + 1 }, (__, edges) => `${corners}c${edges}e`));
 
-/** @param {Masks} ofAxis */
-const caseInWords = ({ badCorners, misplacedEdges }) =>
-  CASES[cornersIn(badCorners).length][edgesIn(misplacedEdges).length];
+/** @param {number} badCorners @param {number} misplacedEdges */
+const caseInWords = (badCorners, misplacedEdges) => CASES[cornersIn(badCorners).length][edgesIn(misplacedEdges).length];
 
-/** @param {SeenFacts} seen @returns {Facts} */
-export const factsOf = ({ solved, moves, cleanMoves, holds, masks }) => ({
-  solved,
-  moves,
-  cleanMoves,
-  badEdges: onEachAxis(masks, ({ badEdges }) => edgesIn(badEdges)),
-  badCorners: onEachAxis(masks, ({ badCorners }) => cornersIn(badCorners)),
-  misplacedEdges: onEachAxis(masks, ({ misplacedEdges }) => edgesIn(misplacedEdges)),
-  cases: onEachAxis(masks, caseInWords),
-  holds: stepsIn(holds),
-});
+/**
+ * The facts in the numbers from a place on. One function makes all objects of a line: so those of many lines take the
+ * host half as long.
+ * @param {ArrayLike<number>} numbers
+ * @param {number} at
+ * @returns {Facts}
+ */
+export function factsFrom(numbers, at) {
+  const fb = at + 4;
+  const rl = at + 7;
+  const ud = at + 10;
+  return {
+    solved: numbers[at] === 1,
+    moves: numbers[at + 1],
+    cleanMoves: numbers[at + 2],
+    badEdges: { fb: edgesIn(numbers[fb]), rl: edgesIn(numbers[rl]), ud: edgesIn(numbers[ud]) },
+    badCorners: { fb: cornersIn(numbers[fb + 1]), rl: cornersIn(numbers[rl + 1]), ud: cornersIn(numbers[ud + 1]) },
+    misplacedEdges: { fb: edgesIn(numbers[fb + 2]), rl: edgesIn(numbers[rl + 2]), ud: edgesIn(numbers[ud + 2]) },
+    cases: {
+      fb: caseInWords(numbers[fb + 1], numbers[fb + 2]),
+      rl: caseInWords(numbers[rl + 1], numbers[rl + 2]),
+      ud: caseInWords(numbers[ud + 1], numbers[ud + 2]),
+    },
+    holds: stepsIn(numbers[at + 3]),
+  };
+}
 
 /** @param {SeenCheck} seen @returns {Check} */
 export const checkOf = ({ solved, moves, cleanMoves, forms }) => ({ solved, moves, cleanMoves, forms: formsIn(forms) });

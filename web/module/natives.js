@@ -52,6 +52,11 @@ export const growMemory = asFunction(ofMemories?.grow);
 /** @type {<Value>(array: Value[]) => readonly Value[]} */
 export const frozen = Object.freeze;
 
+export const ofArrays = Array.prototype;
+
+/** @type {<Value>(array: Value[], prototype: unknown[] | null) => Value[]} */
+export const withPrototype = Object.setPrototypeOf;
+
 const encoder = new TextEncoder();
 const decoder = new TextDecoder();
 

@@ -19,14 +19,18 @@ const besideThis = () => readFile(new URL("./nissy.wasm", import.meta.url));
  */
 function newThread(took, failed) {
   const worker = new Worker(new URL("./worker-node.js", import.meta.url));
+  let calls = 0;
   worker.on("message", (data) => {
     // the answer is still to come
-    if (!hasOwn(data, "progress")) worker.unref();
+    if (!hasOwn(data, "progress")) calls -= 1;
+    if (calls === 0) worker.unref();
     took(data);
   });
   worker.on("error", (error) => failed(error.message));
   return {
     postMessage: (message) => {
+      // what brings the module has no answer
+      if (hasOwn(/** @type {object} */ (message), "id")) calls += 1;
       worker.ref();
       worker.postMessage(message);
     },

@@ -1,59 +1,44 @@
 // Answers to many lines as numbers, side by side: a worker sends them so, since objects take longer from thread to
 // thread than their lines take the engine.
-import { STATUS, hasValue } from "./replies.js";
+import { FACTS_NUMBERS, factsFrom } from "./facts.js";
+import { STATUS, countTold, endsAll, hasValue } from "./replies.js";
 
-/** @typedef {import("./facts.js").Masks} Masks */
+/** @typedef {import("./facts.js").Facts} Facts */
 /** @typedef {import("./facts.js").SeenFacts} SeenFacts */
+/** @typedef {import("./replies.js").Count} Count */
 /** @typedef {import("./replies.js").OneReply} OneReply */
 /** @typedef {import("./replies.js").SeenCount} SeenCount */
+/** @typedef {import("./requests.js").AllRequest} AllRequest */
 
 /** @typedef {Uint16Array | Float64Array} Numbers */
-/** @typedef {[at: number, reply: OneReply]} Unpacked the place of a reply that has no value, and the reply */
-/** @typedef {{of: string, numbers: ArrayBuffer, length: number, others: Unpacked[]}} PackedReplies */
+/** @typedef {{of: string, numbers: ArrayBuffer, length: number}} PackedValues */
+/** @typedef {[at: number, reply: OneReply]} Unpacked the place of a reply that isn't among them, and the reply */
 
 /**
- * How a kind of answer becomes numbers, and is made of them again.
- * @template Seen
+ * How a kind of answer becomes numbers, and a value is made of them.
+ * @template Seen, Value
  * @typedef {object} Packing
  * @property {Uint16ArrayConstructor | Float64ArrayConstructor} array
  * @property {number} size how many numbers there are of each
  * @property {(numbers: Numbers, at: number, seen: Seen) => void} write
- * @property {(numbers: Numbers, at: number) => Seen} read
+ * @property {(numbers: Numbers, at: number) => Value} value
  */
 
-/** @param {Numbers} numbers @param {number} at @param {Masks} masks */
-function writeAxis(numbers, at, { badEdges, badCorners, misplacedEdges }) {
-  numbers[at] = badEdges;
-  numbers[at + 1] = badCorners;
-  numbers[at + 2] = misplacedEdges;
-}
+/**
+ * The same number: one of 32 bits stands in the object that has it, and takes no memory of its own there.
+ * @param {number} number
+ */
+const kept = (number) => ((number | 0) === number ? number | 0 : number);
 
-/** @param {Numbers} numbers @param {number} at @returns {Masks} */
-const axisAt = (numbers, at) =>
-  ({ badEdges: numbers[at], badCorners: numbers[at + 1], misplacedEdges: numbers[at + 2] });
-
-/** @type {{facts: Packing<SeenFacts>, count: Packing<SeenCount>, [of: string]: Packing<any>}} */
+/** @type {{facts: Packing<SeenFacts, Facts>, count: Packing<SeenCount, Count>, [of: string]: Packing<any, unknown>}} */
 const PACKINGS = {
   facts: {
     array: Uint16Array,
-    size: 13,
-    write: (numbers, at, { solved, moves, cleanMoves, holds, masks }) => {
-      numbers[at] = solved ? 1 : 0;
-      numbers[at + 1] = moves;
-      numbers[at + 2] = cleanMoves;
-      numbers[at + 3] = holds;
-      writeAxis(numbers, at + 4, masks.fb);
-      writeAxis(numbers, at + 7, masks.rl);
-      writeAxis(numbers, at + 10, masks.ud);
+    size: FACTS_NUMBERS,
+    write: (numbers, at, seen) => {
+      for (let next = 0; next < FACTS_NUMBERS; next += 1) numbers[at + next] = seen.numbers[next];
     },
-    read: (numbers, at) => ({
-      status: STATUS.done,
-      solved: numbers[at] === 1,
-      moves: numbers[at + 1],
-      cleanMoves: numbers[at + 2],
-      holds: numbers[at + 3],
-      masks: { fb: axisAt(numbers, at + 4), rl: axisAt(numbers, at + 7), ud: axisAt(numbers, at + 10) },
-    }),
+    value: factsFrom,
   },
   count: {
     array: Float64Array,
@@ -65,44 +50,44 @@ const PACKINGS = {
       numbers[at + 3] = solutions;
       numbers[at + 4] = nodes;
     },
-    read: (numbers, at) => ({
+    value: (numbers, at) => countTold({
       status: numbers[at] === STATUS.cut ? STATUS.cut : STATUS.done,
-      least: numbers[at + 1],
+      least: kept(numbers[at + 1]),
       more: numbers[at + 2] === 1,
-      solutions: numbers[at + 3],
-      nodes: numbers[at + 4],
+      solutions: kept(numbers[at + 3]),
+      nodes: kept(numbers[at + 4]),
     }),
   },
 };
 
 /**
- * Replies as numbers; those without a value are beside them.
- * @param {string} of facts or a count
+ * Replies as numbers; beside them those without a value, one that ends the call, and solutions.
+ * @param {AllRequest} request
  * @param {OneReply[]} replies
- * @returns {PackedReplies}
+ * @returns {{values: PackedValues | null, others: Unpacked[]}}
  */
-export function packed(of, replies) {
-  const { array, size, write } = PACKINGS[of];
+export function packed(request, replies) {
+  const of = request.each.call;
+  if (of === "solve") return { values: null, others: replies.map((reply, at) => [at, reply]) };
+  const { array, size, write } = /** @type {Packing<any, unknown>} */ (PACKINGS[of]);
   const numbers = new array(replies.length * size);
   /** @type {Unpacked[]} */
   const others = [];
   replies.forEach((reply, at) => {
-    if (hasValue(reply.status)) write(numbers, at * size, reply);
+    if (hasValue(reply.status) && !endsAll(request, reply)) write(numbers, at * size, reply);
     else others.push([at, reply]);
   });
-  return { of, numbers: /** @type {ArrayBuffer} */ (numbers.buffer), length: replies.length, others };
+  return { values: { of, numbers: /** @type {ArrayBuffer} */ (numbers.buffer), length: replies.length }, others };
 }
 
 /**
- * The replies again.
- * @param {PackedReplies} packing
- * @returns {OneReply[]}
+ * Puts values in their places; in those of the others is none of theirs.
+ * @param {unknown[]} told
+ * @param {number} begin the place of the first one
+ * @param {PackedValues} values
  */
-export function unpacked({ of, numbers, length, others }) {
-  const { array, size, read } = PACKINGS[of];
+export function putValues(told, begin, { of, numbers, length }) {
+  const { array, size, value } = PACKINGS[of];
   const each = new array(numbers);
-  /** @type {OneReply[]} */
-  const replies = Array.from({ length }, (_, at) => read(each, at * size));
-  for (const [at, reply] of others) replies[at] = reply;
-  return replies;
+  for (let at = 0; at < length; at += 1) told[begin + at] = value(each, at * size);
 }

@@ -1,44 +1,30 @@
 // Many lines in pieces: which of them are asked for next, and what is told of them in the order of the lines.
-import { eachOf } from "./bytes.js";
-import { unpacked } from "./packing.js";
-import { endsAll } from "./replies.js";
+import { putValues } from "./packing.js";
+import { endsAll, toldOf } from "./replies.js";
 
 /** @typedef {import("./best.js").BestProgress} BestProgress */
-/** @typedef {import("./packing.js").PackedReplies} PackedReplies */
 /** @typedef {import("./replies.js").OneReply} OneReply */
 /** @typedef {import("./requests.js").AllRequest} AllRequest */
+/** @typedef {import("./serve.js").PieceReply} PieceReply */
 
 /** The lines of the first pieces, and the most of any. */
 const FIRST_LINES = 16;
 const MOST_LINES = 4_096;
 
 /**
- * A piece that takes fewer milliseconds has twice as many lines follow, one that takes more half as many: so a worker
- * seldom waits for the next one, and none long for the last one of another.
+ * A piece that takes fewer milliseconds has more lines follow, one that takes more half as many: so a worker seldom
+ * waits for the next one, and none long for the last one of another.
  */
 const SHORT = 5;
 const LONG = 20;
 
+/** So many times as many lines follow at most, and by how few milliseconds that is told at least. */
+const GROWTH = 16;
+const LEAST = 0.01;
+
 /** So many quick lines are worth a piece; of those that are left each worker gets so many pieces or more. */
 const QUICK_LINES = 64;
 const PIECES = 2;
-
-/** Why there is no value. */
-class Failed {
-  /** @param {unknown} error */
-  constructor(error) {
-    this.error = error;
-  }
-}
-
-/**
- * What a worker's reply says of a line, unless it is an error, which is thrown.
- * @param {unknown} told
- */
-export function valueIn(told) {
-  if (told instanceof Failed) throw told.error;
-  return told;
-}
 
 /** The pieces of a request. */
 export class Pieces {
@@ -46,13 +32,16 @@ export class Pieces {
   /** @type {(reply: any) => unknown} */ #one;
   /** @type {number} */ #workers;
   /** @type {number[]} where each piece begins */ #begins = [];
-  /** @type {(unknown[] | undefined)[]} what is told of each */ #told = [];
+  /** @type {unknown[]} what is told of each line */ #told;
+  /** @type {boolean[]} whether each piece is told */ #isTold = [];
+  /** @type {{index: number, error: unknown} | null} the first line of which an error is thrown */ #failed = null;
   /** how many lines are in a piece */ #begun = 0;
   /** how many pieces are told, and so has been each before them */ #known = 0;
   /** how many are wanted: none behind a reply that ends the call */ #wanted = Infinity;
   #size = FIRST_LINES;
   #least = 1;
   #done = 0;
+  #isQuick = false;
 
   /**
    * @param {AllRequest} request
@@ -63,6 +52,15 @@ export class Pieces {
     this.#request = request;
     this.#workers = workers;
     this.#one = one;
+    this.#told = new Array(request.lines.length);
+  }
+
+  /**
+   * How many pieces a worker has: a second one, if they are quick, to go on with while this thread reads the first
+   * one's answer. Behind a slow one it would wait though another worker may be idle.
+   */
+  get ofEach() {
+    return this.#isQuick ? 2 : 1;
   }
 
   /** @returns {number | null} the place of a piece that nobody has, or null if there is none */
@@ -82,34 +80,55 @@ export class Pieces {
    * @returns {AllRequest}
    */
   requestOf(at) {
-    const lines = this.#request.lines.slice(this.#begins[at], this.#begins[at + 1] ?? this.#begun);
-    return { ...this.#request, lines, isPacked: this.#request.each.call !== "solve" };
+    const lines = this.#request.lines.slice(this.#begins[at], this.#endOf(at));
+    return { ...this.#request, lines, isPiece: true };
+  }
+
+  /** @param {number} at */
+  #endOf(at) {
+    return this.#begins[at + 1] ?? this.#begun;
   }
 
   /**
-   * Takes a worker's answer to a piece, which it worked on for so many milliseconds.
+   * Has the next pieces be longer or shorter, by how many milliseconds a worker took for one. Several that were as long
+   * make it so once.
    * @param {number} at
-   * @param {OneReply[] | PackedReplies} answer
    * @param {number} milliseconds
    */
-  take(at, answer, milliseconds) {
-    const replies = Array.isArray(answer) ? answer : unpacked(answer);
-    if (replies.some((reply) => endsAll(this.#request, reply))) this.#wanted = Math.min(this.#wanted, at + 1);
-    this.#done += (this.#begins[at + 1] ?? this.#begun) - this.#begins[at];
-    this.#told[at] = eachOf(replies, (reply) => this.#read(reply));
-    while (this.#told[this.#known] !== undefined) this.#known += 1;
-    if (milliseconds > LONG) this.#size = Math.max(1, Math.floor(this.#size / 2));
+  took(at, milliseconds) {
+    const lines = this.#endOf(at) - this.#begins[at];
+    this.#isQuick = milliseconds <= LONG;
+    if (milliseconds > LONG) this.#size = Math.min(this.#size, Math.max(1, Math.floor(lines / 2)));
     if (milliseconds >= SHORT) return;
-    this.#size = Math.min(MOST_LINES, 2 * this.#size);
+    const growth = Math.min(GROWTH, Math.max(2, Math.floor(SHORT / Math.max(milliseconds, LEAST))));
+    this.#size = Math.max(this.#size, Math.min(MOST_LINES, growth * lines));
     this.#least = QUICK_LINES;
   }
 
-  /** @param {OneReply} reply */
-  #read(reply) {
+  /**
+   * Takes a worker's reply to a piece.
+   * @param {number} at
+   * @param {PieceReply} reply
+   */
+  take(at, { values, others }) {
+    const begin = this.#begins[at];
+    if (values !== null) putValues(this.#told, begin, values);
+    for (const [place, reply] of others) {
+      if (endsAll(this.#request, reply)) this.#wanted = Math.min(this.#wanted, at + 1);
+      this.#told[begin + place] = this.#read(reply, begin + place);
+    }
+    this.#done += this.#endOf(at) - begin;
+    this.#isTold[at] = true;
+    while (this.#isTold[this.#known]) this.#known += 1;
+  }
+
+  /** @param {OneReply} reply @param {number} index of its line */
+  #read(reply, index) {
     try {
-      return this.#one(reply);
+      return toldOf(reply, index, this.#request, this.#one);
     } catch (error) {
-      return new Failed(error);
+      if (this.#failed === null || index < this.#failed.index) this.#failed = { index, error };
+      return undefined;
     }
   }
 
@@ -123,9 +142,10 @@ export class Pieces {
     return this.#begun === this.#request.lines.length && this.#begins.length > 0;
   }
 
-  /** @returns {unknown[]} what is told of each line, as `valueIn` reads it */
+  /** @returns {unknown[]} what is told of each line, unless that is thrown */
   told() {
-    return this.#told.slice(0, this.#wanted).flat();
+    if (this.#failed !== null) throw this.#failed.error;
+    return this.#told;
   }
 
   /** @returns {BestProgress} how many lines have their reply */

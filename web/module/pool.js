@@ -4,8 +4,8 @@ import { BestRows } from "./best-rows.js";
 import { ORIENTATIONS } from "./best-steps.js";
 import { wholeNumber } from "./bytes.js";
 import { Stopped, cutOfAll } from "./faults.js";
-import { Pieces, valueIn } from "./pieces.js";
-import { allOf, bestIn, countIn, factsIn, shownIn, solutionsIn } from "./replies.js";
+import { Pieces } from "./pieces.js";
+import { bestIn, countIn, factsIn, shownIn, solutionsIn } from "./replies.js";
 import { allRequest, bestRequest, countRequest, factsRequest, solveRequest, stepsRequest } from "./requests.js";
 import { Signals, progressOf, reasonOf, signalOf } from "./signals.js";
 import { compiled } from "./source.js";
@@ -26,6 +26,7 @@ import { WorkerQueue } from "./worker-queue.js";
 /** @typedef {import("./requests.js").Wanted} Wanted */
 /** @typedef {import("./signals.js").Followed} Followed */
 /** @typedef {import("./signals.js").Stoppable} Stoppable */
+/** @typedef {import("./serve.js").PieceReply} PieceReply */
 /** @typedef {import("./source.js").ModuleSource} ModuleSource */
 /** @typedef {import("./worker-queue.js").NewWorker} NewWorker */
 /** @typedef {import("./worker-queue.js").SentModule} SentModule */
@@ -67,20 +68,31 @@ function rowsWithin(replies, nodes) {
 }
 
 /**
- * Asks a worker of the next piece that none has, until there is none.
+ * Asks a worker of the next pieces that none has, until there are none.
  * @param {WorkerQueue} queue
  * @param {Pieces} pieces
- * @param {{signal: AbortSignal, tell: TellProgress, whole: (told: unknown[]) => void}} ways `whole` is told what is
- * said of all lines once it is there: what is behind a fault isn't waited for
+ * @param {{signal: AbortSignal, tell: TellProgress, whole: () => void, failed: (reason: unknown) => void}} ways `whole`
+ * is called once all is told that is wanted: what is behind a fault isn't waited for
  */
-async function workOn(queue, pieces, { signal, tell, whole }) {
-  for (let at = pieces.next(); at !== null; at = pieces.next()) {
-    const begun = performance.now();
-    const answer = await queue.answer(pieces.requestOf(at), { signal });
-    pieces.take(at, answer, performance.now() - begun);
+function workOn(queue, pieces, { signal, tell, whole, failed }) {
+  let asked = 0;
+  const next = () => (asked < pieces.ofEach ? pieces.next() : null);
+  const ask = () => {
+    for (let at = next(); at !== null; at = next()) {
+      asked += 1;
+      queue.answer(pieces.requestOf(at), { signal }).then(took(at)).catch(failed);
+    }
+  };
+  const took = (/** @type {number} */ at) => (/** @type {PieceReply} */ reply) => {
+    asked -= 1;
+    pieces.took(at, reply.milliseconds);
+    // the worker goes on while the reply is read
+    ask();
+    pieces.take(at, reply);
     tell(pieces.progress());
-    if (pieces.areWhole()) whole(pieces.told());
-  }
+    if (pieces.areWhole()) whole();
+  };
+  ask();
 }
 
 /**
@@ -197,12 +209,11 @@ export class WorkerPool {
   async #answerAll(request, options, one) {
     const tell = progressOf(options);
     const pieces = new Pieces(request, this.size, one);
-    /** @type {unknown[]} */
-    const told = await this.#together(options, (signal) => new Promise((resolve, reject) => {
-      const ways = { signal, tell, whole: resolve };
-      for (const queue of this.#queues) workOn(queue, pieces, ways).catch(reject);
+    await this.#together(options, (signal) => new Promise((resolve, failed) => {
+      const ways = { signal, tell, whole: () => resolve(undefined), failed };
+      for (const queue of this.#queues) workOn(queue, pieces, ways);
     }));
-    return allOf(told, request, valueIn);
+    return pieces.told();
   }
 
   /**

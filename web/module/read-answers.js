@@ -24,26 +24,28 @@ export const countAt = (memory, at) => ({
   nodes: memory.number(at + SEARCH_ANSWER.nodes, LONG),
 });
 
-/** @param {InstanceMemory} memory @param {number} at @returns {import("./facts.js").Masks} */
-const masksAt = (memory, at) => ({
-  badEdges: memory.short(at + AXIS_FACTS.badEdges),
-  badCorners: memory.short(at + AXIS_FACTS.badCorners),
-  misplacedEdges: memory.short(at + AXIS_FACTS.misplacedEdges),
-});
-
 /** @param {InstanceMemory} memory @param {number} at @returns {SeenFacts} */
-export const factsAt = (memory, at) => ({
-  status: STATUS.done,
-  solved: memory.byte(at + FACTS_ANSWER.solved) === 1,
-  moves: memory.short(at + FACTS_ANSWER.moves),
-  cleanMoves: memory.short(at + FACTS_ANSWER.cleanMoves),
-  holds: memory.short(at + FACTS_ANSWER.holds),
-  masks: {
-    fb: masksAt(memory, at + FACTS_ANSWER.axes),
-    rl: masksAt(memory, at + FACTS_ANSWER.axes + AXIS_FACTS.bytes),
-    ud: masksAt(memory, at + FACTS_ANSWER.axes + 2 * AXIS_FACTS.bytes),
-  },
-});
+export function factsAt(memory, at) {
+  const fb = at + FACTS_ANSWER.axes;
+  const rl = fb + AXIS_FACTS.bytes;
+  const ud = rl + AXIS_FACTS.bytes;
+  const numbers = [
+    memory.byte(at + FACTS_ANSWER.solved),
+    memory.short(at + FACTS_ANSWER.moves),
+    memory.short(at + FACTS_ANSWER.cleanMoves),
+    memory.short(at + FACTS_ANSWER.holds),
+    memory.short(fb + AXIS_FACTS.badEdges),
+    memory.short(fb + AXIS_FACTS.badCorners),
+    memory.short(fb + AXIS_FACTS.misplacedEdges),
+    memory.short(rl + AXIS_FACTS.badEdges),
+    memory.short(rl + AXIS_FACTS.badCorners),
+    memory.short(rl + AXIS_FACTS.misplacedEdges),
+    memory.short(ud + AXIS_FACTS.badEdges),
+    memory.short(ud + AXIS_FACTS.badCorners),
+    memory.short(ud + AXIS_FACTS.misplacedEdges),
+  ];
+  return { status: STATUS.done, numbers };
+}
 
 /**
  * @param {InstanceMemory} memory @param {number} at @returns {SeenCheck & {line: number}} and which line has a fault

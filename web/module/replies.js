@@ -1,6 +1,6 @@
 // Reads what the engine writes as values, or throws what is wrong.
 import { eachOf } from "./bytes.js";
-import { checkOf, factsOf } from "./facts.js";
+import { checkOf, factsFrom } from "./facts.js";
 import { NissyFault, SearchCut, cutOfAll } from "./faults.js";
 import { textIn } from "./natives.js";
 import { formPlacesOf, tokensOf } from "./tokens.js";
@@ -169,6 +169,9 @@ function solutionsFrom(out) {
 /** @param {SeenCount} seen @returns {Count} */
 const countSeen = ({ least, solutions, nodes }) => ({ length: solutions === 0 ? null : least, solutions, nodes });
 
+/** @param {SeenCount} seen whose cut isn't thrown @returns {Count} */
+export const countTold = (seen) => (seen.status === STATUS.cut ? { ...countSeen(seen), cut: true } : countSeen(seen));
+
 /** @param {SolveReply} reply @param {{cut: Telling}} asked @returns {Solutions} */
 export function solutionsIn(reply, { cut }) {
   const seen = withValue(reply);
@@ -182,14 +185,12 @@ export function solutionsIn(reply, { cut }) {
 /** @param {CountReply} reply @param {{cut: Telling}} asked @returns {Count} */
 export function countIn(reply, { cut }) {
   const seen = withValue(reply);
-  const count = countSeen(seen);
-  if (seen.status === STATUS.done) return count;
-  if (cut === "throw") throw new SearchCut(count, null);
-  return { ...count, cut: true };
+  if (seen.status === STATUS.cut && cut === "throw") throw new SearchCut(countSeen(seen), null);
+  return countTold(seen);
 }
 
 /** @param {FactsReply} reply @returns {Facts} */
-export const factsIn = (reply) => factsOf(withValue(reply));
+export const factsIn = (reply) => factsFrom(withValue(reply).numbers, 0);
 
 /** @param {CheckReply} reply @returns {Check} */
 export function checkIn(reply) {
@@ -234,21 +235,30 @@ function inLine(error, line) {
  */
 
 /**
- * The replies for many lines, each read by itself. What is thrown of one has its number, and so has what is told in its
- * place.
+ * What is told of a line of many. What is thrown of one has its number, and so has what is told in its place.
+ * @template Read, Value
+ * @param {Read} reply
+ * @param {number} index
+ * @param {{faults: Telling}} asked
+ * @param {(reply: Read) => Value} one
+ * @returns {any} a value, or a fault if they are told so
+ */
+export function toldOf(reply, index, { faults }, one) {
+  try {
+    return one(reply);
+  } catch (thrown) {
+    const error = inLine(thrown, index + 1);
+    if (faults === "throw" || error instanceof SearchCut) throw error;
+    return error;
+  }
+}
+
+/**
+ * The replies for many lines, each read by itself.
  * @template Read, Value
  * @param {Read[]} replies
  * @param {{faults: Telling}} asked
  * @param {(reply: Read) => Value} one
  * @returns {any[]} values, and faults in the places of some if they are told so
  */
-export const allOf = (replies, { faults }, one) =>
-  eachOf(replies, (reply, index) => {
-    try {
-      return one(reply);
-    } catch (thrown) {
-      const error = inLine(thrown, index + 1);
-      if (faults === "throw" || error instanceof SearchCut) throw error;
-      return error;
-    }
-  });
+export const allOf = (replies, asked, one) => eachOf(replies, (reply, index) => toldOf(reply, index, asked, one));

@@ -24,8 +24,8 @@ import { hasOwn } from "./natives.js";
 /** @typedef {CountRequest | SolveRequest | FactsRequest} OfEach what many lines may be asked */
 /** @typedef {RunRequest | LineRequest | OfEach | CheckRequest | ScrambleRequest | StepsRequest} OneRequest */
 /**
- * @typedef {{call: "all", each: OfEach, lines: Text[], faults: Telling, isPacked?: boolean}} AllRequest what is asked
- * of each line, whose own line is none; `isPacked`: a worker sends the replies as numbers
+ * @typedef {{call: "all", each: OfEach, lines: Text[], faults: Telling, isPiece?: boolean}} AllRequest what is asked
+ * of each line, whose own line is none; `isPiece`: the lines are some of a call's, so a worker tells how long it took
  */
 /** @typedef {OneRequest | AllRequest} Request what an engine is asked */
 /** @typedef {Request | BestRequest} Asked what a worker is asked */

@@ -5,14 +5,14 @@ import { Engine } from "./engine.js";
 import { Nissy } from "./nissy.js";
 import { packed } from "./packing.js";
 
-/** @typedef {import("./packing.js").PackedReplies} PackedReplies */
 /** @typedef {import("./replies.js").OneReply} OneReply */
 /** @typedef {import("./replies.js").Reply} Reply */
 /** @typedef {import("./requests.js").Asked} Asked */
 /** @typedef {{module: WebAssembly.Module | ArrayBuffer | Uint8Array}} Beginning the first message */
 /** @typedef {{id: number, request: Asked}} Question each later one */
+/** @typedef {ReturnType<typeof packed> & {milliseconds: number}} PieceReply and how long the worker took for it */
 /** @typedef {{id: number, progress: import("./best.js").BestProgress}} Progressed what comes before some answers */
-/** @typedef {{id: number, reply: Reply | PackedReplies}} Answered */
+/** @typedef {{id: number, reply: Reply | PieceReply}} Answered */
 /** @typedef {{id: number, error: {name: string, message: string}}} Unanswered */
 
 /**
@@ -68,18 +68,30 @@ function bestReply(engine, request, tell) {
 }
 
 /**
+ * What a worker sends of some of a call's lines.
+ * @param {Engine} engine
+ * @param {import("./requests.js").AllRequest} request
+ * @returns {PieceReply}
+ */
+function pieceReply(engine, request) {
+  const begun = performance.now();
+  const replies = packed(request, /** @type {OneReply[]} */ (engine.answer(request)));
+  return { ...replies, milliseconds: performance.now() - begun };
+}
+
+/**
  * Has an engine answer what comes through a port.
  * @param {Port} port
  */
 export function serve(port) {
   serveBy(port, (module) => Engine.start(module), (engine, /** @type {Question} */ { id, request }) => {
-    const tell = (/** @type {import("./best.js").BestProgress} */ progress) => port.postMessage({ id, progress });
-    const reply = request.call === "best" ? bestReply(engine, request, tell) : engine.answer(request);
-    if (request.call === "all" && request.isPacked) {
-      const answer = packed(request.each.call, /** @type {OneReply[]} */ (reply));
-      port.postMessage({ id, reply: answer }, [answer.numbers]);
+    if (request.call === "all" && request.isPiece) {
+      const reply = pieceReply(engine, request);
+      port.postMessage({ id, reply }, reply.values === null ? [] : [reply.values.numbers]);
       return;
     }
+    const tell = (/** @type {import("./best.js").BestProgress} */ progress) => port.postMessage({ id, progress });
+    const reply = request.call === "best" ? bestReply(engine, request, tell) : engine.answer(request);
     port.postMessage({ id, reply }, buffersOf(reply));
   });
 }

@@ -1,5 +1,5 @@
 // The queue of a worker: what is asked of it, one after another. What runs is stopped by ending the worker, and the
-// next request starts another.
+// next request starts another. Pieces of one call, which are given up together, are sent two at a time.
 import { EngineMissing, Stopped } from "./faults.js";
 import { hasOwn } from "./natives.js";
 import { Signals, reasonOf, signalOf } from "./signals.js";
@@ -28,9 +28,20 @@ import { Signals, reasonOf, signalOf } from "./signals.js";
  */
 
 /**
- * @typedef {{id: number, request: Asked, followed: TellProgress, answered: (reply: any) => void, refused: (reason:
- * unknown) => void}} Call
+ * @typedef {{id: number, request: Asked, signal: AbortSignal | undefined, followed: TellProgress, answered: (reply:
+ * any) => void, refused: (reason: unknown) => void}} Call
  */
+
+/** How many pieces of a call a worker has: it needs not wait for the second one when it ends the first. */
+const MOST_SENT = 2;
+
+/**
+ * Whether a request is sent while another one runs: both are pieces of a call.
+ * @param {Call} running
+ * @param {Call} next
+ */
+const followsAtOnce = ({ signal }, next) =>
+  next.request.call === "all" && next.request.isPiece === true && next.signal !== undefined && next.signal === signal;
 
 /**
  * @param {{name: string, message: string}} error of the worker
@@ -63,7 +74,7 @@ export class WorkerQueue {
   /** @type {SentModule} */ #module;
   /** @type {NewWorker} */ #newWorker;
   /** @type {Sent | null} */ #worker = null;
-  /** @type {Call | null} */ #running = null;
+  /** @type {Call[]} what the worker has, the one that runs first */ #sent = [];
   /** @type {Call[]} */ #waiting = [];
   /** @type {Signals<Call>} */ #signals = new Signals((calls, signal) => this.#giveUp(calls, reasonOf(signal)));
   #next = 0;
@@ -88,7 +99,7 @@ export class WorkerQueue {
   /** Gives up all requests. */
   stop() {
     this.drop();
-    if (this.#running) this.#giveUp(new Set([this.#running]), new Stopped());
+    this.#giveUp(new Set(this.#sent), new Stopped());
   }
 
   /** Gives up all requests, and ends the worker. A later request starts another one. */
@@ -115,17 +126,28 @@ export class WorkerQueue {
         settle(value);
         if (signal) this.#signals.remove(signal, call);
       };
-      const call = { id: this.#next++, request, followed, answered: settled(resolve), refused: settled(reject) };
+      const id = this.#next++;
+      const call = { id, request, signal, followed, answered: settled(resolve), refused: settled(reject) };
       if (signal) this.#signals.add(signal, call);
       this.#waiting.push(call);
       this.#sendNext();
     });
   }
 
+  /** Whether the worker may have the next request. */
+  #isReady() {
+    if (this.#waiting.length === 0) return false;
+    const sent = this.#sent.length;
+    return sent === 0 || (sent < MOST_SENT && followsAtOnce(this.#sent[0], this.#waiting[0]));
+  }
+
   #sendNext() {
-    if (this.#running || this.#waiting.length === 0) return;
-    const call = /** @type {Call} */ (this.#waiting.shift());
-    this.#running = call;
+    while (this.#isReady()) this.#send(/** @type {Call} */ (this.#waiting.shift()));
+  }
+
+  /** @param {Call} call */
+  #send(call) {
+    this.#sent.push(call);
     try {
       this.#worker ??= this.#started();
       this.#worker.postMessage({ id: call.id, request: call.request });
@@ -146,13 +168,13 @@ export class WorkerQueue {
 
   /** @param {Answered | Unanswered | Progressed} data */
   #take(data) {
-    const call = this.#running;
+    const call = this.#sent[0];
     if (call?.id !== data.id) return;
     if (hasOwn(data, "progress")) {
       this.#follow(call, /** @type {Progressed} */ (data).progress);
       return;
     }
-    this.#running = null;
+    this.#sent.shift();
     // not by `in`, since some script may have given an error to all objects
     if (hasOwn(data, "error")) call.refused(errorOf(/** @type {Unanswered} */ (data).error));
     else call.answered(/** @type {Answered} */ (data).reply);
@@ -174,10 +196,11 @@ export class WorkerQueue {
 
   /** @param {Set<Call>} calls @param {unknown} reason */
   #giveUp(calls, reason) {
-    if (this.#running && calls.has(this.#running)) {
+    if (this.#sent.some((call) => calls.has(call))) {
       this.#worker?.terminate();
       this.#worker = null;
-      this.#running = null;
+      this.#waiting = [...this.#sent, ...this.#waiting];
+      this.#sent = [];
     }
     this.#waiting = this.#waiting.filter((call) => !calls.has(call));
     for (const call of calls) call.refused(reason);
@@ -189,10 +212,10 @@ export class WorkerQueue {
    * @param {Error} reason
    */
   #end(reason) {
-    const given = this.#running ? [this.#running, ...this.#waiting] : this.#waiting;
+    const given = [...this.#sent, ...this.#waiting];
     this.#worker?.terminate();
     this.#worker = null;
-    this.#running = null;
+    this.#sent = [];
     this.#waiting = [];
     for (const call of given) call.refused(reason);
   }
