@@ -16,6 +16,7 @@ sys.path.insert(0, str(TOP / "tests"))
 
 from repository import Code
 from markdown import NAME, Page, cells, rows
+from prose import below, names_of_files, prose
 from tally import Tally
 
 PAGES = ("*.md", "docs/*.md", "bench/*.md", "web/*/*.md", "python/*.md", "portable/*.md")
@@ -27,6 +28,27 @@ WITH_NAMES = ("README.md", "docs/ARCHITECTURE.md", "docs/PROMISES.md", "docs/DEC
 WITH_PATHS = ("CONTRIBUTING.md", *WITH_NAMES, "bench/README.md", "web/module/README.md")
 CODE_NAME = r"`([A-Za-z_0-9:]+|[a-z_]*/?(src|specs|proofs)/[A-Za-z_/]+\.(rt|antt))`"
 PATH = re.compile(r"\b(?:crates|tests|tools|docs|bench|completions|include|python|portable|web)/[A-Za-z0-9_./-]+")
+# pages of which a crate declares each name of code, lemmas too: in backquotes on the first, in examples too on the second
+PROOF, CHANGE = "docs/PROOF.md", "docs/FIRST-CHANGE.md"
+DECLARED_NAME = r"`[A-Za-z_][\w:-]*`"
+NAME_IN_EXAMPLE = re.compile(r"\b(?!niss_)[a-z]+(?:_[a-z]+)+\b|\bin-[A-Z]\w+|\b[A-Z][a-z]+[A-Z]\w+|\b[A-Z]\w+(?=::)")
+# files that are named and aren't there, and why
+NOT_THERE = {
+    "tests/wrong-bodies/niss_moves/turn.edit": "tests/bodies.sh makes it",
+    "tests/wrong-bodies/niss_moves/gone.txt": "tests/bodies.sh makes it",
+    "tests/wrong-bodies/other": "tests/bodies.sh makes it",
+    "docs/elsewhere": "tests/install.sh makes it",
+    "proofs/path/Limit/new/Answers.antt": "a check with open goals writes it",
+    "share/doc/nissy/EMBEDDING.md": "a package lays it there",
+    "share/doc/nissy/examples/best.py": "a package lays it there",
+    "moves.c": "it is a program of the reader's",
+    "self.rt": "it is the runtime of an example",
+}
+# names that the change of docs/FIRST-CHANGE.md adds
+ADDED = ("line_command_normal_joins", "in-Normal")
+# most lines of a file, and which have so few
+MOST_LINES_OF_CODE = 400
+OF_CODE = (".rt", ".antt", ".py", ".js", ".mjs", ".ts", ".c", ".cpp", ".h", ".hpp")
 LIST = r"`[^`]+`(?:(?:, | and )`[^`]+`)*"
 # where the examples of crates' first pages stand as programs and tests
 EXAMPLES = ("crates/eo_axes/src/main.rt", "crates/nissy/src/main.rt", "crates/niss_call_tests/src/examples.rt")
@@ -79,6 +101,40 @@ def names_of_code(tally: Tally, code: Code) -> None:
     for name in WITH_PATHS:
         paths = {it.rstrip(".") for it in PATH.findall(Page(TOP, name).text) if "NAME" not in it}
         each(tally, name, "a file or folder", sorted(paths), lambda path: (TOP / path).exists() or code.has(path))
+
+
+def names_in_proofs(tally: Tally, code: Code) -> None:
+    """The pages about proofs name lemmas, definitions and functions that are there."""
+    in_example = set(NAME_IN_EXAMPLE.findall(Page(TOP, CHANGE).text)) - set(ADDED)
+    for page, named in ((PROOF, Page(TOP, PROOF).quoted(DECLARED_NAME)), (CHANGE, sorted(in_example))):
+        each(tally, page, "declared in a crate", named, code.declared.__contains__)
+
+
+def gone(code: Code, path: str, text: str) -> set[str]:
+    """What a file names that isn't there: paths from the top anywhere in it, other files in what people read of it."""
+    read = text if path == CHANGE else prose(path, text)
+    tops = {folder for folder in code.folders if "/" not in folder}
+    found = {it for it in below(text, tops) if it not in code.files and it not in code.folders}
+    return found | {it for it in names_of_files(read) if not code.is_there(it, path)}
+
+
+def files_that_are_named(tally: Tally, code: Code) -> None:
+    """Each file that another one names is there, but those of which is said why not."""
+    unneeded = set(NOT_THERE)
+    for path, text in code.files.items():
+        named = gone(code, path, text) if "\0" not in text else set()
+        tally.equal(f"files that {path} names and that aren't there", sorted(named - set(NOT_THERE)), [])
+        if TOP / path != Path(__file__).resolve():
+            unneeded -= named
+    tally.equal("files that none names any more, though a reason is given", sorted(unneeded), [])
+
+
+def lengths(tally: Tally, code: Code) -> None:
+    """No file of code is too long to be read at once."""
+    counted = {path: len(text.splitlines()) for path, text in code.files.items() if path.endswith(OF_CODE)}
+    tally.holds("there is code", counted)
+    for path, lines in counted.items():
+        tally.holds(f"{path} has at most {MOST_LINES_OF_CODE} lines: {lines}", lines <= MOST_LINES_OF_CODE)
 
 
 def map_of_crates(code: Code) -> list[str]:
@@ -212,6 +268,9 @@ def main() -> None:
     fences(tally, pages)
     readme(tally, Page(TOP, "README.md"))
     names_of_code(tally, code)
+    names_in_proofs(tally, code)
+    files_that_are_named(tally, code)
+    lengths(tally, code)
     for what in unlike or [""]:
         tally.holds(f"docs/ARCHITECTURE.md maps each file: {what}", not what)
     heads_of_scripts(tally)

@@ -1,4 +1,5 @@
 """What stands in the repository, for the pages that name it: its words and files, the functions of the crates with their clauses."""
+import posixpath
 import re
 import sys
 from functools import cached_property
@@ -10,6 +11,12 @@ from bodies import HEAD, NAMED
 
 # where a word that a page gives may stand
 FOLDERS = ("crates", "tests", "tools", "include", "python", "portable", "web")
+# folders that tools make, and that of git
+MADE = {".git", "build", "out", "__pycache__"}
+# what a line of code or of a proof declares or takes from elsewhere
+OF_CODE = re.compile(r"\b(?:fn|struct|enum|trait|type|const|ensures) (\w+)")
+OF_PROOF = re.compile(r"^ *(?:(?:abbrev|unfoldable|pub|record) )*([^\s:(){}]+) (?=[:({])", re.MULTILINE)
+TAKEN = re.compile(r"^(?:pub )?use [^{};]*\{([^}]*)\}", re.MULTILINE)
 CLAUSE = re.compile(r" *ensures ([a-z_]+) \{")
 # an open function, of a file or of a type
 OPEN = re.compile(r" *pub (?:const )?(?:extern \"C\" )?fn (\w+)")
@@ -24,11 +31,20 @@ class Code:
         self.top = top
 
     @cached_property
+    def files(self) -> dict[str, str]:
+        """The text of each file, by its path."""
+        paths = {path.relative_to(self.top): path for path in sorted(self.top.rglob("*")) if path.is_file()}
+        return {str(it): path.read_text("utf-8", "replace") for it, path in paths.items() if not MADE & set(it.parts)}
+
+    @cached_property
+    def folders(self) -> set[str]:
+        """The folders in which files stand."""
+        return {str(folder) for path in self.files for folder in Path(path).parents if str(folder) != "."}
+
+    @cached_property
     def texts(self) -> dict[str, str]:
-        """The text of each file below the folders, and of Makefile, by its path."""
-        paths = [path for folder in FOLDERS for path in (self.top / folder).rglob("*")]
-        paths = [path for path in paths if path.is_file() and not {"out", "__pycache__"} & set(path.parts)]
-        return {str(path.relative_to(self.top)): path.read_text("utf-8", "replace") for path in [*paths, self.top / "Makefile"]}
+        """The text of each file below the folders of code, and of Makefile, by its path."""
+        return {path: text for path, text in self.files.items() if path.split("/")[0] in (*FOLDERS, "Makefile")}
 
     @cached_property
     def words(self) -> set[str]:
@@ -61,6 +77,26 @@ class Code:
         if "/" not in name:
             return name in self.words
         return (self.top / name).exists() or (self.top / "crates" / name).exists() or any(self.top.glob(f"crates/*/{name}"))
+
+    @cached_property
+    def declared(self) -> set[str]:
+        """The names of the crates, of their files, and of what these declare or take from others by name."""
+        found = set()
+        for path, text in self.texts.items():
+            if not re.match(r"crates/.*\.(rt|antt)$", path):
+                continue
+            declaration = OF_CODE if path.endswith(".rt") else OF_PROOF
+            found |= {path.split("/")[1], Path(path).stem, *declaration.findall(text)}
+            found |= {name.strip() for names in TAKEN.findall(text) for name in names.split(",")}
+        return found
+
+    def is_there(self, name: str, by: str) -> bool:
+        """Whether a file that another one names is there: from the top, beside it, by its last parts, or built."""
+        beside = posixpath.normpath(posixpath.join(posixpath.dirname(by), name))
+        path = posixpath.normpath(name)
+        if f"build/{posixpath.basename(path)}" in self.texts["Makefile"]:
+            return True
+        return path in self.files or beside in self.files or any(it.endswith(f"/{path}") for it in self.files)
 
     @cached_property
     def wrong_bodies(self) -> set[str]:

@@ -1,5 +1,5 @@
-//! `nissy` in other programs: a call that runs a command on bytes in memory, and calls on one line. In crates.txt:
-//! `app: niss_embed`.
+//! `nissy` in other programs: a call that runs a command on bytes in memory, and calls on one line or on many. In
+//! crates.txt: `app: niss_embed`.
 //!
 //! `run_bytes` is handed what the program `nissy` is given: the words of a command line, the input, and memory for the
 //! output and for the error text. It returns the exit status and how much of that memory it wrote. Its contract says
