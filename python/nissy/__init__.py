@@ -22,7 +22,7 @@ several threads run side by side. The library is the file that NISSY_LIBRARY nam
 package, else the system's.
 """
 from ._best import best
-from ._continuations import Continuation, Lengths, Orientation, Reduction, Side as Side
+from ._continuations import Continuation, Continuations, Lengths, Orientation, Reduction, Side as Side
 from ._facts import Axis as Axis, Case, Check, Facts, Pieces, check, facts, facts_all
 from ._given import Step as Step, Text as Text
 from ._library import DONE, FAULT, MOST_INPUT, STOPPED, USAGE
@@ -33,16 +33,16 @@ from ._searches import Tables, count, count_all, near, solutions, solve, solve_a
 from ._tokens import FormPlace, Token, form_places, tokens
 from ._values import Answer, Count, Cut, Fault, LineFault, Solution, Solutions, StartFault, raising
 
-__all__ = ["DONE", "FAULT", "MOST_INPUT", "STOPPED", "USAGE", "Answer", "Case", "Check", "Continuation", "Count", "Cut", "Facts", "Fault",
-           "FormPlace", "Lengths", "LineFault", "Orientation", "Pieces", "Reduction", "Solution", "Solutions", "StartFault", "Tables",
-           "Token", "best", "check", "cleanup", "count", "count_all", "facelets", "facts", "facts_all", "form_places", "invert", "near",
+__all__ = ["DONE", "FAULT", "MOST_INPUT", "STOPPED", "USAGE", "Answer", "Case", "Check", "Continuation", "Continuations", "Count", "Cut",
+           "Facts", "Fault", "FormPlace", "Lengths", "LineFault", "Orientation", "Pieces", "Reduction", "Solution", "Solutions",
+           "StartFault", "Tables", "Token", "best", "check", "cleanup", "count", "count_all", "facelets", "facts", "facts_all", "form_places", "invert", "near",
            "raising", "run", "scramble", "scrambles", "solutions", "solve", "solve_all", "start_of", "steps", "tokens", "unniss"]
 
 __version__ = version()
 del version
 
 # what others see of these, as in a traceback or in what was pickled, is named by the package
-for _public in (Answer, Case, Check, Continuation, Count, Cut, Facts, Fault, FormPlace, Lengths, LineFault, Orientation, Pieces, Reduction,
-                Solution, Solutions, StartFault, Tables, Token):
+for _public in (Answer, Case, Check, Continuation, Continuations, Count, Cut, Facts, Fault, FormPlace, Lengths, LineFault, Orientation,
+                Pieces, Reduction, Solution, Solutions, StartFault, Tables, Token):
     _public.__module__ = __name__
 del _public
