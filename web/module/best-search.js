@@ -6,7 +6,7 @@ import { Bound, batchesOf, twinsOf } from "./best-rows.js";
 import { ORIENTATIONS, reductionsAfter } from "./best-steps.js";
 import { SIDES, otherSide } from "./sides.js";
 import { STEPS } from "./steps.js";
-import { earlierAmong, lastTurnsOf } from "./twins.js";
+import { earlierAmong, lastTurnsOf, mayBegin, reachedBy } from "./twins.js";
 import { Lengths, afterEach, totalWith, wayTo } from "./ways.js";
 
 /** @typedef {import("./best-left.js").Looked} Looked */
@@ -54,9 +54,10 @@ const MOST_SOLUTIONS = 1_000_000;
 function onSides(nissy, step, { lines }, { slack, isAll }) {
   return SIDES.map((side, sideAt) => {
     const solutions = nissy.solve(step, lines[side], { slack, most: MOST_SOLUTIONS });
-    const earlierOf = isAll ? () => null : earlierAmong(solutions);
+    const known = mayBegin(solutions);
+    const earlierOf = isAll ? () => null : earlierAmong(solutions, known);
     return solutions.map((each, at) => (
-      { side, moves: each.moves, length: each.length, place: [sideAt, at], earlier: earlierOf(each) }));
+      { side, moves: each.moves, length: each.length, place: [sideAt, at], earlier: earlierOf(each), known }));
   });
 }
 
@@ -139,6 +140,7 @@ function rowOf(lengths, { group: { orientation: { name }, key }, twins, reductio
     total: totals[side],
     step: name,
     part: { side: own, moves: part.moves },
+    reached: reachedBy(part.moves, part.known),
     length: part.length,
     next: {
       step: reduction.name, side, lengths: { normal: normal.length, inverse: inverse.length }, totals,
@@ -261,6 +263,7 @@ function rowOfReduction(nissy, position, { reduction: { name, axis, needs }, kno
     total,
     step: name,
     part: { side, moves },
+    reached: reachedBy(moves, best.known),
     length,
     next: null,
     ...known,
