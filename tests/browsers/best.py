@@ -21,6 +21,12 @@ ROWS = """return [...document.querySelectorAll('#best-body tr')].map((row) => {
 DETAILS = """return [...document.querySelectorAll('#best-body tr')].map((row) => [row.querySelector('.first').textContent,
     ...[...row.querySelectorAll('.times')].map((each) => each.textContent)])"""
 SHOWN_FILTERS = "return ['best-filters', 'best-turns'].map((name) => !document.getElementById(name).hidden)"
+# of moves that are shown where a mark stands in them, "" for none: what is before it; its name, and what the style shows there
+BARS = """return all(arguments[0]).map((each) => {
+    const mark = each.querySelector('.goes-on');
+    const before = mark ? [...each.childNodes].slice(0, [...each.childNodes].indexOf(mark)).map((one) => one.textContent).join('') : '';
+    return [each.textContent, before.replace('(', '').trim(), mark?.title ?? '', mark ? getComputedStyle(mark, '::before').content : ''];
+})"""
 MORE = "const more = document.getElementById('best-more'); if (more.hidden) return true; more.click(); return false"
 
 
@@ -262,3 +268,46 @@ def narrowed(tally: Tally, browser: Browser) -> None:
                 longer = browser.text("best-note")
     tally.equal("after a longer search, before one, and again after it", shown, shown[:1] * 3)
     tally.holds("a longer search says other words", longer != shown[0][1])
+
+
+def goes_on(tally: Tally, browser: Browser) -> None:
+    """A row that goes on after its EO is reached has a mark where that is, with a name; its text, which is what is copied, has none."""
+    browser.open(address_of(LONGER))
+    browser.choose("best-slack", "2")
+    browser.wait_best()
+    position, steps = Position(LONGER), {title: step for step, title in TITLES.items()}
+    for more in (False, True):
+        if more:
+            browser.script("part('best-all').click()")
+            browser.wait_best()
+        tally.holds(f"{more}: some go on", browser.until("part('best-more').click(); return document.querySelector('#best-body .goes-on') !== null"))
+        shown, rows = browser.script(BARS, "#best-body .take"), browser.script(ROWS)
+        tally.equal("the text has the moves alone", [text for text, *_ in shown], [row[1] for row in rows])
+        wanted = [position.until_held(steps[row[2]], SIDES[row[1].startswith("(")], row[1].strip("()")) for row in rows]
+        tally.equal(f"{more}: where the EO ends", [before for _, before, *_ in shown], wanted)
+        marks = {(title, sign) for _, before, title, sign in shown if before}
+        tally.equal(f"{more}: what the marks are called, and what is seen", marks, {("EO ends", '"| "')})
+    at = next(at for at, (_, before, *_) in enumerate(shown) if before)
+    text, before, *_ = shown[at]
+    said = browser.script("return document.querySelectorAll('#best-body .take')[arguments[0]].ariaLabel", at)
+    tally.holds(f"it is said: {said}", f"{before.replace(chr(39), ' prime')}, EO ends, " in said)
+    browser.script("all('#best-body .star')[arguments[0]].click(); all('#best-body .take')[arguments[0]].click()", at)
+    browser.settle("return document.querySelector('#kept-list .goes-on') !== null && document.querySelector('#line-list .goes-on') !== null")
+    for card in ("#kept-list .moves", "#line-list .moves"):
+        tally.equal(f"{card}: the same", browser.script(BARS, card)[0], [text, before, "EO ends", '"| "'])
+    browser.media("print")
+    tally.equal("on a sheet", browser.script("return seen('#kept-list .goes-on, #line-list .goes-on').length"), 2)
+    browser.media(prefers_color_scheme="light")
+    tally.equal("the line is copied without it", browser.text("bracketed"), text)
+
+
+def goes_on_in_lists(tally: Tally, browser: Browser) -> None:
+    """So has a row of a list, if it lists each twin by itself: only there one may go on."""
+    for steps, step, side, kind in (("", "eoud", "inverse", "EO"), ("&steps=inverse.B_D_R_F2_B_D", "drfb-eoud", "normal", "DR")):
+        browser.open(f"{address_of(LONGER)}{steps}&list={step}.{side}.1.all")
+        shown = browser.script(BARS, "#solutions-groups .take")
+        position = Position(LONGER, "", "B D R F2 B D" if steps else "")
+        wanted = [position.until_held(step, side, text.strip("()")) for text, *_ in shown]
+        tally.equal(f"{step}: where the {kind} ends", [before for _, before, *_ in shown], wanted)
+        named = {title for _, before, title, _ in shown if before}
+        tally.equal(f"{step}: what the marks are called", named, {f"{kind} ends"})

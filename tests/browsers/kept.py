@@ -143,7 +143,10 @@ def keeps_what_is_gone_on_to(tally: Tally, browser: Browser) -> None:
     first = browser.texts("#best-body .first")[0]
     pressed = "return document.querySelector(arguments[0]).ariaPressed"
     browser.act("#best-body .take")
+    wide = "const { left, width } = part('keep-line').getBoundingClientRect(); return [left, width]"
+    before = browser.script(wide)
     browser.click("#keep-line")
+    tally.equal("the button is as wide as before", browser.script(wide), before)
     browser.until(KEPT_SAID)
     words = browser.script(KEPT_WORDS)
     tally.equal("the line with its reduction", [(*each[:2], each[2][:6], each[3]) for each in words], [(line, state, reduction, first)])

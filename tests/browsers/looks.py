@@ -145,7 +145,9 @@ def prints(tally: Tally, browser: Browser) -> None:
     gap = "const [room, rows] = ['rows', 'table'].map((name) => part(`best-${name}`).offsetHeight); return room - rows"
     cut = """return seen('main *').filter((each) => !each.matches('.unseen') && each.scrollHeight > each.clientHeight + 4
         && getComputedStyle(each).overflowY !== 'visible').map((each) => each.id)"""
-    browser.walk(tally, "a sheet", ("wait", printed | {pressed: []}), ("resize", 794, 1123, {gap: 0}), ("resize", 360, 800, {cut: []}))
+    first = """const tops = seen('main .card').map((each) => [each.getBoundingClientRect().top, each.id]);
+        return tops.sort(([one], [other]) => one - other).map(([, name]) => name).slice(0, 2)"""
+    browser.walk(tally, "a sheet", ("wait", {first: ["scramble-card", "line"]}), ("wait", printed | {pressed: []}), ("resize", 794, 1123, {gap: 0}), ("resize", 360, 800, {cut: []}))
     browser.media(prefers_color_scheme="light")
 
 

@@ -5,8 +5,6 @@ from tally import Tally
 
 # what a finger presses is at least so high and wide where the page is narrow
 TARGET = 44
-# a star beside a row that is pressed as a whole is at least so high and wide
-LEAST_TARGET = 24
 # how high a row of the best may be there, and how small its signs
 LINE_OF_FIRST = 15.5
 MOST_OF_ROW = 56
@@ -63,11 +61,13 @@ def presses(tally: Tally, browser: Browser) -> None:
     browser.resize(360, 800)
     browser.open(ADDRESS)
     browser.wait_best()
-    tally.equal("what is too small", browser.script(SMALL, TARGET, ".skip, #best-body, .popover"), [])
-    for what, selector, least in (("the moves of the best", "#best-body .take", LEAST_TARGET), ("notes", ".note-field", TARGET),
-            ("rows of the best", "#best-body tr", TARGET)):
-        heights = browser.script(HEIGHTS, selector)
-        tally.holds(f"{what}: {heights}", heights and min(heights) >= least)
+    for width in (390, 360, 320):
+        browser.resize(width, 800)
+        tally.equal(f"{width}: what is too small", browser.script(SMALL, TARGET, ".skip, .popover"), [])
+        for what, selector in (("notes", ".note-field"), ("rows of the best", "#best-body tr")):
+            heights = browser.script(HEIGHTS, selector)
+            tally.holds(f"{width}: {what}: {heights}", heights and min(heights) >= TARGET)
+        tally.equal(f"{width}: rows of the best that are seen at first", len(browser.script(ROWS_OF_BEST)), 5)
     hit = """const row = document.querySelector('#best-body tr'); row.scrollIntoView({ block: 'center' });
         const { left, right, bottom } = row.getBoundingClientRect();
         return document.elementFromPoint((left + right) / 2, bottom - 4).className"""
@@ -107,7 +107,7 @@ def has_rows(tally: Tally, browser: Browser) -> None:
         # before an orientation the first reduction has a line of its own
         most = MOST_OF_ROW + (0 if after else LINE_OF_FIRST)
         tally.equal(f"{after}: rows of more lines, with parts on each other, or with signs or stars that are too small", [row for row in rows
-            if row["lines"] > 1 or row["height"] > most or row["on"] or row["size"] < LEAST_SIGN or min(row["star"]) < LEAST_TARGET], [])
+            if row["lines"] > 1 or row["height"] > most or row["on"] or row["size"] < LEAST_SIGN or min(row["star"]) < TARGET], [])
         least = min(min(each) for each in browser.script(REACHED, "#best-body .star"))
         tally.holds(f"{after}: stars that a finger misses: {least}", least >= TARGET)
     for width in (601, 768, 960, 1180, 1440):
@@ -138,7 +138,8 @@ def places(tally: Tally, browser: Browser) -> None:
         browser.open(SCRAMBLE)
         browser.wait_best()
         top = browser.script(table)
-        tally.holds(f"{width}: the table begins at {top}", 0 <= top < 500 if is_narrow else top < 700)
+        # below five rows
+        tally.holds(f"{width}: the table begins at {top}", 0 <= top < 640 if is_narrow else top < 700)
         browser.go(SCRAMBLE + "&list=eoud.inverse.0")
         browser.script("document.querySelector('#solutions-groups').scrollIntoView()")
         tally.equal(f"{width}: the scramble is folded", browser.look("scramble?"), not is_narrow)

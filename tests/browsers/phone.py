@@ -50,7 +50,7 @@ def reaches_rows(tally: Tally, browser: Browser) -> None:
         tally.equal(f"{scroll}: it is open, and is typed in", (browser.look("scramble?"), browser.focused()), (True, "scramble"))
         top = browser.script(TOP, last)
         tap(browser, last)
-        tally.holds(f"{scroll}: a star, of that row", browser.comes("#best-body .star", ["\u2606", "\u2606", "\u2605"]))
+        tally.holds(f"{scroll}: a star, of that row", browser.comes("#best-body .star", [*["\u2606"] * 4, "\u2605"]))
         moved = browser.script(TOP, last) - top
         tally.holds(f"{scroll}: it stays where it is: {moved}", abs(moved) < 2)
         tally.equal(f"{scroll}: the scramble stays open only if it is in view", browser.look("scramble?"), scroll == 0)

@@ -54,6 +54,9 @@ SLOW = """const { postMessage } = Worker.prototype;
 PLACES = """return [part('bar').getBoundingClientRect().bottom,
     ...['#solutions-heading', '#solutions-groups .take'].map((each) => document.querySelector(each).getBoundingClientRect())
         .flatMap(({ top, bottom }) => [top, bottom]), innerHeight]"""
+# how many rows of the best there are, and where its head, a filter and what is below are, as far as they are seen
+FILTERED = """return [all('#best-body tr').length, ...['best-head', 'best-total', 'steps'].map(part).map((each) =>
+    Math.min(innerHeight, Math.round(each.getBoundingClientRect().top)))]"""
 FIRST_ROW = "return document.querySelector('#best-body .take').getBoundingClientRect().top"
 # until a shift that was would have been told
 QUIET = 0.3
@@ -147,12 +150,29 @@ def stands(tally: Tally, browser: Browser, width: int) -> None:
     tally.equal(f"{width}: the cube's card", places, places[:1] * len(places))
 
 
+def filters(tally: Tally, browser: Browser, width: int) -> None:
+    """A filter of the best that leaves few rows moves nothing that is seen: the head, the field, and what is below the list."""
+    browser.open(SCRAMBLE)
+    browser.wait_best()
+    browser.script("part('best-options').open = true; part('best-more').click(); part('best').scrollIntoView({ block: 'start', behavior: 'instant' })")
+    time.sleep(QUIET)
+    since, [count, *before] = browser.script("return performance.now()"), browser.script(FILTERED)
+    least = browser.texts("#best-body th")[0]
+    for value in (least, ""):
+        browser.choose("best-total", value)
+        time.sleep(QUIET)
+        left, *after = browser.script(FILTERED)
+        tally.holds(f"{width}: {value!r}: {left} rows of {count} are left", left < count / 2 if value else left == count)
+        tally.equal(f"{width}: {value!r}: where head, field and what is below are", after, before)
+    tally.equal(f"{width}: what a filter moves", browser.script(SHIFTS, since), [])
+
+
 def at_sizes(tally: Tally, browser: Browser) -> None:
     """All of these, on windows of each size."""
     browser.before_page(LISTEN)
     for width, height in SIZES:
         browser.resize(width, height)
-        for part in (opens, searches, stands, takes):
+        for part in (opens, filters, searches, stands, takes):
             part(tally, browser, width)
     browser.resize(320, 640)
     takes(tally, browser, 320)

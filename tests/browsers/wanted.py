@@ -2,6 +2,7 @@
 import re
 import sys
 from functools import lru_cache
+from itertools import takewhile
 from pathlib import Path
 
 sys.path.insert(0, str(Path(__file__).resolve().parent.parent / "model"))
@@ -172,6 +173,13 @@ class Position:
                 said = f"{counted(length, 'move')}, {self.in_words(step, side, solutions)}"
                 names.append(f"{TITLES[step]}, {side} side: {said}{', shortest' if length == least else ''}")
         return names
+
+    def until_held(self, step: str, side: str, moves: str) -> str:
+        """The shortest beginning of some moves from which on a step holds to their end, "" if that is all of them."""
+        turns = moves.split()
+        beginnings = [" ".join(turns[:count]) for count in range(len(turns) - 1, 0, -1)]
+        held = takewhile(lambda each: "length 0 " in run(("count", step, "0"), f"{self.lines[side]} {each}")[0], beginnings)
+        return ["", *held][-1]
 
     def rows(self, step: str, side: str, slack: int = 0) -> list[str]:
         """The rows of a list, without their lengths: after moves those first that have the fewest in all."""

@@ -11,9 +11,10 @@ import { twinKey } from "./twins.js";
  */
 
 /**
- * @typedef {Part & {length: number, place: number[], earlier: string | null}} Sided a solution on its side, its place
- * among all: by sides, and within its list; and with which beginning the step was reached, if it goes on after that, so
- * that only what follows it on the other side is anything new
+ * @typedef {Part & {length: number, place: number[], earlier: string | null, known: ReadonlySet<string>}} Sided a
+ * solution on its side, its place among all: by sides, and within its list; and with which beginning the step was
+ * reached, if it goes on after that, so that only what follows it on the other side is anything new; `known`: what such
+ * a beginning may be
  */
 
 /**
@@ -32,6 +33,7 @@ import { twinKey } from "./twins.js";
  * @property {number} total all moves, those that were made before counted too
  * @property {Step} step what the part reaches
  * @property {Part} part
+ * @property {string | null} reached the beginning of the part with which its step is reached, if it goes on after that
  * @property {number} length
  * @property {Next | null} next none if the part is the reduction itself
  * @property {string} case of the reduction, such as `4c4e`

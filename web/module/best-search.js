@@ -6,7 +6,7 @@ import { Bound, batchesOf, twinsOf } from "./best-rows.js";
 import { ORIENTATIONS, reductionsAfter } from "./best-steps.js";
 import { SIDES, otherSide } from "./sides.js";
 import { STEPS } from "./steps.js";
-import { earlierAmong, lastTurnsOf } from "./twins.js";
+import { earlierAmong, lastTurnsOf, mayBegin, reachedBy } from "./twins.js";
 import { Lengths, afterEach, totalWith, wayTo } from "./ways.js";
 
 /** @typedef {import("./best-left.js").Looked} Looked */
@@ -66,9 +66,10 @@ function* onSides(nissy, step, { lines }, { slack, isAll }, done) {
   for (const [sideAt, side] of SIDES.entries()) {
     yield nothingNew(done);
     const solutions = nissy.solve(step, lines[side], { slack, most: MOST_SOLUTIONS });
-    const earlierOf = isAll ? () => null : earlierAmong(solutions);
+    const known = mayBegin(solutions);
+    const earlierOf = isAll ? () => null : earlierAmong(solutions, known);
     sides.push(solutions.map((each, at) => (
-      { side, moves: each.moves, length: each.length, place: [sideAt, at], earlier: earlierOf(each) })));
+      { side, moves: each.moves, length: each.length, place: [sideAt, at], earlier: earlierOf(each), known })));
   }
   return sides;
 }
@@ -153,6 +154,7 @@ function rowOf(lengths, { group: { orientation: { name }, key }, twins, reductio
     total: totals[side],
     step: name,
     part: { side: own, moves: part.moves },
+    reached: reachedBy(part.moves, part.known),
     length: part.length,
     next: {
       step: reduction.name, side, lengths: { normal: normal.length, inverse: inverse.length }, totals,
@@ -287,6 +289,7 @@ function rowOfReduction(nissy, position, { reduction: { name, axis, needs }, kno
     total,
     step: name,
     part: { side, moves },
+    reached: reachedBy(moves, best.known),
     length,
     next: null,
     ...known,

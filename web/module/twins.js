@@ -98,15 +98,39 @@ function* beginningsOf(moves, length, least) {
 }
 
 /**
+ * The moves of all solutions if some are longer than others: else none begins with another one.
+ * @param {readonly Solution[]} solutions all, from the shortest on
+ * @returns {ReadonlySet<string>}
+ */
+export function mayBegin(solutions) {
+  const isEven = solutions[0]?.length === solutions[solutions.length - 1]?.length;
+  return new Set(isEven ? [] : solutions.map(({ moves }) => moves));
+}
+
+/**
+ * The shortest beginning of a solution, as it is written, from which on the step holds; null if that is all of it.
+ * @param {string} moves
+ * @param {ReadonlySet<string>} known
+ */
+export function reachedBy(moves, known) {
+  let cut = moves.length;
+  for (let next = known.size === 0 ? -1 : moves.lastIndexOf(" "); next > 0 && known.has(moves.slice(0, next)); ) {
+    cut = next;
+    next = moves.lastIndexOf(" ", cut - 1);
+  }
+  return cut === moves.length ? null : moves.slice(0, cut);
+}
+
+/**
  * What tells of each of some solutions with which beginning the step is reached before its last move: the longest one,
  * or null if it is with none.
  * @param {readonly Solution[]} solutions all, from the shortest on
+ * @param {ReadonlySet<string>} known
  * @returns {(solution: Solution) => string | null}
  */
-export function earlierAmong(solutions) {
+export function earlierAmong(solutions, known = mayBegin(solutions)) {
   const least = solutions[0]?.length ?? 0;
-  if (solutions[solutions.length - 1]?.length === least) return () => null;
-  const known = new Set(solutions.map(({ moves }) => moves));
+  if (known.size === 0) return () => null;
   return ({ moves, length }) => {
     for (const beginning of beginningsOf(moves, length, least)) if (known.has(beginning)) return beginning;
     return null;

@@ -2,7 +2,7 @@
 // sides, how many there are and the first of them, and its star.
 import { counted, element } from "./element.js";
 import { starButton, takeButton } from "./rows.js";
-import { SIDES, bracketed } from "./steps.js";
+import { SIDES, barred, bracketed } from "./steps.js";
 
 /** @typedef {import("./finder.js").Row} Row */
 /** @typedef {import("./steps.js").Part} Part */
@@ -21,16 +21,16 @@ function cell(name, attributes, ...children) {
 
 /** The cell of a row's moves and twins, which tells the style how many signs its line has, if the page is narrow or
  * not.
- * @param {HTMLElement} take @param {string[]} others the last turns of the twins
+ * @param {HTMLElement} take @param {string} line what it shows @param {string[]} others the last turns of the twins
  * @param {boolean} isBeside whether they stand beside the moves on a narrow page */
-function movesCell(take, others, isBeside) {
+function movesCell(take, line, others, isBeside) {
   // as solvers write it: the last turn may be the one or the other
   const either = others.length === 1 ? ` / ${others[0]}` : ` or ${others.length} twins`;
   const twin = others.length === 0 ? "" : either;
   const beside = twin === "" ? [] : [element("small", { class: "twins" }, twin)];
   const made = cell("td", {}, element("span", { class: "ends" }, take, ...beside));
   const seen = take.classList.contains("seen") ? SEEN_SIGNS : 0;
-  const [own, more] = [take.textContent.length + seen, SIGN_OF_TWIN * twin.length];
+  const [own, more] = [line.length + seen, SIGN_OF_TWIN * twin.length];
   made.style.setProperty("--signs", String(own + (isBeside ? more : 0)));
   made.style.setProperty("--signs-wide", String(own + more));
   return made;
@@ -66,16 +66,16 @@ export function tellReductions(shown, { counts, first }) {
 
 /** @param {Row} row @param {RowActs} acts */
 export function bestRow(row, acts) {
-  const { total, part: added, state, next, others, key } = row;
-  const line = added.moves === "" ? "no moves" : bracketed([added]);
+  const { total, part: added, reached, state, next, others, key } = row;
+  const line = added.moves === "" ? "no moves" : bracketed([barred(added, reached)]);
   const all = Number.isFinite(total) ? String(total) : "–";
   /** @type {[Part[], string | undefined]} */
   const kept = [[added], next?.step];
-  const take = takeButton(line, { key, isSeen: acts.isSeen(...kept) }, () => acts.goOn(row));
+  const take = takeButton(line, { key, isSeen: acts.isSeen(...kept), step: state.slice(0, 2) }, () => acts.goOn(row));
   // one orientation has a row, and a star, for each reduction that may follow
   const whole = next ? `${line}, ${next.marks} ${next.case}` : line;
   const star = starButton(whole, () => acts.isStarred(...kept), (button) => acts.star(button, ...kept));
-  const moves = movesCell(take, others, next !== null);
+  const moves = movesCell(take, line, others, next !== null);
   const cells = [cell("th", {}, all), moves, cell("td", { class: "axis" }, state)];
   if (next) {
     moves.append(element("small", { class: "first moves" }));

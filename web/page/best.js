@@ -18,7 +18,7 @@ import { isNarrow, withoutMoving } from "./view.js";
 
 const LOOKING_FOR_BEST = "Looking for the best …";
 /** How many rows are shown at first, so that the table below is seen; of reductions more, since it has no rows then. */
-const SHOWN_FIRST = { narrow: 3, wide: 6, ofReductions: 8 };
+const SHOWN_FIRST = { narrow: 5, wide: 6, ofReductions: 8 };
 const SHOWN_MORE = 40;
 
 /** @param {string[]} reached */
@@ -51,6 +51,7 @@ export class BestContinuations {
   #reductions;
   #shown = 0;
   #body = part("best-body");
+  #room = part("best-rows");
   /** @type {Row[]} those that are seen */
   #seen = [];
 
@@ -83,6 +84,7 @@ export class BestContinuations {
     this.#question = cube;
     [this.#progress, this.#newer] = [null, null];
     this.#seen = [];
+    this.#room.style.minHeight = "";
     this.#reductions.clear();
     this.#shown = shownFirst(cube?.reached ?? []);
     // until another cube is known nothing shows or hides the card, or what is read below it would move
@@ -120,10 +122,14 @@ export class BestContinuations {
     for (const finder of this.#finders) finder.end();
   }
 
-  /** Shows what the filters leave, as many as before, and says whether there are rows. */
+  /** Shows what the filters leave, as many as before, and says whether there are rows. If the head is seen nothing that
+   * is seen moves: the rows keep their room, as far as the window goes. Else they come to the filters. */
   #filtered() {
     this.#takeNewer();
-    withoutMoving(part("best-options"), () => this.#draw());
+    const { top, height } = this.#room.getBoundingClientRect();
+    const isSeen = part("best-head").getBoundingClientRect().top >= 0;
+    this.#room.style.minHeight = isSeen ? `${Math.min(height, Math.max(0, innerHeight - top))}px` : "";
+    withoutMoving(part(isSeen ? "best-head" : "best-options"), () => this.#draw());
     return this.#progress !== null;
   }
 

@@ -2,7 +2,7 @@
 import { Stopped } from "../module/faults.js";
 import { LONGEST_NOTE, MOST_CANDIDATES, fitsAddress } from "./address.js";
 import { copy, fmcOfAll } from "./copying.js";
-import { announce, button, counted, element, part, spoken, tell } from "./element.js";
+import { announce, button, counted, element, shownMoves, part, spoken, tell } from "./element.js";
 import { WayTo } from "./places.js";
 import {
   ORIENTATIONS, REDUCTIONS, SIDES, axisName, bracketed, isReduced, reductionsAfter, stateOf, statesOf, stepNamed,
@@ -69,7 +69,7 @@ function sidesOf(parts) {
  * solved, and what came after it.
  * @param {KeptWalk} walk @returns {Stage[]} */
 function stagesOfReduced(walk) {
-  const { parts, facts } = walk;
+  const { shown: parts, facts } = walk;
   const reductions = REDUCTIONS.filter(({ name }) => walk.reached.at(-1).includes(name));
   const ways = reductions.map((step) => ({ step, from: heldFrom(walk, step.needs), to: heldFrom(walk, step.name) }));
   const [{ from, to }] = ways.sort((one, other) => one.to - other.to || one.from - other.from);
@@ -92,7 +92,7 @@ function stagesOfReduced(walk) {
 /** The stages of a candidate; before a reduction one, with the cases that may follow.
  * @param {KeptWalk} walk @returns {Stage[]} */
 function stagesOf(walk) {
-  const { parts, facts, next } = walk;
+  const { shown: parts, facts, next } = walk;
   const reached = walk.reached.at(-1);
   if (isReduced(reached)) return stagesOfReduced(walk);
   const steps = ORIENTATIONS.filter(({ name }) => reached.includes(name)).flatMap(({ name }) => reductionsAfter(name));
@@ -107,7 +107,7 @@ function stepOf(parts, walk) {
   const total = walk?.totals.at(-1);
   const count = stages.length > 1 ? `${total} in all` : counted(total ?? 0, "move");
   return element("span", { class: "step" }, ...stages.map((stage, at) => element("span", { class: "step" },
-    element("span", { class: "moves" }, bracketed(stage.parts)),
+    element("span", { class: "moves" }, ...shownMoves(bracketed(stage.parts))),
     ...(at === stages.length - 1 ? [element("span", { class: "total" }, walk === null ? "" : count)] : []),
     ...stage.states.map((state) => element("span", { class: "chip" }, state)),
     ...stage.cases.map((each) => element("span", { class: "case" }, each)))));

@@ -3,7 +3,7 @@
 import { Stopped } from "../module/faults.js";
 import { plainLine } from "../module/written.js";
 import { copy, fmcOf } from "./copying.js";
-import { announce, button, counted, element, part, spoken, tell } from "./element.js";
+import { announce, button, counted, element, shownMoves, part, spoken, tell } from "./element.js";
 import { bracketed, isReduced, newlyReached, otherSide, statesOf } from "./steps.js";
 import { showFault, wordsOfLeftOut } from "./words.js";
 
@@ -134,7 +134,8 @@ export class LineSoFar {
     this.#reached = this.#wanted ?? keptOf(this.#reached, this.#parts, parts);
     this.#wanted = null;
     this.#parts = parts;
-    this.#words = parts.map(() => ({
+    this.#words = parts.map((each) => ({
+      moves: element("span", { class: "moves" }, bracketed([each])),
       reaches: element("span", { class: "reaches", hidden: true }),
       lost: element("span", { class: "lost", "aria-live": "polite", hidden: true }),
       count: element("span", { class: "count" }),
@@ -155,7 +156,8 @@ export class LineSoFar {
       line: bracketed(walk.parts), joined: whole, total: counted(walk.totals.at(-1), "move"), note: noteOfJoined(walk),
       fmc: fmcOf(scramble, walk),
     });
-    this.#words.forEach(({ reaches, lost, count }, index) => {
+    this.#words.forEach(({ moves, reaches, lost, count }, index) => {
+      moves.replaceChildren(...shownMoves(bracketed([walk.shown[index]])));
       const inAll = index === 0 ? "" : `, ${walk.totals[index + 1]} in all`;
       count.textContent = `${counted(walk.turns[index], "move")}${inAll}`;
       const [fresh, missed] = [newlyReached(walk, index), this.#lost(walk, index)];
@@ -186,10 +188,10 @@ export class LineSoFar {
   #item(each, index) {
     const text = bracketed([each]);
     const act = (word, click) => button(word, { class: "quiet", "aria-label": `${word} ${spoken(text)}`, click });
-    const { reaches, lost, count } = this.#words[index];
+    const { moves, reaches, lost, count } = this.#words[index];
     return element("li", {},
       element("span", { class: "step" },
-        element("span", { class: "moves" }, text), reaches, lost, element("span", { class: "note" }, count)),
+        moves, reaches, lost, element("span", { class: "note" }, count)),
       element("span", { class: "acts" },
         act("Edit", () => this.#edit(index)), act("Remove", () => this.#replace(index, [], 1))));
   }

@@ -2,7 +2,7 @@
 // split over both sides, a few moves on one and the rest on the other, the fewest moves in all first.
 import { FACES_OF, stepNamed } from "../module/best-steps.js";
 import { turnsOfFace } from "../module/merging.js";
-import { mergeTwins, withoutEarlier } from "../module/twins.js";
+import { mayBegin, mergeTwins, reachedBy, withoutEarlier } from "../module/twins.js";
 import { afterPart, countOf, totalsWith } from "../module/ways.js";
 import { joined, otherSide } from "./steps.js";
 
@@ -10,8 +10,9 @@ import { joined, otherSide } from "./steps.js";
 /** @typedef {import("./address.js").List} List */
 /** @typedef {import("./steps.js").Lines} Lines */
 /** @typedef {import("../module/twins.js").Twins & {total?: number, cases?: Record<string, string>, begin?:
- * import("./steps.js").Part, line?: string}} Entry a solution, with all moves and cases if these are known; if it is
- * split `length` counts all its moves, `begin` are those on the other side, and `line` is the cube after these */
+ * import("./steps.js").Part, line?: string, reached?: string | null}} Entry a solution, with all moves and cases if
+ * these are known; if it is split `length` counts all its moves, `begin` are those on the other side, and `line` is the
+ * cube after these; `reached`: with which beginning the step is reached, if it goes on after that */
 /** @typedef {{entries: Entry[], all: number, left: number, whole: boolean}} Rows `all`: how many there are, and `left`:
  * without those that reach the step before their last move */
 
@@ -60,9 +61,11 @@ function splitSolutions(nissy, { step, side, slack, split }, now) {
 /** The solutions of a step on one side that are at most so many moves longer, and whether these are all.
  * @param {Nissy} nissy @param {List} list @param {Lines} now the cube
  * @returns {{solutions: Entry[], whole: boolean}} */
-function ownSolutions(nissy, { step, side, slack }, now) {
+function ownSolutions(nissy, { step, side, slack, isAll }, now) {
   const found = nissy.solve(step, now[side], { slack, most: MOST_LISTED + 1 });
-  const solutions = found.slice(0, MOST_LISTED).map(({ moves, length }) => ({ moves, length, others: [] }));
+  const known = mayBegin(isAll ? found : []);
+  const solutions = found.slice(0, MOST_LISTED).map(({ moves, length }) => (
+    { moves, length, others: [], reached: reachedBy(moves, known) }));
   return { solutions, whole: found.length <= MOST_LISTED };
 }
 

@@ -4,7 +4,9 @@ import { firstOf } from "../module/best.js";
 import { NissyFault } from "../module/faults.js";
 import { Lengths, afterPart, countOf, madeBy, totalsWith, wayTo } from "../module/ways.js";
 import { readScramble } from "./lines.js";
-import { SIDES, bracketed, caseOfStep, inGroups, isReduced, offeredAmong, openSteps, stateOf } from "./steps.js";
+import {
+  ORIENTATIONS, SIDES, barred, bracketed, caseOfStep, inGroups, isReduced, joined, offeredAmong, openSteps, stateOf,
+} from "./steps.js";
 
 /** @typedef {import("../module/facts.js").Facts} Facts */
 /** @typedef {import("../module/nissy.js").Nissy} Nissy */
@@ -15,9 +17,9 @@ import { SIDES, bracketed, caseOfStep, inGroups, isReduced, offeredAmong, openSt
 /** @typedef {import("../module/replies.js").Count & {total: number, best: number}} Counted `total`: the fewest moves in
  * all with a shortest solution, once they are merged, Infinity if there is none; `best`: how many make that */
 /** @typedef {{step: import("./steps.js").OfferedStep, normal: Counted, inverse: Counted}} Offer */
-/** @typedef {{parts: Part[], facts: Facts[], reached: string[][], totals: number[], turns: number[], now: Position}}
- * Walk what is known of a line after each beginning, from none of its parts to all; `turns`: of each part; `now`: the
- * cube then */
+/** @typedef {{parts: Part[], shown: Part[], facts: Facts[], reached: string[][], totals: number[], turns: number[],
+ * now: Position}} Walk what is known of a line after each beginning, from none of its parts to all; `shown`: the parts
+ * with bars where an EO ends; `turns`: of each part; `now`: the cube then */
 
 /** The cube after each beginning of some parts of a scramble, from none to all.
  * @param {Nissy} nissy @param {string} scramble by its face turns @param {Part[]} parts @returns {Position[]} */
@@ -30,14 +32,32 @@ function positionsOf(nissy, scramble, parts) {
   return positions;
 }
 
+/** A part with a bar where orientations are reached, from where on one of them holds.
+ * @param {Nissy} nissy @param {Part} part @param {string} line the cube before it, on its side
+ * @param {string[]} orientations @returns {Part} */
+function withBar(nissy, part, line, orientations) {
+  const turns = part.moves.split(" ");
+  // which orientations hold is the same on both sides
+  const holdsAfter = (count) => nissy.facts(joined(line, ...turns.slice(0, count))).holds
+    .some((name) => orientations.includes(name));
+  let count = turns.length;
+  while (orientations.length > 0 && holdsAfter(count - 1)) count--;
+  return barred(part, orientations.length > 0 ? turns.slice(0, count).join(" ") : null);
+}
+
 /** @param {Nissy} nissy @param {string} scramble by its face turns @param {Part[]} parts @returns {Walk} */
 function walkOf(nissy, scramble, parts) {
   const positions = positionsOf(nissy, scramble, parts);
   const facts = positions.map(({ lines }) => nissy.facts(lines.normal));
+  const reached = facts.map(({ holds }) => offeredAmong(holds));
+  // what holds in the end, and didn't before
+  const freshOf = (at) => ORIENTATIONS.map(({ name }) => name).filter((name) =>
+    reached.at(-1).includes(name) && reached[at + 1].includes(name) && !reached[at].includes(name));
   return {
     parts,
+    shown: parts.map((part, at) => withBar(nissy, part, positions[at].lines[part.side], freshOf(at))),
     facts,
-    reached: facts.map(({ holds }) => offeredAmong(holds)),
+    reached,
     totals: positions.map(countOf),
     turns: parts.map(({ moves }) => nissy.facts(moves).cleanMoves),
     now: positions.at(-1),

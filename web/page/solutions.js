@@ -7,7 +7,9 @@ import {
   Filters, NOT_MOVES, caseAtMost, chosen, offerChoices, offerLastTurns, offerMoves, withTurns,
 } from "./filter.js";
 import { addRows, named, roveWithin, showRows, starButton, takeButton, takeNamed } from "./rows.js";
-import { axisName, bracketed, farnessOf, reductionsAfter, sizeOfCase, stateOf, stepNamed, titleOf } from "./steps.js";
+import {
+  axisName, barred, bracketed, farnessOf, reductionsAfter, sizeOfCase, stateOf, stepNamed, titleOf,
+} from "./steps.js";
 import { isNarrow } from "./view.js";
 
 /** @typedef {import("./address.js").List} List */
@@ -301,11 +303,13 @@ export class SolutionList {
     if (moves === "") return element("li", { class: "reached" }, "no moves: it is reached");
     const [added, key, cases] = [this.#partsOf(entry), keyOf(entry), this.#casesOf(entry)];
     const text = bracketed(added);
+    const shown = bracketed(added.with(-1, barred(added.at(-1), entry.reached)));
     const twins = others.map((other) => `or ${spoken(other)}`);
-    const said = { cases: cases.map(({ axis, name }) => `${axis} ${name}`), twins };
+    const step = stateOf(stepNamed(this.#list.step)).slice(0, 2);
+    const said = { cases: cases.map(({ axis, name }) => `${axis} ${name}`), twins, step };
     const copy = { class: "copy", ...named(`Copy ${spoken(text)}`, "Copy the covered moves") };
     return element("li", {},
-      takeButton(text, { key, isSeen: this.#acts.isSeen(added), ...said }, () => this.#acts.take(added, key)),
+      takeButton(shown, { key, isSeen: this.#acts.isSeen(added), ...said }, () => this.#acts.take(added, key)),
       ...(others.length === 0 ? [] : [element("small", { class: "twins" }, `/ ${others.join(" / ")}`)]),
       ...(cases.length === 0 ? [] : [element("span", { class: "cases" }, ...cases.map(({ axis, name, state }) =>
         element("span", { class: "case", "data-marks": state }, `${axis} ${name}`)))]),

@@ -61,6 +61,11 @@ export function newlyReached({ reached }, index) {
   return reductions.length > 0 ? reductions : fresh;
 }
 
+/** A part with a bar after the beginning with which what it reaches is reached, if it goes on after that.
+ * @param {Part} part @param {string | null} [beginning] @returns {Part} */
+export const barred = ({ side, moves }, beginning = null) =>
+  ({ side, moves: beginning === null ? moves : `${beginning} |${moves.slice(beginning.length)}` });
+
 /** @typedef {{corners: number, edges: number}} Size how many there are of each */
 
 /** @param {string} name such as `4c2e` @returns {Size} the numbers in the name of a case */
