@@ -216,7 +216,7 @@ function* foundOf(nissy, { scramble, soFar, slack, most, nodes, axes }) {
  * @param {BestRequest} request
  * @returns {Generator<{progress: BestProgress, told: BestTold}>}
  */
-function* toldOf(nissy, request) {
+function* toldAtEach(nissy, request) {
   /** @type {Found} */
   let last = { progress: { done: 0, all: null }, rows: [] };
   try {
@@ -246,7 +246,7 @@ function* toldOf(nissy, request) {
 export function bestTold(nissy, request, tell) {
   /** @type {BestTold} */
   let last = { rows: [], isCut: false };
-  for (const { progress, told } of toldOf(nissy, request)) {
+  for (const { progress, told } of toldAtEach(nissy, request)) {
     last = told;
     if ("rows" in told) tell(progress);
   }
