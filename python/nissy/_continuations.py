@@ -1,5 +1,5 @@
-"""How a line goes on to a domino reduction. Types stand here as they are and not as texts, for those who ask a class of the package for
-them."""
+"""How a line goes on to a domino reduction. Types stand here as they are and not as texts, for those who ask a
+class of the package for them."""
 import sys
 from dataclasses import dataclass
 from typing import Optional, Tuple
