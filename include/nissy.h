@@ -151,6 +151,9 @@ typedef struct nissy_run_answer {
  * `err`. Each word is followed by a zero byte; for the last one that may be left out if it has a byte. So "invert" is 6 or 7 bytes,
  * and `solve eofb 20` is "solve\0eofb\0" "20".
  *
+ * `print` writes 55 bytes for each line, `count` at most 106, another command without a search at most 2,048, and `solve` and `near` at
+ * most 65 for each solution and 29 for each line. If the output is longer than `out`, the run ends as the program does at a full disk.
+ *
  * It takes memory for the words, and for the tables of a step, from the program's malloc, realloc and free, and has given all of it
  * back when it returns. Where a program brings its own, they must align a block to each power of two up to 16 that divides its size. */
 nissy_run_answer nissy_run(const uint8_t *words, size_t words_length, const uint8_t *input, size_t input_length, uint8_t *out,

@@ -8,7 +8,7 @@
 
 #include <functional>
 #include <iterator>
-#include <numeric>
+#include <list>
 #include <set>
 #include <tuple>
 
@@ -58,24 +58,15 @@ struct best_search {
     nissy::progress progress = {};
 };
 
+// What `find_best` returns. If its searches ended at their bound, the rows are the best of what was tried until then: each is a row of the whole
+// list, in its order, and others may be missing, better ones too.
+struct best_found {
+    std::vector<continuation> rows;
+    bool is_cut;
+};
+
 // What the search shares. Its names are no part of the interface.
 namespace continuing {
-
-// Twins of an orientation on a side, and whether they are longer ones, which go on after it was reached. What these go on with belongs on their
-// own side to the reduction after a shorter one, so they have a row only if the other side is better.
-struct twins {
-    axis_step step;
-    std::size_t on;
-    std::vector<solution> moves;
-    bool is_longer;
-};
-
-// A reduction on a side: how many moves there are in all with it, and its own, if it has any solution.
-struct way {
-    int total;
-    std::optional<int> length;
-    std::string moves;
-};
 
 // A reduction after twins, the cube after each, and the bounds of all moves with it, NEVER if it may have no row.
 struct candidate {
@@ -96,20 +87,6 @@ struct candidate {
 
     int most() const { return twins->is_longer ? NEVER : most_found; }
 };
-
-// How many moves there are in all with a solution on a side of a cube.
-inline int total_with(const cube &from, std::size_t on, const solution &one) {
-    const std::string &made = from.made[on];
-    return turns_of(from.made[1 - on]) + (made.empty() ? one.length : facts(joined(made, one.moves)).clean_moves);
-}
-
-// The first of a step's shortest solutions on a side with which there are fewest moves in all.
-inline way best_way(searches &by, const cube &from, std::size_t on, const axis_step &step) {
-    way best = {NEVER, std::nullopt, ""};
-    for (const solution &one : by.solve(step, from.lines[on]))
-        if (const int total = total_with(from, on, one); total < best.total) best = {total, one.length, one.moves};
-    return best;
-}
 
 // The best way on a side after any of the twins, and after which.
 inline std::pair<std::size_t, way> best_on(searches &by, const candidate &one, std::size_t on) {
@@ -141,7 +118,7 @@ constexpr side side_of(std::size_t on) { return on == NORMAL ? side::normal : si
 
 // A candidate with its moves, the reduction on the side of the orientation if the other one isn't better.
 inline continuation continued(searches &by, const candidate &one, const start &from, const std::string &dr_case) {
-    const auto &[step, own, moves, is_longer] = *one.twins;
+    const auto &[step, own, place, moves, is_longer] = *one.twins;
     const std::array<std::pair<std::size_t, way>, 2> ways = {best_on(by, one, NORMAL), best_on(by, one, INVERSE)};
     const std::size_t on = ways[own].second.total <= ways[1 - own].second.total ? own : 1 - own;
     const auto &[at, found] = ways[on];
@@ -151,32 +128,6 @@ inline continuation continued(searches &by, const candidate &one, const start &f
     const lengths both = {ways[NORMAL].second.length, ways[INVERSE].second.length};
     const reduction dr = {one.step.name, side_of(on), from.named(on, found.moves), turns_of(found.moves), {}, both};
     return {found.total, written(own, eo.moves, on, dr.moves), eo, dr, dr_case};
-}
-
-// The orientations on a side.
-inline std::vector<twins> orientations_on(searches &by, const cube &from, std::size_t on, const axis_step &step, std::int64_t slack) {
-    const std::vector<solution> all = by.solve(step, from.lines[on], slack);
-    const longer_among longer(all);
-    std::vector<twins> found;
-    for (std::vector<solution> &group : grouped(all, step)) {
-        // twins are longer ones together
-        const bool is_longer = longer.has(group[0]);
-        found.push_back({step, on, std::move(group), is_longer});
-    }
-    return found;
-}
-
-// The orientations, the shortest first.
-inline std::vector<twins> orientations(searches &by, const cube &from, std::int64_t slack) {
-    std::vector<twins> found;
-    for (const oriented_steps &steps : STEPS_BY_AXIS)
-        for (const std::size_t on : {NORMAL, INVERSE}) {
-            std::vector<twins> others = orientations_on(by, from, on, steps.eo, slack);
-            found.insert(found.end(), std::make_move_iterator(others.begin()), std::make_move_iterator(others.end()));
-        }
-    const auto is_shorter = [](const twins &one, const twins &other) { return one.moves[0].length < other.moves[0].length; };
-    std::stable_sort(found.begin(), found.end(), is_shorter);
-    return found;
 }
 
 // The cubes after twins that go on from a cube.
@@ -198,71 +149,82 @@ inline candidate candidate_of(searches &by, const cube &before, const twins &eac
     return found;
 }
 
-// A candidate with what it is sorted by.
+// A candidate with what it is sorted by, and its row once that was asked for.
 struct judged {
     candidate one;
     int total;
     axis_facts facts;
+    std::optional<continuation> row;
 
-    auto rank() const { return std::make_tuple(total, one.twins->moves[0].length, facts.bad_corners + facts.misplaced_edges); }
+    auto rank() const {
+        const auto &[step, on, place, moves, is_longer] = *one.twins;
+        return std::make_tuple(total, moves[0].length, facts.bad_corners + facts.misplaced_edges, step.axis, on, place);
+    }
 };
 
-// How many of some orientations are looked at before their totals bound the next ones: few at first.
-constexpr std::size_t FIRST_BATCH = 32, MOST_BATCH = 256;
+// The best orientations with a reduction until now.
+class best_until_now {
+public:
+    best_until_now(searches &by, const start &from, std::uint64_t most) : by_(by), from_(from), most_(most), least_(most) {}
 
-// Those that may be among the first `most`: as many have no more moves in all than the bound, and one that can't come down to it is left out.
-inline std::vector<judged> judged_best(searches &by, const std::vector<candidate> &candidates, std::uint64_t most) {
-    least_until_now least(most);
-    for (const candidate &one : candidates) least.add(one.most());
-    const int enough = least.enough();
-    std::vector<judged> found;
-    for (const candidate &one : candidates) {
-        const int total = one.least <= enough ? total_of(by, one) : NEVER;
-        if (total < NEVER) found.push_back({one, total, facts(one.cubes[0].lines[NORMAL]).axes[one.step.axis]});
-    }
-    return found;
-}
+    // As many as are asked for have no more moves in all than this, so one that can't come down to it is left out.
+    int enough() const { return least_.enough(); }
 
-// How many orientations there are.
-inline std::size_t count_of(const std::vector<twins> &every) {
-    const auto add = [](std::size_t count, const twins &each) { return count + each.moves.size(); };
-    return std::accumulate(every.begin(), every.end(), std::size_t{0}, add);
-}
-
-// Orientations with both reductions after each, at least all that may be among the first `most`.
-inline std::vector<candidate> candidates_of(searches &by, const cube &before, const std::vector<twins> &every, std::uint64_t most) {
-    by.begin(count_of(every));
-    std::vector<candidate> candidates;
-    least_until_now least(most);
-    std::size_t end = 0, size = FIRST_BATCH;
-    int enough = NEVER;
-    for (std::size_t at = 0; at < every.size(); at++) {
-        if (at == end) {
-            enough = least.enough();
-            end += size;
-            size = std::min(2 * size, MOST_BATCH);
+    // Looks for what may be among the best of twins, and come down to so many moves.
+    void look(const twins &each, int enough) {
+        const std::vector<cube> cubes = cubes_after(from_.cube, each);
+        for (const axis_step &step : STEPS_BY_AXIS[each.step.axis].reductions) {
+            candidate found = candidate_of(by_, from_.cube, each, cubes, step, enough);
+            least_.add(found.most());
+            if (found.least < NEVER) open_.push_back(std::move(found));
         }
-        const std::vector<cube> cubes = cubes_after(before, every[at]);
-        for (const axis_step &step : STEPS_BY_AXIS[every[at].step.axis].reductions) {
-            candidate found = candidate_of(by, before, every[at], cubes, step, enough);
-            least.add(found.most());
-            if (found.least < NEVER) candidates.push_back(std::move(found));
-        }
-        by.go_on(cubes.size());
+        by_.go_on(cubes.size());
     }
-    return candidates;
-}
 
-// The best orientations, each with a reduction.
-inline std::vector<continuation> oriented(searches &by, const start &from, std::int64_t slack, std::uint64_t most) {
-    const std::vector<twins> every = orientations(by, from.cube, slack);
-    std::vector<judged> found = judged_best(by, candidates_of(by, from.cube, every, most), most);
-    std::stable_sort(found.begin(), found.end(), [](const judged &one, const judged &other) { return one.rank() < other.rank(); });
-    found.erase(found.begin() + static_cast<std::ptrdiff_t>(std::min<std::uint64_t>(most, found.size())), found.end());
-    std::vector<continuation> rows;
-    const auto row = [&](const judged &each) { return continued(by, each.one, from, each.facts.dr_case()); };
-    std::transform(found.begin(), found.end(), std::back_inserter(rows), row);
-    return rows;
+    // The best of all that was looked for.
+    std::vector<continuation> rows() {
+        for (candidate &one : open_) {
+            const int total = one.least <= enough() ? total_of(by_, one) : NEVER;
+            const axis_facts seen = facts(one.cubes[0].lines[NORMAL]).axes[one.step.axis];
+            if (total < NEVER) best_.push_back({std::move(one), total, seen, std::nullopt});
+        }
+        open_.clear();
+        std::stable_sort(best_.begin(), best_.end(), [](const judged &one, const judged &other) { return one.rank() < other.rank(); });
+        best_.erase(best_.begin() + static_cast<std::ptrdiff_t>(std::min<std::uint64_t>(most_, best_.size())), best_.end());
+        std::vector<continuation> rows;
+        for (judged &each : best_) {
+            if (!each.row) each.row = continued(by_, each.one, from_, each.facts.dr_case());
+            rows.push_back(*each.row);
+        }
+        return rows;
+    }
+
+private:
+    searches &by_;
+    const start &from_;
+    std::uint64_t most_;
+    least_until_now least_;
+    std::vector<candidate> open_;
+    std::vector<judged> best_;
+};
+
+// How many groups of twins are tried at first, and at most, before their rows are known.
+constexpr std::size_t FIRST_BATCH = 8, MOST_BATCH = 256;
+
+// The best orientations, each with a reduction: as long as they may be cut, of those that were tried until then.
+inline void find_oriented(searches &by, const start &from, const best_search &which, std::vector<continuation> &rows) {
+    best_until_now best(by, from, which.most);
+    std::list<std::vector<twins>> found;
+    for (const stage &each : stages(by, which.slack)) {
+        const std::vector<twins> &every = found.emplace_back(orientations(by, from.cube, each));
+        if (each.most == which.slack) by.begin_last(count_of(every));
+        for (std::size_t at = 0, size = FIRST_BATCH; at < every.size(); size = std::min(2 * size, MOST_BATCH)) {
+            const int enough = best.enough();
+            for (const std::size_t end = std::min(at + size, every.size()); at < end; at++) best.look(every[at], enough);
+            if (by.are_bounded()) rows = best.rows();
+        }
+    }
+    rows = best.rows();
 }
 
 // The reductions of a step that may start on a cube: its solutions on each side, and the least length there.
@@ -309,15 +271,6 @@ inline void add_reduced(std::vector<ranked> &to, const start &from, const reduct
     }
 }
 
-// Both reductions that may follow an orientation which holds, in the order of their sides.
-inline void add_reductions(std::vector<ranked> &to, searches &by, const start &from, const oriented_steps &steps, std::int64_t slack) {
-    for (const axis_step &step : steps.reductions) {
-        const reductions all = reductions_of(by, from.cube, step, slack);
-        add_reduced(to, from, all, NORMAL);
-        add_reduced(to, from, all, INVERSE);
-    }
-}
-
 // The best of some continuations. Moves that keep two orientations are there once.
 inline std::vector<continuation> best_of(std::vector<ranked> all, std::uint64_t most) {
     std::stable_sort(all.begin(), all.end(), [](const ranked &one, const ranked &other) { return one.rank() < other.rank(); });
@@ -328,22 +281,50 @@ inline std::vector<continuation> best_of(std::vector<ranked> all, std::uint64_t 
     return rows;
 }
 
-// What may follow a cube.
-inline std::vector<continuation> continuations(searches &by, const start &from, std::int64_t slack, std::uint64_t most) {
+// The best reductions after orientations that hold: as long as they may be cut, those of the steps that were tried until then.
+inline void find_reduced(searches &by, const start &from, const std::vector<axis_step> &steps, const best_search &which,
+                         std::vector<continuation> &rows) {
+    std::vector<ranked> found;
+    for (const axis_step &step : steps) {
+        const reductions all = reductions_of(by, from.cube, step, which.slack);
+        add_reduced(found, from, all, NORMAL);
+        add_reduced(found, from, all, INVERSE);
+        if (by.are_bounded()) rows = best_of(found, which.most);
+    }
+    by.begin_last(found.size());
+    by.go_on(found.size());
+    rows = best_of(std::move(found), which.most);
+}
+
+// Finds what may follow a cube: `rows` are the best of what was tried, until the searches are cut.
+inline void find_rows(searches &by, const start &from, const best_search &which, std::vector<continuation> &rows) {
     const std::vector<std::string> held = facts(from.cube.lines[NORMAL]).holds();
     const auto holds = [&](const axis_step &step) { return std::find(held.begin(), held.end(), step.name) != held.end(); };
-    std::vector<ranked> found;
-    bool is_oriented = false;
+    std::vector<axis_step> follow;
     for (const oriented_steps &steps : STEPS_BY_AXIS) {
-        if (std::any_of(steps.reductions.begin(), steps.reductions.end(), holds)) return {};
-        if (!holds(steps.eo)) continue;
-        is_oriented = true;
-        add_reductions(found, by, from, steps, slack);
+        if (std::any_of(steps.reductions.begin(), steps.reductions.end(), holds)) return;
+        if (holds(steps.eo)) follow.insert(follow.end(), steps.reductions.begin(), steps.reductions.end());
     }
-    if (!is_oriented) return oriented(by, from, slack, most);
-    by.begin(found.size());
-    by.go_on(found.size());
-    return best_of(std::move(found), most);
+    if (follow.empty()) find_oriented(by, from, which, rows);
+    else find_reduced(by, from, follow, which, rows);
+}
+
+// The rows that searches find until they are cut.
+inline std::vector<continuation> rows_by(searches &by, std::string_view scramble, std::string_view so_far, const best_search &which) {
+    detail::turns(which.slack, "slack");
+    const nissy_check_answer read = nissy_check(detail::bytes(scramble), scramble.size(), detail::bytes(so_far), so_far.size());
+    detail::end_unless_read(read.status, read.fault, read.column, {}, read.line == 1 ? "scramble, " : "moves so far, ");
+    std::vector<continuation> rows;
+    try {
+        find_rows(by, start_of(scramble, so_far), which, rows);
+    } catch (const cut &) {
+        // it may be one of the caller's progress
+        if (!by.are_cut()) throw;
+    } catch (const fault &found) {
+        // each was read by itself, so they are too long together
+        throw fault(found.code(), 0, std::string(found.text()), "moves so far, ");
+    }
+    return rows;
 }
 
 } // namespace continuing
@@ -357,16 +338,17 @@ inline std::vector<continuation> continuations(searches &by, const start &from, 
 // is by these, by the moves of the first step, and by the pieces of the case. `most` is how many are returned. Each unit of slack makes this
 // many times as long and as large; a call whose searches would look at more than `nodes` positions together throws a cut.
 inline std::vector<continuation> best(std::string_view scramble, std::string_view so_far, const best_search &which) {
-    detail::turns(which.slack, "slack");
-    const nissy_check_answer read = nissy_check(detail::bytes(scramble), scramble.size(), detail::bytes(so_far), so_far.size());
-    detail::end_unless_read(read.status, read.fault, read.column, {}, read.line == 1 ? "scramble, " : "moves so far, ");
     continuing::searches by(which.nodes, which.progress);
-    try {
-        return continuing::continuations(by, continuing::start_of(scramble, so_far), which.slack, which.most);
-    } catch (const fault &found) {
-        // each was read by itself, so they are too long together
-        throw fault(found.code(), 0, std::string(found.text()), "moves so far, ");
-    }
+    std::vector<continuation> rows = continuing::rows_by(by, scramble, so_far, which);
+    if (by.are_cut()) throw cut(by.looked());
+    return rows;
+}
+
+// The same with what is said of it; one that is cut has the best of what was tried.
+inline best_found find_best(std::string_view scramble, std::string_view so_far = {}, const best_search &which = {}) {
+    continuing::searches by(which.nodes, which.progress);
+    std::vector<continuation> rows = continuing::rows_by(by, scramble, so_far, which);
+    return {std::move(rows), by.are_cut()};
 }
 
 // The same without a bound.

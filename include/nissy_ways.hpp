@@ -1,5 +1,5 @@
-// What nissy_best.hpp searches by: a cube on both sides, twins, and the moves that merge. Its names but `progress` are no part of the
-// interface.
+// What nissy_best.hpp searches by: a cube on both sides, orientations with their twins, and the moves that merge. Its names but `progress` are no
+// part of the interface.
 #ifndef NISSY_WAYS_HPP
 #define NISSY_WAYS_HPP
 
@@ -8,6 +8,7 @@
 #include <functional>
 #include <iterator>
 #include <limits>
+#include <numeric>
 #include <queue>
 #include <unordered_map>
 #include <unordered_set>
@@ -184,9 +185,15 @@ class searches {
 public:
     searches(std::uint64_t nodes, const progress &told) : nodes_(nodes), told_(told) {}
 
-    // Tells how many there are.
-    void begin(std::size_t count) {
-        all_ = count;
+    // Whether they may be cut.
+    bool are_bounded() const { return nodes_ != NISSY_ALL; }
+    // Whether they are, and at how many positions they looked.
+    bool are_cut() const { return are_cut_; }
+    std::uint64_t looked() const { return looked_; }
+
+    // Tells how many there are, of which so many aren't done.
+    void begin_last(std::size_t count) {
+        all_ = done_ + count;
         go_on(0);
     }
 
@@ -217,10 +224,12 @@ private:
 
     void spend(const count &last) {
         looked_ += last.nodes;
-        if (last.is_cut) throw cut(looked_);
+        are_cut_ = last.is_cut;
+        if (are_cut_) throw cut(looked_);
     }
 
     std::uint64_t nodes_, looked_ = 0;
+    bool are_cut_ = false;
     const progress &told_;
     std::size_t done_ = 0, all_ = 0;
 };
@@ -287,6 +296,83 @@ inline int most_saved(std::string_view made, const axis_step &step) {
         made = made.substr(0, begin ? begin - 1 : 0);
     }
     return saved;
+}
+
+// A reduction on a side: how many moves there are in all with it, and its own, if it has any solution.
+struct way {
+    int total;
+    std::optional<int> length;
+    std::string moves;
+};
+
+// How many moves there are in all with a solution on a side of a cube.
+inline int total_with(const cube &from, std::size_t on, const solution &one) {
+    const std::string &made = from.made[on];
+    return turns_of(from.made[1 - on]) + (made.empty() ? one.length : facts(joined(made, one.moves)).clean_moves);
+}
+
+// The first of a step's shortest solutions on a side with which there are fewest moves in all.
+inline way best_way(searches &by, const cube &from, std::size_t on, const axis_step &step) {
+    way best = {NEVER, std::nullopt, ""};
+    for (const solution &one : by.solve(step, from.lines[on]))
+        if (const int total = total_with(from, on, one); total < best.total) best = {total, one.length, one.moves};
+    return best;
+}
+
+// Twins of an orientation on a side, and whether they are longer ones, which go on after it was reached. What these go on with belongs on their
+// own side to the reduction after a shorter one, so they have a row only if the other side is better.
+struct twins {
+    axis_step step;
+    std::size_t on, place;
+    std::vector<solution> moves;
+    bool is_longer;
+};
+
+// How much longer than the shortest of their axis and side some orientations are, at least and at most.
+struct stage {
+    std::int64_t least, most;
+};
+
+// Those that are found together: all, unless the search may be cut, so that shorter ones are tried before longer ones are found.
+inline std::vector<stage> stages(const searches &by, std::int64_t slack) {
+    if (!by.are_bounded()) return {{0, slack}};
+    std::vector<stage> each;
+    for (std::int64_t longer = 0; longer <= slack; longer++) each.push_back({longer, longer});
+    return each;
+}
+
+// The orientations of a stage on a side.
+inline std::vector<twins> orientations_on(searches &by, const cube &from, std::size_t on, const axis_step &step, const stage &which) {
+    const std::vector<solution> all = by.solve(step, from.lines[on], which.most);
+    const longer_among longer(all);
+    std::vector<twins> found;
+    std::size_t place = 0;
+    for (std::vector<solution> &group : grouped(all, step)) {
+        // twins are longer ones together
+        const bool is_longer = longer.has(group[0]), is_of_stage = group[0].length >= all[0].length + which.least;
+        if (is_of_stage) found.push_back({step, on, place, std::move(group), is_longer});
+        place++;
+    }
+    return found;
+}
+
+// The orientations of a stage, the shortest first.
+inline std::vector<twins> orientations(searches &by, const cube &from, const stage &which) {
+    std::vector<twins> found;
+    for (const oriented_steps &steps : STEPS_BY_AXIS)
+        for (const std::size_t on : {NORMAL, INVERSE}) {
+            std::vector<twins> others = orientations_on(by, from, on, steps.eo, which);
+            found.insert(found.end(), std::make_move_iterator(others.begin()), std::make_move_iterator(others.end()));
+        }
+    const auto is_shorter = [](const twins &one, const twins &other) { return one.moves[0].length < other.moves[0].length; };
+    std::stable_sort(found.begin(), found.end(), is_shorter);
+    return found;
+}
+
+// How many orientations there are.
+inline std::size_t count_of(const std::vector<twins> &every) {
+    const auto add = [](std::size_t count, const twins &each) { return count + each.moves.size(); };
+    return std::accumulate(every.begin(), every.end(), std::size_t{0}, add);
 }
 
 } // namespace nissy::continuing

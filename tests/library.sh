@@ -115,15 +115,21 @@ if missing clang++; then skips "clang++ isn't installed"; else part by_compiler 
 printf '#include "nissy.h"\nint main(void) { return nissy_invert("R", 1, 0).status; }\n' > "$room/other.c"
 holds "a call with too few arguments doesn't compile" refuses cc -std=c11 "${strict[@]}" -o "$room/other" "$room/other.c" "$folder/libnissy.a"
 
-# the header in other languages, as EMBEDDING says
+# the headers in other languages, as EMBEDDING says
+callable_forms() { sed 's/^static inline //' include/nissy_forms.h; }
 by_cffi() {
-    sed '/^#include/d' include/nissy.h | cc -E -P - > "$made/nissy.cdef"
-    add python3 tests/library/by_cffi.py "$made/nissy.cdef"
+    callable_forms | cc "${strict[@]}" -shared -fPIC -o "$made/libforms.so" -x c - -x none -L"$folder" -Wl,--no-as-needed -lnissy -Wl,-rpath,"$folder"
+    sed '/^#include/d; /^static/,/^}/{s/^static inline\(.*\) {/\1;/p;d}' include/nissy.h include/nissy_forms.h | cc -E -P - > "$made/nissy.cdef"
+    add python3 tests/library/by_cffi.py "$made/nissy.cdef" "$made/libforms.so"
     ended
 }
-read_by_bindgen() { bindgen include/nissy.h > "$made/nissy.rs" && test "$(grep -oE 'fn nissy_[a-z_]+' "$made/nissy.rs" | cut -c 4- | sort)" = "$(declared)"; }
+read_by_bindgen() {
+    callable_forms > "$made/nissy_forms.c" && bindgen "$made/nissy_forms.c" -- -Iinclude > "$made/nissy.rs" &&
+        test "$(grep -oE 'fn nissy_[a-z_]+' "$made/nissy.rs" | cut -c 4- | sort)" = "$({ declared && of_forms; } | sort)"
+}
+of_forms() { sed -n 's/^static inline .*\(nissy_[a-z_]*\)(.*/\1/p' include/nissy_forms.h; }
 if python3 -c "import cffi" 2> /dev/null; then part by_cffi; else skips "cffi isn't installed"; fi
-if missing bindgen; then skips "bindgen isn't installed"; else holds "bindgen reads each call of nissy.h" read_by_bindgen; fi
+if missing bindgen; then skips "bindgen isn't installed"; else holds "bindgen reads each call of both headers for C" read_by_bindgen; fi
 
 # The oldest processor that the library is for, which does some of its instructions otherwise, and one that is older. The positions of the
 # last answer are the model's.
@@ -147,6 +153,7 @@ part "$made/shared_calls"
 if missing qemu-x86_64; then skips "qemu-user isn't installed, so no other processor is tried"; else part on_old_processors; fi
 
 if missing python3; then skips "there is no python3 here"; else
+    typed tests/library/*.py
     for trial in processes values module service; do part python3 tests/library/$trial.py; done
     if python3.7 -c "import ctypes" 2> /dev/null; then
         for trial in module values processes; do part python3.7 tests/library/$trial.py; done

@@ -22,7 +22,7 @@ call lets go of Python's lock, so calls of several threads run side by side. The
 names, else the one that was installed or built with this package, else the system's.
 """
 from ._best import best
-from ._continuations import Continuation, Lengths, Orientation, Reduction, Side as Side
+from ._continuations import Continuation, Continuations, Lengths, Orientation, Reduction, Side as Side
 from ._facts import Axis as Axis, Case, Check, Facts, Pieces, check, facts, facts_all
 from ._given import Step as Step, Text as Text
 from ._library import DONE, FAULT, MOST_INPUT, STOPPED, USAGE
@@ -35,8 +35,9 @@ from ._values import Answer, Count, Cut, Fault, LineFault, Solution, Solutions, 
 
 __all__ = [
     "DONE", "FAULT", "MOST_INPUT", "STOPPED", "USAGE",
-    "Answer", "Case", "Check", "Continuation", "Count", "Cut", "Facts", "Fault", "FormPlace", "Lengths", "LineFault",
-    "Orientation", "Pieces", "Reduction", "Solution", "Solutions", "StartFault", "Tables", "Token",
+    "Answer", "Case", "Check", "Continuation", "Continuations", "Count", "Cut", "Facts", "Fault", "FormPlace",
+    "Lengths", "LineFault", "Orientation", "Pieces", "Reduction", "Solution", "Solutions", "StartFault", "Tables",
+    "Token",
     "best", "check", "cleanup", "count", "count_all", "facelets", "facts", "facts_all", "form_places", "invert",
     "near", "raising", "run", "scramble", "scrambles", "solutions", "solve", "solve_all", "start_of", "steps", "tokens",
     "unniss",
@@ -47,8 +48,8 @@ del version
 
 # what others see of these, as in a traceback or in what was pickled, is named by the package
 for _public in (
-    Answer, Case, Check, Continuation, Count, Cut, Facts, Fault, FormPlace, Lengths, LineFault, Orientation, Pieces,
-    Reduction, Solution, Solutions, StartFault, Tables, Token,
+    Answer, Case, Check, Continuation, Continuations, Count, Cut, Facts, Fault, FormPlace, Lengths, LineFault,
+    Orientation, Pieces, Reduction, Solution, Solutions, StartFault, Tables, Token,
 ):
     _public.__module__ = __name__
 del _public

@@ -3,14 +3,14 @@ from __future__ import annotations
 
 from typing import Dict, Iterable, Iterator, List, NamedTuple, Optional, Tuple
 
-from ._continuations import Continuation, Lengths, Orientation, Reduction, Side
+from ._continuations import Continuation, Continuations, Lengths, Orientation, Reduction, Side
 from ._facts import Axis, Case, check, facts, facts_all
-from ._given import Step, Text, bytes_of, number_of
+from ._given import Progress, Step, Text, bytes_of, number_of, progress_of
 from ._lines import MOST_WORD
 from ._twins import grouped, last_turns, longer_among
-from ._values import Fault, LineFault, Solution, raising
-from ._ways import NEVER, NORMAL, SIDES, Cube, LeastUntilNow, Progress, Searches, Start, Way, best_way, bounds, bounds_of, read, totals, turns_of, \
-    wanted_on
+from ._values import Cut, Fault, LineFault, Solution, raising
+from ._ways import NEVER, NORMAL, SIDES, Cube, LeastUntilNow, Searches, Start, Way
+from ._ways import best_way, bounds_of, read, sought_on, totals, turns_of
 
 _NAMES: Tuple[Side, Side] = ("normal", "inverse")
 # the orientations, and the reductions that may follow each, with their axes
@@ -19,8 +19,8 @@ _REDUCTIONS: Dict[Step, Dict[Step, Axis]] = {
     "eorl": {"drud-eorl": "ud", "drfb-eorl": "fb"},
     "eoud": {"drrl-eoud": "rl", "drfb-eoud": "fb"}}
 _MOST_SLACK = 20
-# so many groups of twins go on at first, and at most, before the caller is told
-_FIRST_BATCH, _BATCH = 32, 256
+# so many groups of twins are tried at first, and at most, before their rows are known
+_FIRST_BATCH, _BATCH = 8, 256
 
 
 class _Twins(NamedTuple):
@@ -29,8 +29,13 @@ class _Twins(NamedTuple):
 
     step: Step
     side: int
+    place: int
     moves: List[Solution]
     is_longer: bool
+
+    def order(self) -> Tuple[int, int, int]:
+        """Returns what those come in the order of that are as good."""
+        return list(_REDUCTIONS).index(self.step), self.side, self.place
 
 
 class _Candidate(NamedTuple):
@@ -62,7 +67,7 @@ class _Candidate(NamedTuple):
 
     def continuation(self, searches: Searches, start: Start, case: Case) -> Continuation:
         """Returns it with its moves, on the side of the orientation if the other one isn't better."""
-        (step, own, twins, _), best = self.twins, [self.best_on(searches, side) for side in SIDES]
+        (step, own, _, twins, _), best = self.twins, [self.best_on(searches, side) for side in SIDES]
         side = own if best[own][1].total <= best[1 - own][1].total else 1 - own
         at, (total, _, moves) = best[side]
         others = tuple(start.named(own, last_turns(each, step)) for each in twins[:at] + twins[at + 1:])
@@ -77,17 +82,31 @@ def _written(*parts: Tuple[int, str]) -> str:
     return line.replace(") (", " ")
 
 
-def _twins_on(searches: Searches, cube: Cube, side: int, step: Step, slack: int) -> List[_Twins]:
-    """Returns the orientations on a side."""
-    solutions = searches.solve(step, cube.lines[side], slack)
-    longer = longer_among(solutions)
+class _Stage(NamedTuple):
+    """How much longer than the shortest of their axis and side some orientations are, at least and at most."""
+
+    least: int
+    most: int
+
+
+def _stages(searches: Searches, slack: int) -> List[_Stage]:
+    """Returns which orientations are found together: all, unless the search may be cut, so that shorter ones are tried before longer ones are
+    found."""
+    return [_Stage(each, each) for each in range(slack + 1)] if searches.are_bounded() else [_Stage(0, slack)]
+
+
+def _twins_on(searches: Searches, cube: Cube, side: int, step: Step, stage: _Stage) -> List[_Twins]:
+    """Returns the orientations of a stage on a side."""
+    solutions = searches.solve(step, cube.lines[side], stage.most)
+    longer, least = longer_among(solutions), (solutions[0].length if solutions else 0) + stage.least
     # twins are longer ones together
-    return [_Twins(step, side, twins, twins[0] in longer) for twins in grouped(solutions, step)]
+    return [_Twins(step, side, place, twins, twins[0] in longer) for place, twins in enumerate(grouped(solutions, step))
+            if twins[0].length >= least]
 
 
-def _orientations(searches: Searches, cube: Cube, slack: int) -> List[_Twins]:
-    """Returns the orientations, the shortest first."""
-    found = [twins for step in _REDUCTIONS for side in SIDES for twins in _twins_on(searches, cube, side, step, slack)]
+def _orientations(searches: Searches, cube: Cube, stage: _Stage) -> List[_Twins]:
+    """Returns the orientations of a stage, the shortest first."""
+    found = [twins for step in _REDUCTIONS for side in SIDES for twins in _twins_on(searches, cube, side, step, stage)]
     return sorted(found, key=lambda twins: twins.moves[0].length)
 
 
@@ -99,12 +118,11 @@ def _sides_of(twins: _Twins) -> Tuple[int, ...]:
 def _candidates(searches: Searches, cube: Cube, batch: List[_Twins], most: int) -> Iterator[_Candidate]:
     """Yields twins that go on from a cube, each with both reductions, if these may come down to no more moves in all than `most`."""
     after = [(twins, [cube.after(twins.side, moves) for moves in twins.moves]) for twins in batch]
-    each = [(twins, cubes, step, [(one, side) for one in cubes for side in _sides_of(twins)])
+    each = [(twins, cubes, step, [sought_on(cube, one, side, step) for one in cubes for side in _sides_of(twins)])
             for twins, cubes in after for step in _REDUCTIONS[twins.step]]
-    wanted = [wanted_on(cube, one, side, step, most) for _, _, step, sought in each for one, side in sought]
-    lengths = iter(searches.least_lengths(wanted))
+    lengths = iter(searches.least_lengths([one.wanted(step, most) for _, _, step, sought in each for one in sought]))
     for twins, cubes, step, sought in each:
-        least, greatest = bounds_of([bounds(cube, one, side, step, next(lengths)) for one, side in sought])
+        least, greatest = bounds_of([one.bounds(next(lengths)) for one in sought])
         if least < NEVER:
             yield _Candidate(twins, cubes, step, least, NEVER if twins.is_longer else greatest)
 
@@ -117,38 +135,79 @@ def _batches(every: List[_Twins]) -> Iterator[List[_Twins]]:
         first, size = first + size, min(2 * size, _BATCH)
 
 
-def _all_candidates(searches: Searches, cube: Cube, every: List[_Twins], most: int) -> Iterator[_Candidate]:
-    """Yields orientations with a reduction, at least all that may be among the best `most`."""
-    least = LeastUntilNow(most)
-    for batch in _batches(every):
-        found = list(_candidates(searches, cube, batch, least.enough()))
-        yield from found
-        least.add(each.most for each in found)
-        searches.go_on(sum(len(twins.moves) for twins in batch))
+class _Counted:
+    """A candidate, all moves with it, and its case. Its row is made when it is first asked for."""
+
+    __slots__ = ("total", "_candidate", "_case", "_row")
+
+    def __init__(self, total: int, candidate: _Candidate, case: Case) -> None:
+        self.total, self._candidate, self._case = total, candidate, case
+        self._row: Optional[Continuation] = None
+
+    def rank(self) -> Tuple[int, ...]:
+        """Returns what it is sorted by."""
+        twins = self._candidate.twins
+        return (self.total, twins.moves[0].length, self._case.corners + self._case.edges, *twins.order())
+
+    def row(self, searches: Searches, start: Start) -> Continuation:
+        """Returns it with its moves."""
+        if self._row is None:
+            self._row = self._candidate.continuation(searches, start, self._case)
+        return self._row
 
 
-def _enough(numbers: Iterable[int], most: int) -> int:
-    """Returns the number up to which there are as many as are asked for, NEVER if there are fewer."""
-    least = LeastUntilNow(most)
-    least.add(numbers)
-    return least.enough()
+class _BestUntilNow:
+    """The best orientations with a reduction until now."""
+
+    def __init__(self, searches: Searches, start: Start, most: int) -> None:
+        self._searches, self._start, self._most = searches, start, most
+        # as many as are asked for have no more moves in all than these, so one that can't come down to it is left out
+        self._bounds, self._totals = LeastUntilNow(most), LeastUntilNow(most)
+        self._open: List[_Candidate] = []
+        self._best: List[_Counted] = []
+
+    def look(self, batch: List[_Twins]) -> None:
+        """Looks for what may be among the best of twins."""
+        found = list(_candidates(self._searches, self._start.cube, batch, self._bounds.enough()))
+        self._bounds.add(each.most for each in found)
+        self._open += found
+
+    def rows(self) -> List[Continuation]:
+        """Returns the best of all that was looked for."""
+        self._best += self._counted([each for each in self._open if each.least <= self._bounds.enough()])
+        self._open = []
+        self._best.sort(key=_Counted.rank)
+        del self._best[self._most:]
+        return [each.row(self._searches, self._start) for each in self._best]
+
+    def _counted(self, candidates: List[_Candidate]) -> List[_Counted]:
+        """Returns those candidates that may be among the best, counted."""
+        counted = [(each.total(self._searches), each) for each in candidates]
+        self._totals.add(total for total, _ in counted)
+        kept = [(total, each) for total, each in counted if total < NEVER and total <= self._totals.enough()]
+        seen = raising(facts_all([each.cubes[0].lines[NORMAL] for _, each in kept]))
+        return [_Counted(total, each, it.case[each.axis]) for (total, each), it in zip(kept, seen)]
 
 
-def _oriented(searches: Searches, start: Start, slack: int, most: int) -> List[Continuation]:
-    """Returns the best of the orientations with a reduction after each."""
-    every = _orientations(searches, start.cube, slack)
-    searches.begin(sum(len(twins.moves) for twins in every))
-    candidates = list(_all_candidates(searches, start.cube, every, most))
-    # as many as are asked for have no more moves in all than this, so one that can't come down to it is left out
-    enough = _enough((each.most for each in candidates), most)
-    looked_at = ((each.total(searches), each) for each in candidates if each.least <= enough)
-    counted = [(total, each) for total, each in looked_at if total < NEVER]
-    enough = _enough((total for total, _ in counted), most)
-    kept = [(total, each) for total, each in counted if total <= enough]
-    seen = raising(facts_all([each.cubes[0].lines[NORMAL] for _, each in kept]))
-    cased = [(total, each, it.case[each.axis]) for (total, each), it in zip(kept, seen)]
-    cased.sort(key=lambda row: (row[0], row[1].twins.moves[0].length, row[2].corners + row[2].edges))
-    return [each.continuation(searches, start, case) for _, each, case in cased[:most]]
+def _count(every: List[_Twins]) -> int:
+    """Returns how many orientations there are."""
+    return sum(len(twins.moves) for twins in every)
+
+
+def _oriented(searches: Searches, start: Start, slack: int, most: int) -> Iterator[List[Continuation]]:
+    """Yields the best of the orientations with a reduction after each. If the searches may be cut, those of the orientations that
+    were tried come before them."""
+    best = _BestUntilNow(searches, start, most)
+    for stage in _stages(searches, slack):
+        every = _orientations(searches, start.cube, stage)
+        if stage.most == slack:
+            searches.begin_last(_count(every))
+        for batch in _batches(every):
+            best.look(batch)
+            if searches.are_bounded():
+                yield best.rows()
+            searches.go_on(_count(batch))
+    yield best.rows()
 
 
 def _reductions(searches: Searches, start: Start, step: Step, axis: Axis, slack: int) -> Iterator[Continuation]:
@@ -166,21 +225,34 @@ def _reductions(searches: Searches, start: Start, step: Step, axis: Axis, slack:
             yield Continuation(counted[moves], _written((side, dr.moves)), None, dr, case)
 
 
-def _reduced(searches: Searches, start: Start, held: Iterable[Step], slack: int, most: int) -> List[Continuation]:
-    """Returns the best reductions after orientations that hold. Moves that keep two of them are there once."""
-    found = [(axis, row) for orientation in held for step, axis in _REDUCTIONS[orientation].items()
-             for row in _reductions(searches, start, step, axis, slack)]
-    searches.begin(len(found))
-    searches.go_on(len(found))
-    found.sort(key=lambda pair: (pair[1].total, pair[1].dr.length, pair[1].case.corners + pair[1].case.edges))
+def _best_reduced(found: List[Tuple[Axis, Continuation]], most: int) -> List[Continuation]:
+    """Returns the best of some reductions. Moves that keep two orientations are there once."""
+    def rank(pair: Tuple[Axis, Continuation]) -> Tuple[int, int, int]:
+        row = pair[1]
+        return row.total, row.dr.length, row.case.corners + row.case.edges
+
     rows: Dict[Tuple[Axis, str], Continuation] = {}
-    for axis, row in found:
+    for axis, row in sorted(found, key=rank):
         rows.setdefault((axis, row.line), row)
     return list(rows.values())[:most]
 
 
+def _reduced(searches: Searches, start: Start, held: Iterable[Step], slack: int,
+             most: int) -> Iterator[List[Continuation]]:
+    """Yields the best reductions after orientations that hold. If the searches may be cut, those of the steps that were tried come
+    before them."""
+    found: List[Tuple[Axis, Continuation]] = []
+    for step, axis in (each for orientation in held for each in _REDUCTIONS[orientation].items()):
+        found += [(axis, row) for row in _reductions(searches, start, step, axis, slack)]
+        if searches.are_bounded():
+            yield _best_reduced(found, most)
+    searches.begin_last(len(found))
+    searches.go_on(len(found))
+    yield _best_reduced(found, most)
+
+
 def best(scramble: Text, so_far: Text = "", *, slack: int = 0, most: Optional[int] = 20, nodes: Optional[int] = None,
-         progress: Optional[Progress] = None) -> List[Continuation]:
+         partial: bool = False, progress: Optional[Progress] = None) -> Continuations:
     """What may follow a scramble and the moves so far, the best first, up to a domino reduction: each orientation on three axes and both
     sides, up to `slack` moves longer than the shortest of its axis and side, and after it the reduction on each of two axes with the fewest
     moves in all, on the better side. An orientation that goes on after it was reached has a row only if the reduction is better on the other
@@ -190,28 +262,37 @@ def best(scramble: Text, so_far: Text = "", *, slack: int = 0, most: Optional[in
     order is by these, then by the moves of the first step, then by the pieces of the case. No more than `most` are returned, or all if it is
     None. Each unit of slack makes this many times as long and as large.
 
-    With `nodes` its searches look at no more than so many positions together: if they would look at more, Cut is raised. `progress` is called
-    between searches with how many orientations are done, and of how many, None until that is known; what it raises ends the call.
+    With `nodes` its searches look at no more than so many positions together: if they would look at more, Cut is raised, or with
+    `partial` the best rows of what was tried until then are returned, whose `cut` is true. Each is a row of the whole list, in its
+    order, and others may be missing, better ones too. `progress` is called between searches with how many orientations are done, and
+    of how many, None until that is known; what it raises ends the call.
 
     Raises LineFault with `line` 1 for the scramble and 2 for the moves so far, Fault if both have too many moves together, and Cut."""
     given = bytes_of(scramble, "the scramble"), bytes_of(so_far, "the line so far")
     longer = number_of(slack, "the slack", _MOST_SLACK)
     count = MOST_WORD if most is None else number_of(most, "most", MOST_WORD)
     looks = None if nodes is None else number_of(nodes, "nodes", MOST_WORD)
-    if progress is not None and not callable(progress):
-        raise TypeError(f"the progress is a function or None, not {type(progress).__name__}")
+    searches, found = Searches(looks, progress_of(progress)), Continuations()
     check(*given)
     try:
-        return _continuations(Searches(looks, progress), read(given[0].decode(), given[1].decode()), longer, count)
+        for rows in _continuations(searches, read(given[0].decode(), given[1].decode()), longer, count):
+            found = Continuations(rows)
+    except Cut:
+        # it may be one of the caller's progress
+        if not (partial and searches.are_cut):
+            raise
+        found.cut = True
     except LineFault as fault:
         # each was read by itself, so they are too long together
         raise Fault(fault.text, 2) from None
+    return found
 
 
-def _continuations(searches: Searches, start: Start, slack: int, most: int) -> List[Continuation]:
-    """Returns what may follow a cube, the best first."""
+def _continuations(searches: Searches, start: Start, slack: int, most: int) -> Iterator[List[Continuation]]:
+    """Yields what may follow a cube, the best first: the last list is whole, and each before it is what is known if the searches are
+    cut then."""
     reached = facts(start.cube.lines[NORMAL]).holds
     if any(step in reached for reductions in _REDUCTIONS.values() for step in reductions):
-        return []
+        return
     held = [step for step in _REDUCTIONS if step in reached]
-    return _reduced(searches, start, held, slack, most) if held else _oriented(searches, start, slack, most)
+    yield from _reduced(searches, start, held, slack, most) if held else _oriented(searches, start, slack, most)

@@ -2,7 +2,7 @@
 class of the package for them."""
 import sys
 from dataclasses import dataclass
-from typing import Optional, Tuple
+from typing import List, Optional, Tuple
 
 from ._facts import Case
 from ._given import Step
@@ -64,3 +64,11 @@ class Continuation:
 
     def __str__(self) -> str:
         return f"{self.line} ({self.total})"
+
+
+class Continuations(List[Continuation]):
+    """The continuations of a line, the best first, as a list."""
+
+    cut: bool = False
+    """Whether the searches ended at their bound: then these are the best of what was tried until then. Each is a row of
+    the whole list, in its order, and others may be missing, better ones too."""

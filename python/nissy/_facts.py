@@ -5,10 +5,10 @@ import struct
 import sys
 from functools import lru_cache
 from itertools import starmap
-from typing import Any, Callable, Dict, FrozenSet, Iterable, Iterator, NamedTuple, Tuple, TypeVar, Union
+from typing import Any, Callable, Dict, FrozenSet, Iterable, Iterator, NamedTuple, Optional, Tuple, TypeVar, Union
 
 from . import _library, _rooms
-from ._given import Step, Text, bytes_of
+from ._given import Progress, Step, Text, bytes_of
 from ._library import DONE, FACTS_ANSWER
 from ._lines import fault_of, steps
 from ._many import Asking, Piece, in_pieces
@@ -223,11 +223,12 @@ def _fault(piece: Piece, told: bytes, at: int) -> Fault:
     return fault_of(status, fault, column, data, number)
 
 
-def facts_all(lines: Iterable[Text], threads: int = 1) -> Iterator[Union[Facts, Fault]]:
+def facts_all(lines: Iterable[Text], threads: int = 1,
+              progress: Optional[Progress] = None) -> Iterator[Union[Facts, Fault]]:
     """What is seen of each line in turn, as `facts` returns it; of a line for which `facts` raises, what it
-    raises, with the line's number, from 1, as `line` (`raising` raises it). Takes lines in pieces, and
-    threads, as `count_all` does."""
-    return in_pieces(lines, Asking(_ask, _told), threads)
+    raises, with the line's number, from 1, as `line` (`raising` raises it). Takes lines in pieces, threads and
+    `progress` as `count_all` does."""
+    return in_pieces(lines, Asking(_ask, _told), threads, progress)
 
 
 def check(scramble: Text, solution: Text) -> Check:

@@ -3,7 +3,7 @@ from __future__ import annotations
 
 import operator
 import sys
-from typing import Iterable, Iterator, Union
+from typing import Callable, Iterable, Iterator, Optional, Union
 
 # the names of the steps, for tools that read types and no library: what holds at run time is what the library says
 if sys.version_info >= (3, 8):
@@ -13,11 +13,15 @@ if sys.version_info >= (3, 8):
         "eofb", "eorl", "eoud", "drud-eofb", "drrl-eofb", "drud-eorl", "drfb-eorl", "drrl-eoud", "drfb-eoud",
         "eo", "dr-eofb", "dr-eorl", "dr-eoud",
     ]
+    Partial = Literal[True]
 else:
     Step = str
+    Partial = bool
 
 Text = Union[str, bytes, bytearray, memoryview]
 _TEXTS = (str, bytes, bytearray, memoryview)
+Progress = Callable[[int, Optional[int]], object]
+"""Is told how many are done, and of how many, or None until that is known."""
 
 
 def _kind(value: object) -> str:
@@ -79,3 +83,10 @@ def each_of(texts: Iterable[Text], what: str) -> Iterator[Text]:
         except TypeError:
             pass
     raise TypeError(f"{what} are a list or another iterable, not {_kind(given)}")
+
+
+def progress_of(progress: Optional[Progress]) -> Optional[Progress]:
+    """Returns what is told of the progress, if it can be."""
+    if progress is not None and not callable(progress):
+        raise TypeError(f"the progress is a function or None, not {_kind(progress)}")
+    return progress

@@ -6,7 +6,7 @@ from itertools import islice
 from time import perf_counter, sleep
 from typing import Any, Callable, Deque, Generic, Iterable, Iterator, List, NamedTuple, Optional, Tuple, TypeVar
 
-from ._given import Text, bytes_of, each_of, number_of
+from ._given import Progress, Text, bytes_of, each_of, number_of, progress_of
 
 Value = TypeVar("Value")
 
@@ -49,6 +49,38 @@ class Asking(Generic[Value]):
         """Returns what the first part returns, and the seconds that it took."""
         begun = perf_counter()
         return self.ask(piece), perf_counter() - begun
+
+
+class _Telling:
+    """Tells how many lines are done, and of how many."""
+
+    def __init__(self, lines: Iterable[Text], progress: Optional[Progress]) -> None:
+        self._progress, self._done, self._all = progress_of(progress), 0, _count_of(lines)
+        self._told: Optional[int] = None
+        self._next = 0.0
+
+    def add(self, count: int) -> None:
+        """Tells that so many more are done."""
+        self._done += count
+        if self._progress is not None:
+            self._told = self._done
+            self._progress(self._done, self._all)
+
+    def add_line(self) -> None:
+        """Adds a line, and tells of those since the last time if that took as long as a piece."""
+        now = perf_counter()
+        if now < self._next:
+            self._done += 1
+        else:
+            self._next = now + _SHORT
+            self.add(1)
+
+    def end(self) -> None:
+        """Tells that all are done."""
+        is_told = self._done == self._told == self._all
+        self._all = self._done
+        if not is_told:
+            self.add(0)
 
 
 class _Taking:
@@ -128,20 +160,35 @@ class _Taking:
             sleep(_REST)
 
 
-def in_pieces(lines: Iterable[Text], asking: Asking[Value], threads: int) -> Iterator[Value]:
+def _count_of(lines: Iterable[Text]) -> Optional[int]:
+    """Returns how many lines there are, as a list or a tuple says: one of another kind may say anything."""
+    return len(lines) if type(lines) in (list, tuple) else None  # type: ignore[arg-type]
+
+
+def in_pieces(lines: Iterable[Text], asking: Asking[Value], threads: int,
+              progress: Optional[Progress]) -> Iterator[Value]:
     """Returns an iterator of the answers to lines, which are taken in pieces. The arguments are checked at once."""
     each = each_of(lines, "the lines")
     if number_of(threads, "threads", _MOST_THREADS, 1) == 1:
-        return _in_turn(_Taking(each, _SHORT), asking)
-    return _side_by_side(_shared(lines, each, threads), asking, threads)
+        return _in_turn(_Taking(each, _SHORT), asking, _Telling(lines, progress))
+    return _by_threads(lines, each, asking, threads, progress)
 
 
-def one_by_one(lines: Iterable[Text], ask: Callable[[int, bytes], Value], threads: int) -> Iterator[Value]:
+def _by_threads(lines: Iterable[Text], each: Iterator[Text], asking: Asking[Value], threads: int,
+                progress: Optional[Progress]) -> Iterator[Value]:
+    """Returns an iterator of the answers to lines, which are given both as a whole and one by one."""
+    taking = _Taking(each, _SHORT_OF_THREADS, _count_of(lines) or 0, threads)
+    return _side_by_side(taking, asking, _Telling(lines, progress), threads)
+
+
+def one_by_one(lines: Iterable[Text], ask: Callable[[int, bytes], Value], threads: int,
+               progress: Optional[Progress]) -> Iterator[Value]:
     """Returns an iterator of the answers to lines, each of which is taken when its answer is asked for: so they come by one thread. Several
     take pieces. A line is asked by its number, from 1, and its bytes."""
     each = each_of(lines, "the lines")
     if number_of(threads, "threads", _MOST_THREADS, 1) == 1:
-        return _each(each, ask)
+        telling = _Telling(lines, progress)
+        return _each(each, ask) if progress is None else _each_told(_each(each, ask), telling)
 
     def of_piece(piece: Piece) -> List[Value]:
         return [ask(*piece.line(at)) for at in range(len(piece.lines))]
@@ -149,19 +196,21 @@ def one_by_one(lines: Iterable[Text], ask: Callable[[int, bytes], Value], thread
     def found(_: Piece, values: List[Value]) -> List[Value]:
         return values
 
-    return _side_by_side(_shared(lines, each, threads), Asking(of_piece, found), threads)
-
-
-def _shared(lines: Iterable[Text], each: Iterator[Text], threads: int) -> _Taking:
-    """Returns what takes lines for threads. How many there are is asked of a list or a tuple alone: that of another kind may say anything."""
-    count = len(lines) if type(lines) in (list, tuple) else 0  # type: ignore[arg-type]
-    return _Taking(each, _SHORT_OF_THREADS, count, threads)
+    return _by_threads(lines, each, Asking(of_piece, found), threads, progress)
 
 
 def _each(lines: Iterator[Text], ask: Callable[[int, bytes], Value]) -> Iterator[Value]:
     """Yields the answer to each line."""
     for number, line in enumerate(lines, 1):
         yield ask(number, _bytes_of(number, line))
+
+
+def _each_told(answers: Iterator[Value], telling: _Telling) -> Iterator[Value]:
+    """Yields the same answers, and tells of them."""
+    for answer in answers:
+        telling.add_line()
+        yield answer
+    telling.end()
 
 
 def _bytes_of(number: int, line: Text) -> bytes:
@@ -173,14 +222,16 @@ def _bytes_of(number: int, line: Text) -> bytes:
         raise kind(f"line {number}: {error}") from None
 
 
-def _in_turn(taking: _Taking, asking: Asking[Value]) -> Iterator[Value]:
+def _in_turn(taking: _Taking, asking: Asking[Value], telling: _Telling) -> Iterator[Value]:
     """Yields the answers to lines, one piece after another."""
     for piece in taking:
         told, seconds = asking.timed(piece)
         taking.took(piece, seconds)
+        telling.add(len(piece.lines))
         yield from asking.told(piece, told)
     if taking.error is not None:
         raise taking.error
+    telling.end()
 
 
 class _Asked(Generic[Value]):
@@ -211,7 +262,7 @@ class _Asked(Generic[Value]):
         return self._own or self._other.result()
 
 
-def _side_by_side(taking: _Taking, asking: Asking[Value], threads: int) -> Iterator[Value]:
+def _side_by_side(taking: _Taking, asking: Asking[Value], telling: _Telling, threads: int) -> Iterator[Value]:
     """Yields the answers to lines, of which so many pieces are asked at the same time, in the order of the lines. This thread is one of those that
     ask: with one more than processors, two would share a processor while another one rests."""
     # nobody else waits for this module to be read
@@ -224,6 +275,7 @@ def _side_by_side(taking: _Taking, asking: Asking[Value], threads: int) -> Itera
         it = asked.popleft()
         told, seconds = it.told()
         taking.took(it.piece, seconds)
+        telling.add(len(it.piece.lines))
         return asking.told(it.piece, told)
 
     def answers(pool: ThreadPoolExecutor) -> Iterator[Value]:
@@ -245,3 +297,4 @@ def _side_by_side(taking: _Taking, asking: Asking[Value], threads: int) -> Itera
                 it.give_up()
     if taking.error is not None:
         raise taking.error
+    telling.end()

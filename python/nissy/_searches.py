@@ -3,10 +3,10 @@ from __future__ import annotations
 
 import ctypes
 from itertools import chain, repeat
-from typing import Any, Dict, Iterable, Iterator, List, Optional, Tuple, Union
+from typing import Any, Dict, Iterable, Iterator, List, Optional, Tuple, Union, overload
 
 from . import _library, _rooms
-from ._given import Step, Text, bytes_of, number_of
+from ._given import Partial, Progress, Step, Text, bytes_of, number_of
 from ._library import CUT, DONE, FAULT, NOT_START, ROOM, SEARCH_ANSWER
 from ._lines import MOST_WORD, fault_of, fault_text, start_of
 from ._many import Asking, Piece, in_pieces, one_by_one
@@ -81,8 +81,19 @@ class Tables:
             raise Cut(count)
         return count
 
-    def solve_all(self, lines: Iterable[Text], limit: int = 20, slack: int = 0, most: Optional[int] = None, nodes: Optional[int] = None,
-                  partial: bool = False, threads: int = 1) -> Iterator[Union[Solutions, Fault, Cut]]:
+    @overload
+    def solve_all(self, lines: Iterable[Text], limit: int = 20, slack: int = 0, most: Optional[int] = None,
+                  nodes: Optional[int] = None, *, partial: Partial, threads: int = 1,
+                  progress: Optional[Progress] = None) -> Iterator[Union[Solutions, Fault]]: ...
+
+    @overload
+    def solve_all(self, lines: Iterable[Text], limit: int = 20, slack: int = 0, most: Optional[int] = None,
+                  nodes: Optional[int] = None, partial: bool = False, threads: int = 1,
+                  progress: Optional[Progress] = None) -> Iterator[Union[Solutions, Fault, Cut]]: ...
+
+    def solve_all(self, lines: Iterable[Text], limit: int = 20, slack: int = 0, most: Optional[int] = None,
+                  nodes: Optional[int] = None, partial: bool = False, threads: int = 1,
+                  progress: Optional[Progress] = None) -> Iterator[Union[Solutions, Fault, Cut]]:
         """The solutions of each line, as the function `solve_all` returns them."""
         numbers = _numbers(limit, slack, most, nodes)
 
@@ -93,10 +104,21 @@ class Tables:
                 fault.line = number
                 return fault.with_traceback(None)
 
-        return one_by_one(lines, ask, threads)
+        return one_by_one(lines, ask, threads, progress)
 
-    def count_all(self, lines: Iterable[Text], limit: int = 20, slack: int = 0, most: Optional[int] = None, nodes: Optional[int] = None,
-                  partial: bool = False, threads: int = 1) -> Iterator[Union[Count, Fault, Cut]]:
+    @overload
+    def count_all(self, lines: Iterable[Text], limit: int = 20, slack: int = 0, most: Optional[int] = None,
+                  nodes: Optional[int] = None, *, partial: Partial, threads: int = 1,
+                  progress: Optional[Progress] = None) -> Iterator[Union[Count, Fault]]: ...
+
+    @overload
+    def count_all(self, lines: Iterable[Text], limit: int = 20, slack: int = 0, most: Optional[int] = None,
+                  nodes: Optional[int] = None, partial: bool = False, threads: int = 1,
+                  progress: Optional[Progress] = None) -> Iterator[Union[Count, Fault, Cut]]: ...
+
+    def count_all(self, lines: Iterable[Text], limit: int = 20, slack: int = 0, most: Optional[int] = None,
+                  nodes: Optional[int] = None, partial: bool = False, threads: int = 1,
+                  progress: Optional[Progress] = None) -> Iterator[Union[Count, Fault, Cut]]:
         """How many solutions each line has, as the function `count_all` returns it."""
         numbers = _numbers(limit, slack, most, nodes)
 
@@ -107,7 +129,7 @@ class Tables:
             _rooms.put_back(room)
             return told
 
-        return in_pieces(lines, Asking(ask, lambda piece, told: self._counts(partial, piece, told)), threads)
+        return in_pieces(lines, Asking(ask, lambda piece, told: self._counts(partial, piece, told)), threads, progress)
 
     def _solve(self, numbers: _Numbers, partial: bool, data: bytes) -> Solutions:
         """Returns the solutions of a line, by numbers that were checked."""
@@ -254,18 +276,46 @@ def count(step: Step, line: Text, limit: int = 20, slack: int = 0, most: Optiona
     return _tables(step).count(line, limit, slack, most, nodes, partial)
 
 
-def solve_all(step: Step, lines: Iterable[Text], limit: int = 20, slack: int = 0, most: Optional[int] = None, nodes: Optional[int] = None,
-              partial: bool = False, threads: int = 1) -> Iterator[Union[Solutions, Fault, Cut]]:
+@overload
+def solve_all(step: Step, lines: Iterable[Text], limit: int = 20, slack: int = 0, most: Optional[int] = None,
+              nodes: Optional[int] = None, *, partial: Partial, threads: int = 1,
+              progress: Optional[Progress] = None) -> Iterator[Union[Solutions, Fault]]: ...
+
+
+@overload
+def solve_all(step: Step, lines: Iterable[Text], limit: int = 20, slack: int = 0, most: Optional[int] = None,
+              nodes: Optional[int] = None, partial: bool = False, threads: int = 1,
+              progress: Optional[Progress] = None) -> Iterator[Union[Solutions, Fault, Cut]]: ...
+
+
+def solve_all(step: Step, lines: Iterable[Text], limit: int = 20, slack: int = 0, most: Optional[int] = None,
+              nodes: Optional[int] = None, partial: bool = False, threads: int = 1,
+              progress: Optional[Progress] = None) -> Iterator[Union[Solutions, Fault, Cut]]:
     """The solutions of each line in turn, as `solve` returns them; of a line for which `solve` raises, what it raises, with the line's
     number, from 1, as `line` (`raising` raises it). A line is taken from the iterable when its answer is asked for. With `threads` so many
-    lines are asked side by side, and more are taken ahead; the answers come in the same order."""
-    return _tables(step).solve_all(lines, limit, slack, most, nodes, partial, threads)
+    lines are asked side by side, and more are taken ahead; the answers come in the same order. `progress` is called as by
+    `count_all`."""
+    return _tables(step).solve_all(lines, limit, slack, most, nodes, partial, threads, progress)
 
 
-def count_all(step: Step, lines: Iterable[Text], limit: int = 20, slack: int = 0, most: Optional[int] = None, nodes: Optional[int] = None,
-              partial: bool = False, threads: int = 1) -> Iterator[Union[Count, Fault, Cut]]:
+@overload
+def count_all(step: Step, lines: Iterable[Text], limit: int = 20, slack: int = 0, most: Optional[int] = None,
+              nodes: Optional[int] = None, *, partial: Partial, threads: int = 1,
+              progress: Optional[Progress] = None) -> Iterator[Union[Count, Fault]]: ...
+
+
+@overload
+def count_all(step: Step, lines: Iterable[Text], limit: int = 20, slack: int = 0, most: Optional[int] = None,
+              nodes: Optional[int] = None, partial: bool = False, threads: int = 1,
+              progress: Optional[Progress] = None) -> Iterator[Union[Count, Fault, Cut]]: ...
+
+
+def count_all(step: Step, lines: Iterable[Text], limit: int = 20, slack: int = 0, most: Optional[int] = None,
+              nodes: Optional[int] = None, partial: bool = False, threads: int = 1,
+              progress: Optional[Progress] = None) -> Iterator[Union[Count, Fault, Cut]]:
     """How many solutions each line has in turn, as `count` returns it; of a line for which `count` raises, what it raises, with the line's
     number, from 1, as `line` (`raising` raises it). Lines are taken from the iterable in pieces, the first of one line and later ones of up
     to 16,384, which the library counts in one call each. With `threads` so many pieces are counted side by side; the answers come in
-    the same order."""
-    return _tables(step).count_all(lines, limit, slack, most, nodes, partial, threads)
+    the same order. `progress` is called between pieces, in the thread that takes the answers, with how many lines are done, and
+    of how many, None until that is known; what it raises ends the call."""
+    return _tables(step).count_all(lines, limit, slack, most, nodes, partial, threads, progress)

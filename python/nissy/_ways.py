@@ -7,7 +7,7 @@ from heapq import heappush, heappushpop
 from typing import Callable, Dict, Iterable, Iterator, List, NamedTuple, Optional, Sequence, Tuple
 
 from ._facts import facts
-from ._given import Step
+from ._given import Progress, Step
 from ._lines import cleanup, invert, unniss
 from ._searches import MOST_TURNS, Tables, count_all, solve
 from ._twins import FACES
@@ -16,8 +16,6 @@ from ._values import Count, Cut, Solution, Solutions, raising
 NORMAL, INVERSE = SIDES = (0, 1)
 NEVER = 10_000
 """More moves than there can be in all."""
-Progress = Callable[[int, Optional[int]], object]
-"""Is told how many are done, and of how many, or None until that is known."""
 
 
 class Wanted(NamedTuple):
@@ -32,16 +30,21 @@ class Searches:
     """The searches of a call: how many positions they may look at together, any number if it is None, and who
     is told how far the call is."""
 
-    __slots__ = ("_looked", "_nodes", "_told", "_done", "_all")
+    __slots__ = ("_looked", "_nodes", "_told", "_done", "_all", "are_cut")
 
     def __init__(self, nodes: Optional[int], told: Optional[Progress]) -> None:
         self._nodes, self._told = nodes, told
         self._looked = self._done = 0
         self._all: Optional[int] = None
+        self.are_cut = False
 
-    def begin(self, count: int) -> None:
-        """Tells how many there are."""
-        self._all = count
+    def are_bounded(self) -> bool:
+        """Returns whether they may be cut."""
+        return self._nodes is not None
+
+    def begin_last(self, count: int) -> None:
+        """Tells how many there are, of which so many aren't done."""
+        self._all = self._done + count
         self.go_on(0)
 
     def go_on(self, count: int) -> None:
@@ -96,6 +99,7 @@ class Searches:
 
     def _cut(self, last: Count) -> Cut:
         """Returns the cut of them all, after the last one was cut."""
+        self.are_cut = True
         return Cut(Count(None, 0, self._looked + last.nodes, True))
 
 
@@ -186,24 +190,30 @@ def bounds_of(every: Sequence[Bounds]) -> Bounds:
     return Bounds(min(each.least for each in every), min(each.most for each in every))
 
 
-def saved_on(before: Cube, after: Cube, side: int, step: Step) -> int:
-    """Returns how many moves a reduction after an orientation can save at most on a side. If it merges with the
-    orientation alone, a twin of that or a shorter one has it without that, so this isn't looked at."""
-    return _most_saved(after.made[side], step) if before.made[side] else 0
+class Sought(NamedTuple):
+    """A line on which a reduction is looked for, how many moves are made before it, and
+    how many it can save at most."""
+
+    line: str
+    made: int
+    saved: int
+
+    def wanted(self, step: Step, most: int) -> Wanted:
+        """Returns what is wanted of a reduction, for no more moves in all than `most`."""
+        return Wanted(step, self.line, min(most - self.made + self.saved, MOST_TURNS))
+
+    def bounds(self, length: Optional[int]) -> Bounds:
+        """Returns the bounds of all moves with a reduction of this length."""
+        if length is None:
+            return Bounds(NEVER, NEVER)
+        return Bounds(self.made + length - self.saved, self.made + length)
 
 
-def wanted_on(before: Cube, after: Cube, side: int, step: Step, most: int) -> Wanted:
-    """Returns what is wanted of a reduction after an orientation on a side, for no more moves in all than `most`."""
-    left = most - after.count_made() + saved_on(before, after, side, step)
-    return Wanted(step, after.lines[side], min(left, MOST_TURNS))
-
-
-def bounds(before: Cube, after: Cube, side: int, step: Step, length: Optional[int]) -> Bounds:
-    """Returns the bounds of all moves with a reduction after an orientation on a side, by its length there."""
-    if length is None:
-        return Bounds(NEVER, NEVER)
-    most = after.count_made() + length
-    return Bounds(most - saved_on(before, after, side, step), most)
+def sought_on(before: Cube, after: Cube, side: int, step: Step) -> Sought:
+    """Returns on what a reduction is looked for after an orientation on a side. If it merges with the orientation
+    alone, a twin of that or a shorter one has it without that, so this isn't looked at."""
+    saved = _most_saved(after.made[side], step) if before.made[side] else 0
+    return Sought(after.lines[side], after.count_made(), saved)
 
 
 class LeastUntilNow:

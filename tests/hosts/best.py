@@ -1,6 +1,6 @@
 #!/usr/bin/env python3
-"""Drawn questions to `best`, by each host beside Python, whose rows counted.py counts; and that each is answered so by the least bound on nodes,
-and is cut by one less.
+"""Drawn questions to `best`, by each host beside Python, whose rows counted.py counts; that each is answered so by the least bound on nodes, and
+is cut by one less; and what is told of one that is cut.
 
     tests/hosts/best.py SEED COUNT HOST..
 
@@ -9,6 +9,7 @@ A host is one of hosts.py, with the library of NISSY_LIBRARY. The last line is `
 from __future__ import annotations
 
 import sys
+from operator import ge
 from typing import List
 
 from hosts import Host, Python, fault_of, hosts_of, told  # isort: skip
@@ -17,6 +18,7 @@ from questions import Drawing, Question, drawn
 from tally import Tally
 
 CUT = fault_of(0, 0, "cut")
+ALL = 2**64 - 1
 # the bound with which a search for the least one begins, and one that no question here needs
 FIRST_BOUND, MOST_BOUND = 100, 10**9
 
@@ -53,6 +55,33 @@ def bounds(tally: Tally, host: Host, python: Host, seed: int) -> None:
     tally.equal(f"the least bound is none in {host.name}", got[1::2], answers(python, questions))
 
 
+def places(some: List[str], whole: List[str]) -> List[int]:
+    """Where some rows are in the whole list, or one more than it has if one isn't there."""
+    return [whole.index(row) if row in whole else len(whole) for row in some]
+
+
+def cut_rows(tally: Tally, host: Host, python: Host, seed: int) -> None:
+    """What is told of a question that is cut: rows of the whole list, in its order, with more nodes no worse ones in any place, and all of the
+    first with the least bound. It is that of Python in C++, which searches alike."""
+    draw = Drawing(seed + 1)
+    scramble = draw.scramble()
+    questions = [Question("R U", "", 1), Question(scramble), Question(draw.scramble(), draw.both_sides(), 0, 200),
+                 Question(scramble, draw.orientation(scramble), 1, 3), Question("R F U", "", 1)]
+    by = host if host.name == "JavaScript" else python
+    for question, least in zip(questions, least_bounds(questions, by)):
+        whole = answers(python, [question._replace(most=ALL)])[0].splitlines()
+        asked = [question._replace(nodes=nodes, partial=1) for nodes in sorted({least * part // 8 for part in range(8)} | {least - 1})]
+        got = [it.splitlines() for it in answers(host, asked)]
+        tally.holds(f"{question}: each is cut in {host.name}", all(rows[-1:] == ["cut"] for rows in got))
+        at = [places(rows[:-1], whole) for rows in got]
+        tally.holds("its rows are those of the whole list, each once", all(it == sorted(set(it)) and it[-1:] < [len(whole)] for it in at))
+        tally.holds("more nodes have no worse ones", all(len(one) <= len(other) and all(map(ge, one, other)) for one, other in zip(at, at[1:])))
+        tally.holds("there are none at first, and some before the end", not at[0] and at[-1])
+        tally.equal("the least bound has all", answers(host, [question._replace(nodes=least, partial=1)])[0].splitlines(), whole[:question.most])
+        if by is python:
+            tally.equal("they are those of Python", [it.splitlines() for it in answers(python, asked)], got)
+
+
 def main() -> None:
     """All questions, by each host."""
     tally, python, (seed, count) = Tally(), Python(), map(int, sys.argv[1:3])
@@ -62,6 +91,7 @@ def main() -> None:
         for question, ours, theirs in zip(questions, wanted, answers(host, questions)):
             tally.equal(f"{question} in {host.name}", theirs, ours)
         bounds(tally, host, python, seed)
+        cut_rows(tally, host, python, seed)
         tally.equal(f"{host.name} ends, and has said no more", host.end(), 0)
     tally.holds("some have rows, some have none, and some are cut", sum(";" in it for it in wanted) > count / 2 and "" in wanted and CUT in wanted)
     tally.end()

@@ -133,12 +133,16 @@ template <typename Step> std::string part(const Step &it) {
 std::string continued(std::istream &asked) {
     std::string scramble, so_far, text;
     nissy::best_search which;
-    asked >> scramble >> so_far >> which.slack >> which.most >> which.nodes;
+    bool partial = false;
+    asked >> scramble >> so_far >> which.slack >> which.most >> which.nodes >> partial;
+    const exact first(scramble), other(so_far);
+    const nissy::best_found found = partial ? nissy::find_best(first.view(), other.view(), which)
+                                            : nissy::best_found{nissy::best(first.view(), other.view(), which), false};
     const auto said = [](const std::optional<int> &number) { return number ? std::to_string(*number) : "none"; };
-    for (const nissy::continuation &it : nissy::best(exact(scramble).view(), exact(so_far).view(), which))
+    for (const nissy::continuation &it : found.rows)
         text += std::to_string(it.total) + ";" + it.line + ";" + (it.eo ? part(*it.eo) : "none") + ";" + part(it.dr) + ";" +
                 said(it.dr.lengths.normal) + ";" + said(it.dr.lengths.inverse) + ";" + it.dr_case + "\n";
-    return text;
+    return found.is_cut ? text + "cut\n" : text;
 }
 
 std::string called(const std::string &call, std::istream &asked) {

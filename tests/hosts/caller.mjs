@@ -73,11 +73,12 @@ const CALLS = {
     return lines([await engine.scramble(...given), ...(await engine.scrambles(...given, Number(count)))]);
   },
   steps: async (engine) => lines(await engine.steps()),
-  best: async (engine, scramble, soFar, slack, most, nodes) => {
-    const rows = await engine.best(lineOf(scramble), { soFar: lineOf(soFar), slack: Number(slack), most: Number(most), nodes: numberOf(nodes) });
+  best: async (engine, scramble, soFar, slack, most, nodes, partial) => {
+    const wanted = { soFar: lineOf(soFar), slack: Number(slack), most: numberOf(most) ?? Infinity, nodes: numberOf(nodes) };
+    const rows = await engine.best(lineOf(scramble), { ...wanted, cut: partial === "1" ? "value" : "throw" });
     const told = ({ total, line, eo, dr, case: of }) =>
       [total, line, eo ? part(eo) : "none", part(dr), dr.lengths.normal ?? "none", dr.lengths.inverse ?? "none", of].join(";");
-    return lines(rows.map(told));
+    return lines([...rows.map(told), ...(rows.cut ? ["cut"] : [])]);
   },
 };
 

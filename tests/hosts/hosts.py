@@ -2,7 +2,7 @@
 
 A call is a name and what is given to it, bytes for a text, else a number or a word. A caller reads it from a line, with blanks between, texts as
 hexadecimal digits behind an `=`, and answers a line: its text so; before that of a fault stand which of two lines has it, or 0, and its column,
-or 0. A search that is cut answers as a fault of that text.
+or 0. A search that is cut answers as a fault of that text; what `best` found until then, if that is wanted, has it as a last line.
 """
 from __future__ import annotations
 
@@ -193,8 +193,9 @@ class Python(Host):
         if call == "steps":
             return lines(nissy.steps())
         if call == "best":
-            scramble, so_far, slack, most, nodes = given
-            return lines(map(row, nissy.best(self.line(scramble), self.line(so_far), slack=slack, most=most, nodes=nodes)))
+            scramble, so_far, slack, most, nodes, partial = given
+            found = nissy.best(self.line(scramble), self.line(so_far), slack=slack, most=most, nodes=nodes, partial=partial == 1)
+            return lines([*map(row, found), *(["cut"] if found.cut else [])])
         written: Any = {"facts": facts, "tokens": tokens, "form_places": form_places, "check": checked}.get(call, str)
         return str(written(getattr(nissy, call)(*map(self.line, given))))
 

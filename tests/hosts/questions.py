@@ -19,6 +19,8 @@ class Question(NamedTuple):
     slack: int = 0
     most: int = 20
     nodes: int = 2**64 - 1
+    # 1 if what was found until a cut is wanted
+    partial: int = 0
 
     def as_line(self) -> str:
         """It as the callers in other languages read it."""

@@ -1,11 +1,10 @@
 #!/usr/bin/env python3
 """Reads declarations by cffi, and calls the library by them.
 
-    tests/library/by_cffi.py DECLARATIONS
+    tests/library/by_cffi.py DECLARATIONS LIBRARY
 
-The library is that of NISSY_LIBRARY. The last line is `N passed, M failed`, and the status is 1 where M isn't 0.
+LIBRARY has the calls of nissy_forms.h, and is linked with that of the others. The last line is `N passed, M failed`, and the status is 1 where M isn't 0.
 """
-import os
 import sys
 from pathlib import Path
 
@@ -19,7 +18,7 @@ def main() -> None:
     """A text, a struct and a search."""
     tally, ffi = Tally(), cffi.FFI()
     ffi.cdef(Path(sys.argv[1]).read_text(encoding="utf-8"))
-    nissy, out = ffi.dlopen(os.environ["NISSY_LIBRARY"]), ffi.new("uint8_t[]", 2048)
+    nissy, out = ffi.dlopen(sys.argv[2]), ffi.new("uint8_t[]", 2048)
     answer = nissy.nissy_invert(b"R U' F2", 7, out, len(out))
     tally.equal("an inverse", (answer.status, bytes(out[0:answer.length])), (nissy.NISSY_DONE, b"F2 U R'"))
     seen = nissy.nissy_facts(b"R U2 R", 6)
@@ -30,6 +29,10 @@ def main() -> None:
     tally.equal("solutions", (found.solutions, found.more, found.nodes, bytes(out[0:found.length])), (2, 0, 20, b"F (1)\nF' (1)\n"))
     fault = nissy.nissy_count(tables, b"R q", 3, 20, 0, 1, 1)
     tally.equal("a fault", (fault.status, fault.fault, fault.column), (nissy.NISSY_FAULT, nissy.NISSY_NOT_A_MOVE, 3))
+    line = b"R M2' r"
+    form = nissy.nissy_next_form_place(line, len(line), 0)
+    tally.equal("a form", (form.column, form.last, form.forms), (3, 5, nissy.NISSY_SLICES | nissy.NISSY_HALF_PRIME))
+    tally.equal("the next one", nissy.nissy_next_form_place(line, len(line), form.last).column, 7)
     tally.end()
 
 

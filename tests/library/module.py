@@ -60,7 +60,7 @@ def names(tally: Tally) -> None:
     wanted = {"invert", "unniss", "cleanup", "facelets", "run", "Answer", "LineFault", "MOST_INPUT", "DONE", "FAULT", "USAGE", "STOPPED",
               "solve", "solve_all", "near", "count", "count_all", "scramble", "scrambles", "steps", "Tables", "Solution", "Count",
               "StartFault", "Fault", "Cut", "Solutions", "raising", "facts", "facts_all", "check", "Facts", "Check", "Case", "Pieces",
-              "tokens", "Token", "solutions", "best", "Continuation", "Orientation", "Reduction", "Lengths", "form_places", "FormPlace",
+              "tokens", "Token", "solutions", "best", "Continuation", "Continuations", "Orientation", "Reduction", "Lengths", "form_places", "FormPlace",
               "start_of"}
     tally.equal("what an import of all brings", set(brought), wanted)
     public = [getattr(nissy, name) for name in nissy.__all__ if callable(getattr(nissy, name))]
@@ -111,7 +111,8 @@ def copies(tally: Tally) -> None:
     fault.__notes__, start.__notes__ = ["mine"], ["mine too"]
     row, tables = nissy.best("R' U' F D2 L2 F R2", "R (U')")[0], nissy.Tables("eofb")
     values: List[Any] = [nissy.solve("eofb", "F B"), nissy.solve("eofb", "F B")[0], nissy.count("eofb", "R U F"), nissy.facts("R"),
-                         nissy.facts("R").bad_edges["rl"], nissy.facts("R").case["ud"], nissy.check("R", "M"), row, row.eo, row.dr]
+                         nissy.facts("R").bad_edges["rl"], nissy.facts("R").case["ud"], nissy.check("R", "M"), row, row.eo, row.dr,
+                         nissy.best("U R F", nodes=50, partial=True)]
     for again in COPIES:
         for value in values:
             made = again(value)
@@ -202,6 +203,45 @@ def many(tally: Tally) -> None:
     tally.holds("no thread is left", not any(it.name.startswith("nissy") for it in threading.enumerate()))
 
 
+def progress(tally: Tally) -> None:
+    """How many lines are done is told in the thread that asks, more and more often than once, and of how many where that is known; what is
+    raised there ends the call."""
+    lines: List[Any] = ["F", "R U F", "R Q", ""] * 5000
+    calls: List[Any] = [lambda it, **given: nissy.count_all("eofb", it, **given), lambda it, **given: nissy.solve_all("eofb", it, **given),
+                        lambda it, **given: nissy.Tables("eofb").count_all(it, **given), nissy.facts_all]
+    told: List[Any] = []
+
+    def tell(*given: object) -> None:
+        told.append((*given, threading.get_ident()))
+
+    def stop(done: int, _: object) -> None:
+        if done > 5:
+            raise InterruptedError
+
+    for call, threads in itertools.product(calls, (1, 2, 5)):
+        wanted = list(map(plain, call(lines)))
+        for given, count in ((lines, len(lines)), (iter(lines), None)):
+            told.clear()
+            tally.holds("the answers are the same", list(map(plain, call(given, threads=threads, progress=tell))) == wanted)
+            done, of, by = zip(*told)
+            tally.equal("all are done in the end", told[-1][:2], (len(lines), len(lines)))
+            tally.equal("of how many, and by whom", (set(of[:-1]), set(by)), ({count}, {threading.get_ident()}))
+            tally.holds("it never goes back, and is told in pieces", list(done) == sorted(done) and 0 < done[0] and 3 < len(done) < len(lines) // 4)
+        told.clear()
+        answers = call(itertools.repeat("F"), threads=threads, progress=tell)
+        tally.equal("nothing is told before it is asked for", told, [])
+        next(answers)
+        answers.close()
+        tally.equal("the first", told[0][:2], (1, None))
+        told.clear()
+        tally.equal("of nothing", (list(call([], threads=threads, progress=tell)), [it[:2] for it in told]), ([], [(0, 0)]))
+        answers = call(lines, threads=threads, progress=stop)
+        tally.holds("what it raises", raised(InterruptedError, lambda: list(answers)))
+        tally.holds("it ends there", raised(StopIteration, lambda: next(answers)))
+        tally.holds("it is a function", raised(TypeError, lambda: call(lines, threads=threads, progress=3)))
+    tally.holds("no thread is left", not any(it.name.startswith("nissy") for it in threading.enumerate()))
+
+
 def rooms(tally: Tally) -> None:
     """Room that is given, and room that grows."""
     small = nissy.Answer(3, b"eofb\neo", b"nissy: cannot write\n", True)
@@ -251,7 +291,7 @@ def large_output(tally: Tally) -> None:
 def main() -> None:
     """All of it."""
     tally = Tally()
-    for part in (runs, names, classes, liars, copies, iterables, many, rooms, *([large_output] if "large" in sys.argv[1:] else [])):
+    for part in (runs, names, classes, liars, copies, iterables, many, progress, rooms, *([large_output] if "large" in sys.argv[1:] else [])):
         part(tally)
     tally.end()
 

@@ -270,6 +270,13 @@ void searches_are_cut() {
     nissy::best_search few;
     few.nodes = 100;
     throw_each<nissy::cut>("U R F", {[&] { nissy::best("U R F", "", few); }});
+    const nissy::best_found some = nissy::find_best("U R F", "", few), all = nissy::find_best("U R F");
+    holds(some.is_cut && some.rows.size() < all.rows.size(), "what is found until a cut", "U R F");
+    holds(!all.is_cut && all.rows.size() == nissy::best("U R F").size() && all.rows.front().total == 2, "all that is found", "U R F");
+    // a cut of the caller's own ends the call
+    few.progress = [&](std::size_t, std::size_t) { tables.solve("F B", {20, 0, NISSY_ALL, 0}); };
+    throw_each<nissy::cut>("U R F", {[&] { nissy::find_best("U R F", "", few); }});
+    throw_each<nissy::fault>("U R q", {[&] { nissy::find_best("U R q", "", few); }});
 }
 
 // The progress goes from none to all, and what it throws ends the call.

@@ -12,7 +12,7 @@ import itertools
 import sys
 import time
 from pathlib import Path
-from typing import Any, Callable, Dict, Iterable, List, Tuple, Type
+from typing import Any, Callable, Dict, Iterable, Iterator, List, Tuple, Type, Union
 
 TOP = Path(__file__).resolve().parents[2]
 sys.path[:0] = [str(TOP / "python"), str(TOP / "tests")]
@@ -269,6 +269,13 @@ def bounds(tally: Tally) -> None:
     tally.equal("in part", [it.cut for it in untyped.count_all("eofb", ["R U F", ""], nodes=15, partial=True)], [True, False])
     tally.equal("solutions of many", [type(it) for it in nissy.solve_all("eofb", ["R U F", "", "R Q"], nodes=15)],
                 [nissy.Cut, nissy.Solutions, nissy.LineFault])
+    # by their types these have no cuts, and the last ones may have
+    counts: Iterator[Union[nissy.Count, nissy.Fault]] = nissy.count_all("eofb", ["R U F"], nodes=15, partial=True)
+    lists: Iterator[Union[nissy.Solutions, nissy.Fault]] = nissy.Tables("eofb").solve_all(["R U F"], nodes=15, partial=True)
+    tally.equal("no cuts", [type(next(counts)), type(next(lists))], [nissy.Count, nissy.Solutions])
+    counts = nissy.count_all("eofb", ["R U F"], nodes=15)  # type: ignore[assignment]
+    lists = nissy.Tables("eofb").solve_all(["R U F"], nodes=15)  # type: ignore[assignment]
+    tally.equal("cuts", [type(next(counts)), type(next(lists))], [nissy.Cut, nissy.Cut])
     first = nissy.count("eofb", "R U F", slack=2, most=1)
     tally.equal("the first one alone", (first.length, first.solutions, first.cut), (1, 1, False))
 
@@ -301,10 +308,42 @@ def best(tally: Tally) -> None:
         tally.holds(f"{name} {value}", raised(kind, lambda: untyped.best("R", **{name: value})))
 
 
+def cut_best(tally: Tally) -> None:
+    """What a cut `best` found is told as such. What it is, tests/hosts tries."""
+    some, most, whole = (nissy.best("U R F", nodes=nodes, partial=True) for nodes in (100, MOST, None))
+    tally.equal("what is told of each", [(it.cut, type(it)) for it in (some, most, whole)], [(it, nissy.Continuations) for it in (True, False, False)])
+    tally.holds("without a cut there are all", most == whole == nissy.best("U R F") and len(some) < len(whole))
+
+    def own(*_: object) -> None:
+        nissy.count("eofb", "R U F", nodes=0)
+
+    tally.equal("a cut of the progress", raised(nissy.Cut, lambda: nissy.best("U R F", nodes=100, partial=True, progress=own)).count.nodes, 0)
+    tally.holds("a fault is no cut", raised(nissy.LineFault, lambda: nissy.best("U R Q", nodes=0, partial=True)))
+
+
+def saved(tally: Tally) -> None:
+    """Of a line on which `best` looks for a reduction it is worked out once how many moves that may save."""
+    ways, calls = untyped._ways, []
+    most_saved, least_lengths = ways._most_saved, ways.Searches.least_lengths
+
+    def noted(made: str, step: str) -> int:
+        calls.append(1)
+        return int(most_saved(made, step))
+
+    def asked(self: Any, wanted: Any) -> Any:
+        calls.extend([-1] * len(wanted))
+        return least_lengths(self, wanted)
+
+    ways._most_saved, ways.Searches.least_lengths = noted, asked
+    rows = nissy.best("R' U' F D2 L2 F R2 U2", "R (U')")
+    ways._most_saved, ways.Searches.least_lengths = most_saved, least_lengths
+    tally.equal("worked out, but for each line once", (sum(calls), len(rows), 1 in calls), (0, 20, True))
+
+
 def main() -> None:
     """All of it."""
     tally = Tally()
-    for part in (searches, lines, without_lines, faults, starts, wrong_types, numbers, bounds, best):
+    for part in (searches, lines, without_lines, faults, starts, wrong_types, numbers, bounds, best, cut_best, saved):
         part(tally)
     tally.end()
 

@@ -38,6 +38,13 @@ function tryProgress(scramble) {
   same("it begins with none", told[0][0], 0);
   same("it never goes back", told.map(([done]) => done), told.map(([done]) => done).sort((one, other) => one - other));
   same("it ends with all", told[told.length - 1][0] > 0 && told[told.length - 1][0] === told[told.length - 1][1], true);
+  // once before each search, on two sides and three axes
+  same("it is told while the first orientations are found", told.slice(0, 6), Array(6).fill([0, null]));
+  const known = told.findIndex(([done]) => done > 0);
+  same("and while the longer ones are", told.slice(known).filter(([, all]) => all === null).length >= 6, true);
+  const ofReductions = [];
+  nissy.best("R U", { onProgress: (done, all) => ofReductions.push([done, all]) });
+  same("and before each search for reductions", ofReductions.slice(0, 2), [[0, null], [0, null]]);
 }
 
 /** What a call throws, or null. */
@@ -50,6 +57,13 @@ async function tryCuts() {
   same("a cut", [cut instanceof SearchCut, cut.found, cut.line, cut.count.length, cut.count.nodes <= 30], [true, null, null, null, true]);
   same("a cut by a worker", [other instanceof SearchCut, other.message], [true, cut.message]);
   for (const nodes of [10_000, Number.MAX_SAFE_INTEGER, Infinity, undefined]) same(`${nodes} nodes`, await worker.best("U R F", { nodes }), rows);
+  const some = [nissy.best("U R F", { nodes: 100, cut: "value" }), await worker.best("U R F", { nodes: 100, cut: "value" })];
+  same("what is found until a cut, by a worker too", some[1], some[0]);
+  same("it is told so", some.map((it) => [it.cut, Array.isArray(it), it.length < rows.length]), [[true, true, true], [true, true, true]]);
+  same("all that is found isn't", [rows.cut, nissy.best("U R F", { nodes: 10_000, cut: "value" }).cut], [undefined, undefined]);
+  for (const wrong of ["values", "", "Throw"]) same(`told by ${wrong}`, (await thrown(() => nissy.best("R", { cut: wrong })))[0], "RangeError");
+  const own = () => nissy.count("eofb", "R U F", { nodes: 0 });
+  same("a cut of the caller's own", (await caught(() => nissy.best("U R F", { nodes: 100, cut: "value", onProgress: own }))).count.nodes, 0);
   const bytes = (text) => new TextEncoder().encode(text);
   same("bytes are read as text", nissy.best(bytes("U R F"), { soFar: bytes("R (U)") }), nissy.best("U R F", { soFar: "R (U)" }));
   worker.end();
@@ -64,6 +78,12 @@ async function tryPoolBounds() {
   same("rows by a pool", await pool.best("U R F", { nodes: least }), rows);
   const { count, found } = await caught(() => pool.best("U R F", { nodes: least - 1 }));
   same("all were looked at together", [count, found], [{ length: null, solutions: 0, nodes: least }, null]);
+  const some = await pool.best("U R F", { nodes: least - 1, cut: "value" });
+  // no axis alone was cut, but all together had looked at more
+  same("what all found", [some.cut, some], [true, Object.assign(rows.slice(), { cut: true })]);
+  const few = await pool.best("U R F", { nodes: 60, cut: "value" });
+  const places = few.map((row) => rows.findIndex((each) => JSON.stringify(each) === JSON.stringify(row)));
+  same("what each found, as one list", [few.cut, places.includes(-1), places], [true, false, places.slice().sort((one, other) => one - other)]);
   same("a fault before a cut", (await caught(() => pool.best("R", { soFar: "q", nodes: 0 }))).line, 2);
   pool.end();
 }

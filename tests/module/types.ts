@@ -1,6 +1,6 @@
 // A caller in TypeScript, who is told of what is wrong: tests/module.sh has tsc read this beside the types of the module.
 import {
-  isStep, loadNissy, Nissy, NissyFault, NissyPool, NissyWorker, plainLine, readFmc, SearchCut, startOf, stickersOf, VERSION, type BestRow,
+  isStep, loadNissy, Nissy, NissyFault, NissyPool, NissyWorker, plainLine, readFmc, SearchCut, startOf, stickersOf, VERSION, type Best, type BestRow,
   type Check, type Count, type EdgePlace, type Facts, type Fmc, type Form, type FormPlace, type PlainLine, type Solution, type Solutions,
   type Step, type Token,
 } from "./node.js";
@@ -77,7 +77,7 @@ export async function followed(nissy: Nissy, worker: NissyWorker, bytes: Uint8Ar
   // a function written in the call has the types of what it is told, also beside other options
   await pools[0].countAll("eofb", ["R"], { signal, onProgress: (done, all) => onProgress(done, all) });
   await pools[0].solveAll("eofb", ["R"], { faults: "value", onProgress: (done, all) => onProgress(done, all) });
-  const best: BestRow[] = await pools[1].best("R U F", { slack: 1 });
+  const best: Best = await pools[1].best("R U F", { slack: 1, nodes: 1_000, cut: "value" });
   for (const pool of pools) pool.end();
   return [rows, total, eo?.moves, lengths, tokens.map(({ layers }) => layers[0]), counts, facts, solutions, best, pools[0].size].join(" ");
 }
@@ -130,6 +130,8 @@ export function wrong(nissy: Nissy, worker: NissyWorker): void {
   startOf("dr-eofb").trim();
   // @ts-expect-error a cut is told in one of two ways
   nissy.solve("eofb", "R", { cut: "values" });
+  // @ts-expect-error also that of the best
+  nissy.best("R", { cut: true });
   // @ts-expect-error faults in the place of counts are told by the type
   nissy.countAll("eofb", ["R"], { faults: "value" })[0].nodes.toFixed();
   // @ts-expect-error a limit is a number

@@ -182,19 +182,21 @@ export class Bound {
 
 /**
  * How many orientations, twins as one, are tried before rows are told: few at first, so that some are there soon, and
- * never very many.
+ * never very many. If the engine is asked of many at once, more are.
  */
-const BATCHES = [100, 500];
+const BATCHES = { oneByOne: [8, 16, 32, 64, 128, 256], atOnce: [100, 500] };
 
 /**
  * A list in batches.
  * @template Item
  * @param {Item[]} list
+ * @param {boolean} isAtOnce whether the engine is asked of many at once
  * @returns {Generator<Item[]>}
  */
-export function* batchesOf(list) {
+export function* batchesOf(list, isAtOnce) {
+  const sizes = BATCHES[isAtOnce ? "atOnce" : "oneByOne"];
   for (let from = 0, size = 0; from < list.length; size += 1) {
-    const end = from + BATCHES[Math.min(size, BATCHES.length - 1)];
+    const end = from + sizes[Math.min(size, sizes.length - 1)];
     yield list.slice(from, end);
     from = end;
   }

@@ -25,13 +25,15 @@ import { Lengths, afterEach, totalWith, wayTo } from "./ways.js";
  * none if it isn't given; whether all of them are wanted, twins and those that go on after it was reached too; and how
  * many rows are kept, besides those as good as the last of them: if some are there already, how many of each number of
  * moves. `atOnce`: whether the engine is asked of many orientations at once, which takes less time; without it, it
- * looks at no more positions than are needed.
- * @typedef {{slack: number, from?: number, isAll: boolean, most: number, totals?: number[], atOnce?: boolean}} Wish
+ * looks at no more positions than are needed. `isBounded`: whether it may be cut, so that shorter ones are tried before
+ * longer ones are found.
+ * @typedef {{slack: number, from?: number, isAll: boolean, most: number, totals?: number[], atOnce?: boolean,
+ * isBounded?: boolean}} Wish
  */
 
 /**
- * What is looked for together: from how much longer on, and up to that.
- * @typedef {{from: number, slack: number, isAll: boolean}} Stage
+ * What is looked for together: from how much longer on, and up to that; and how many were tried before it.
+ * @typedef {{from: number, slack: number, isAll: boolean, done: number}} Stage
  */
 
 /**
@@ -44,20 +46,31 @@ import { Lengths, afterEach, totalWith, wayTo } from "./ways.js";
 const MOST_SOLUTIONS = 1_000_000;
 
 /**
- * The solutions of a step on each side.
+ * What is told while nothing new is there.
+ * @param {number} done
+ * @returns {Found}
+ */
+const nothingNew = (done) => ({ done, all: null, rows: [], isCut: false });
+
+/**
+ * The solutions of a step on each side. It tells before each search, which may be long.
  * @param {Nissy} nissy
  * @param {Step} step
  * @param {Position} position
  * @param {{slack: number, isAll: boolean}} wish
- * @returns {Sided[][]}
+ * @param {number} done
+ * @returns {Generator<Found, Sided[][]>}
  */
-function onSides(nissy, step, { lines }, { slack, isAll }) {
-  return SIDES.map((side, sideAt) => {
+function* onSides(nissy, step, { lines }, { slack, isAll }, done) {
+  const sides = [];
+  for (const [sideAt, side] of SIDES.entries()) {
+    yield nothingNew(done);
     const solutions = nissy.solve(step, lines[side], { slack, most: MOST_SOLUTIONS });
     const earlierOf = isAll ? () => null : earlierAmong(solutions);
-    return solutions.map((each, at) => (
-      { side, moves: each.moves, length: each.length, place: [sideAt, at], earlier: earlierOf(each) }));
-  });
+    sides.push(solutions.map((each, at) => (
+      { side, moves: each.moves, length: each.length, place: [sideAt, at], earlier: earlierOf(each) })));
+  }
+  return sides;
 }
 
 /**
@@ -66,10 +79,11 @@ function onSides(nissy, step, { lines }, { slack, isAll }) {
  * @param {StepOnAxis} orientation
  * @param {Position} position
  * @param {Stage} stage
- * @returns {Sided[]}
+ * @returns {Generator<Found, Sided[]>}
  */
-function orientationsOf(nissy, { name }, position, stage) {
-  const sides = onSides(nissy, name, position, stage).map((list) => {
+function* orientationsOf(nissy, { name }, position, stage) {
+  const solutions = yield* onSides(nissy, name, position, stage, stage.done);
+  const sides = solutions.map((list) => {
     const least = (list[0]?.length ?? 0) + stage.from;
     // no moves are the same on both sides
     return list.filter(({ side, moves, length }) => length >= least && (side === "normal" || moves !== ""));
@@ -160,13 +174,16 @@ function rowOf(lengths, { group: { orientation: { name }, key }, twins, reductio
  * @param {Position} position
  * @param {readonly StepOnAxis[]} orientations
  * @param {Stage} stage
+ * @returns {Generator<Found, Untried[]>}
  */
-const groupsOf = (nissy, position, orientations, stage) => orientations
-  .flatMap((orientation) => {
-    const list = orientationsOf(nissy, orientation, position, stage);
-    return twinsOf(list, orientation.name, stage.isAll).map((each) => ({ ...each, orientation }));
-  })
-  .sort((one, other) => one.group[0].length - other.group[0].length);
+function* groupsOf(nissy, position, orientations, stage) {
+  const groups = [];
+  for (const orientation of orientations) {
+    const list = yield* orientationsOf(nissy, orientation, position, stage);
+    groups.push(twinsOf(list, orientation.name, stage.isAll).map((each) => ({ ...each, orientation })));
+  }
+  return groups.flat().sort((one, other) => one.group[0].length - other.group[0].length);
+}
 
 /** @param {{group: Sided[]}[]} groups how many orientations are in these */
 const sizeOf = (groups) => groups.reduce((sum, { group }) => sum + group.length, 0);
@@ -218,12 +235,21 @@ function rowsOfBatch(nissy, position, batch, { bound, atOnce }) {
 function* groupsFound(nissy, position, groups, going, isLast) {
   const all = isLast ? going.done + sizeOf(groups) : null;
   yield { done: going.done, all, rows: [], isCut: false };
-  for (const batch of batchesOf(groups)) {
+  for (const batch of batchesOf(groups, going.atOnce)) {
     const found = rowsOfBatch(nissy, position, batch, going);
     going.bound.add(found.rows);
     going.done += sizeOf(batch);
     yield { done: going.done, all, ...found };
   }
+}
+
+/**
+ * By how much longer those are, at least and at most, that are found together: the shortest, and then the others.
+ * @param {Wish} wish
+ */
+function stagesOf({ slack, from = 0, isBounded = false }) {
+  if (from > 0 || slack === 0) return [[from, slack]];
+  return isBounded ? Array.from({ length: slack + 1 }, (_, longer) => [longer, longer]) : [[0, 0], [1, slack]];
 }
 
 /**
@@ -236,11 +262,11 @@ function* groupsFound(nissy, position, groups, going, isLast) {
  * @returns {Generator<Found>}
  */
 function* orientationsFound(nissy, position, orientations, wish) {
-  const { slack: wanted, from: least = 0, isAll, most, totals, atOnce = false } = wish;
+  const { isAll, most, totals, atOnce = false } = wish;
   const going = { bound: new Bound(most, totals), done: 0, atOnce };
-  for (const [from, slack] of least > 0 || wanted === 0 ? [[least, wanted]] : [[0, 0], [1, wanted]]) {
-    const groups = groupsOf(nissy, position, orientations, { from, slack, isAll });
-    yield* groupsFound(nissy, position, groups, going, slack === wanted);
+  for (const [from, slack] of stagesOf(wish)) {
+    const groups = yield* groupsOf(nissy, position, orientations, { from, slack, isAll, done: going.done });
+    yield* groupsFound(nissy, position, groups, going, slack === wish.slack);
   }
 }
 
@@ -271,7 +297,7 @@ function rowOfReduction(nissy, position, { reduction: { name, axis, needs }, kno
 }
 
 /**
- * Finds the reductions after orientations that hold, on both axes and sides.
+ * Finds the reductions after orientations that hold, on both axes and sides, one step after another.
  * @param {Nissy} nissy
  * @param {Position} position
  * @param {readonly StepOnAxis[]} orientations
@@ -280,13 +306,16 @@ function rowOfReduction(nissy, position, { reduction: { name, axis, needs }, kno
  */
 function* reductionsFound(nissy, position, orientations, wish) {
   const facts = nissy.facts(position.lines.normal);
-  const rows = orientations.flatMap(({ name }) => reductionsAfter(name)).flatMap((reduction) => {
-    const solutions = onSides(nissy, reduction.name, position, wish).flat().filter(({ earlier }) => earlier === null);
-    const groups = twinsOf(solutions, reduction.name, wish.isAll);
+  let done = 0;
+  for (const reduction of orientations.flatMap(({ name }) => reductionsAfter(name))) {
+    const sides = yield* onSides(nissy, reduction.name, position, wish, done);
+    const groups = twinsOf(sides.flat().filter(({ earlier }) => earlier === null), reduction.name, wish.isAll);
     const reached = { reduction, known: caseOf(facts, reduction) };
-    return groups.map(({ group }) => rowOfReduction(nissy, position, reached, group));
-  });
-  yield { done: rows.length, all: rows.length, rows, isCut: false };
+    const rows = groups.map(({ group }) => rowOfReduction(nissy, position, reached, group));
+    done += rows.length;
+    yield { ...nothingNew(done), rows };
+  }
+  yield { ...nothingNew(done), all: done };
 }
 
 /**

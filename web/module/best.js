@@ -44,6 +44,12 @@ import { afterPart, leastOf, totalWith } from "./ways.js";
  * @property {string} case of the reduction, such as `4c4e`
  */
 
+/**
+ * The best, in their order. If the searches ended at their bound, `cut` is there: then these are the best of what was
+ * tried until then. Each is a row of the whole list, in its order, and others may be missing, better ones too.
+ * @typedef {BestRow[] & {cut?: true}} Best
+ */
+
 /** @typedef {Row & {shown: BestRow}} RowWithMoves a row of the search, and what callers see of it */
 
 /**
@@ -120,84 +126,129 @@ export function firstOf(nissy, position, step, side, total) {
   return first;
 }
 
-/**
- * What callers see of a row: with the moves of its reduction.
- * @param {Nissy} nissy
- * @param {Start} start
- * @param {Row} row
- * @returns {BestRow}
- */
-function shownOf(nissy, { position, named }, { total, step, part, length, next, others, case: name }) {
-  const { side } = part;
-  const found = { step, side, moves: named[side](part.moves), length, twins: others.map(named[side]) };
-  if (next === null) {
-    const [normal, inverse] = SIDES.map((each) => leastOf(nissy, step, position.lines[each], Infinity));
-    return { total, line: bracketed([found]), eo: null, dr: { ...found, lengths: { normal, inverse } }, case: name };
+/** Rows with what callers see of them, which is asked for once. */
+class RowsWithMoves {
+  #nissy;
+  #start;
+  /** @type {Map<Row, RowWithMoves>} */ #known = new Map();
+  /** @type {Map<Step, OnSides<number | null>>} */ #lengths = new Map();
+
+  /** @param {Nissy} nissy @param {Start} start */
+  constructor(nissy, start) {
+    this.#nissy = nissy;
+    this.#start = start;
   }
-  const first = firstOf(nissy, afterPart(nissy, position, part), next.step, next.side, total);
-  const moves = named[next.side](first.moves);
-  const dr = { step: next.step, side: next.side, moves, length: first.length, twins: [], lengths: next.lengths };
-  return { total, line: bracketed([found, dr].filter((each) => each.moves !== "")), eo: found, dr, case: name };
+
+  /** @param {Row[]} rows @returns {RowWithMoves[]} */
+  of(rows) {
+    return rows.map((row) => {
+      const known = this.#known.get(row) ?? { ...row, shown: this.#shownOf(row) };
+      this.#known.set(row, known);
+      return known;
+    });
+  }
+
+  /** @param {Row} row @returns {BestRow} */
+  #shownOf({ total, step, part, length, next, others, case: name }) {
+    const { position, named } = this.#start;
+    const { side } = part;
+    const found = { step, side, moves: named[side](part.moves), length, twins: others.map(named[side]) };
+    if (next === null) {
+      const alone = { ...found, lengths: this.#lengthsOf(step) };
+      return { total, line: bracketed([found]), eo: null, dr: alone, case: name };
+    }
+    const first = firstOf(this.#nissy, afterPart(this.#nissy, position, part), next.step, next.side, total);
+    const moves = named[next.side](first.moves);
+    const dr = { step: next.step, side: next.side, moves, length: first.length, twins: [], lengths: next.lengths };
+    return { total, line: bracketed([found, dr].filter((each) => each.moves !== "")), eo: found, dr, case: name };
+  }
+
+  /** @param {Step} step @returns the least lengths of a reduction */
+  #lengthsOf(step) {
+    const known = this.#lengths.get(step);
+    if (known) return known;
+    const { lines } = this.#start.position;
+    const [normal, inverse] = SIDES.map((side) => leastOf(this.#nissy, step, lines[side], Infinity));
+    this.#lengths.set(step, { normal, inverse });
+    return { normal, inverse };
+  }
 }
 
+/** @param {import("./bytes.js").Text} text that was read */
+const stringIn = (text) => (typeof text === "string" ? text : textIn(text));
+
+/** @typedef {{progress: BestProgress, rows: RowWithMoves[]}} Found how far a search is, and the best that it found */
+
 /**
+ * Finds the best: the last rows are all of them. Those before it are known once the search is cut.
  * @param {Nissy} nissy
  * @param {BestRequest} request
- * @param {string} soFar
- * @param {TellProgress} tell
- * @returns {RowWithMoves[]}
+ * @returns {Generator<Found>}
  */
-function rowsAfter(nissy, { scramble, slack, most, axes }, soFar, tell) {
-  const start = startAfter(nissy, typeof scramble === "string" ? scramble : textIn(scramble), soFar);
+function* foundOf(nissy, { scramble, soFar, slack, most, nodes, axes }) {
+  nissy.check(scramble, soFar);
+  const start = startAfter(nissy, stringIn(scramble), stringIn(soFar));
   const { holds } = nissy.facts(start.position.lines.normal);
-  if (holds.some((step) => step.startsWith("dr"))) return [];
+  if (holds.some((step) => step.startsWith("dr"))) return;
   const held = ORIENTATIONS.filter(({ name }) => holds.includes(name));
   const asked = (held.length > 0 ? held : ORIENTATIONS).map(({ name }) => name).filter((name) => axes.includes(name));
   /** @type {BestRows<Row>} */
   const best = new BestRows(most);
-  const wish = { slack, isAll: false, most };
+  const withMoves = new RowsWithMoves(nissy, start);
+  /** @type {BestProgress} */
+  let progress = { done: 0, all: null };
+  const wish = { slack, isAll: false, most, isBounded: nodes !== Infinity };
   for (const { done, all, rows: added } of continuations(nissy, start.position, holds, asked, wish)) {
     best.add(added);
-    tell({ done, all });
+    progress = { done, all };
+    // without a bound none sees them before the end
+    yield { progress, rows: nodes === Infinity ? [] : withMoves.of(best.rows) };
   }
-  return best.rows.map((row) => ({ ...row, shown: shownOf(nissy, start, row) }));
+  yield { progress, rows: withMoves.of(best.rows) };
 }
 
-/**
- * The best continuations on the axes that are asked for.
- * @param {Nissy} nissy
- * @param {BestRequest} request
- * @param {TellProgress} tell
- * @returns {RowWithMoves[]}
- */
-export function bestRows(nissy, request, tell) {
-  const { scramble, soFar } = request;
-  nissy.check(scramble, soFar);
-  try {
-    return rowsAfter(nissy, request, typeof soFar === "string" ? soFar : textIn(soFar), tell);
-  } catch (fault) {
-    // each line was read by itself, so they have too many moves together
-    if (fault instanceof NissyFault) throw new NissyFault(fault.text, { line: 2 });
-    throw fault;
-  }
-}
-
-/** @typedef {{rows: RowWithMoves[]} | {fault: import("./faults.js").FaultParts} | {isCut: true}} BestTold */
+/** @typedef {{rows: RowWithMoves[], isCut: boolean} | {fault: import("./faults.js").FaultParts}} BestTold */
 /** @typedef {BestTold & {nodes: number}} BestReply what a worker sends: also at how many positions it looked */
 
 /**
- * The same as a plain value.
+ * What is told if the search ends at some moment, which may be at a cut or a fault.
  * @param {Nissy} nissy
  * @param {BestRequest} request
- * @param {TellProgress} tell
+ * @returns {Generator<{progress: BestProgress, told: BestTold}>}
+ */
+function* toldOf(nissy, request) {
+  /** @type {Found} */
+  let last = { progress: { done: 0, all: null }, rows: [] };
+  try {
+    for (const found of foundOf(nissy, request)) {
+      last = found;
+      yield { progress: last.progress, told: { rows: last.rows, isCut: false } };
+    }
+  } catch (error) {
+    if (error instanceof SearchCut) {
+      yield { progress: last.progress, told: { rows: last.rows, isCut: true } };
+      return;
+    }
+    if (!(error instanceof NissyFault)) throw error;
+    // if none of the lines is named, each was read by itself, so they have too many moves together
+    const fault = error.line === null ? new NissyFault(error.text, { line: 2 }) : error;
+    yield { progress: last.progress, told: { fault: fault.parts() } };
+  }
+}
+
+/**
+ * The best continuations on the axes that are asked for, or what is wrong, as a plain value.
+ * @param {Nissy} nissy whose searches may be bounded
+ * @param {BestRequest} request
+ * @param {TellProgress} tell what it throws ends the search
  * @returns {BestTold}
  */
 export function bestTold(nissy, request, tell) {
-  try {
-    return { rows: bestRows(nissy, request, tell) };
-  } catch (fault) {
-    if (fault instanceof NissyFault) return { fault: fault.parts() };
-    if (fault instanceof SearchCut) return { isCut: true };
-    throw fault;
+  /** @type {BestTold} */
+  let last = { rows: [], isCut: false };
+  for (const { progress, told } of toldOf(nissy, request)) {
+    last = told;
+    if ("rows" in told) tell(progress);
   }
+  return last;
 }

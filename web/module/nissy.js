@@ -9,12 +9,12 @@
  * A call ends before it returns: a long search belongs into a worker, as `NissyWorker` of browser.js and of node.js has
  * one.
  */
-import { bestRows } from "./best.js";
+import { bestTold } from "./best.js";
 import { Bounded } from "./bounded.js";
 import { Engine } from "./engine.js";
 import { NoWebAssembly } from "./faults.js";
 import {
-  allOf, checkIn, countIn, factsIn, formPlacesIn, lineIn, linesIn, outputLinesIn, shownIn, solutionsIn, tokensIn,
+  allOf, bestIn, checkIn, countIn, factsIn, formPlacesIn, lineIn, linesIn, outputLinesIn, solutionsIn, tokensIn,
 } from "./replies.js";
 import {
   allRequest, bestRequest, checkRequest, countRequest, factsRequest, lineRequest, runRequest, scrambleRequest,
@@ -31,6 +31,7 @@ export { plainLine, readFmc } from "./written.js";
 
 /** @typedef {import("./bytes.js").Text} Text */
 /** @typedef {import("./source.js").ModuleSource} ModuleSource */
+/** @typedef {import("./best.js").Best} Best */
 /** @typedef {import("./best.js").BestOrientation} BestOrientation */
 /** @typedef {import("./best.js").BestProgress} BestProgress */
 /** @typedef {import("./best.js").BestReduction} BestReduction */
@@ -246,12 +247,13 @@ export class Nissy {
    * What may follow a scramble and the moves so far, the best first: each shortest orientation on either side with each
    * reduction that may follow it, or the reductions, if an orientation holds. There are none after a reduction. A fault
    * is told as `check` tells it.
-   * @param {Text} scramble @param {BestWanted & Followed} [options] @returns {BestRow[]}
+   * @param {Text} scramble @param {BestWanted & Followed} [options] @returns {Best}
    */
   best(scramble, options) {
     const request = bestRequest(scramble, options);
-    const tell = progressOf(options);
-    return shownIn(bestRows(new Nissy(new Bounded(this.#engine, request.nodes)), request, tell));
+    const bounded = new Bounded(this.#engine, request.nodes);
+    const told = bestTold(new Nissy(bounded), request, progressOf(options));
+    return bestIn({ ...told, nodes: bounded.looked }, request);
   }
 
   /**

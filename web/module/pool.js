@@ -3,9 +3,9 @@
 import { BestRows } from "./best-rows.js";
 import { ORIENTATIONS } from "./best-steps.js";
 import { wholeNumber } from "./bytes.js";
-import { Stopped, cutOfAll } from "./faults.js";
+import { Stopped } from "./faults.js";
 import { Pieces, valueIn } from "./pieces.js";
-import { allOf, bestIn, countIn, factsIn, shownIn, solutionsIn } from "./replies.js";
+import { allOf, bestIn, countIn, factsIn, solutionsIn } from "./replies.js";
 import { allRequest, bestRequest, countRequest, factsRequest, solveRequest, stepsRequest } from "./requests.js";
 import { Signals, progressOf, reasonOf, signalOf } from "./signals.js";
 import { compiled } from "./source.js";
@@ -13,7 +13,7 @@ import { WorkerQueue } from "./worker-queue.js";
 
 /** @typedef {import("./best.js").BestProgress} BestProgress */
 /** @typedef {import("./best.js").BestReply} BestReply */
-/** @typedef {import("./best.js").BestRow} BestRow */
+/** @typedef {import("./best.js").Best} Best */
 /** @typedef {import("./best.js").TellProgress} TellProgress */
 /** @typedef {import("./bytes.js").Text} Text */
 /** @typedef {import("./facts.js").Facts} Facts */
@@ -56,14 +56,22 @@ const sumOf = (each) => ({
 });
 
 /**
- * The rows of all axes.
+ * What is told of all axes together.
  * @param {BestReply[]} replies
- * @param {number} nodes at how many positions they may look together
+ * @param {import("./requests.js").BestRequest} request
+ * @returns {BestReply}
  */
-function rowsWithin(replies, nodes) {
+function joinedBest(replies, { most, nodes }) {
   const looked = replies.reduce((sum, reply) => sum + reply.nodes, 0);
-  if (looked > nodes || replies.some((reply) => "isCut" in reply)) throw cutOfAll(looked);
-  return replies.flatMap(bestIn);
+  /** @type {BestRows<import("./best.js").RowWithMoves>} */
+  const best = new BestRows(most);
+  let isCut = looked > nodes;
+  for (const reply of replies) {
+    if ("fault" in reply) return reply;
+    best.add(reply.rows);
+    isCut ||= reply.isCut;
+  }
+  return { rows: best.rows, isCut, nodes: looked };
 }
 
 /**
@@ -157,7 +165,7 @@ export class WorkerPool {
 
   /**
    * Each axis is looked at by a worker.
-   * @param {Text} scramble @param {BestWanted & Followed & Stoppable} [options] @returns {Promise<BestRow[]>}
+   * @param {Text} scramble @param {BestWanted & Followed & Stoppable} [options] @returns {Promise<Best>}
    */
   async best(scramble, options) {
     const requests = ORIENTATIONS.map(({ name }) => bestRequest(scramble, options, [name]));
@@ -170,10 +178,7 @@ export class WorkerPool {
     };
     const replies = await this.#together(options, (signal) =>
       Promise.all(requests.map((request, at) => this.#queues[at % this.size].answer(request, { signal }, follow(at)))));
-    /** @type {BestRows<import("./best.js").RowWithMoves>} */
-    const best = new BestRows(requests[0].most);
-    best.add(rowsWithin(replies, requests[0].nodes));
-    return shownIn(best.rows);
+    return bestIn(joinedBest(replies, requests[0]), requests[0]);
   }
 
   /** Gives up all calls. */

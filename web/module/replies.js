@@ -197,15 +197,16 @@ export function checkIn(reply) {
   throw inLine(errorIn(reply), reply.line);
 }
 
-/** @param {import("./best.js").BestReply} reply */
-export function bestIn(reply) {
+/** @param {import("./best.js").BestReply} reply @param {{cut: Telling}} asked @returns {import("./best.js").Best} */
+export function bestIn(reply, { cut }) {
   if ("fault" in reply) throw new NissyFault(reply.fault.text, reply.fault);
-  if ("isCut" in reply) throw cutOfAll(reply.nodes);
-  return reply.rows;
+  /** @type {import("./best.js").Best} */
+  const best = reply.rows.map(({ shown }) => shown);
+  if (!reply.isCut) return best;
+  if (cut === "throw") throw cutOfAll(reply.nodes);
+  best.cut = true;
+  return best;
 }
-
-/** @param {import("./best.js").RowWithMoves[]} rows @returns {import("./best.js").BestRow[]} */
-export const shownIn = (rows) => rows.map(({ shown }) => shown);
 
 /**
  * Whether the reply for a line of many ends the call, so that no line behind it is answered.

@@ -17,7 +17,7 @@ import { hasOwn } from "./natives.js";
  */
 /** @typedef {{call: "facts", line: Text}} FactsRequest */
 /** @typedef {{call: "check", scramble: Text, solution: Text}} CheckRequest */
-/** @typedef {{slack: number, most: number, nodes: number, axes: readonly Step[]}} BestWithin */
+/** @typedef {{slack: number, most: number, nodes: number, cut: Telling, axes: readonly Step[]}} BestWithin */
 /** @typedef {BestWithin & {call: "best", scramble: Text, soFar: Text}} BestRequest */
 /** @typedef {{call: "scramble", state: bigint, stream: bigint, length: number}} ScrambleRequest */
 /** @typedef {{call: "steps"}} StepsRequest */
@@ -53,9 +53,10 @@ import { hasOwn } from "./natives.js";
  * its inverse, none if it isn't given; `slack`, how many turns longer than the shortest of its side an orientation may
  * be, none if it isn't given: one that goes on after it was reached has a row only if the reduction is better on the
  * other side than on its own; `most`, how many rows, 20 if it isn't given; `nodes`, at how many positions all its
- * searches look together at most, at as many as there are if it isn't given: `SearchCut` is thrown before they look at
- * more. In a pool each axis is searched up to this bound, so the cut may come behind it.
- * @typedef {{soFar?: Text, slack?: number, most?: number, nodes?: number}} BestWanted
+ * searches look together at most, at as many as there are if it isn't given. In a pool each axis is searched up to this
+ * bound. If they would look at more, they are cut: `cut` says whether `SearchCut` is thrown, as it is if it isn't given,
+ * or the best of what was tried until then returned.
+ * @typedef {{soFar?: Text, slack?: number, most?: number, nodes?: number, cut?: Telling}} BestWanted
  */
 
 /** The most turns of a search. */
@@ -172,6 +173,7 @@ export const bestRequest = (scramble, options = {}, axes = ALL_AXES) => ({
   slack: wholeNumber(optionOf(options, "slack", 0), "the slack", MOST_TURNS),
   most: boundOf(options, "most", "the greatest number of rows", MOST_TOLD),
   nodes: boundOf(options, "nodes", "the greatest number of nodes"),
+  cut: toldBy(options, "cut"),
   axes,
 });
 

@@ -1,7 +1,6 @@
 // Calls of an engine in a worker as promises, one after another.
 import {
-  allOf, bestIn, checkIn, countIn, factsIn, formPlacesIn, lineIn, linesIn, outputLinesIn, shownIn, solutionsIn,
-  tokensIn,
+  allOf, bestIn, checkIn, countIn, factsIn, formPlacesIn, lineIn, linesIn, outputLinesIn, solutionsIn, tokensIn,
 } from "./replies.js";
 import {
   allRequest, bestRequest, checkRequest, countRequest, factsRequest, lineRequest, optionOf, runRequest, scrambleRequest,
@@ -13,7 +12,7 @@ import { compiled } from "./source.js";
 import { WorkerQueue } from "./worker-queue.js";
 
 /** @typedef {import("./bytes.js").Text} Text */
-/** @typedef {import("./best.js").BestRow} BestRow */
+/** @typedef {import("./best.js").Best} Best */
 /** @typedef {import("./replies.js").Answer} Answer */
 /** @typedef {import("./replies.js").Count} Count */
 /** @typedef {import("./facts.js").Check} Check */
@@ -178,9 +177,10 @@ export class WorkerCalls {
     return checkIn(await this.#queue.answer(checkRequest(scramble, solution), options));
   }
 
-  /** @param {Text} scramble @param {BestWanted & Followed & Stoppable} [options] @returns {Promise<BestRow[]>} */
+  /** @param {Text} scramble @param {BestWanted & Followed & Stoppable} [options] @returns {Promise<Best>} */
   async best(scramble, options) {
-    return shownIn(bestIn(await this.#queue.answer(bestRequest(scramble, options), options, progressOf(options))));
+    const request = bestRequest(scramble, options);
+    return bestIn(await this.#queue.answer(request, options, progressOf(options)), request);
   }
 
   /** @param {Stoppable} [options] @returns {Promise<Step[]>} */
