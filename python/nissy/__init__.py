@@ -16,10 +16,10 @@ r"""nissy for Python: moves and searches of the 3x3x3 cube, by the proved librar
     Traceback (most recent call last):
     nissy.LineFault: column 3: not a move
 
-Of many lines `count_all`, `facts_all` and `solve_all` return an answer each; one that has a fault has that for an answer, and ends nothing.
-The first search of a step builds its tables, which stay for the next ones (class Tables). A call lets go of Python's lock, so calls of
-several threads run side by side. The library is the file that NISSY_LIBRARY names, else the one that was installed or built with this
-package, else the system's.
+Of many lines `count_all`, `facts_all` and `solve_all` return an answer each; one that has a fault has that for an
+answer, and ends nothing. The first search of a step builds its tables, which stay for the next ones (class Tables). A
+call lets go of Python's lock, so calls of several threads run side by side. The library is the file that NISSY_LIBRARY
+names, else the one that was installed or built with this package, else the system's.
 """
 from ._best import best
 from ._continuations import Continuation, Continuations, Lengths, Orientation, Reduction, Side as Side
@@ -33,16 +33,23 @@ from ._searches import Tables, count, count_all, near, solutions, solve, solve_a
 from ._tokens import FormPlace, Token, form_places, tokens
 from ._values import Answer, Count, Cut, Fault, LineFault, Solution, Solutions, StartFault, raising
 
-__all__ = ["DONE", "FAULT", "MOST_INPUT", "STOPPED", "USAGE", "Answer", "Case", "Check", "Continuation", "Continuations", "Count", "Cut",
-           "Facts", "Fault", "FormPlace", "Lengths", "LineFault", "Orientation", "Pieces", "Reduction", "Solution", "Solutions",
-           "StartFault", "Tables", "Token", "best", "check", "cleanup", "count", "count_all", "facelets", "facts", "facts_all", "form_places", "invert", "near",
-           "raising", "run", "scramble", "scrambles", "solutions", "solve", "solve_all", "start_of", "steps", "tokens", "unniss"]
+__all__ = [
+    "DONE", "FAULT", "MOST_INPUT", "STOPPED", "USAGE",
+    "Answer", "Case", "Check", "Continuation", "Continuations", "Count", "Cut", "Facts", "Fault", "FormPlace",
+    "Lengths", "LineFault", "Orientation", "Pieces", "Reduction", "Solution", "Solutions", "StartFault", "Tables",
+    "Token",
+    "best", "check", "cleanup", "count", "count_all", "facelets", "facts", "facts_all", "form_places", "invert",
+    "near", "raising", "run", "scramble", "scrambles", "solutions", "solve", "solve_all", "start_of", "steps", "tokens",
+    "unniss",
+]
 
 __version__ = version()
 del version
 
 # what others see of these, as in a traceback or in what was pickled, is named by the package
-for _public in (Answer, Case, Check, Continuation, Continuations, Count, Cut, Facts, Fault, FormPlace, Lengths, LineFault, Orientation,
-                Pieces, Reduction, Solution, Solutions, StartFault, Tables, Token):
+for _public in (
+    Answer, Case, Check, Continuation, Continuations, Count, Cut, Facts, Fault, FormPlace, Lengths, LineFault,
+    Orientation, Pieces, Reduction, Solution, Solutions, StartFault, Tables, Token,
+):
     _public.__module__ = __name__
 del _public

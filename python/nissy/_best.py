@@ -1,4 +1,5 @@
-"""The best continuations of a line: each edge orientation on three axes and both sides, with the reduction that follows it best."""
+"""The best continuations of a line: each edge orientation on three axes and both sides, with the
+reduction that follows it best."""
 from __future__ import annotations
 
 from typing import Dict, Iterable, Iterator, List, NamedTuple, Optional, Tuple
@@ -24,8 +25,9 @@ _FIRST_BATCH, _BATCH = 8, 256
 
 
 class _Twins(NamedTuple):
-    """Twins of an orientation on a side, and whether they are longer ones, which go on after it was reached. What these go on with belongs on
-    their own side to the reduction after a shorter one, so they have a row only if the other side is better."""
+    """Twins of an orientation on a side, and whether they are longer ones, which go on after it was reached.
+    What these go on with belongs on their own side to the reduction after a shorter one, so they have a row only
+    if the other side is better."""
 
     step: Step
     side: int
@@ -39,8 +41,8 @@ class _Twins(NamedTuple):
 
 
 class _Candidate(NamedTuple):
-    """A reduction after twins, the cube after each, and the bounds of all moves with it: `least` and `most`, which is NEVER if it may have no
-    row."""
+    """A reduction after twins, the cube after each, and the bounds of all moves with it: `least` and `most`, which is
+    NEVER if it may have no row."""
 
     twins: _Twins
     cubes: List[Cube]
@@ -72,12 +74,14 @@ class _Candidate(NamedTuple):
         at, (total, _, moves) = best[side]
         others = tuple(start.named(own, last_turns(each, step)) for each in twins[:at] + twins[at + 1:])
         eo = Orientation(step, _NAMES[own], start.named(own, twins[at]), twins[at].length, others)
-        dr = Reduction(self.step, _NAMES[side], start.named(side, moves), turns_of(moves), (), Lengths(*(way.length for _, way in best)))
+        lengths = Lengths(*(way.length for _, way in best))
+        dr = Reduction(self.step, _NAMES[side], start.named(side, moves), turns_of(moves), (), lengths)
         return Continuation(total, _written((own, eo.moves), (side, dr.moves)), eo, dr, case)
 
 
 def _written(*parts: Tuple[int, str]) -> str:
-    """Returns the moves of parts as a line. Those on the inverse side stand in brackets, one after another in the same."""
+    """Returns the moves of parts as a line. Those on the inverse side stand in brackets,
+    one after another in the same."""
     line = " ".join(moves if side == NORMAL else f"({moves})" for side, moves in parts if moves)
     return line.replace(") (", " ")
 
@@ -90,8 +94,8 @@ class _Stage(NamedTuple):
 
 
 def _stages(searches: Searches, slack: int) -> List[_Stage]:
-    """Returns which orientations are found together: all, unless the search may be cut, so that shorter ones are tried before longer ones are
-    found."""
+    """Returns which orientations are found together: all, unless the search may be cut, so that shorter ones are tried
+    before longer ones are found."""
     return [_Stage(each, each) for each in range(slack + 1)] if searches.are_bounded() else [_Stage(0, slack)]
 
 
@@ -116,7 +120,8 @@ def _sides_of(twins: _Twins) -> Tuple[int, ...]:
 
 
 def _candidates(searches: Searches, cube: Cube, batch: List[_Twins], most: int) -> Iterator[_Candidate]:
-    """Yields twins that go on from a cube, each with both reductions, if these may come down to no more moves in all than `most`."""
+    """Yields twins that go on from a cube, each with both reductions, if these may come down to no
+    more moves in all than `most`."""
     after = [(twins, [cube.after(twins.side, moves) for moves in twins.moves]) for twins in batch]
     each = [(twins, cubes, step, [sought_on(cube, one, side, step) for one in cubes for side in _sides_of(twins)])
             for twins, cubes in after for step in _REDUCTIONS[twins.step]]
@@ -195,8 +200,8 @@ def _count(every: List[_Twins]) -> int:
 
 
 def _oriented(searches: Searches, start: Start, slack: int, most: int) -> Iterator[List[Continuation]]:
-    """Yields the best of the orientations with a reduction after each. If the searches may be cut, those of the orientations that
-    were tried come before them."""
+    """Yields the best of the orientations with a reduction after each. If the searches may be cut, those of the
+    orientations that were tried come before them."""
     best = _BestUntilNow(searches, start, most)
     for stage in _stages(searches, slack):
         every = _orientations(searches, start.cube, stage)
@@ -213,7 +218,8 @@ def _oriented(searches: Searches, start: Start, slack: int, most: int) -> Iterat
 def _reductions(searches: Searches, start: Start, step: Step, axis: Axis, slack: int) -> Iterator[Continuation]:
     """Yields the reductions of a step, which may start."""
     cube = start.cube
-    case, found = facts(cube.lines[NORMAL]).case[axis], [searches.solve(step, cube.lines[side], slack) for side in SIDES]
+    case = facts(cube.lines[NORMAL]).case[axis]
+    found = [searches.solve(step, cube.lines[side], slack) for side in SIDES]
     lengths = Lengths(*(solutions[0].length if solutions else None for solutions in found))
     for side, solutions in enumerate(found):
         longer = longer_among(solutions)
@@ -239,8 +245,8 @@ def _best_reduced(found: List[Tuple[Axis, Continuation]], most: int) -> List[Con
 
 def _reduced(searches: Searches, start: Start, held: Iterable[Step], slack: int,
              most: int) -> Iterator[List[Continuation]]:
-    """Yields the best reductions after orientations that hold. If the searches may be cut, those of the steps that were tried come
-    before them."""
+    """Yields the best reductions after orientations that hold. If the searches may be cut, those of the steps that
+    were tried come before them."""
     found: List[Tuple[Axis, Continuation]] = []
     for step, axis in (each for orientation in held for each in _REDUCTIONS[orientation].items()):
         found += [(axis, row) for row in _reductions(searches, start, step, axis, slack)]
@@ -253,21 +259,24 @@ def _reduced(searches: Searches, start: Start, held: Iterable[Step], slack: int,
 
 def best(scramble: Text, so_far: Text = "", *, slack: int = 0, most: Optional[int] = 20, nodes: Optional[int] = None,
          partial: bool = False, progress: Optional[Progress] = None) -> Continuations:
-    """What may follow a scramble and the moves so far, the best first, up to a domino reduction: each orientation on three axes and both
-    sides, up to `slack` moves longer than the shortest of its axis and side, and after it the reduction on each of two axes with the fewest
-    moves in all, on the better side. An orientation that goes on after it was reached has a row only if the reduction is better on the other
-    side than on its own. If an orientation holds, the reductions, up to `slack` longer; if a reduction is reached, nothing.
+    """What may follow a scramble and the moves so far, the best first, up to a domino reduction: each orientation on
+    three axes and both sides, up to `slack` moves longer than the shortest of its axis and side, and after it the
+    reduction on each of two axes with the fewest moves in all, on the better side. An orientation that goes on after it
+    was reached has a row only if the reduction is better on the other side than on its own. If an orientation holds,
+    the reductions, up to `slack` longer; if a reduction is reached, nothing.
 
-    Moves of `so_far` in brackets are made on the inverse side. All moves count, those so far too, once they are merged on each side. The
-    order is by these, then by the moves of the first step, then by the pieces of the case. No more than `most` are returned, or all if it is
-    None. Each unit of slack makes this many times as long and as large.
+    Moves of `so_far` in brackets are made on the inverse side. All moves count, those so far too, once they are merged
+    on each side. The order is by these, then by the moves of the first step, then by the pieces of the case. No more
+    than `most` are returned, or all if it is None. Each unit of slack makes this many times as long and as large.
 
-    With `nodes` its searches look at no more than so many positions together: if they would look at more, Cut is raised, or with
-    `partial` the best rows of what was tried until then are returned, whose `cut` is true. Each is a row of the whole list, in its
-    order, and others may be missing, better ones too. `progress` is called between searches with how many orientations are done, and
-    of how many, None until that is known; what it raises ends the call.
+    With `nodes` its searches look at no more than so many positions together: if they would look at more,
+    Cut is raised, or with `partial` the best rows of what was tried until then are returned, whose `cut` is
+    true. Each is a row of the whole list, in its order, and others may be missing, better ones too.
+    `progress` is called between searches with how many orientations are done, and of how many, None until
+    that is known; what it raises ends the call.
 
-    Raises LineFault with `line` 1 for the scramble and 2 for the moves so far, Fault if both have too many moves together, and Cut."""
+    Raises LineFault with `line` 1 for the scramble and 2 for the moves so far, Fault if both have too
+    many moves together, and Cut."""
     given = bytes_of(scramble, "the scramble"), bytes_of(so_far, "the line so far")
     longer = number_of(slack, "the slack", _MOST_SLACK)
     count = MOST_WORD if most is None else number_of(most, "most", MOST_WORD)
@@ -289,8 +298,8 @@ def best(scramble: Text, so_far: Text = "", *, slack: int = 0, most: Optional[in
 
 
 def _continuations(searches: Searches, start: Start, slack: int, most: int) -> Iterator[List[Continuation]]:
-    """Yields what may follow a cube, the best first: the last list is whole, and each before it is what is known if the searches are
-    cut then."""
+    """Yields what may follow a cube, the best first: the last list is whole, and each before it is what is known
+    if the searches are cut then."""
     reached = facts(start.cube.lines[NORMAL]).holds
     if any(step in reached for reductions in _REDUCTIONS.values() for step in reductions):
         return

@@ -1,5 +1,5 @@
-"""How a line goes on to a domino reduction. Types stand here as they are and not as texts, for those who ask a class of the package for
-them."""
+"""How a line goes on to a domino reduction. Types stand here as they are and not as texts, for those who ask a
+class of the package for them."""
 import sys
 from dataclasses import dataclass
 from typing import List, Optional, Tuple
@@ -70,5 +70,5 @@ class Continuations(List[Continuation]):
     """The continuations of a line, the best first, as a list."""
 
     cut: bool = False
-    """Whether the searches ended at their bound: then these are the best of what was tried until then. Each is a row of the whole
-    list, in its order, and others may be missing, better ones too."""
+    """Whether the searches ended at their bound: then these are the best of what was tried until then. Each is a row of
+    the whole list, in its order, and others may be missing, better ones too."""

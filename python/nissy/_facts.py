@@ -51,7 +51,8 @@ class Pieces(int):
 
     @property
     def places(self) -> Tuple[str, ...]:
-        """The names of the places, edges in the order UR UF UL UB DR DF DL DB FR FL BL BR, corners URF UFL ULB UBR DFR DLF DBL DRB."""
+        """The names of the places, edges in the order UR UF UL UB DR DF DL DB FR FL BL BR, corners in that of
+        URF UFL ULB UBR DFR DLF DBL DRB."""
         return self._places
 
     def __reduce__(self) -> Tuple[Any, ...]:
@@ -94,8 +95,8 @@ class Facts:
 
     @property
     def moves(self) -> int:
-        """How many moves the line has as it is written: turns of faces and of outer blocks count one each, slice turns two, rotations
-        none."""
+        """How many moves the line has as it is written: turns of faces and of outer blocks count one each,
+        slice turns two, rotations none."""
         return self._numbers()[4]
 
     @property
@@ -125,7 +126,8 @@ class Facts:
 
     @property
     def case(self) -> Dict[Axis, Case]:
-        """The case of a domino reduction on each axis: misoriented corners, and edges on the wrong side of the slice."""
+        """The case of a domino reduction on each axis: misoriented corners, and edges on
+        the wrong side of the slice."""
         return self._by_axis(lambda numbers: _case(numbers[4], numbers[5]))
 
     def _by_axis(self, of_axis: Callable[[Tuple[int, ...]], Value]) -> Dict[Axis, Value]:
@@ -141,7 +143,8 @@ class Facts:
 
     def __repr__(self) -> str:
         cases = ", ".join(f"{axis}: {case}" for axis, case in self.case.items())
-        return f"<Facts: {'solved' if self.solved else 'not solved'}, {self.moves} moves, {self.clean_moves} cleaned, {cases}>"
+        solved = "solved" if self.solved else "not solved"
+        return f"<Facts: {solved}, {self.moves} moves, {self.clean_moves} cleaned, {cases}>"
 
     def __reduce__(self) -> Tuple[Any, ...]:
         """What a copy is made of."""
@@ -158,8 +161,8 @@ class Check(NamedTuple):
     clean_moves: int
     """The same once it is cleaned."""
     forms: Tuple[str, ...]
-    """The forms that the solution has and the WCA's notation for solutions hasn't: "slices", "lower_case", "brackets", "apostrophe"
-    (U+2019 in place of ') and "half_prime" (2' for a half turn)."""
+    """The forms that the solution has and the WCA's notation for solutions hasn't: "slices", "lower_case", "brackets",
+    "apostrophe" (U+2019 in place of ') and "half_prime" (2' for a half turn)."""
 
 
 @lru_cache(maxsize=None)
@@ -187,8 +190,8 @@ def _steps_of(mask: int) -> FrozenSet[Step]:
 
 
 def facts(line: Text) -> Facts:
-    """What is seen of a line's cube without a search: whether it is solved, how many moves the line has, which edges and corners are bad on
-    each axis, the case of a domino reduction there, and which steps hold. Raises LineFault."""
+    """What is seen of a line's cube without a search: whether it is solved, how many moves the line has, which edges
+    and corners are bad on each axis, the case of a domino reduction there, and which steps hold. Raises LineFault."""
     data = bytes_of(line, "the line")
     answer = _library.nissy_facts(data, len(data))
     if answer.status:
@@ -222,14 +225,15 @@ def _fault(piece: Piece, told: bytes, at: int) -> Fault:
 
 def facts_all(lines: Iterable[Text], threads: int = 1,
               progress: Optional[Progress] = None) -> Iterator[Union[Facts, Fault]]:
-    """What is seen of each line in turn, as `facts` returns it; of a line for which `facts` raises, what it raises, with the line's number,
-    from 1, as `line` (`raising` raises it). Takes lines in pieces, threads and `progress` as `count_all` does."""
+    """What is seen of each line in turn, as `facts` returns it; of a line for which `facts` raises, what it
+    raises, with the line's number, from 1, as `line` (`raising` raises it). Takes lines in pieces, threads and
+    `progress` as `count_all` does."""
     return in_pieces(lines, Asking(_ask, _told), threads, progress)
 
 
 def check(scramble: Text, solution: Text) -> Check:
-    """Whether a solution solves a scramble, how many moves it has, and which forms that the WCA's notation hasn't. Both may have brackets.
-    Raises LineFault, with `line` 1 for the scramble and 2 for the solution."""
+    """Whether a solution solves a scramble, how many moves it has, and which forms that the WCA's notation hasn't. Both
+    may have brackets. Raises LineFault, with `line` 1 for the scramble and 2 for the solution."""
     given = bytes_of(scramble, "the scramble"), bytes_of(solution, "the solution")
     answer = _library.nissy_check(given[0], len(given[0]), given[1], len(given[1]))
     if answer.status:

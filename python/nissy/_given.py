@@ -9,8 +9,10 @@ from typing import Callable, Iterable, Iterator, Optional, Union
 if sys.version_info >= (3, 8):
     from typing import Literal
 
-    Step = Literal["eofb", "eorl", "eoud", "drud-eofb", "drrl-eofb", "drud-eorl", "drfb-eorl", "drrl-eoud", "drfb-eoud", "eo", "dr-eofb",
-                   "dr-eorl", "dr-eoud"]
+    Step = Literal[
+        "eofb", "eorl", "eoud", "drud-eofb", "drrl-eofb", "drud-eorl", "drfb-eorl", "drrl-eoud", "drfb-eoud",
+        "eo", "dr-eofb", "dr-eorl", "dr-eoud",
+    ]
     Partial = Literal[True]
 else:
     Step = str
@@ -28,7 +30,8 @@ def _kind(value: object) -> str:
 
 
 def bytes_of(text: Text, what: str) -> bytes:
-    """Returns a text as the bytes that the library reads. A number is none, though `bytes` takes one, nor is an array of numbers."""
+    """Returns a text as the bytes that the library reads. A number is none, though `bytes` takes one,
+    nor is an array of numbers."""
     if type(text) is bytes:
         return text
     if isinstance(text, str):
@@ -48,7 +51,8 @@ def bytes_of(text: Text, what: str) -> bytes:
 
 
 def _with_halves(text: str) -> bytes:
-    """Returns the bytes of a text with halves of surrogate pairs, which stand for bytes that are no text, or come from JSON."""
+    """Returns the bytes of a text with halves of surrogate pairs, which stand for bytes that are
+    no text, or come from JSON."""
     try:
         return str.encode(text, "utf-8", "surrogateescape")
     except UnicodeEncodeError:
@@ -57,7 +61,8 @@ def _with_halves(text: str) -> bytes:
 
 
 def number_of(value: int, what: str, most: int, least: int = 0) -> int:
-    """Returns a number from `least` to `most`, of an int or of what stands for one. The library would read another one modulo a power of two."""
+    """Returns a number from `least` to `most`, of an int or of what stands for one. The library would read
+    another one modulo a power of two."""
     if type(value) is not int:
         try:
             # before Python 3.10 an index may be of a class made of int, with comparisons of its own

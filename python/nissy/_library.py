@@ -11,8 +11,9 @@ MOST_INPUT = 16_777_216
 """The most bytes of a line or of an input."""
 
 DONE, FAULT, USAGE, STOPPED, ROOM, CUT = range(6)
-"""The statuses: all is written; a line has a fault; the words are no command; the run could not go on. The last two no caller of this module
-sees as numbers: the room of a call is too small, and a search would look at more positions than it may."""
+"""The statuses: all is written; a line has a fault; the words are no command; the run could not go on. The
+last two no caller of this module sees as numbers: the room of a call is too small, and a search would look at
+more positions than it may."""
 
 NOT_START = 6
 """The fault of a line on whose cube a step may not start. Those below it are faults of lines."""
@@ -23,7 +24,8 @@ ERROR_ROOM = 128
 
 class LineAnswer(ctypes.Structure):
     """`nissy_line_answer` of nissy.h."""
-    _fields_ = [("status", ctypes.c_uint8), ("fault", ctypes.c_uint8), ("column", ctypes.c_uint32), ("length", ctypes.c_uint64)]
+    _fields_ = [("status", ctypes.c_uint8), ("fault", ctypes.c_uint8), ("column", ctypes.c_uint32),
+                ("length", ctypes.c_uint64)]
 
 
 class RunAnswer(ctypes.Structure):
@@ -39,26 +41,30 @@ class KeptTables(ctypes.Structure):
 
 class SearchAnswer(ctypes.Structure):
     """`nissy_search_answer` of nissy.h."""
-    _fields_ = [("status", ctypes.c_uint8), ("fault", ctypes.c_uint8), ("least", ctypes.c_uint8), ("more", ctypes.c_uint8),
-                ("column", ctypes.c_uint32), ("length", ctypes.c_uint64), ("solutions", ctypes.c_uint64), ("nodes", ctypes.c_uint64)]
+    _fields_ = [("status", ctypes.c_uint8), ("fault", ctypes.c_uint8), ("least", ctypes.c_uint8),
+                ("more", ctypes.c_uint8), ("column", ctypes.c_uint32), ("length", ctypes.c_uint64),
+                ("solutions", ctypes.c_uint64), ("nodes", ctypes.c_uint64)]
 
 
 class AxisFacts(ctypes.Structure):
     """`nissy_axis_facts` of nissy.h."""
-    _fields_ = [("bad_edge_places", ctypes.c_uint16), ("bad_corner_places", ctypes.c_uint16), ("misplaced_edge_places", ctypes.c_uint16),
-                ("bad_edges", ctypes.c_uint8), ("bad_corners", ctypes.c_uint8), ("misplaced_edges", ctypes.c_uint8)]
+    _fields_ = [("bad_edge_places", ctypes.c_uint16), ("bad_corner_places", ctypes.c_uint16),
+                ("misplaced_edge_places", ctypes.c_uint16), ("bad_edges", ctypes.c_uint8),
+                ("bad_corners", ctypes.c_uint8), ("misplaced_edges", ctypes.c_uint8)]
 
 
 class FactsAnswer(ctypes.Structure):
     """`nissy_facts_answer` of nissy.h."""
-    _fields_ = [("status", ctypes.c_uint8), ("fault", ctypes.c_uint8), ("solved", ctypes.c_uint8), ("column", ctypes.c_uint32),
-                ("moves", ctypes.c_uint16), ("clean_moves", ctypes.c_uint16), ("holds", ctypes.c_uint16), ("axes", AxisFacts * 3)]
+    _fields_ = [("status", ctypes.c_uint8), ("fault", ctypes.c_uint8), ("solved", ctypes.c_uint8),
+                ("column", ctypes.c_uint32), ("moves", ctypes.c_uint16), ("clean_moves", ctypes.c_uint16),
+                ("holds", ctypes.c_uint16), ("axes", AxisFacts * 3)]
 
 
 class CheckAnswer(ctypes.Structure):
     """`nissy_check_answer` of nissy.h."""
-    _fields_ = [("status", ctypes.c_uint8), ("fault", ctypes.c_uint8), ("line", ctypes.c_uint8), ("solved", ctypes.c_uint8),
-                ("column", ctypes.c_uint32), ("moves", ctypes.c_uint16), ("clean_moves", ctypes.c_uint16), ("forms", ctypes.c_uint8)]
+    _fields_ = [("status", ctypes.c_uint8), ("fault", ctypes.c_uint8), ("line", ctypes.c_uint8),
+                ("solved", ctypes.c_uint8), ("column", ctypes.c_uint32), ("moves", ctypes.c_uint16),
+                ("clean_moves", ctypes.c_uint16), ("forms", ctypes.c_uint8)]
 
 
 class LinesAnswer(ctypes.Structure):
@@ -66,7 +72,8 @@ class LinesAnswer(ctypes.Structure):
     _fields_ = [("status", ctypes.c_uint8), ("lines", ctypes.c_uint64), ("bytes", ctypes.c_uint64)]
 
 
-# The fields of two structs that come in great number, in the order of the header: ctypes would take as long to read them as the search.
+# The fields of two structs that come in great number, in the order of the header: ctypes would take as
+# long to read them as the search.
 SEARCH_ANSWER = struct.Struct("=4BI3Q")
 FACTS_ANSWER = struct.Struct("=3BxI3H" + 3 * "3H3Bx")
 
@@ -75,14 +82,16 @@ _NAME = {"win32": "nissy.dll", "cygwin": "nissy.dll", "darwin": "libnissy.2.dyli
 
 
 def _place() -> str:
-    """Returns where the library is: by NISSY_LIBRARY, in one of the folders in which it stands with this package, or by the system."""
+    """Returns where the library is: by NISSY_LIBRARY, in one of the folders in which it stands with
+    this package, or by the system."""
     named = os.environ.get("NISSY_LIBRARY")
     if named:
         return named
     here = os.path.dirname(os.path.realpath(__file__))
-    # in the package itself; the package installed as PREFIX/lib/python3/dist-packages/nissy; or in the repository's folder python
-    beside = os.path.join(here, "..", "..", "..") if os.path.basename(os.path.dirname(here)).endswith("-packages") else \
-        os.path.join(here, "..", "..", "build")
+    # in the package itself; the package installed as PREFIX/lib/python3/dist-packages/nissy; or in
+    # the repository's folder python
+    is_installed = os.path.basename(os.path.dirname(here)).endswith("-packages")
+    beside = os.path.join(here, "..", "..", ".." if is_installed else "build")
     for folder in (here, beside):
         path = os.path.join(folder, _NAME)
         if os.path.exists(path):
@@ -90,15 +99,16 @@ def _place() -> str:
     return _NAME
 
 
-# The sizes of an ELF file's header and of a segment's, of 64 bits. By its first four bytes it is such a file at all, and those that _KIND
-# names say which processor it is for.
+# The sizes of an ELF file's header and of a segment's, of 64 bits. By its first four bytes it is such a file at all,
+# and those that _KIND names say which processor it is for.
 _MAGIC = b"\x7fELF"
 _HEADER, _SEGMENT = 64, 56
 _KIND = (slice(4, 6), slice(18, 20))
 
 
 def _end_of(file: BinaryIO, header: bytes, size: int) -> int:
-    """Returns how many bytes an ELF file of this size needs to have by its headers: those of the file, of its segments and of its sections."""
+    """Returns how many bytes an ELF file of this size needs to have by its headers: those of the file, of its
+    segments and of its sections."""
     segments, sections = struct.unpack_from("<QQ", header, 32)
     segment_size, segment_count, section_size, section_count = struct.unpack_from("<HHHH", header, 54)
     end: int = max(segments + segment_size * segment_count, sections + section_size * section_count)
@@ -110,8 +120,8 @@ def _end_of(file: BinaryIO, header: bytes, size: int) -> int:
 
 
 def _wrong_with(path: str) -> str:
-    """Returns what is wrong with a file of which the system has no plain words: one for another processor it says isn't there, and one that
-    was cut off ends the process by a signal. Anything else is left to the system to tell."""
+    """Returns what is wrong with a file of which the system has no plain words: one for another processor it says isn't
+    there, and one that was cut off ends the process by a signal. Anything else is left to the system to tell."""
     with open(path, "rb") as file:
         header, size = file.read(_HEADER), os.fstat(file.fileno()).st_size
         if not header.startswith(_MAGIC):
@@ -149,11 +159,13 @@ def _loaded(place: str) -> ctypes.CDLL:
 
 LIBRARY = _loaded(_place())
 
-# Places, and numbers that were checked. On 64 bits each is handed over as a whole register or eight bytes of the stack, whatever its width, and ctypes
-# takes an address in half the time of a number. On 32 bits, and for Apple's processors, which pack what no register holds, each has its own width.
+# Places, and numbers that were checked. On 64 bits each is handed over as a whole register or eight bytes of the stack,
+# whatever its width, and ctypes takes an address in half the time of a number. On 32 bits, and for Apple's processors,
+# which pack what no register holds, each has its own width.
 _PLACE = ctypes.c_void_p
 _IS_WIDE = struct.calcsize("P") == 8 and sys.platform != "darwin"
-_BYTE, _HALF, _LONG, _NUMBER = (_PLACE,) * 4 if _IS_WIDE else (ctypes.c_uint8, ctypes.c_uint32, ctypes.c_uint64, ctypes.c_size_t)
+_OWN = (ctypes.c_uint8, ctypes.c_uint32, ctypes.c_uint64, ctypes.c_size_t)
+_BYTE, _HALF, _LONG, _NUMBER = (_PLACE,) * 4 if _IS_WIDE else _OWN
 # bytes that a call reads, with their number, and bytes that it writes, by place, with the room that there is
 _READ = (ctypes.c_char_p, _NUMBER)
 _WRITTEN = (_PLACE, _NUMBER)
@@ -172,10 +184,12 @@ def _call(name: str, returned: Any, *taken: Any) -> Callable[..., Any]:
 
 nissy_run = _call("nissy_run", RunAnswer, *_READ, *_READ, *_WRITTEN, *_WRITTEN)
 nissy_invert, nissy_unniss, nissy_cleanup, nissy_facelets = (
-    _call(name, LineAnswer, *_READ, *_WRITTEN) for name in ("nissy_invert", "nissy_unniss", "nissy_cleanup", "nissy_facelets"))
+    _call(name, LineAnswer, *_READ, *_WRITTEN)
+    for name in ("nissy_invert", "nissy_unniss", "nissy_cleanup", "nissy_facelets"))
 nissy_build = _call("nissy_build", ctypes.c_uint8, _PLACE, *_READ)
 nissy_solve = _call("nissy_solve", SearchAnswer, _PLACE, *_READ, _BYTE, _BYTE, _LONG, _LONG, *_WRITTEN)
-nissy_solve_after = _call("nissy_solve_after", SearchAnswer, _PLACE, *_READ, *_READ, _BYTE, _BYTE, _LONG, _LONG, *_WRITTEN)
+nissy_solve_after = _call(
+    "nissy_solve_after", SearchAnswer, _PLACE, *_READ, *_READ, _BYTE, _BYTE, _LONG, _LONG, *_WRITTEN)
 nissy_count = _call("nissy_count", SearchAnswer, _PLACE, *_READ, _BYTE, _BYTE, _LONG, _LONG)
 nissy_count_lines = _call("nissy_count_lines", LinesAnswer, _PLACE, *_READ, _BYTE, _BYTE, _LONG, _LONG, *_WRITTEN)
 nissy_facts = _call("nissy_facts", FactsAnswer, *_READ)

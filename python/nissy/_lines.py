@@ -16,7 +16,8 @@ _MOST_LENGTH = 256
 
 
 def _written(call: Callable[..., Any], data: bytes, *given: Any) -> str:
-    """Returns what a call writes, of the bytes `data` or without a line, that has a room of LINE_ROOM for its text. Raises Fault."""
+    """Returns what a call writes, of the bytes `data` or without a line, that has a room of LINE_ROOM
+    for its text. Raises Fault."""
     room = _rooms.take()
     answer = call(*given, room.address, LINE_ROOM)
     text = room.memory[:answer.length] if answer.status == DONE else b""
@@ -27,7 +28,8 @@ def _written(call: Callable[..., Any], data: bytes, *given: Any) -> str:
 
 
 def fault_of(status: int, fault: int, column: int, data: bytes, line: Optional[int] = None) -> Fault:
-    """Returns what a call told of a line in place of an answer. The line is these bytes, and has this number if it is one of many."""
+    """Returns what a call told of a line in place of an answer. The line is these bytes, and has this
+    number if it is one of many."""
     if status != FAULT:
         return Fault(f"a line has at most {MOST_INPUT:,} bytes", line)
     # what stands before a fault spells moves, so it can be read
@@ -73,7 +75,8 @@ def drawing(state: int, stream: int, length: int) -> Tuple[int, int, int]:
 
 
 def scramble(state: int, stream: int, length: int) -> str:
-    """The first scramble of `length` turns by the generator that begins with this state and stream: what `scrambles` begins with."""
+    """The first scramble of `length` turns by the generator that begins with this state and stream:
+    what `scrambles` begins with."""
     return _written(_library.nissy_scramble, b"", *drawing(state, stream, length))
 
 

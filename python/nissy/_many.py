@@ -1,4 +1,5 @@
-"""Many lines: taken in pieces, each of which goes to the library in one call, one piece after another or several side by side."""
+"""Many lines: taken in pieces, each of which goes to the library in one call, one piece after
+another or several side by side."""
 from __future__ import annotations
 
 from collections import deque
@@ -14,21 +15,24 @@ Value = TypeVar("Value")
 _MOST_LINES = 16_384
 _MOST_BYTES = 1 << 22
 _MOST_THREADS = 1024
-# A piece takes so many seconds or more, if there are lines enough, and at most twice as many: in between Python hears of signals. Threads
-# have longer ones, since each waits for the lock when it has done one.
+# A piece takes so many seconds or more, if there are lines enough, and at most twice as many: in between Python hears
+# of signals. Threads have longer ones, since each waits for the lock when it has done one.
 _SHORT, _SHORT_OF_THREADS = 0.005, 0.03
-# The first piece has one line, since that may take long, and the next ones at most so many times as many as one before it.
+# The first piece has one line, since that may take long, and the next ones at most so many
+# times as many as one before it.
 _GROWTH = 16
 # a piece that took so much of those seconds tells well how many lines the next ones are to have
 _TELLING = 1 / 64
-# A thread that goes on keeps Python's lock from others for five thousandths of a second. After so many seconds of sleep one of them has it.
+# A thread that goes on keeps Python's lock from others for five thousandths of a second. After so many
+# seconds of sleep one of them has it.
 _REST = 0.00001
 # seconds that are worth a piece of their own
 _WORTH = 0.002
 
 
 class Piece(NamedTuple):
-    """Some lines: the number of the first one, from 1, the lines as they were given, and as a text in which a line feed ends each."""
+    """Some lines: the number of the first one, from 1, the lines as they were given, and as a text in
+    which a line feed ends each."""
 
     first: int
     lines: List[Text]
@@ -40,7 +44,8 @@ class Piece(NamedTuple):
 
 
 class Asking(Generic[Value]):
-    """How a piece is asked: in a first part that may run in a thread of its own, and in a second one that gives the answers."""
+    """How a piece is asked: in a first part that may run in a thread of its own, and in a second
+    one that gives the answers."""
 
     def __init__(self, ask: Callable[[Piece], Any], told: Callable[[Piece, Any], Iterable[Value]]) -> None:
         self.ask, self.told = ask, told
@@ -114,8 +119,8 @@ class _Taking:
         return piece
 
     def _most(self) -> int:
-        """Returns how many lines come next at most. If it is known how many there are, those that are left are shared by the threads, so that
-        none works long at the last piece alone."""
+        """Returns how many lines come next at most. If it is known how many there are, those that are left are shared
+        by the threads, so that none works long at the last piece alone."""
         left = self._count - self._next + 1
         return min(self._size, max(self._least, left // (2 * self._threads))) if self._count else self._size
 
@@ -128,7 +133,8 @@ class _Taking:
         return text if text.count(b"\n") == len(lines) else self._joined(lines)
 
     def _joined(self, lines: List[Text]) -> bytes:
-        """Returns lines of any form as one text. In place of a line feed in one comes a zero byte, which is no move either."""
+        """Returns lines of any form as one text. In place of a line feed in one comes a zero
+        byte, which is no move either."""
         parts: List[bytes] = []
         for line in lines:
             try:
@@ -150,8 +156,8 @@ class _Taking:
             self._is_told, self._least = True, max(1, int(len(piece.lines) * _WORTH / seconds))
 
     def ahead(self) -> int:
-        """Returns how many pieces are asked before the first one's answers are taken. Until it is told how many lines they may have, that is one
-        for each thread."""
+        """Returns how many pieces are asked before the first one's answers are taken. Until it is told how many lines
+        they may have, that is one for each thread."""
         return 4 * self._threads + 1 if self._is_told else self._threads
 
     def rest(self) -> None:
@@ -183,8 +189,8 @@ def _by_threads(lines: Iterable[Text], each: Iterator[Text], asking: Asking[Valu
 
 def one_by_one(lines: Iterable[Text], ask: Callable[[int, bytes], Value], threads: int,
                progress: Optional[Progress]) -> Iterator[Value]:
-    """Returns an iterator of the answers to lines, each of which is taken when its answer is asked for: so they come by one thread. Several
-    take pieces. A line is asked by its number, from 1, and its bytes."""
+    """Returns an iterator of the answers to lines, each of which is taken when its answer is asked for: so they come by
+    one thread. Several take pieces. A line is asked by its number, from 1, and its bytes."""
     each = each_of(lines, "the lines")
     if number_of(threads, "threads", _MOST_THREADS, 1) == 1:
         telling = _Telling(lines, progress)
@@ -263,8 +269,9 @@ class _Asked(Generic[Value]):
 
 
 def _side_by_side(taking: _Taking, asking: Asking[Value], telling: _Telling, threads: int) -> Iterator[Value]:
-    """Yields the answers to lines, of which so many pieces are asked at the same time, in the order of the lines. This thread is one of those that
-    ask: with one more than processors, two would share a processor while another one rests."""
+    """Yields the answers to lines, of which so many pieces are asked at the same time, in the order of
+    the lines. This thread is one of those that ask: with one more than processors, two would share a
+    processor while another one rests."""
     # nobody else waits for this module to be read
     from concurrent.futures import ThreadPoolExecutor
     asked: Deque[_Asked[Value]] = deque()

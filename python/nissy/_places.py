@@ -43,7 +43,8 @@ _places: Dict[str, Place] = {name: Place(name) for name in steps()}
 
 
 def _renew_locks() -> None:
-    """Makes new locks in a forked child, where nobody is left to open one that another thread held. Tables that are whole stay."""
+    """Makes new locks in a forked child, where nobody is left to open one that another thread held.
+    Tables that are whole stay."""
     for place in _places.values():
         place.lock = threading.RLock()
 

@@ -15,7 +15,8 @@ _kept: List[Room] = []
 
 
 class Room:
-    """Memory of so many bytes. The system gives a page of it when that is first written to, so a large one costs what stands in it."""
+    """Memory of so many bytes. The system gives a page of it when that is first written to, so a large
+    one costs what stands in it."""
 
     __slots__ = ("size", "memory", "address")
 
@@ -30,8 +31,8 @@ class Room:
 
 
 def take() -> Room:
-    """Returns an ordinary room for one call, which no other call has until it is put back: neither one of another thread, nor one that a
-    signal handler makes meanwhile."""
+    """Returns an ordinary room for one call, which no other call has until it is put back: neither one of another
+    thread, nor one that a signal handler makes meanwhile."""
     try:
         return _kept.pop()
     except IndexError:
@@ -45,8 +46,8 @@ def put_back(room: Room) -> None:
 
 
 def larger(room: Room) -> Room:
-    """Returns a room for an output that this one was too small for: eight times as large, so that little is written twice, or half of that
-    and so on, as the system grants it. A large room that was too small is given back before."""
+    """Returns a room for an output that this one was too small for: eight times as large, so that little is written
+    twice, or half of that and so on, as the system grants it. A large room that was too small is given back before."""
     size, granted = room.size * _GROWTH, room.size
     if room.size > ORDINARY:
         del room.memory

@@ -15,7 +15,8 @@ _MOST_SCRAMBLES = 10_000
 _MOST_ROOM = 2**63 - 1
 # what writes solutions, of which there can be any number
 _SEARCHES = (b"solve\0", b"near\0")
-# of an input of so many bytes no other command but `scramble` writes more than an ordinary room holds: 106 bytes for each line
+# of an input of so many bytes no other command but `scramble` writes more than an ordinary room
+# holds: 106 bytes for each line
 _SHORT = 8192
 
 
@@ -43,7 +44,8 @@ class _Run:
 
 
 def _answer(words: bytes, data: bytes) -> Answer:
-    """Returns the answer of a run that has room enough: an ordinary room, or a larger one if the output may well need it."""
+    """Returns the answer of a run that has room enough: an ordinary room, or a larger one if
+    the output may well need it."""
     room = _rooms.take()
     if not words.startswith(_SEARCHES) and len(data) <= _SHORT:
         answer = _Run(room, words, data).answer()
@@ -62,9 +64,10 @@ def _answer(words: bytes, data: bytes) -> Answer:
 def run(words: Iterable[Text], data: Text = b"", room: Optional[int] = None) -> Answer:
     """Does what the program does with these words after its name and `data` as its input.
 
-    A word or an input that is a string is read as UTF-8. If the room is too small for the output, the run is made again with eight times as
-    much. With `room` the run is made once, with room for so many bytes, and `full` says whether these were too few. Raises MemoryError if
-    there is no room for the output. If there is none for the words or tables, the status is STOPPED, as the program's.
+    A word or an input that is a string is read as UTF-8. If the room is too small for the output, the run is made again
+    with eight times as much. With `room` the run is made once, with room for so many bytes, and `full` says whether
+    these were too few. Raises MemoryError if there is no room for the output. If there is none for the words or tables,
+    the status is STOPPED, as the program's.
     """
     joined, given = _joined(words), bytes_of(data, "the input")
     if room is None:
@@ -73,8 +76,8 @@ def run(words: Iterable[Text], data: Text = b"", room: Optional[int] = None) -> 
 
 
 def scrambles(state: int, stream: int, length: int, count: int) -> List[str]:
-    """`count` scrambles of `length` turns each, at most 10,000, all by the generator that begins with this state and stream, as the program
-    makes them. These are random moves, not random states."""
+    """`count` scrambles of `length` turns each, at most 10,000, all by the generator that begins with this state and
+    stream, as the program makes them. These are random moves, not random states."""
     numbers = (*drawing(state, stream, length), number_of(count, "the count", _MOST_SCRAMBLES))
     answer = run(["scramble", *map(str, numbers)])
     if answer.status != DONE:

@@ -14,8 +14,8 @@ from ._places import place_of
 from ._values import Count, Cut, Fault, Solution, Solutions, StartFault
 
 MOST_TURNS = 20
-# A piece of solutions that are asked for one after another has so many at most, and is found by looks at so many positions or fewer, if it has
-# any: that takes some milliseconds, and in between Python hears of signals.
+# A piece of solutions that are asked for one after another has so many at most, and is found by looks at so many
+# positions or fewer, if it has any: that takes some milliseconds, and in between Python hears of signals.
 _MOST_OF_PIECE, _NODES_OF_PIECE = 4096, 1 << 20
 # what stands behind a solution of each length
 _ENDS = ("(0)\n", *(f" ({length})\n" for length in range(1, MOST_TURNS + 1)))
@@ -30,10 +30,11 @@ _Numbers = Tuple[int, int, int, int]
 class Tables:
     """The tables of a step, for searches of many lines.
 
-    They are built when they are first needed in a process, once for each step, whoever asks, and stay in its memory until it ends: 0.1
-    million bytes for an edge orientation, 1.2 million for a domino reduction, and as much for each axis of a step that has several; some 15
-    million for all thirteen steps. So there is nothing to close, and nothing can be given back: a cache that dropped some would build them
-    again beside the old ones. Any threads may ask at the same time.
+    They are built when they are first needed in a process, once for each step, whoever asks, and stay in its
+    memory until it ends: 0.1 million bytes for an edge orientation, 1.2 million for a domino reduction, and as
+    much for each axis of a step that has several; some 15 million for all thirteen steps. So there is nothing to
+    close, and nothing can be given back: a cache that dropped some would build them again beside the old ones. Any
+    threads may ask at the same time.
     """
 
     __slots__ = ("_step", "_kept", "_tables")
@@ -56,20 +57,21 @@ class Tables:
         """What a copy is made of: tables stay in their process, and another one builds its own."""
         return type(self), (self.step,)
 
-    def solve(self, line: Text, limit: int = 20, slack: int = 0, most: Optional[int] = None, nodes: Optional[int] = None,
-              partial: bool = False) -> Solutions:
+    def solve(self, line: Text, limit: int = 20, slack: int = 0, most: Optional[int] = None,
+              nodes: Optional[int] = None, partial: bool = False) -> Solutions:
         """The solutions of a line, as the function `solve` returns them."""
         return self._solve(_numbers(limit, slack, most, nodes), partial, bytes_of(line, "the line"))
 
     def solutions(self, line: Text, limit: int = 20, slack: int = 0) -> Iterator[Solution]:
         """The solutions of a line one after another, as the function `solutions` returns them."""
         data = bytes_of(line, "the line")
-        pieces = self._pieces(number_of(limit, "the limit", MOST_TURNS), number_of(slack, "the slack", MOST_TURNS), data)
+        most_turns, longer = number_of(limit, "the limit", MOST_TURNS), number_of(slack, "the slack", MOST_TURNS)
+        pieces = self._pieces(most_turns, longer, data)
         # the first piece tells what is wrong with the line
         return chain.from_iterable(chain((next(pieces),), pieces))
 
-    def count(self, line: Text, limit: int = 20, slack: int = 0, most: Optional[int] = None, nodes: Optional[int] = None,
-              partial: bool = False) -> Count:
+    def count(self, line: Text, limit: int = 20, slack: int = 0, most: Optional[int] = None,
+              nodes: Optional[int] = None, partial: bool = False) -> Count:
         """How many solutions a line has, as the function `count` returns it."""
         numbers, data = _numbers(limit, slack, most, nodes), bytes_of(line, "the line")
         answer = _library.nissy_count(self._tables, data, len(data), *numbers)
@@ -124,7 +126,8 @@ class Tables:
 
         def ask(piece: Piece) -> bytes:
             room, size = _rooms.take(), SEARCH_ANSWER.size * len(piece.lines)
-            _library.nissy_count_lines(self._tables, piece.text, len(piece.text), *numbers, room.address, len(piece.lines))
+            _library.nissy_count_lines(
+                self._tables, piece.text, len(piece.text), *numbers, room.address, len(piece.lines))
             told = room.memory[:size]
             _rooms.put_back(room)
             return told
@@ -166,13 +169,15 @@ class Tables:
             last = found[-1] if found else last
 
     def _behind(self, last: Optional[Solution], numbers: _Numbers, data: bytes) -> Solutions:
-        """Returns the solutions of a line behind one of them, or from the first on: no more than an ordinary room holds."""
+        """Returns the solutions of a line behind one of them, or from the first on: no more
+        than an ordinary room holds."""
         room = _rooms.take()
         if last is None:
             answer = _library.nissy_solve(self._tables, data, len(data), *numbers, room.address, room.size)
         else:
             after = last.encode()
-            answer = _library.nissy_solve_after(self._tables, data, len(data), after, len(after), *numbers, room.address, room.size)
+            answer = _library.nissy_solve_after(
+                self._tables, data, len(data), after, len(after), *numbers, room.address, room.size)
         out = room.memory[:answer.length]
         _rooms.put_back(room)
         if answer.status and answer.status != CUT:
@@ -190,9 +195,10 @@ class Tables:
         # of most pieces: no line of Python is run for a count
         if told[::size].count(DONE) == len(found) and 0 not in found:
             return map(new, repeat(Count), zip(told[_LEAST::size], found, words[_NODES::size // 8], repeat(False)))
+        answers = enumerate(SEARCH_ANSWER.iter_unpack(told))
         return [new(Count, (least if found else None, found, nodes, False)) if not status
                 else self._not_counted(partial, piece, at, (status, fault, least, column, found, nodes))
-                for at, (status, fault, least, _, column, _, found, nodes) in enumerate(SEARCH_ANSWER.iter_unpack(told))]
+                for at, (status, fault, least, _, column, _, found, nodes) in answers]
 
     def _not_counted(self, partial: bool, piece: Piece, at: int, told: Tuple[int, ...]) -> Union[Count, Fault, Cut]:
         """Returns what is told of a line that wasn't counted to the end."""
@@ -212,7 +218,8 @@ class Tables:
 
 
 def _solutions(text: str, length: int) -> Solutions:
-    """Returns the solutions of a text in which each stands on a line with its length in brackets. The first ones have this length."""
+    """Returns the solutions of a text in which each stands on a line with its length in brackets. The
+    first ones have this length."""
     if not text:
         return Solutions()
     # all of a length are cut at once: line by line that takes twice the time
@@ -228,7 +235,8 @@ def _solutions(text: str, length: int) -> Solutions:
 
 
 def _numbers(limit: int, slack: int, most: Optional[int], nodes: Optional[int]) -> _Numbers:
-    """Returns the numbers of a search, checked. The library's own greatest number stands for all solutions, and for any number of nodes."""
+    """Returns the numbers of a search, checked. The library's own greatest number stands for all solutions,
+    and for any number of nodes."""
     return (number_of(limit, "the limit", MOST_TURNS), number_of(slack, "the slack", MOST_TURNS),
             MOST_WORD if most is None else number_of(most, "most", MOST_WORD),
             MOST_WORD if nodes is None else number_of(nodes, "nodes", MOST_WORD))
@@ -246,33 +254,35 @@ def _tables(step: Step) -> Tables:
         return _last.setdefault(tables.step, tables)
 
 
-def solve(step: Step, line: Text, limit: int = 20, slack: int = 0, most: Optional[int] = None, nodes: Optional[int] = None,
-          partial: bool = False) -> Solutions:
-    """The solutions of a line: those that have at most `limit` turns and at most `slack` more than the shortest, by length and then in turn
-    order, as `nissy near` writes them (`nissy solve` with slack 0). With `most` no more than so many of them, and the search ends there.
-    With `nodes` the search looks at no more than so many positions: if it would look at more, Cut is raised, or with `partial` what was
-    found until then is returned. Raises LineFault, StartFault and Cut.
+def solve(step: Step, line: Text, limit: int = 20, slack: int = 0, most: Optional[int] = None,
+          nodes: Optional[int] = None, partial: bool = False) -> Solutions:
+    """The solutions of a line: those that have at most `limit` turns and at most `slack` more than the shortest, by
+    length and then in turn order, as `nissy near` writes them (`nissy solve` with slack 0). With `most` no more
+    than so many of them, and the search ends there. With `nodes` the search looks at no more than so many
+    positions: if it would look at more, Cut is raised, or with `partial` what was found until then is returned.
+    Raises LineFault, StartFault and Cut.
     """
     return _tables(step).solve(line, limit, slack, most, nodes, partial)
 
 
 def near(step: Step, line: Text, limit: int, slack: int, most: Optional[int] = None, nodes: Optional[int] = None,
          partial: bool = False) -> Solutions:
-    """The solutions of a line up to `slack` turns longer than the shortest: `solve` by another name, which is the program's."""
+    """The solutions of a line up to `slack` turns longer than the shortest: `solve` by another
+    name, which is the program's."""
     return _tables(step).solve(line, limit, slack, most, nodes, partial)
 
 
 def solutions(step: Step, line: Text, *, limit: int = 20, slack: int = 0) -> Iterator[Solution]:
-    """The solutions of a line one after another, those of `solve` in the same order. The library is asked for them in pieces, so millions of
-    them take no memory, and Ctrl-C is heard. Raises LineFault and StartFault as it is called."""
+    """The solutions of a line one after another, those of `solve` in the same order. The library is asked for them in
+    pieces, so millions of them take no memory, and Ctrl-C is heard. Raises LineFault and StartFault as it is called."""
     return _tables(step).solutions(line, limit, slack)
 
 
-def count(step: Step, line: Text, limit: int = 20, slack: int = 0, most: Optional[int] = None, nodes: Optional[int] = None,
-          partial: bool = False) -> Count:
-    """How many solutions `solve` returns of a line, of which length the shortest are, and how many positions the search looks at. With
-    `most=1` it ends at the first one, and so tells the length soonest. Takes `nodes` and `partial` as `solve` does. Raises LineFault,
-    StartFault and Cut."""
+def count(step: Step, line: Text, limit: int = 20, slack: int = 0, most: Optional[int] = None,
+          nodes: Optional[int] = None, partial: bool = False) -> Count:
+    """How many solutions `solve` returns of a line, of which length the shortest are, and how many positions the search
+    looks at. With `most=1` it ends at the first one, and so tells the length soonest. Takes `nodes` and `partial` as
+    `solve` does. Raises LineFault, StartFault and Cut."""
     return _tables(step).count(line, limit, slack, most, nodes, partial)
 
 
@@ -291,10 +301,10 @@ def solve_all(step: Step, lines: Iterable[Text], limit: int = 20, slack: int = 0
 def solve_all(step: Step, lines: Iterable[Text], limit: int = 20, slack: int = 0, most: Optional[int] = None,
               nodes: Optional[int] = None, partial: bool = False, threads: int = 1,
               progress: Optional[Progress] = None) -> Iterator[Union[Solutions, Fault, Cut]]:
-    """The solutions of each line in turn, as `solve` returns them; of a line for which `solve` raises, what it raises, with the line's
-    number, from 1, as `line` (`raising` raises it). A line is taken from the iterable when its answer is asked for. With `threads` so many
-    lines are asked side by side, and more are taken ahead; the answers come in the same order. `progress` is called as by
-    `count_all`."""
+    """The solutions of each line in turn, as `solve` returns them; of a line for which `solve` raises, what it raises,
+    with the line's number, from 1, as `line` (`raising` raises it). A line is taken from the iterable when its answer
+    is asked for. With `threads` so many lines are asked side by side, and more are taken ahead; the answers come in the
+    same order. `progress` is called as by `count_all`."""
     return _tables(step).solve_all(lines, limit, slack, most, nodes, partial, threads, progress)
 
 
@@ -313,9 +323,10 @@ def count_all(step: Step, lines: Iterable[Text], limit: int = 20, slack: int = 0
 def count_all(step: Step, lines: Iterable[Text], limit: int = 20, slack: int = 0, most: Optional[int] = None,
               nodes: Optional[int] = None, partial: bool = False, threads: int = 1,
               progress: Optional[Progress] = None) -> Iterator[Union[Count, Fault, Cut]]:
-    """How many solutions each line has in turn, as `count` returns it; of a line for which `count` raises, what it raises, with the line's
-    number, from 1, as `line` (`raising` raises it). Lines are taken from the iterable in pieces, the first of one line and later ones of up
-    to 16,384, which the library counts in one call each. With `threads` so many pieces are counted side by side; the answers come in
-    the same order. `progress` is called between pieces, in the thread that takes the answers, with how many lines are done, and
-    of how many, None until that is known; what it raises ends the call."""
+    """How many solutions each line has in turn, as `count` returns it; of a line for which `count` raises, what it
+    raises, with the line's number, from 1, as `line` (`raising` raises it). Lines are taken from the iterable in
+    pieces, the first of one line and later ones of up to 16,384, which the library counts in one call each. With
+    `threads` so many pieces are counted side by side; the answers come in the same order. `progress` is called between
+    pieces, in the thread that takes the answers, with how many lines are done, and of how many, None until that is
+    known; what it raises ends the call."""
     return _tables(step).count_all(lines, limit, slack, most, nodes, partial, threads, progress)

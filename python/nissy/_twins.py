@@ -1,5 +1,5 @@
-"""Solutions of one step that are nearly the same: twins, which differ in the direction of their last quarter turns alone, and longer ones, which
-go on after the step was reached."""
+"""Solutions of one step that are nearly the same: twins, which differ in the direction of their last quarter turns
+alone, and longer ones, which go on after the step was reached."""
 from __future__ import annotations
 
 import re
@@ -14,7 +14,8 @@ FACES: Dict[str, str] = {"fb": "FB", "rl": "RL", "ud": "UD"}
 
 
 def _last_axis(step: Step) -> str:
-    """Returns the axis whose quarter turns end a step's solutions: that of an orientation, and the third one of a reduction."""
+    """Returns the axis whose quarter turns end a step's solutions: that of an orientation, and
+    the third one of a reduction."""
     others = {step[2:4], step[-2:]} if "-" in step else set(FACES) - {step[2:4]}
     return next(axis for axis in FACES if axis not in others)
 
@@ -42,8 +43,8 @@ def grouped(solutions: Iterable[Solution], step: Step) -> List[List[Solution]]:
 
 
 def _beginnings(moves: str, least: int) -> Iterator[str]:
-    """Returns the shorter beginnings of a solution that have at least so many turns. Of two turns of opposite faces, which may change
-    places, each may come first."""
+    """Returns the shorter beginnings of a solution that have at least so many turns. Of two turns of opposite faces,
+    which may change places, each may come first."""
     turns = moves.split(" ")
     for count in range(len(turns) - 1, least - 1, -1):
         yield " ".join(turns[:count])
@@ -52,6 +53,7 @@ def _beginnings(moves: str, least: int) -> Iterator[str]:
 
 
 def longer_among(solutions: Sequence[Solution]) -> Set[Solution]:
-    """Returns those of a step's solutions, which are all up to some length, in which it is reached before their last turn."""
+    """Returns those of a step's solutions, which are all up to some length, in which it is
+    reached before their last turn."""
     known, least = set(solutions), solutions[0].length if solutions else 0
     return {moves for moves in solutions if moves.length > least and not known.isdisjoint(_beginnings(moves, least))}

@@ -1,4 +1,5 @@
-"""What the calls return and raise. Types stand here as they are and not as texts, for those who ask a class of the package for them."""
+"""What the calls return and raise. Types stand here as they are and not as texts, for those who ask a
+class of the package for them."""
 from dataclasses import dataclass
 from typing import Any, Iterable, Iterator, List, NamedTuple, Optional, Tuple, TypeVar, Union
 
@@ -47,15 +48,17 @@ class Count(NamedTuple):
     nodes: int
     """How many positions the search looked at."""
     cut: bool = False
-    """Whether the search ended at its bound: then there may be more solutions, and if `length` is None, it isn't known."""
+    """Whether the search ended at its bound: then there may be more solutions, and if
+    `length` is None, it isn't known."""
 
     def __repr__(self) -> str:
-        return f"Count(length={self.length}, solutions={self.solutions}, nodes={self.nodes}{', cut=True' if self.cut else ''})"
+        cut = ", cut=True" if self.cut else ""
+        return f"Count(length={self.length}, solutions={self.solutions}, nodes={self.nodes}{cut})"
 
 
 class Fault(ValueError):
-    """What is wrong with a line: `text`. If it is one of many lines, `line` is its number, from 1. A LineFault or a StartFault; neither, if
-    the line has too many bytes."""
+    """What is wrong with a line: `text`. If it is one of many lines, `line` is its number, from 1. A LineFault or a
+    StartFault; neither, if the line has too many bytes."""
 
     def __init__(self, text: str, line: Optional[int] = None) -> None:
         super().__init__(text)
@@ -66,14 +69,14 @@ class Fault(ValueError):
         return f"{_place(self.line, ': ')}{self.text}"
 
     def __reduce__(self) -> Tuple[Any, ...]:
-        """What a copy is made of, as for another process: an exception is made again of its message, if nothing else is said. With it go
-        its attributes, among which are notes of others."""
+        """What a copy is made of, as for another process: an exception is made again of its message, if nothing else is
+        said. With it go its attributes, among which are notes of others."""
         return type(self), (self.text, self.line), self.__dict__
 
 
 class LineFault(Fault):
-    """A line that spells no moves: `column`, in bytes of UTF-8 from 1, `character`, the same in characters, and `text`, what is wrong
-    there. If it is one of many lines, `line` is its number, from 1."""
+    """A line that spells no moves: `column`, in bytes of UTF-8 from 1, `character`, the same in characters, and `text`,
+    what is wrong there. If it is one of many lines, `line` is its number, from 1."""
 
     def __init__(self, column: int, text: str, line: Optional[int] = None, character: Optional[int] = None) -> None:
         super().__init__(text, line)
@@ -89,8 +92,8 @@ class LineFault(Fault):
 
 
 class StartFault(Fault):
-    """A line on whose cube a step may not start: `step`, `start`, the step that would have to hold, and `text`, which says so. If it is one
-    of many lines, `line` is its number, from 1."""
+    """A line on whose cube a step may not start: `step`, `start`, the step that would have to hold, and `text`, which
+    says so. If it is one of many lines, `line` is its number, from 1."""
 
     def __init__(self, step: str, start: str, text: str, line: Optional[int] = None) -> None:
         super().__init__(text, line)
@@ -103,8 +106,8 @@ class StartFault(Fault):
 
 
 class Cut(RuntimeError):
-    """A search that would look at more positions than it may: `count`, what it found until then, and of a search that writes them the
-    `solutions`, a beginning of the list. If it is one of many lines, `line` is its number, from 1."""
+    """A search that would look at more positions than it may: `count`, what it found until then, and of a search that
+    writes them the `solutions`, a beginning of the list. If it is one of many lines, `line` is its number, from 1."""
 
     def __init__(self, count: Count, solutions: Iterable[Solution] = (), line: Optional[int] = None) -> None:
         super().__init__(count)
@@ -121,7 +124,8 @@ class Cut(RuntimeError):
 
 
 def raising(answers: Iterable[Union[Value, Fault, Cut]]) -> Iterator[Value]:
-    """The answers to many lines, such as those of `count_all`; the first fault or cut among them is raised, and ends them."""
+    """The answers to many lines, such as those of `count_all`; the first fault or cut among
+    them is raised, and ends them."""
     for answer in answers:
         if isinstance(answer, (Fault, Cut)):
             raise answer

@@ -1,5 +1,5 @@
-"""A cube on both sides, and the ways from it to a reduction: how many moves there are in all, once those of a step are merged with those that
-were made before them on the same side."""
+"""A cube on both sides, and the ways from it to a reduction: how many moves there are in all, once those of a step are
+merged with those that were made before them on the same side."""
 from __future__ import annotations
 
 import re
@@ -27,7 +27,8 @@ class Wanted(NamedTuple):
 
 
 class Searches:
-    """The searches of a call: how many positions they may look at together, any number if it is None, and who is told how far the call is."""
+    """The searches of a call: how many positions they may look at together, any number if it is None, and who
+    is told how far the call is."""
 
     __slots__ = ("_looked", "_nodes", "_told", "_done", "_all", "are_cut")
 
@@ -75,8 +76,8 @@ class Searches:
         return found
 
     def _first_counts(self, step: Step, limit: int, lines: List[str]) -> Iterator[Count]:
-        """Returns the counts of lines up to their first solutions. With a bound each is asked for by itself, since the next one may look at what
-        it leaves."""
+        """Returns the counts of lines up to their first solutions. With a bound each is asked for by itself, since the
+        next one may look at what it leaves."""
         if self._nodes is None:
             return raising(count_all(step, lines, limit, most=1))
         return map(self._first_of(Tables(step), limit), lines)
@@ -121,8 +122,8 @@ class Cube(NamedTuple):
 
 
 class Start(NamedTuple):
-    """The cube after a scramble and the moves so far, and what the faces are called for whoever holds it as these moves leave it: on the
-    normal side alone, since those on the inverse side come before all rotations."""
+    """The cube after a scramble and the moves so far, and what the faces are called for whoever holds it as these moves
+    leave it: on the normal side alone, since those on the inverse side come before all rotations."""
 
     cube: Cube
     names: Dict[int, str]
@@ -145,12 +146,13 @@ def turns_of(line: str) -> int:
 def _home(line: str) -> Tuple[str, str]:
     """Returns a line's face turns, clean and named by the centres, and the rotation that is left behind them."""
     moves = cleanup(line).split()
-    return " ".join(move for move in moves if move[0] not in "xyz"), " ".join(move for move in moves if move[0] in "xyz")
+    turns = " ".join(move for move in moves if move[0] not in "xyz")
+    return turns, " ".join(move for move in moves if move[0] in "xyz")
 
 
 def read(scramble: str, so_far: str) -> Start:
-    """Returns where a search begins after a scramble and the moves so far, both of which spell moves. Moves on the inverse side come before
-    the scramble, inverted. Raises LineFault if they are too many together."""
+    """Returns where a search begins after a scramble and the moves so far, both of which spell moves. Moves on the
+    inverse side come before the scramble, inverted. Raises LineFault if they are too many together."""
     # inside brackets is each second part
     parts = re.split("[()]", so_far)
     before = invert(" ".join(parts[1::2]))
@@ -162,8 +164,8 @@ def read(scramble: str, so_far: str) -> Start:
 
 
 def _most_saved(made: str, step: Step) -> int:
-    """Returns how many moves a reduction can save at most since its first turns merge with the last ones that are made on its side, or take
-    them back."""
+    """Returns how many moves a reduction can save at most since its first turns merge with the last ones that are made
+    on its side, or take them back."""
     halves, turns, saved = FACES[step[-2:]], made.split(), 0
     while turns:
         faces = next(faces for faces in FACES.values() if turns[-1][0] in faces)
@@ -189,7 +191,8 @@ def bounds_of(every: Sequence[Bounds]) -> Bounds:
 
 
 class Sought(NamedTuple):
-    """A line on which a reduction is looked for, how many moves are made before it, and how many it can save at most."""
+    """A line on which a reduction is looked for, how many moves are made before it, and
+    how many it can save at most."""
 
     line: str
     made: int
@@ -207,8 +210,8 @@ class Sought(NamedTuple):
 
 
 def sought_on(before: Cube, after: Cube, side: int, step: Step) -> Sought:
-    """Returns on what a reduction is looked for after an orientation on a side. If it merges with the orientation alone, a twin of that
-    or a shorter one has it without that, so this isn't looked at."""
+    """Returns on what a reduction is looked for after an orientation on a side. If it merges with the orientation
+    alone, a twin of that or a shorter one has it without that, so this isn't looked at."""
     saved = _most_saved(after.made[side], step) if before.made[side] else 0
     return Sought(after.lines[side], after.count_made(), saved)
 

@@ -20,7 +20,7 @@ from prose import below, names_of_files, prose
 from tally import Tally
 
 PAGES = ("*.md", "docs/*.md", "bench/*.md", "web/*/*.md", "python/*.md", "portable/*.md")
-# most lines that README may have, and most columns that any page may
+# most lines that README may have, and most columns that any page and the package in Python may
 MOST_LINES = 100
 MOST_COLUMNS = 120
 # pages of which each name of code in backquotes must be there, and pages of which each path must
@@ -130,11 +130,16 @@ def files_that_are_named(tally: Tally, code: Code) -> None:
 
 
 def lengths(tally: Tally, code: Code) -> None:
-    """No file of code is too long to be read at once."""
-    counted = {path: len(text.splitlines()) for path, text in code.files.items() if path.endswith(OF_CODE)}
+    """No file of code is too long to be read at once, nor a line of the package in Python."""
+    counted = {path: text.splitlines() for path, text in code.files.items() if path.endswith(OF_CODE)}
     tally.holds("there is code", counted)
     for path, lines in counted.items():
-        tally.holds(f"{path} has at most {MOST_LINES_OF_CODE} lines: {lines}", lines <= MOST_LINES_OF_CODE)
+        tally.holds(f"{path} has at most {MOST_LINES_OF_CODE} lines: {len(lines)}", len(lines) <= MOST_LINES_OF_CODE)
+    package = [path for path in counted if path.startswith("python/nissy/")]
+    tally.holds("the package in Python has files", package)
+    for path in package:
+        longer = [number for number, line in enumerate(counted[path], 1) if len(line) > MOST_COLUMNS]
+        tally.equal(f"{path}: its lines of more than {MOST_COLUMNS} columns", longer, [])
 
 
 def map_of_crates(code: Code) -> list[str]:
