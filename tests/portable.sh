@@ -98,16 +98,13 @@ for trial in "calls few" facts fuzz "threads 0 10"; do
     holds "$name.c is linked with nissy.c" linked gcc sanitized "$name" "${sanitized[@]:2}"
     add "$room/sanitized.$name" "${words[@]}"
 done
-by_others() { # NAME COMPILER [RUNNER]: each number of an answer, by a processor of another width or byte order
-    local name
-    [ -e "$room/$1.o" ] || return
-    for name in calls facts; do
-        holds "$name.c is linked with it for $1" linked "$2" "$1" "$name" -static
-        add "${@:3}" "$room/$1.$name" few
-    done
+by_other() { # TEST NAME COMPILER [RUNNER]: each number of an answer, by a processor of another width or byte order
+    [ -e "$room/$2.o" ] || return
+    holds "$1.c is linked with it for $2" linked "$3" "$2" "$1" -static
+    add "${@:4}" "$room/$2.$1" few
 }
-by_others i686 i686-linux-gnu-gcc
-missing qemu-s390x || by_others s390x s390x-linux-gnu-gcc qemu-s390x
+for name in calls facts; do by_other $name i686 i686-linux-gnu-gcc; done
+missing qemu-s390x || by_other facts s390x s390x-linux-gnu-gcc qemu-s390x
 holds "threads.c is linked with it for races" linked gcc raced threads -fsanitize=thread
 add "$room/raced.threads" 0 5
 in_c_plus_plus() { # the headers in C++ over it

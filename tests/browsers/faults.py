@@ -22,7 +22,7 @@ LINES = (("R q", "q", NO_MOVE.format("q")), ("R U\u2019 F2 ?", "?", NO_MOVE.form
     ("R Abracadabrasimsalabim", "A", NO_MOVE.format("Abracadabras\u2026")))
 # text as solvers write it, the line that is read of it, and what is said to be left out
 PASTED = (("R\u00a0U\u2009F2", "R U F2", ""), ("R\u200b U\u200b2\ufeff", "R U2", "Left out: signs that aren't seen."),
-    ("R\u2032 U\u00b4 F` D\u2019 L\u2018", "R' U' F' D' L'", ""), ("R, U', F2", "R U' F2", "Left out: commas."),
+    ("R\u2032 U\u00b4 F` D\u2019 L\u2018", "R' U' F' D' L'", ""), ("R, U'; F2", "R U' F2", "Left out: commas."),
     ("1. R U F2", "R U F2", "Left out: line numbers."), ("3) R U F2 // the third", "R U F2", "Left out: comments, line numbers."),
     ("Scramble: R U F2", "R U F2", "Left out: the word Scramble."), ("EO: R U F2", "R U F2", "Left out: labels."),
     ("Final solution : R U F2", "R U F2", "Left out: labels."), ("R U // up\nF2", "R U F2", "Left out: comments."))

@@ -7,7 +7,7 @@ import { Engine } from "../../web/module/engine.js";
 import { CORNER_PLACES, EDGE_PLACES, Nissy, stickersOf } from "../../web/module/nissy.js";
 import { mergeTwins, withoutEarlier } from "../../web/module/twins.js";
 import { madeBy, totalsWith } from "../../web/module/ways.js";
-import { ended, moduleBytes, same } from "./tally.mjs";
+import { ended, moduleBytes, same, thrown } from "./tally.mjs";
 
 const OPPOSITE = { U: "D", D: "U", R: "L", L: "R", F: "B", B: "F" };
 const QUARTERS = { "": 1, 2: 2, "'": 3 };
@@ -135,6 +135,7 @@ const letters = nissy.facelets("");
 const pieces = [...EDGE_PLACES, ...CORNER_PLACES];
 same("the stickers of pieces", pieces.map((name) => stickersOf([name]).map((place) => letters[place]).join("")), pieces);
 same("no place is that of two", new Set(stickersOf(pieces)).size, 48);
+same("those of no piece", await thrown(() => stickersOf(["UQ"])), ["RangeError", "no place is called UQ"]);
 for (const scramble of [20261127, 20261128, 20261129].map((seed) => nissy.scramble(seed, 1, 25))) {
   const turned = [{ side: "normal", moves: "R U2 D" }, { side: "inverse", moves: "F B2" }];
   for (const parts of [[], turned, [{ side: "normal", moves: "R R" }, { side: "inverse", moves: "L' D" }]]) tryRows(scramble, parts);
