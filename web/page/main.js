@@ -10,10 +10,13 @@ import { offerCover } from "./rows.js";
 import { offerThemes, placeHelp } from "./view.js";
 
 const newWorker = workersOf(part("worker-script").textContent);
-const packed = Uint8Array.from(atob(part("engine-module").textContent.trim()), (sign) => sign.charCodeAt(0));
 
 /** The bytes of the module. */
 async function unpacked() {
+  const text = atob(part("engine-module").textContent.trim());
+  const packed = new Uint8Array(text.length);
+  // a call for each byte would take as long as all the rest here
+  for (let at = 0; at < packed.length; at += 1) packed[at] = text.charCodeAt(at);
   const bytes = new Blob([packed]).stream().pipeThrough(new DecompressionStream("gzip"));
   return new Uint8Array(await new Response(bytes).arrayBuffer());
 }

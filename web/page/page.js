@@ -14,7 +14,7 @@ import { Seen, WayBack, dropAddress, keepPlace, placeIn, writeState } from "./pl
 import { refreshRows } from "./rows.js";
 import { ScrambleField } from "./scramble.js";
 import { SolutionList } from "./solutions.js";
-import { ORIENTATIONS, REDUCTIONS, bracketed, isReduced, stateOf, stepNamed } from "./steps.js";
+import { ORIENTATIONS, bracketed, isReduced, reductionOf, stateOf, stepNamed } from "./steps.js";
 import { StepTable, cubeWithOffers } from "./table.js";
 import {
   awaitAnswer, isBare, keepInView, listenToKeys, setUsable, showBeginning, showStart, star,
@@ -63,7 +63,10 @@ export class Page {
       isSeen: (added, next) => this.#seen.has(this.#state.scramble, [...this.#state.parts, ...added], next),
     };
     this.#kept = new KeptCandidates(this.#keptCalls, {
-      goOn: (parts, next) => this.#goOnKept(parts, next && { ...next, slack: 0, isAll: false }),
+      goOn: (parts, next) => {
+        const list = next && { ...next, slack: 0, isAll: false };
+        this.#change({ parts, list }, { focusNext: list ? "list" : "table" });
+      },
       change: (kept) => this.#change({ kept }),
     });
     const list = newCalls();
@@ -160,7 +163,7 @@ export class Page {
     this.#table.mark(this.#state.list);
     this.#showList();
     if ("kept" in change) this.#showKept();
-    else this.#line.markKept(this.#kept.has(this.#state.parts, this.#next()));
+    else this.#line.markKept(this.#kept.has(this.#state.parts, reductionOf(this.#state.list)));
   }
 
   /** @param {string} scramble @param {import("./scramble.js").ScrambleChange} change */
@@ -325,17 +328,14 @@ export class Page {
     const { kept, parts } = this.#state;
     this.#kept.show(kept);
     refreshRows(part("choices"));
-    this.#line.markKept(this.#kept.has(parts, this.#next()));
+    this.#line.markKept(this.#kept.has(parts, reductionOf(this.#state.list)));
     if (kept.length > 0 && this.#cube) this.#kept.describe(this.#cube.scramble, this.#cube.written);
   }
-
-  /** The reduction that is gone on to, whose list is open, or "". */
-  #next = () => REDUCTIONS.find(({ name }) => name === this.#state.list?.step)?.name ?? "";
 
   /** Keeps the line so far, with the reduction that is gone on to, or takes it away. */
   #starLine() {
     const { parts } = this.#state;
-    if (parts.length > 0) this.#kept.star(this.#state, part("keep-line"), parts, this.#next());
+    if (parts.length > 0) this.#kept.star(this.#state, part("keep-line"), parts, reductionOf(this.#state.list));
   }
 
   /** @param {string} step @param {Part["side"]} side of the list, which is opened, or closed if it is open */
@@ -377,11 +377,6 @@ export class Page {
     this.#seen.add(this.#state, [taken], key, next.step);
     const list = { step: next.step, side: next.side, slack: 0, isAll: false };
     this.#change({ parts: [...parts, taken], side: next.side, list }, { focusNext: "list" });
-  }
-
-  /** @param {Part[]} parts a line that was kept @param {import("./address.js").List | null} list of its reduction */
-  #goOnKept(parts, list) {
-    this.#change({ parts, list }, { focusNext: list ? "list" : "table" });
   }
 
   /** @param {Error} fault why there is no answer */

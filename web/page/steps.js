@@ -46,6 +46,9 @@ export const inGroups = (steps) => [false, true]
  * @param {readonly import("../module/steps.js").Step[]} held */
 export const offeredAmong = (held) => held.filter((name) => stepNamed(name));
 
+/** @param {{step: string} | null} list that is open @returns {string} the reduction that is gone on to, or "" */
+export const reductionOf = (list) => REDUCTIONS.find(({ name }) => name === list?.step)?.name ?? "";
+
 /** @param {string[]} reached the names of steps @returns what is reached, each state once */
 export const statesOf = (reached) => [...new Set(reached.map((name) => stateOf(stepNamed(name))))];
 
