@@ -185,8 +185,9 @@ public:
     std::vector<continuation> rows() {
         for (candidate &one : open_) {
             const int total = one.least <= enough() ? total_of(by_, one) : NEVER;
+            if (total == NEVER) continue;
             const axis_facts seen = facts(one.cubes[0].lines[NORMAL]).axes[one.step.axis];
-            if (total < NEVER) best_.push_back({std::move(one), total, seen, std::nullopt});
+            best_.push_back({std::move(one), total, seen, std::nullopt});
         }
         open_.clear();
         std::stable_sort(best_.begin(), best_.end(), [](const judged &one, const judged &other) { return one.rank() < other.rank(); });
@@ -211,7 +212,8 @@ private:
 // How many groups of twins are tried at first, and at most, before their rows are known.
 constexpr std::size_t FIRST_BATCH = 8, MOST_BATCH = 256;
 
-// The best orientations, each with a reduction: as long as they may be cut, of those that were tried until then.
+// Finds the best orientations, each with a reduction. If the searches may be cut, `rows` are those of the orientations that were tried before they
+// are all.
 inline void find_oriented(searches &by, const start &from, const best_search &which, std::vector<continuation> &rows) {
     best_until_now best(by, from, which.most);
     std::list<std::vector<twins>> found;
@@ -281,7 +283,8 @@ inline std::vector<continuation> best_of(std::vector<ranked> all, std::uint64_t 
     return rows;
 }
 
-// The best reductions after orientations that hold: as long as they may be cut, those of the steps that were tried until then.
+// Finds the best reductions after orientations that hold. If the searches may be cut, `rows` are those of the steps that were tried before they
+// are all.
 inline void find_reduced(searches &by, const start &from, const std::vector<axis_step> &steps, const best_search &which,
                          std::vector<continuation> &rows) {
     std::vector<ranked> found;
