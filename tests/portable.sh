@@ -89,7 +89,8 @@ add python3 tests/hosts/drawn.py "$program" 1 0.01 "${slow[@]}"
 # the library's tests over the file, in place of the library
 linked() { # COMPILER NAME TEST WORD..: the test of this name with the file as it was compiled
     # shellcheck disable=SC2046 # no word or one
-    "$1" -std=c11 -O1 -g1 "${@:4}" -pthread $(wraps "$3") -Iinclude -Itests/library -I"$room/rows" -o "$room/$2.$3" "tests/library/$3.c" "$room/$2.o"
+    "$1" -std=c11 -O1 -g1 "${@:4}" -pthread $(wraps "$3") -Iinclude -Itests/library -I"$room/rows" -o "$room/$2.$3" \
+        "tests/library/$3.c" "$room/$2.o"
 }
 rows_in_c "$room/rows"
 for trial in "calls few" facts fuzz "threads 0 10"; do

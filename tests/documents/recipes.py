@@ -107,8 +107,9 @@ def run_by(shell: str, examples: list[Example], environment: dict[str, str]) -> 
             place.write_text(NOT_REACHED)
         script.write_text("".join(f"{begin}\n{it.command}\n{end} > {place} 2>&1\n" for it, place in zip(examples, places)))
         try:
-            stray = subprocess.run([shell, script], cwd=home, env=environment | {"HOME": str(home)}, check=False, timeout=SECONDS,
-                                   stdin=subprocess.DEVNULL, stdout=subprocess.PIPE, stderr=subprocess.STDOUT).stdout
+            stray = subprocess.run([shell, script], cwd=home, env=environment | {"HOME": str(home)}, check=False,
+                                   stdin=subprocess.DEVNULL, stdout=subprocess.PIPE, stderr=subprocess.STDOUT,
+                                   timeout=SECONDS).stdout
         except subprocess.TimeoutExpired as late:
             stray = late.stdout or b""
         sys.stdout.write(stray.decode(errors="replace"))

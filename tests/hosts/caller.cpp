@@ -78,9 +78,10 @@ std::string seen(std::string_view line) {
         const auto count = [](const auto &places) { return static_cast<int>(places.count()); };
         if (count(it.bad_edge_places) != it.bad_edges || count(it.bad_corner_places) != it.bad_corners) return "other numbers";
         if (count(it.misplaced_edge_places) != it.misplaced_edges) return "another number";
-        if (it.dr_case() != std::to_string(it.bad_corners) + "c" + std::to_string(it.misplaced_edges) + "e") return "another case";
-        axes += " " + joined(nissy::edge_names(it.bad_edge_places)) + "/" + joined(nissy::corner_names(it.bad_corner_places)) + "/" +
-                joined(nissy::edge_names(it.misplaced_edge_places));
+        const std::string wanted = std::to_string(it.bad_corners) + "c" + std::to_string(it.misplaced_edges) + "e";
+        if (it.dr_case() != wanted) return "another case";
+        axes += " " + joined(nissy::edge_names(it.bad_edge_places)) + "/";
+        axes += joined(nissy::corner_names(it.bad_corner_places)) + "/" + joined(nissy::edge_names(it.misplaced_edge_places));
     }
     return std::to_string(facts.solved) + " " + std::to_string(facts.moves) + " " + std::to_string(facts.clean_moves) + " " +
            joined(facts.holds()) + axes;

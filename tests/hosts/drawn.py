@@ -4,9 +4,9 @@
     tests/hosts/drawn.py PROGRAM SEED SCALE HOST..
 
 A host is `python` by the library of NISSY_LIBRARY, `c++=CALLER` of caller.cpp, `js=MODULE`, or another program as `program=COMMAND`. The draws are
-those by which the program is compared with the model (tests/model/against.py), files of many lines, and lines that are judged; hosts with calls have
-the rows of tests/runs.tsv and tests/calls.tsv too. A run is made with room that grows and with room of a drawn size, and then by a call for each line
-of its input.
+those by which the program is compared with the model (tests/model/against.py), files of many lines, and lines that are
+judged; hosts with calls have the rows of tests/runs.tsv and tests/calls.tsv too. A run is made with room that grows and
+with room of a drawn size, and then by a call for each line of its input.
 """
 import random
 import re
@@ -200,8 +200,8 @@ def of_model(call: str, lines: list[bytes]) -> str:
 
 def drawn_line(draw: Drawing) -> bytes:
     """A line that is judged, damaged now and then."""
-    line = (draw.line(draw.choice([4, 15, 30])) if draw.random() < 0.9 else draw.started_from_solved(HALF_TURNS, 12)).encode()
-    return draw.damaged(line) if draw.random() < 0.15 else line
+    line = draw.line(draw.choice([4, 15, 30])) if draw.random() < 0.9 else draw.started_from_solved(HALF_TURNS, 12)
+    return draw.damaged(line.encode()) if draw.random() < 0.15 else line.encode()
 
 
 def judged(trial: BesideHosts, draw: Drawing, count: int) -> None:
@@ -211,8 +211,8 @@ def judged(trial: BesideHosts, draw: Drawing, count: int) -> None:
     for line in chain(listed_lines(), (drawn_line(draw) for _ in range(count))):
         undone = model.run(["invert"], last + b"\n")[0].rstrip(b"\n") or last
         # the last of the checks may solve
-        asked = [(call, [line]) for call in ("facts", "tokens", "form_places")] + [("check", [last, line]), ("check", [last, undone])]
-        for call, lines in asked:
+        asked = [(call, [line]) for call in ("facts", "tokens", "form_places")]
+        for call, lines in [*asked, ("check", [last, line]), ("check", [last, undone])]:
             wanted = of_model(call, lines)
             if call == "facts" and not wanted.startswith("fault"):
                 trial.counts["facts, %d steps" % len(wanted.split(" ")[3].replace(",", " ").split())] += 1

@@ -1,4 +1,5 @@
-/* The calls that judge lines, and those on many lines: the rows of tests/calls.tsv, faults, and texts of lines. What is longest is tried from Python. */
+/* The calls that judge lines, and those on many lines: the rows of tests/calls.tsv, faults, and texts of lines. What is
+   longest is tried from Python. */
 #include "searches.h"
 
 #include "nissy_forms.h"

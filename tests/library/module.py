@@ -46,8 +46,8 @@ def runs(tally: Tally) -> None:
         answer = nissy.run(words, data)
         tally.equal(f"run of {words}", (answer.status, answer.out, answer.err, answer.full), wanted + (False,))
     most = b" " * nissy.MOST_INPUT
-    told = (nissy.invert(most), nissy.count("eofb", most).solutions, nissy.facts(most).solved, nissy.check(most, most).solved)
-    tally.equal("a line of 16,777,216 blanks is read", told, ("", 1, True, True))
+    tally.equal("16,777,216 blanks are read", (nissy.invert(most), nissy.count("eofb", most).solutions), ("", 1))
+    tally.holds("and judged", nissy.facts(most).solved and nissy.check(most, most).solved)
     tally.holds("a word with a zero byte is a ValueError", raised(ValueError, lambda: nissy.run(["invert", "R\0U"])))
     tally.holds("an answer can't be changed", raised(dataclasses.FrozenInstanceError, lambda: setattr(nissy.run(["steps"]), "status", 1)))
 
@@ -289,4 +289,5 @@ def large_output(tally: Tally) -> None:
 
 
 if __name__ == "__main__":
-    tried(runs, names, classes, liars, copies, iterables, many, progress, rooms, *([large_output] if "large" in sys.argv[1:] else []))
+    further = [large_output] if "large" in sys.argv[1:] else []
+    tried(runs, names, classes, liars, copies, iterables, many, progress, rooms, *further)

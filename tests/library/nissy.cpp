@@ -125,7 +125,7 @@ void misuse_is_thrown() {
     throw_each<std::length_error>("16,777,217 blanks", {[&] { nissy::invert(blanks); }, [&] { tables.solve(blanks); }, [&] { tables.count(blanks); },
                                                         [&] { nissy::check("R", blanks); }, [&] { nissy::facts(blanks); }, [&] { nissy::best(blanks); },
                                                         [&] { nissy::facts_all(blanks)[0].value(); }});
-    holds(nissy::facts_all(blanks + "\nR").at(1).value().moves == 1, "which ends nothing", "16,777,217 blanks, and another line");
+    holds(nissy::facts_all(blanks + "\nR").at(1).value().moves == 1, "another line behind them", "16,777,217 blanks");
 }
 
 // Each line of a text has a value, or throws what the call on it alone throws.

@@ -1,4 +1,5 @@
-/* Searches with what they are to write, and lines that can't be read: those of tests/calls.tsv, which `rows_in_c` of tests/shared writes as C. */
+/* Searches with what they are to write, and lines that can't be read: those of tests/calls.tsv, which `rows_in_c` of
+   tests/shared writes as C. */
 #ifndef SEARCHES_H
 #define SEARCHES_H
 

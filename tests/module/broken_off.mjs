@@ -91,7 +91,8 @@ export async function tryTraps(nissy) {
       return false;
     }
   };
-  for (const call of [() => nissy.count("eofb", "R U F"), () => nissy.run(["count", "eofb", "20"], "R U F\n")]) tryDeepCalls(call, isRight);
+  tryDeepCalls(() => nissy.count("eofb", "R U F"), isRight);
+  tryDeepCalls(() => nissy.run(["count", "eofb", "20"], "R U F\n"), isRight);
   for (const [what, code] of [
     ["a search", 'nissy.count("eo", "R U F2 L D R B", { slack: 12 })'],
     ["a run", 'nissy.run(["near", "eo", "20", "6"], "R U F2 L D R B\\n")'],

@@ -6,8 +6,8 @@ import { fingerprint, same, thrown } from "./tally.mjs";
 import { DETACHED, WRONG } from "./values.mjs";
 
 // the steps, each with what must hold before it
-const CALLS = readFileSync(new URL("../calls.tsv", import.meta.url), "latin1").split("\n").map((row) => row.split("\t"));
-const STARTS = CALLS.flatMap(([kind, step, start]) => (kind === "step" ? [[step, start]] : []));
+const CALLS = readFileSync(new URL("../calls.tsv", import.meta.url), "latin1").split("\n");
+const STARTS = CALLS.filter((row) => row.startsWith("step\t")).map((row) => row.split("\t").slice(1));
 export const F_OR_ITS_INVERSE = [{ moves: "F", length: 1 }, { moves: "F'", length: 1 }];
 
 // what a row shows, the call with what it is given, and what is wanted
@@ -216,8 +216,11 @@ const NO_OPTIONS = [["null", null], ["a number", 20], ["a text", "20"], ["a func
 const WITHOUT = (...kinds) => WRONG.filter(([, value]) => !kinds.includes(typeof value));
 
 // what is no array of words, though some would do as one
-const NO_WORDS = [["nothing", undefined], ["null", null], ["a text", "invert"], ["a number", 1], ["a truth value", true], ["a function", () => ["invert"]],
-  ["words by their places", { length: 1, 0: "invert" }], ["a set", new Set(["invert"])], ["bytes", Uint8Array.of(0x52)]];
+const NO_WORDS = [
+  ["nothing", undefined], ["null", null], ["a text", "invert"], ["a number", 1], ["a truth value", true],
+  ["a function", () => ["invert"]], ["words by their places", { length: 1, 0: "invert" }],
+  ["a set", new Set(["invert"])], ["bytes", Uint8Array.of(0x52)],
+];
 
 /** What each place of a call is called, how it is filled, and which values it doesn't take, with the words that refuse them. */
 const PLACES = [

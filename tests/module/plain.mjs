@@ -1,4 +1,5 @@
-// What the module, called as web/module/ABI.md says and without its scripts, does with rooms: those of runs, and those in which it builds.
+// What the module, called as web/module/ABI.md says and without its scripts, does with rooms: those of runs, and those in
+// which it builds.
 import { ended, moduleBytes as module, same, text } from "./tally.mjs";
 
 const USAGE = "usage: nissy COMMAND [ARGUMENTS]\n";

@@ -53,11 +53,13 @@ function tryRows(nissy) {
 async function tryRefusals(nissy) {
   same("a word with a zero byte", await thrown(() => nissy.run(["invert", "R\0U"])), ["RangeError", "a word holds a zero byte"]);
   // some reach the end of what an address of the module can name, or would begin again at its start
-  for (const room of [-1, 1.5, Number.NaN, 2 ** 32 - 1, 2 ** 32, 2 ** 32 + 64, 2 ** 33, 2 ** 40, 2 ** 45, 2 ** 50, 2 ** 53 - 1, 2 ** 53]) {
+  const far = [2 ** 32 - 1, 2 ** 32, 2 ** 32 + 64, 2 ** 33, 2 ** 40, 2 ** 45, 2 ** 50, 2 ** 53 - 1, 2 ** 53];
+  for (const room of [-1, 1.5, Number.NaN, ...far]) {
     same(`a room of ${room} bytes`, (await thrown(() => nissy.run(["steps"], "", room)))[0], "RangeError");
   }
   for (const room of [null, "14", 14n, {}, [14], true]) {
-    same(`no room, but ${typeof room}`, await thrown(() => nissy.run(["steps"], "", room)), ["TypeError", "the room is no number"]);
+    const refused = await thrown(() => nissy.run(["steps"], "", room));
+    same(`no room, but ${typeof room}`, refused, ["TypeError", "the room is no number"]);
   }
   same("a run after these", text(nissy.run(["invert", "R"]).out), "R'\n");
   same("bytes that are no module", (await thrown(() => Nissy.load(module.subarray(1))))[0], "CompileError");

@@ -1,4 +1,5 @@
-// What the trials of this folder share: counts of what was seen, and the module with its memory. `node tests/module/rows.mjs MODULE` runs one.
+// What the trials of this folder share: counts of what was seen, and the module with its memory. One is run by `node
+// tests/module/rows.mjs MODULE`.
 import { deepStrictEqual } from "node:assert";
 import { createHash } from "node:crypto";
 import { readFileSync } from "node:fs";
