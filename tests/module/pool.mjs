@@ -178,6 +178,11 @@ async function tryAhead() {
   same("by the end of their worker", workers.map(({ isEnded }) => isEnded), [true, false]);
   workers[1].answer(1);
   same("another one has what waited", (await later).map(({ text }) => text), ["here"]);
+  const first = thrown(() => pool.factsAll(Array.from({ length: LINES }, () => "R")));
+  await has();
+  workers[1].answer(1);
+  same("a fault in the first piece", await first, ["NissyFault", "line 1, column 1: here"]);
+  same("ends no worker: nothing is sent behind it", [workers[1].sent.length, ...workers.map(({ isEnded }) => isEnded)], [0, true, false]);
 }
 
 /** The best continuations, an axis a worker. */

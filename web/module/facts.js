@@ -53,10 +53,12 @@ export const FORMS = /** @type {const} */ (["slices", "lower-case", "brackets", 
  */
 
 /**
- * What the module says of a cube, in so many numbers: 1 if it is solved, the moves, the clean moves, a mask of the
- * steps that it has reached, and for each axis masks of its bad edges, bad corners and misplaced edges.
+ * What the module says of a cube, in numbers: 1 if it is solved, the moves, the clean moves, a mask of the steps that
+ * it has reached, and for each axis masks of its bad edges, bad corners and misplaced edges.
  * @typedef {{status: 0, numbers: number[]}} SeenFacts
  */
+
+/** How many numbers these are. */
 export const FACTS_NUMBERS = 13;
 
 /**

@@ -15,12 +15,11 @@ const MOST_LINES = 4_096;
  * A piece that takes fewer milliseconds has more lines follow, one that takes more half as many: so a worker seldom
  * waits for the next one, and none long for the last one of another.
  */
-const SHORT = 5;
-const LONG = 20;
+const SHORT = 10;
+const LONG = 40;
 
-/** So many times as many lines follow at most, and by how few milliseconds that is told at least. */
-const GROWTH = 16;
-const LEAST = 0.01;
+/** So many times as many lines follow at most. */
+const GROWTH = 4;
 
 /** So many quick lines are worth a piece; of those that are left each worker gets so many pieces or more. */
 const QUICK_LINES = 64;
@@ -90,33 +89,31 @@ export class Pieces {
   }
 
   /**
-   * Has the next pieces be longer or shorter, by how many milliseconds a worker took for one. Several that were as long
-   * make it so once.
+   * Learns from a worker's reply to a piece how many lines the next ones have, and whether any are wanted. Several that
+   * were as long make the next ones shorter once.
    * @param {number} at
-   * @param {number} milliseconds
+   * @param {PieceReply} reply
    */
-  took(at, milliseconds) {
+  hear(at, { others, milliseconds }) {
+    if (others.some(([, reply]) => endsAll(this.#request, reply))) this.#wanted = Math.min(this.#wanted, at + 1);
     const lines = this.#endOf(at) - this.#begins[at];
     this.#isQuick = milliseconds <= LONG;
     if (milliseconds > LONG) this.#size = Math.min(this.#size, Math.max(1, Math.floor(lines / 2)));
     if (milliseconds >= SHORT) return;
-    const growth = Math.min(GROWTH, Math.max(2, Math.floor(SHORT / Math.max(milliseconds, LEAST))));
+    const growth = GROWTH * milliseconds < SHORT ? GROWTH : 2;
     this.#size = Math.max(this.#size, Math.min(MOST_LINES, growth * lines));
     this.#least = QUICK_LINES;
   }
 
   /**
-   * Takes a worker's reply to a piece.
+   * Takes what a worker's reply to a piece tells.
    * @param {number} at
    * @param {PieceReply} reply
    */
   take(at, { values, others }) {
     const begin = this.#begins[at];
     if (values !== null) putValues(this.#told, begin, values);
-    for (const [place, reply] of others) {
-      if (endsAll(this.#request, reply)) this.#wanted = Math.min(this.#wanted, at + 1);
-      this.#told[begin + place] = this.#read(reply, begin + place);
-    }
+    for (const [place, reply] of others) this.#told[begin + place] = this.#read(reply, begin + place);
     this.#done += this.#endOf(at) - begin;
     this.#isTold[at] = true;
     while (this.#isTold[this.#known]) this.#known += 1;

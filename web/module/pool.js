@@ -93,7 +93,7 @@ function workOn(queue, pieces, { signal, tell, whole, failed }) {
   };
   const took = (/** @type {number} */ at) => (/** @type {PieceReply} */ reply) => {
     asked -= 1;
-    pieces.took(at, reply.milliseconds);
+    pieces.hear(at, reply);
     // the worker goes on while the reply is read
     ask();
     pieces.take(at, reply);
