@@ -5,14 +5,15 @@ use Rattle.std.specs.Prelude.{is_err, OnOk, IfErr}
 use Rattle.std.proofs.lemmas.List.{length-take-le}
 use Rattle.niss_moves.specs.Places.{Place}
 use Rattle.niss_search.specs.Budgets.{is_cut_in, HasSpent}
-use Rattle.niss_search.specs.Delivery.{WentThrough, StoppedIn, WentInto, EndedIn}
+use Rattle.niss_search.specs.LookNumbers.{found_within_of, look_number_of}
+use Rattle.niss_search.specs.Delivery.{WentThrough, StoppedAt, StoppedIn, WentInto, EndedIn}
 use Rattle.niss_search.specs.Laws.{FirstIsLeast}
 use Rattle.niss_search.specs.declared.budget.Stopped.TheVariants as ending
 use Rattle.niss_shell.specs.Names.{Turn, Step}
 use Rattle.niss_embed.specs.LineSearch.{CountState, count_state, Counts, CountsNoMore, CountsCube, capped, is_cut, all_found, looks_for_all}
 use Rattle.niss_embed.specs.declared.line_search.CountedSolutions.{CountedSolutions}
 use Rattle.niss_embed.specs.declared.line_search.Wanted.{Wanted}
-use Rattle.niss_embed.proofs.SolveLemmas.{finds_all, finds_some, finds_cut, told_of, Found, at_most_min, min_is_left, min_is_right}
+use Rattle.niss_embed.proofs.SolveLemmas.{at_front, finds_all, finds_some, finds_cut, told_of, Found, at_most_min, min_is_left, min_is_right}
 use Rattle.niss_embed.proofs.WrittenLemmas.{first_of, first_of-more}
 
 abbrev pub tally_of : CountedSolutions → CountState
@@ -94,17 +95,23 @@ module _ (step : Step) (w : Wanted) (e : Place → Place) (a b : CountedSolution
     (begins : tally_of a ≡ count_state 0 w.most None) (least : FirstIsLeast) (looks : ℕ)
     (looked : OnOk r (looks ≡ looks_for_all step w e)) (at_most : looks ≤ looks_for_all step w e) (within : capped looks ≤ w.most_nodes)
     (cut : IfErr r (λ stop. is_cut_in stop ≡ true → w.most_nodes < looks_for_all step w e))
-    (spent : HasSpent is_cut_in w.most_nodes step (capped looks) r) where
+    (spent : HasSpent is_cut_in w.most_nodes step (capped looks) r)
+    (found : IfErr r (λ stop. is_cut_in stop ≡ true → WentThrough CountsPath a (found_within_of step e w.limit w.slack looks) b))
+    (few : IfErr r (λ stop. is_cut_in stop ≡ true → capped looks ≡ looks))
+    (stopped : IfErr r (λ stop. is_cut_in stop ≡ false → StoppedAt CountsPath RefusesMore (look_number_of step e) a (all_found step w e) b looks)) where
   pub counts : CountsCube step w e (told_of (is_cut r) false (is_err r) b.first 0 b.solutions (capped looks))
-  counts = by_result r ok err looked cut spent where
+  counts = by_result r ok err looked cut spent found few stopped where
     all : List (List Turn)
     all = all_found step w e
 
     by_result : (r : Found) → OnOk r (WentThrough CountsPath a all b) → IfErr r (λ stop. EndedIn CountsPath RefusesMore (is_cut_in stop) a all b)
         → OnOk r (looks ≡ looks_for_all step w e) → IfErr r (λ stop. is_cut_in stop ≡ true → w.most_nodes < looks_for_all step w e)
         → HasSpent is_cut_in w.most_nodes step (capped looks) r
+        → IfErr r (λ stop. is_cut_in stop ≡ true → WentThrough CountsPath a (found_within_of step e w.limit w.slack looks) b)
+        → IfErr r (λ stop. is_cut_in stop ≡ true → capped looks ≡ looks)
+        → IfErr r (λ stop. is_cut_in stop ≡ false → StoppedAt CountsPath RefusesMore (look_number_of step e) a all b looks)
         → CountsCube step w e (told_of (is_cut r) false (is_err r) b.first 0 b.solutions (capped looks))
-    by_result (Ok o) h k looked cut spent =
+    by_result (Ok o) h k looked cut spent found few stopped =
         let t : Tallied all (count_state 0 w.most None) (tally_of b) = subst (λ s. Tallied all s (tally_of b)) begins (went all a b h) in
         let count : b.solutions ≡ length all = omega (arith, t.counted) in
         let whole : b.solutions ≡ min w.most (length all) = count ∙ min_is_right w.most (length all) (omega (arith, count, b.few, t.same_most)) in
@@ -114,21 +121,26 @@ module _ (step : Step) (w : Wanted) (e : Place → Place) (a b : CountedSolution
           counted = λ n. (refl, whole);
           some_counted = omega (arith, whole);
         }
-    by_result (Err (ending.Refused x)) h k looked cut spent =
+    by_result (Err (ending.Refused x)) h k looked cut spent found few stopped =
         let s : Filled all (count_state 0 w.most None) (tally_of b) = subst (λ s. Filled all s (tally_of b)) begins (stop all a b k) in
         let full : b.solutions ≡ w.most = s.full ∙ s.same_most in
+        let at = stopped refl in
+        let came : Tallied at.front (count_state 0 w.most None) (tally_of at.between) = subst (λ s. Tallied at.front s (tally_of at.between)) begins (went at.front a at.between at.went) in
+        let number = at_front (look_number_of step e) all at.front at.rest at.path at.listed b.solutions (omega (arith, at.stopped.same_count, came.counted)) in
         let part : b.solutions ≡ min w.most (length all) = full ∙ min_is_left w.most (length all) (omega (arith, full, s.counted, s.within)) in
         record {
-          finds = finds_some step w e least b.first 0 b.solutions looks at_most within false (omega (arith, s.counted, s.within)) s.first;
+          finds = finds_some step w e least b.first 0 b.solutions looks at_most within false (omega (arith, s.counted, s.within)) s.first (at.at ∙ number);
           no_text = refl;
           counted = λ n. (refl, part);
           some_counted = omega (arith, part);
         }
-    by_result (Err ending.Cut) h k looked cut spent =
+    by_result (Err ending.Cut) h k looked cut spent found few stopped =
         let t : Begun all (count_state 0 w.most None) (tally_of b) = subst (λ s. Begun all s (tally_of b)) begins (into all a b k) in
         let taken : length (take t.count all) ≡ t.count = length-take-le t.count all t.within in
+        let reached : List (List Turn) = found_within_of step e w.limit w.slack looks in
+        let all_reached : Tallied reached (count_state 0 w.most None) (tally_of b) = subst (λ s. Tallied reached s (tally_of b)) begins (went reached a b (found refl)) in
         record {
-          finds = finds_cut step w e least b.first 0 b.solutions looks at_most within false t.count (omega (arith, taken, t.took.counted)) t.took.first (cut refl) (spent refl);
+          finds = finds_cut step w e least b.first 0 b.solutions looks at_most within false t.count (omega (arith, taken, t.took.counted)) t.took.first (cut refl) (spent refl) (omega (arith, all_reached.counted)) (few refl);
           no_text = refl;
           counted = λ n. absurd (n refl);
           some_counted = at_most_min b.solutions w.most (length all) (omega (arith, b.few, t.took.same_most)) (omega (arith, taken, t.took.counted, t.within));

@@ -1,18 +1,19 @@
 -- From what a search did to its lines in memory to what it answers.
 use Rattle.std.proofs.Common.{◌≡◌, ◌⊎◌, inl, inr, ℕ, zero, suc, ◌+◌, ◌<◌, ◌≤◌, min, Bool, true, false, cond, Option, None, Result, Ok, Err, List, [], ◌∷◌, ◌++◌}
 use Rattle.std.proofs.Common.{take, drop, length, length-append, refl, sym, ap, ◌∙◌, subst, arith, unwrap_or}
-use Rattle.std.specs.Prelude.{◌*◌, nat_lt, flat_map, is_err, option_map, slice_get, OnOk}
+use Rattle.std.specs.Prelude.{◌*◌, get_or, nat_lt, flat_map, is_err, option_map, slice_get, OnOk}
 use Rattle.std.proofs.Common.{◌-◌}
-use Rattle.std.proofs.lemmas.List.{take_all, length-drop, length-take-le}
+use Rattle.std.proofs.lemmas.List.{take_all, length-drop, length-take-le, get_or_at}
 use Rattle.std.proofs.lemmas.Grind.{common_steps}
 use Rattle.niss_moves.specs.Places.{Place}
-use Rattle.niss_search.specs.Delivery.{WentThrough, EndedIn}
+use Rattle.niss_search.specs.Delivery.{WentThrough, StoppedAt, EndedIn}
 use Rattle.niss_cube.specs.Steps.{turns_of}
 use Rattle.niss_search.specs.Budgets.{is_cut_in, HasSpent}
 use Rattle.niss_search.specs.declared.budget.Stopped.{Stopped as Ending}
 use Rattle.niss_search.specs.declared.budget.Stopped.TheVariants as ending
 use Rattle.niss_search.specs.Laws.{FirstIsLeast}
 use Rattle.niss_search.specs.Cubes.{least_length_of, cubes}
+use Rattle.niss_search.specs.LookNumbers.{found_within_of, look_number_of}
 use Rattle.niss_search.specs.declared.searching.Outcome.{Outcome}
 use Rattle.niss_shell.specs.Names.{Turn, Step}
 use Rattle.niss_shell.specs.Output.{solution_line}
@@ -170,6 +171,12 @@ module _ (l : Lines) where
         ended = inr (inr (refl, at_most_min l.solutions l.most (length all) (omega (arith, l.few, w.took.same_most)) (omega (arith, count, w.within))));
       }
 
+-- the number of the one that stands behind so many
+pub at_front : (number : List Turn → ℕ) (all front rest : List (List Turn)) (p : List Turn) → all ≡ front ++ p ∷ rest → (k : ℕ) → k ≡ length front
+    → number p ≡ number (get_or all k [])
+at_front number all front rest p listed k is =
+    ap number (sym (ap (λ (ps : List (List Turn)). get_or ps k []) listed ∙ get_or_at front p rest [] k (sym is)))
+
 -- the least length is that of the first solution that came
 pub first_is : (ps : List (List Turn)) → first_of None ps ≡ option_map (length {A = Turn}) (slice_get ps 0)
 first_is [] = refl
@@ -199,6 +206,10 @@ module _ (step : Step) (w : Wanted) (e : Place → Place) (least : FirstIsLeast)
   least_is : first ≡ first_of None all → unwrap_or first 0 ≡ unwrap_or (least_length_of step e w.limit) 0
   least_is h = ap (λ o. unwrap_or o 0) (h ∙ first_is all ∙ sym (least.0 _ (cubes step) e w.limit w.slack))
 
+  -- the number of the look at the first solution that was left
+  abbrev pub left_number : ℕ
+  left_number = look_number_of step e (get_or (all_found step w e) solutions [])
+
   pub finds_all : (too_small : Bool) → too_small ≡ false → solutions ≡ length all → first ≡ first_of None all → looks ≡ looks_for_all step w e
       → FindsOf step w e (told_of false too_small false first written solutions (capped looks))
   finds_all too_small works count f looked = record {
@@ -208,45 +219,51 @@ module _ (step : Step) (w : Wanted) (e : Place → Place) (least : FirstIsLeast)
     least_of_some = λ s. least_is f;
     least_of_none = λ c n. absurd (no_cut too_small c);
     looked = λ done. ap capped looked;
+    stopped = λ n m. absurd (cc m);
     looks_at_most = capped_le looks (looks_for_all step w e) at_most;
     within = within;
     cut = λ c. absurd (no_cut too_small c);
     spent = λ c. absurd (no_cut too_small c);
+    found = λ c. absurd (no_cut too_small c);
     no_fault = refl;
     no_column = refl;
   }
 
-  pub finds_some : (too_small : Bool) → solutions < length all → first ≡ first_of None all
+  pub finds_some : (too_small : Bool) → solutions < length all → first ≡ first_of None all → looks ≡ left_number
       → FindsOf step w e (told_of false too_small true first written solutions (capped looks))
-  finds_some too_small count f = record {
+  finds_some too_small count f number = record {
     more = λ n. is_less solutions (length all) count;
     maybe_more = λ c. refl;
     least = λ n. least_is f;
     least_of_some = λ s. least_is f;
     least_of_none = λ c n. absurd (no_cut too_small c);
     looked = λ done. absurd (cc done);
+    stopped = λ n m. ap capped number;
     looks_at_most = capped_le looks (looks_for_all step w e) at_most;
     within = within;
     cut = λ c. absurd (no_cut too_small c);
     spent = λ c. absurd (no_cut too_small c);
+    found = λ c. absurd (no_cut too_small c);
     no_fault = refl;
     no_column = refl;
   }
 
   pub finds_cut : (too_small : Bool) → (count : ℕ) → solutions ≡ count → first ≡ first_of None (take count all) → w.most_nodes < looks_for_all step w e
-      → w.most_nodes < capped looks + length (turns_of step)
+      → w.most_nodes < capped looks + length (turns_of step) → solutions ≡ length (found_within_of step e w.limit w.slack looks) → capped looks ≡ looks
       → FindsOf step w e (told_of true too_small true first written solutions (capped looks))
-  finds_cut too_small count is f cut spent = record {
+  finds_cut too_small count is f cut spent found few = record {
     more = λ n. absurd (n refl);
     maybe_more = λ c. refl;
     least = λ n. absurd (n refl);
     least_of_some = λ s. least_is (f ∙ first_front count all (omega (arith, s, is)));
     least_of_none = λ c n. ap (λ o. unwrap_or o 0) (f ∙ first_none count all (omega (arith, n, is)));
     looked = λ done. absurd (cc done);
+    stopped = λ n m. absurd (n refl);
     looks_at_most = capped_le looks (looks_for_all step w e) at_most;
     within = within;
     cut = λ c. cut;
     spent = λ c. spent;
+    found = λ c. found ∙ ap (λ n. length (found_within_of step e w.limit w.slack n)) (sym few);
     no_fault = refl;
     no_column = refl;
   }
@@ -272,34 +289,46 @@ module _ (step : Step) (w : Wanted) (e : Place → Place) (a b : SolutionLines) 
       → OnOk r (looks ≡ looks_for_all step w e) → looks ≤ looks_for_all step w e → capped looks ≤ w.most_nodes
       → IfErr r (λ stop. is_cut_in stop ≡ true → w.most_nodes < looks_for_all step w e)
       → HasSpent is_cut_in w.most_nodes step (capped looks) r
+      → IfErr r (λ stop. is_cut_in stop ≡ true → WentThrough TakesPath a (found_within_of step e w.limit w.slack looks) b)
+      → IfErr r (λ stop. is_cut_in stop ≡ true → capped looks ≡ looks)
+      → IfErr r (λ stop. is_cut_in stop ≡ false → StoppedAt TakesPath RefusesPath (look_number_of step e) a (all_found step w e) b looks)
       → SolvesCube step w e (memory l.before l.after) (solve_answer l (is_cut r) (is_err r) (capped looks))
-  solves l looks most p q least looked at_most within cut spent = by_result r ok err looked cut spent where
+  solves l looks most p q least looked at_most within cut spent found few stopped = by_result r ok err looked cut spent found few stopped where
     all : List (List Turn)
     all = all_found step w e
 
     by_result : (r : Found) → OnOk r (WentThrough TakesPath a all b) → IfErr r (λ stop. EndedIn TakesPath RefusesPath (is_cut_in stop) a all b)
         → OnOk r (looks ≡ looks_for_all step w e) → IfErr r (λ stop. is_cut_in stop ≡ true → w.most_nodes < looks_for_all step w e)
         → HasSpent is_cut_in w.most_nodes step (capped looks) r
+        → IfErr r (λ stop. is_cut_in stop ≡ true → WentThrough TakesPath a (found_within_of step e w.limit w.slack looks) b)
+        → IfErr r (λ stop. is_cut_in stop ≡ true → capped looks ≡ looks)
+        → IfErr r (λ stop. is_cut_in stop ≡ false → StoppedAt TakesPath RefusesPath (look_number_of step e) a all b looks)
         → SolvesCube step w e (memory l.before l.after) (solve_answer l (is_cut r) (is_err r) (capped looks))
-    by_result (Ok o) h k looked cut spent =
+    by_result (Ok o) h k looked cut spent found few stopped =
         let t : Took all (begun l) (ended l) = subst (λ s. Took all s (ended l)) p (subst (λ s. Took all (state_of a) s) q (went all a b h)) in
         record {
           hands = subst (λ m. Hands all m (memory l.before l.after) (solve_answer l false false (capped looks))) most (hands_all l all (capped looks) t);
           finds = finds_all step w e least l.first l.written l.solutions looks at_most within l.too_small t.same_room (omega (arith, t.counted)) t.first looked;
         }
-    by_result (Err (ending.Refused x)) h k looked cut spent =
+    by_result (Err (ending.Refused x)) h k looked cut spent found few stopped =
         let s : Stopped all (begun l) (ended l) = subst (λ s. Stopped all s (ended l)) p (subst (λ s. Stopped all (state_of a) s) q (stop all a b k)) in
         let taken : length (take s.count all) ≡ s.count = length-take-le s.count all (omega (arith, s.within)) in
+        let at = stopped refl in
+        let came : Took at.front (begun l) (state_of at.between) = subst (λ s. Took at.front s (state_of at.between)) p (went at.front a at.between at.went) in
+        let same : l.solutions ≡ at.between.solutions = ap (λ (s : LinesState). s.solutions) (sym q) ∙ at.stopped.same_count in
+        let number = at_front (look_number_of step e) all at.front at.rest at.path at.listed l.solutions (omega (arith, same, came.counted)) in
         record {
           hands = subst (λ m. Hands all m (memory l.before l.after) (solve_answer l false true (capped looks))) most (hands_some l all (capped looks) s);
           finds = finds_some step w e least l.first l.written l.solutions looks at_most within l.too_small
-              (omega (arith, taken, s.took.counted, s.refused.same_count, s.within)) s.first;
+              (omega (arith, taken, s.took.counted, s.refused.same_count, s.within)) s.first (at.at ∙ number);
         }
-    by_result (Err ending.Cut) h k looked cut spent =
+    by_result (Err ending.Cut) h k looked cut spent found few stopped =
         let t : Into all (begun l) (ended l) = subst (λ s. Into all s (ended l)) p (subst (λ s. Into all (state_of a) s) q (into all a b k)) in
         let taken : length (take t.count all) ≡ t.count = length-take-le t.count all t.within in
+        let reached : List (List Turn) = found_within_of step e w.limit w.slack looks in
+        let all_reached : Took reached (begun l) (ended l) = subst (λ s. Took reached s (ended l)) p (subst (λ s. Took reached (state_of a) s) q (went reached a b (found refl))) in
         record {
           hands = subst (λ m. Hands all m (memory l.before l.after) (solve_answer l true true (capped looks))) most (hands_cut l all (capped looks) t);
           finds = finds_cut step w e least l.first l.written l.solutions looks at_most within l.too_small t.count
-              (omega (arith, taken, t.took.counted)) t.took.first (cut refl) (spent refl);
+              (omega (arith, taken, t.took.counted)) t.took.first (cut refl) (spent refl) (omega (arith, all_reached.counted)) (few refl);
         }

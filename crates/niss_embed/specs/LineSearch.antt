@@ -2,7 +2,7 @@
 -- tables that are lent, and by those that a caller keeps.
 use Rattle.std.specs.Prelude.{◌≡◌, ◌≢◌, ◌⊎◌, ℕ, ◌+◌, ◌*◌, ◌<◌, ◌≤◌, min, nat_lt, Bool, true, false, unwrap_or, Result}
 use Rattle.std.specs.Prelude.{Ok, Err}
-use Rattle.std.specs.Prelude.{Option, Some, List, ◌++◌, flat_map, take, drop, length}
+use Rattle.std.specs.Prelude.{Option, Some, List, [], ◌++◌, flat_map, take, drop, length, get_or}
 use Rattle.std.specs.Option.{option_or}
 use Rattle.niss_moves.specs.Faults.{fault_column}
 use Rattle.niss_moves.specs.Places.{Place}
@@ -11,6 +11,7 @@ use Rattle.niss_cube.specs.Steps.{name_of, turns_of}
 use Rattle.niss_search.specs.Budgets.{is_cut_in}
 use Rattle.niss_search.specs.declared.budget.Stopped.{Stopped as Ending}
 use Rattle.niss_search.specs.Cubes.{least_length_of, near_solutions_of, near_looks_of}
+use Rattle.niss_search.specs.LookNumbers.{found_within_of, look_number_of}
 use Rattle.niss_shell.specs.Names.{Step, Turn}
 use Rattle.niss_shell.specs.declared.stop.LineFault.{LineFault}
 use Rattle.niss_shell.specs.declared.stop.LineFault.TheVariants.{Unread, NoStart}
@@ -168,11 +169,16 @@ pub record FindsOf (step : Step) (w : Wanted) (e : Place → Place) (told : Sear
   -- the nodes are those of the whole search if no solution is left, else at most these, and never more than it may look at
   pub looked : told.more ≡ false → told.nodes ≡ capped (looks_for_all step w e)
   pub looks_at_most : told.nodes ≤ capped (looks_for_all step w e)
+  -- or those up to the first solution that was left, unless it was cut
+  pub stopped : told.status ≢ status_number Cut → told.more ≡ true
+      → told.nodes ≡ capped (look_number_of step e (get_or (all_found step w e) told.solutions []))
   pub within : told.nodes ≤ w.most_nodes
   -- it is cut only if the whole search looks at more
   pub cut : told.status ≡ status_number Cut → w.most_nodes < looks_for_all step w e
   -- and leaves fewer of the nodes that it may look at than the step has turns
   pub spent : told.status ≡ status_number Cut → w.most_nodes < told.nodes + length (turns_of step)
+  -- and of the solutions exactly those came that its nodes reach
+  pub found : told.status ≡ status_number Cut → told.solutions ≡ length (found_within_of step e w.limit w.slack told.nodes)
   pub no_fault : told.fault ≡ 0
   pub no_column : told.column ≡ 0
 

@@ -1,11 +1,12 @@
 //! A search on one line, by tables that the caller keeps.
 ghost use Rattle.std.specs.Prelude.{◌≡◌, ◌⊎◌, ◌≤◌, ◌<◌, if◌then◌else◌, Ok, Err, None, false, true, MatchOption, MatchResult};
-ghost use Rattle.std.specs.Prelude.{length, OnOk, IfErr};
+ghost use Rattle.std.specs.Prelude.{length, OnOk, IfErr, ◌+◌, ℕ};
 ghost use Rattle.niss_moves.specs.Places.{Place};
 ghost use Rattle.niss_moves.specs.Reader.{read_line};
 ghost use Rattle.niss_search.specs.Budgets.{is_cut_in, HasSpent};
 ghost use Rattle.niss_search.specs.Cubes.{IsPosition, HasPosition, near_solutions_of, near_looks_of};
-ghost use Rattle.niss_search.specs.Delivery.{WentThrough, EndedIn, at_limit};
+ghost use Rattle.niss_search.specs.Delivery.{WentThrough, StoppedAt, EndedIn, at_limit};
+ghost use Rattle.niss_search.specs.LookNumbers.{found_within_of, look_number_of};
 ghost use Rattle.niss_shell.specs.Output.{solution_line, start_cube};
 ghost use Rattle.niss_shell.specs.Words.{most_bytes, most_limit};
 ghost use Rattle.niss_embed.specs.Memory.{memory};
@@ -191,6 +192,14 @@ fn search_at_most<K: Sink, A: Allocator>(
     ensures cut { (e : Place → Place) → HasPosition tables.now e position.now
         → IfErr result (λ stop. is_cut_in stop ≡ true
         → most_nodes < near_looks_of tables.now e bounds.limit bounds.slack) }
+    ensures found { (e : Place → Place) (made : ℕ) → HasPosition tables.now e position.now → looks.new ≡ looks.old + made
+        → IfErr result (λ stop. is_cut_in stop ≡ true → WentThrough (at_limit K.took bounds.limit)
+        sink.old (found_within_of tables.now e bounds.limit bounds.slack made) sink.new) }
+    ensures stopped { (e : Place → Place) (made : ℕ) → HasPosition tables.now e position.now → looks.new ≡ looks.old + made
+        → IfErr result (λ stop. is_cut_in stop ≡ false
+        → StoppedAt (at_limit K.took bounds.limit) (at_limit K.refused bounds.limit) (look_number_of tables.now e)
+        sink.old (near_solutions_of tables.now e bounds.limit bounds.slack) sink.new made) }
+    ensures few { IfErr result (λ stop. is_cut_in stop ≡ true → capped looks.new ≡ looks.new) }
     ensures looks { (e : Place → Place) → HasPosition tables.now e position.now
         → OnOk result (looks.new ≡ near_looks_of tables.now e bounds.limit bounds.slack) }
     ensures looks_at_most { (e : Place → Place) → HasPosition tables.now e position.now

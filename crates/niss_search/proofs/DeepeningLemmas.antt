@@ -149,7 +149,7 @@ whole-parts : {turns : List Turn} {S : Type 0} (space : Space turns S) (look : S
     → all_deepenings space look start n slack ≡ for_each (deepening space look start) (up_to (last_length (least_length space start n) n slack))
 unfolding all_looks
 whole-parts space look start n slack =
-    λ i. record { paths = solutions-up_to space start n slack i; looks = all_looks space look start n slack }
+    λ i. record { paths = solutions-up_to space start n slack i; looks = all_looks space look start n slack; events = (all_deepenings space look start n slack).events }
 
 -- The deepenings to each length below d were made, in a search for solutions of at most n turns.
 module _
@@ -167,6 +167,7 @@ module _
     done-more = λ i. record {
       paths = flat_map-range_more (reaching space start) d i;
       looks = sum_by-range_more (looks space look start) d i;
+      events = flat_map-range_more (λ k. (each k).events) d i;
     }
 
     -- one more has room
@@ -179,7 +180,7 @@ module _
         → GoesThrough took refused (done (d + 1)) (progress_at m0 0 s0) (progress_at m2 (c + e) s2)
     goes-on {m2} {e} {s2} h = rw done-more
         (Descends-then {E = Bool} (λ b. b) 0 (Ok tt) (each d) (progress_at m2 (c + e) s2) went
-        record { delivered = h.delivered; counted = omega (arith, h.counted); looked = h.looked })
+        record { delivered = h.delivered; counted = omega (arith, h.counted); looked = h.looked; along = h.along })
 
     -- or stop
     pub stops-here : d ≤ last_length (least_below space start d) n slack
@@ -194,7 +195,7 @@ module _
         rw whole
         (StopsIn-before (for_each each more)
         (Descends-then (λ b. b) bound (Err cut) (each d) (progress_at m2 0 s2) went
-        record { stopped = h.stopped; rises = h.rises; looked = h.looked; over = h.over }))
+        record { stopped = h.stopped; rises = h.rises; looked = h.looked; over = h.over; ends = h.ends }))
 
     -- until the last
     pub all-done : d ≡ last_length (least_below space start d) n slack + 1

@@ -1,7 +1,7 @@
 -- With any consistent heuristic that is 0 only at the goal, depth-first search finds exactly the solutions that the
 -- definition lists, and looks exactly where the definition of looks says.
 use Rattle.niss_search.proofs.Words.{◌≡◌, arith, length, ◌+◌, ◌<◌, ℕ, ap, ◌∙◌, sym, ◌≤◌, [], List, refl, true, ◌-◌, ◌∷◌, Bool, Turn, false}
-use Rattle.niss_search.proofs.Words.{suc, cond, range_with_len, ◌++◌, zero, may_follow, Contains, flat_map, last_turn, count_by, filter}
+use Rattle.niss_search.proofs.Words.{suc, cond, subst, reaching, range_with_len, ◌++◌, zero, may_follow, Contains, flat_map, last_turn, count_by, filter}
 use Rattle.niss_search.proofs.Words.{leb, sum_by, sum_by-cons, nat_le, looks, all_canonical, canonical_extensions, le-leb, lt-leb, add-one}
 use Rattle.niss_search.proofs.Words.{up_to, is_looked_at, Space, after_all, All-contains, All-contains_itself, All-filter, leb-true, Part}
 use Rattle.niss_search.proofs.Words.{beyond, length-append, only_looks, then_part, for_each, fold-append, leb-false, take_at, append-nil}
@@ -33,27 +33,27 @@ module _ (turns : List Turn) where
 
 module _ {turns : List Turn} {S : Type 0} (space : Space turns S) (look : S → ℕ) (start : S) where
   -- the state after a sequence, whether it is at the goal, and the look there
-  abbrev here : List Turn → S
+  abbrev pub here : List Turn → S
   here p = after_all space start p
 
   abbrev reach : List Turn → Bool
   reach p = space.reached (here p)
 
-  abbrev far : List Turn → ℕ
+  abbrev pub far : List Turn → ℕ
   far p = look (here p)
 
   -- 1 for a sequence that is looked at
-  abbrev looked : ℕ → List Turn → ℕ
+  abbrev pub looked : ℕ → List Turn → ℕ
   looked d q = cond (is_looked_at space look start d q) 1 0
 
   -- one turn more is looked at if the test passes before it
-  looked-push : (d : ℕ) (p : List Turn) (t : Turn) (b : Bool) → nat_le (far p) (d - length p) ≡ b → looked d (p ++ t ∷ []) ≡ cond b 1 0
+  pub looked-push : (d : ℕ) (p : List Turn) (t : Turn) (b : Bool) → nat_le (far p) (d - length p) ≡ b → looked d (p ++ t ∷ []) ≡ cond b 1 0
   looked-push d [] t b e = ap (λ v. cond v 1 0) e
   looked-push d (u ∷ us) t b e =
       let last : length (u ∷ us) ≡ length (us ++ t ∷ []) = omega (arith, length-append us (t ∷ [])) in
       rw (take_at (u ∷ us) (t ∷ []) (length (us ++ t ∷ [])) last, e) refl
 
-  here-push : (p : List Turn) (t : Turn) → here (p ++ t ∷ []) ≡ space.after (here p) t
+  pub here-push : (p : List Turn) (t : Turn) → here (p ++ t ∷ []) ≡ space.after (here p) t
   here-push p t = fold-append space.after start p (t ∷ [])
 
   -- the turns that may follow
@@ -110,59 +110,68 @@ module _ {turns : List Turn} {S : Type 0} (space : Space turns S) (look : S → 
 
     -- what is done below a sequence that is looked at: those with k turns more that reach, and the looks of each length
     -- more
-    abbrev done : (d k : ℕ) → List Turn → Part
-    done d k p = record { paths = reaching_in k p; looks = sum_by (λ j. looked_in d (suc j) p) (range_with_len 0 k) }
+    abbrev looks_done : (d k : ℕ) → List Turn → ℕ
+    looks_done d k p = sum_by (λ j. looked_in d (suc j) p) (range_with_len 0 k)
 
-    done_is : (d k : ℕ) (p : List Turn) → d ≡ length p + k → beyond space look (here p) p k ≡ done d k p
+    abbrev pub IsDone : (d k : ℕ) → List Turn → Part → Type 0
+    IsDone d k p part = (part.paths ≡ reaching_in k p) × (part.looks ≡ looks_done d k p)
+
+    pub done_is : (d k : ℕ) (p : List Turn) → d ≡ length p + k → IsDone d k p (beyond space look (here p) p k)
     unfolding beyond
-    done_is d zero p e = λ i. record { paths = ap (λ b. cond b (p ∷ []) []) (at_goal (here p)) i; looks = 0 }
+    done_is d zero p e = (ap (λ b. cond b (p ∷ []) []) (at_goal (here p)), refl)
     done_is d (suc k) p e = by_test (leb (far p) (suc k)) refl (λ t. done_is d k (p ++ t ∷ []) (omega (arith, length-append p (t ∷ [])))) where
       after_turn : Turn → S → Part
       after_turn t x = beyond space look x (p ++ t ∷ []) k
 
-      by_test : (b : Bool) → leb (far p) (suc k) ≡ b → ((t : Turn) → after_turn t (here (p ++ t ∷ [])) ≡ done d k (p ++ t ∷ []))
-          → cond b (for_each (λ t. then_part (only_looks 1) (after_turn t (space.after (here p) t))) (nexts p)) (only_looks 0) ≡ done d (suc k) p
-      by_test true f rest = λ i. record { paths = found i; looks = visited i } where
-        moved : (t : Turn) → after_turn t (space.after (here p) t) ≡ done d k (p ++ t ∷ [])
-        moved t = ap (after_turn t) (sym (here-push p t)) ∙ rest t
+      by_test : (b : Bool) → leb (far p) (suc k) ≡ b → ((t : Turn) → IsDone d k (p ++ t ∷ []) (after_turn t (here (p ++ t ∷ []))))
+          → IsDone d (suc k) p (cond b (for_each (λ t. then_part (only_looks 1) (after_turn t (space.after (here p) t))) (nexts p)) (only_looks 0))
+      by_test true f rest = (found, visited) where
+        moved : (t : Turn) → IsDone d k (p ++ t ∷ []) (after_turn t (space.after (here p) t))
+        moved t = subst (λ (y : S). IsDone d k (p ++ t ∷ []) (after_turn t y)) (here-push p t) (rest t)
 
         found : flat_map (λ t. (after_turn t (space.after (here p) t)).paths) (nexts p) ≡ reaching_in (suc k) p
-        found = (λ i. flat_map (λ t. (moved t i).paths) (nexts p)) ∙ sym (filter-below k p)
+        found = (λ i. flat_map (λ t. (moved t).0 i) (nexts p)) ∙ sym (filter-below k p)
 
         one_more : (t : Turn) → 1 + (after_turn t (space.after (here p) t)).looks ≡ looked_to d (suc k) (p ++ t ∷ [])
         one_more t =
             let W : ℕ → ℕ = λ j. looked_in d j (p ++ t ∷ []) in
             let passes : nat_le (far p) (d - length p) ≡ true = le-leb (far p) (d - length p) (omega (arith, leb-true (far p) (suc k) f)) in
             let one = sum_by-one (looked d) (p ++ t ∷ []) ∙ looked-push d p t true passes in
-            omega (arith, ap (λ (q : Part). q.looks) (moved t), one, sum_by-cons W 0 (range_with_len (0 + 1) k), sum_by-shift W 0 k)
+            omega (arith, (moved t).1, one, sum_by-cons W 0 (range_with_len (0 + 1) k), sum_by-shift W 0 k)
 
-        visited : sum_by (λ t. 1 + (after_turn t (space.after (here p) t)).looks) (nexts p) ≡ (done d (suc k) p).looks
+        visited : sum_by (λ t. 1 + (after_turn t (space.after (here p) t)).looks) (nexts p) ≡ looks_done d (suc k) p
         visited =
             (λ i. sum_by (λ t. one_more t i) (nexts p))
             ∙ sum_by-swap (λ t j. looked_in d j (p ++ t ∷ [])) (nexts p) (range_with_len 0 (suc k))
             ∙ (λ i. sum_by (λ j. sym (looked-below d j p) i) (range_with_len 0 (suc k)))
-      by_test false f rest = λ i. record { paths = sym (pruned (suc k) p away) i; looks = sym none i } where
+      by_test false f rest = (sym (pruned (suc k) p away), sym none) where
         away : suc k < far p
         away = leb-false (far p) (suc k) f
 
-        none : (done d (suc k) p).looks ≡ 0
+        none : looks_done d (suc k) p ≡ 0
         none = sum_by-none (λ j. looked_in d (suc j) p) (range_with_len 0 (suc k)) (λ j m. unlooked d j p (omega (arith, in-range 0 (suc k) j m)) (omega (arith, away)))
 
     -- one deepening finds the canonical sequences of its length that reach, in turn order, and makes the looks of its
     -- length
     pub deepening_is : (d : ℕ) → then_part (only_looks 1) (beyond space look start [] d) ≡ deepening space look start d
     unfolding looks
-    deepening_is d = ap (then_part (only_looks 1)) (done_is d d [] (omega arith)) ∙ (λ i. record { paths = filter reach (below-all turns d i); looks = all i }) where
+    deepening_is d = λ i. record { paths = found i; looks = all i; events = (then_part (only_looks 1) (beyond space look start [] d)).events } where
+      made : IsDone d d [] (beyond space look start [] d)
+      made = done_is d d [] (omega arith)
+
+      found : (beyond space look start [] d).paths ≡ reaching space start d
+      found = made.0 ∙ ap (filter reach) (below-all turns d)
+
       W : ℕ → ℕ
       W k = count_by (is_looked_at space look start d) (all_canonical turns k)
 
       V : ℕ → ℕ
       V k = looked_in d k []
 
-      all : 1 + (done d d []).looks ≡ sum_by W (up_to d)
+      all : 1 + (beyond space look start [] d).looks ≡ sum_by W (up_to d)
       all =
-          let first : 1 + (done d d []).looks ≡ looked_to d (suc d) [] =
-          omega (arith, sum_by-one (looked d) [], sum_by-cons V 0 (range_with_len (0 + 1) d), sum_by-shift V 0 d) in
+          let first : 1 + (beyond space look start [] d).looks ≡ looked_to d (suc d) [] =
+          omega (arith, made.1, sum_by-one (looked d) [], sum_by-cons V 0 (range_with_len (0 + 1) d), sum_by-shift V 0 d) in
           first ∙ (λ i. sum_by (λ k. sum_by (looked d) (below-all turns k i)) (range_with_len 0 (suc d))) ∙ sym (ap (λ n. sum_by W (range_with_len 0 n)) (add-one d))
 
 -- one deepening from a position

@@ -12,7 +12,7 @@ use Rattle.niss_search.proofs.LookLemmas.{filter-each, All-flat_map}
 use Rattle.niss_search.proofs.DepthFirst.{below_at-start}
 
 -- a sequence that begins with p
-abbrev BeginsWith : List Turn → List Turn → Type 0
+abbrev pub BeginsWith : List Turn → List Turn → Type 0
 BeginsWith p q = (r : List Turn) × (q ≡ p ++ r)
 
 -- Is what stands behind p in a sequence later than these turns?
@@ -59,7 +59,7 @@ place-looks t u same all h = by_tests (turn_place t == turn_place u) (nat_lt (tu
 
 module _ {turns : List Turn} {S : Type 0} (space : Space turns S) (look : S → ℕ) where
   -- the turns that may follow, and what is done after one
-  abbrev nexts : List Turn → List Turn
+  abbrev pub nexts : List Turn → List Turn
   nexts p = filter (may_follow (last_turn p)) turns
 
   abbrev below_turn : S → List Turn → ℕ → Turn → Part
@@ -68,7 +68,7 @@ module _ {turns : List Turn} {S : Type 0} (space : Space turns S) (look : S → 
   abbrev pub later_turn : S → List Turn → Turn → List Turn → Turn → Part
   later_turn x p t ts u = by_place t u (later space look (space.after x u) (p ++ u ∷ []) ts) (below_turn x p (length ts) u)
 
-  all-begin : (p : List Turn) (u : Turn) (q : List Turn) → BeginsWith (p ++ u ∷ []) q → BeginsWith p q
+  pub all-begin : (p : List Turn) (u : Turn) (q : List Turn) → BeginsWith (p ++ u ∷ []) q → BeginsWith p q
   all-begin p u q h = (u ∷ h.0, h.1 ∙ append_assoc p (u ∷ []) h.0)
 
   beyond-begins : (k : ℕ) (x : S) (p : List Turn) → All (BeginsWith p) (beyond space look x p k).paths

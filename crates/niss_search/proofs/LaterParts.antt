@@ -13,7 +13,7 @@ use Rattle.niss_search.proofs.ListLemmas.{range_with_len-append}
 use Rattle.niss_search.proofs.LookLemmas.{reaching-same, looks-same, distance-cube}
 use Rattle.niss_search.proofs.Words.{GoesThrough, StopsIn, progress_at, Ok, Err, Path, Place, at_limit, Result, IfOk, OnOk, IfErr, WentThrough}
 use Rattle.niss_search.proofs.Words.{EndedIn, Delivers, PositionsFollowCubes, HasPosition, later_of, deepening_looks_of, distance_of, cubes}
-use Rattle.niss_search.proofs.DescentParts.{for_each-cons, for_each-append, Descends-then, StopsIn-before}
+use Rattle.niss_search.proofs.DescentParts.{for_each-cons, for_each-append, Descends-then, StopsIn-before, BeginsByLook}
 use Rattle.niss_search.proofs.Bounds.{looks-sum-small, turns_of-length}
 use Rattle.niss_search.proofs.LaterLemmas.{passed, later_below, later_turn, all_later-paths, all_later-looks, later_below-looks}
 
@@ -21,15 +21,15 @@ use Rattle.niss_search.proofs.LaterLemmas.{passed, later_below, later_turn, all_
 part-assoc : (a b c : Part) → then_part (then_part a b) c ≡ then_part a (then_part b c)
 part-assoc a b c =
     let same : a.looks + b.looks + c.looks ≡ a.looks + (b.looks + c.looks) = omega arith in
-    λ i. record { paths = append_assoc a.paths b.paths c.paths i; looks = same i }
+    λ i. record { paths = append_assoc a.paths b.paths c.paths i; looks = same i; events = append_assoc a.events b.events c.events i }
 
 part-none : (a : Part) → then_part a (only_looks 0) ≡ a
-part-none a = λ i. record { paths = append-nil a.paths i; looks = add-zero a.looks i }
+part-none a = λ i. record { paths = append-nil a.paths i; looks = add-zero a.looks i; events = append-nil a.events i }
 
 none-part : (a : Part) → then_part (only_looks 0) a ≡ a
 none-part a =
     let same : 0 + a.looks ≡ a.looks = omega arith in
-    λ i. record { paths = a.paths; looks = same i }
+    λ i. record { paths = a.paths; looks = same i; events = a.events }
 
 module _ {X : Type 0} (part : X → Part) where
   for_each-one : (x : X) → for_each part (x ∷ []) ≡ part x
@@ -56,6 +56,11 @@ module _ (step : Step) (x : List GoalCoordinates) (p : List Turn) where
   unfolding later later_at
   later_at-some [] h = absurd (omega (arith, h))
   later_at-some (t ∷ ts) h = omega arith
+
+  pub later_at-begins : (ts : List Turn) → 0 < length ts → BeginsByLook (later_at step x p ts).events
+  unfolding later later_at
+  later_at-begins [] h = absurd (omega (arith, h))
+  later_at-begins (t ∷ ts) h = tt
 
   pub later_at-far : (ts : List Turn) → 0 < length ts → length ts < distance_at step x → later_at step x p ts ≡ only_looks 1
   unfolding later later_at
@@ -188,7 +193,7 @@ module _
         → GoesThrough took refused (later_below step x ts (d + 1)) (progress_at m0 0 s0) (progress_at m2 (c + e) s2)
     goes-on_later {m2} {e} {s2} h = rw (later_below-more step x ts d from)
         (Descends-then {E = Bool} (λ b. b) 0 (Ok tt) next (progress_at m2 (c + e) s2) went
-        record { delivered = h.delivered; counted = omega (arith, h.counted); looked = h.looked })
+        record { delivered = h.delivered; counted = omega (arith, h.counted); looked = h.looked; along = h.along })
 
     -- or stop
     pub stops_later : (n : ℕ) → d ≤ n → {m2 : ℕ} {s2 : K} {cut : Bool} {bound : ℕ} → StopsIn took refused next (progress_at m1 0 s1) (progress_at m2 0 s2) cut bound
@@ -197,7 +202,7 @@ module _
         rw (all_later-split step x ts n d from within)
         (StopsIn-before (for_each (deepening (positions step) (distance_at step) x) (range_with_len (d + 1) (n - d)))
         (Descends-then (λ b. b) bound (Err cut) next (progress_at m2 0 s2) went
-        record { stopped = h.stopped; rises = h.rises; looked = h.looked; over = h.over }))
+        record { stopped = h.stopped; rises = h.rises; looked = h.looked; over = h.over; ends = h.ends }))
 
 -- those of the same length
 pub starts_later : (step : Step) (x : List GoalCoordinates) (ts : List Turn) → later_below step x ts (length ts + 1) ≡ later_at step x [] ts

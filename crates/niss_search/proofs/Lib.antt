@@ -9,6 +9,9 @@ pub mod DeepeningLemmas
 pub mod LaterLemmas
 pub mod LaterParts
 pub mod OrderLemmas
+pub mod Events
+pub mod TreeOrder
+pub mod FoundLemmas
 pub mod EntryLemmas
 pub mod GoalLemmas
 pub mod FillLemmas

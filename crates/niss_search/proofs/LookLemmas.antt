@@ -203,7 +203,7 @@ All-flat_map P Q f (x ∷ xs) g h = All-append Q (f x) (flat_map f xs) (g x (All
 abbrev pub IsOver : List Turn → List Turn → Type 0
 IsOver turns s = All (Contains turns) s
 
-canonical-over : (turns : List Turn) (k : ℕ) → All (IsOver turns) (all_canonical turns k)
+pub canonical-over : (turns : List Turn) (k : ℕ) → All (IsOver turns) (all_canonical turns k)
 unfolding all_canonical
 canonical-over turns zero = All-cons (IsOver turns) [] [] (All-nil (Contains turns)) (All-nil (IsOver turns))
 canonical-over turns (suc k) =
@@ -276,7 +276,7 @@ module _ {turns : List Turn} {S T : Type 0} {IsOf : S → T → Type 0} {from : 
         λ i. flat_map (λ k. reaching-same k i) (solution_lengths (least_length-same n i) n slack)
 
     module _ (f : S → ℕ) (g : T → ℕ) (same : (s : S) (x : T) → IsOf s x → f s ≡ g x) where
-      looked-same : (d : ℕ) (p : List Turn) → IsOver turns p → is_looked_at from f s d p ≡ is_looked_at to g x d p
+      pub looked-same : (d : ℕ) (p : List Turn) → IsOver turns p → is_looked_at from f s d p ≡ is_looked_at to g x d p
       looked-same d [] over = refl
       looked-same d (t ∷ ts) over =
           let front = take (length ts) (t ∷ ts) in

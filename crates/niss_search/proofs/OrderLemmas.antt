@@ -26,10 +26,10 @@ CanonicalOrder =
 
 -- Lists of which each element stands before all later ones.
 module _ {X : Type 0} (Before : X → X → Type 0) where
-  pairs-first : (x : X) (xs : List X) → AllPairs Before (x ∷ xs) → All (Before x) xs
+  pub pairs-first : (x : X) (xs : List X) → AllPairs Before (x ∷ xs) → All (Before x) xs
   pairs-first x xs h k d lt = h 0 (suc k) d (omega arith) (omega (arith, lt))
 
-  pairs-rest : (x : X) (xs : List X) → AllPairs Before (x ∷ xs) → AllPairs Before xs
+  pub pairs-rest : (x : X) (xs : List X) → AllPairs Before (x ∷ xs) → AllPairs Before xs
   pairs-rest x xs h i j d le lt = h (suc i) (suc j) d (omega (arith, le)) (omega (arith, lt))
 
   pairs-none : AllPairs Before []
@@ -63,10 +63,10 @@ tested-pairs test (x ∷ xs) h =
     AllPairs-cons (λ x y. IsTrue (test x y)) x xs (tested-all (test x) xs (and_left _ _ h)) (tested-pairs test xs (and_right (passes_all (test x) xs) _ h))
 
 -- one turn stands before another in turn order
-abbrev comes_before : Turn → Turn → Bool
+abbrev pub comes_before : Turn → Turn → Bool
 comes_before t u = nat_lt (turn_place t) (turn_place u)
 
-turns-in_order : StepTurnsInOrder → (step : Step) → AllPairs (λ t u. IsTrue (comes_before t u)) (turns_of step)
+pub turns-in_order : StepTurnsInOrder → (step : Step) → AllPairs (λ t u. IsTrue (comes_before t u)) (turns_of step)
 turns-in_order in_order step =
     subst (λ (turns : List Turn). AllPairs (λ t u. IsTrue (comes_before t u)) turns) (sym (in_order step).1)
     (AllPairs-filter (λ t u. IsTrue (comes_before t u)) (in_order step).0 turn_order (tested-pairs comes_before turn_order refl))
@@ -80,7 +80,7 @@ unfolding is_later
 never-later [] = refl
 never-later (t ∷ ts) = rw (eq-eqb (turn_place t) (turn_place t) refl) (never-later ts)
 
-later-differs : (front : List Turn) (t u : Turn) (ts us : List Turn) → turn_place t < turn_place u
+pub later-differs : (front : List Turn) (t u : Turn) (ts us : List Turn) → turn_place t < turn_place u
     → (is_later (front ++ t ∷ ts) (front ++ u ∷ us) ≡ true) × (is_later (front ++ u ∷ us) (front ++ t ∷ ts) ≡ false)
 unfolding is_later
 later-differs [] t u ts us h = (

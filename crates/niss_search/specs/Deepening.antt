@@ -1,32 +1,42 @@
 -- What a search does by its position alone: the paths that it hands out, and how often it looks. (For the search's own
 -- functions.)
 use Rattle.std.specs.Prelude.{◌≡◌, ℕ, zero, suc, ◌+◌, ◌-◌, ◌≤◌, ◌<◌, ◌==◌, nat_le, nat_lt, Bool, true, Result, Ok, Err}
-use Rattle.std.specs.Prelude.{if◌then◌else◌, get_or, drop}
+use Rattle.std.specs.Prelude.{if◌then◌else◌, get_or, drop, map, replicate, ◌⊎◌, false, Option, None, Some}
 use Rattle.std.specs.List.{range_with_len}
 use Rattle.std.specs.Prelude.{List, [], ◌∷◌, ◌++◌, length, filter, flat_map, sum_by}
 use Rattle.niss_search.specs.Names.{Turn, Step, GoalCoordinates, no_turn}
 use Rattle.niss_moves.specs.Canonical.{may_follow, last_turn}
-use Rattle.niss_search.specs.Solutions.{Space, reaching, looks, solutions, all_looks}
+use Rattle.niss_search.specs.Solutions.{Space, reaching, looks, solutions, all_looks, up_to, last_length, least_length}
 use Rattle.niss_search.specs.Later.{turn_place}
 use Rattle.niss_search.specs.Delivery.{Path, at_limit, WentThrough, EndedIn}
 use Rattle.niss_search.specs.Positions.{positions, distance_at, position_after}
 use Rattle.niss_search.specs.declared.searching.depth_first.Descent.{Descent}
 
--- A part of a search: the paths that it hands out, and how many looks it makes.
+-- A part of a search: the paths that it hands out, how many looks it makes, and both in order: none at each look, and
+-- each path where it is handed out.
 pub record Part : Type 0 where
   pub paths : List (List Turn)
   pub looks : ℕ
+  pub events : List (Option (List Turn))
 
 -- no path, and so many looks
 abbrev pub only_looks : ℕ → Part
-only_looks n = record { paths = []; looks = n }
+only_looks n = record { paths = []; looks = n; events = replicate n None }
+
+-- no look, and these paths
+abbrev pub only_paths : List (List Turn) → Part
+only_paths ps = record { paths = ps; looks = 0; events = map Some ps }
 
 -- one part after another, and one for each of a list
 abbrev pub then_part : Part → Part → Part
-then_part a b = record { paths = a.paths ++ b.paths; looks = a.looks + b.looks }
+then_part a b = record { paths = a.paths ++ b.paths; looks = a.looks + b.looks; events = a.events ++ b.events }
 
 abbrev pub for_each : {X : Type 0} → (X → Part) → List X → Part
-for_each part xs = record { paths = flat_map (λ x. (part x).paths) xs; looks = sum_by (λ x. (part x).looks) xs }
+for_each part xs = record {
+  paths = flat_map (λ x. (part x).paths) xs;
+  looks = sum_by (λ x. (part x).looks) xs;
+  events = flat_map (λ x. (part x).events) xs;
+}
 
 -- what is done after a turn, by its place and that of another: what is due at this one, what is due after it, or nothing
 abbrev pub by_place : (t u : Turn) → (same later : Part) → Part
@@ -36,7 +46,7 @@ by_place t u same later =
 module _ {turns : List Turn} {S : Type 0} (space : Space turns S) (look : S → ℕ) where
   -- what is done below the path p at the state x with `left` turns left, once x was looked at
   unfoldable pub beyond : S → List Turn → ℕ → Part
-  beyond x p zero = record { paths = if nat_le (look x) 0 then p ∷ [] else []; looks = 0 }
+  beyond x p zero = only_paths (if nat_le (look x) 0 then p ∷ [] else [])
   beyond x p (suc left) =
       if nat_le (look x) (suc left)
       then for_each (λ t. then_part (only_looks 1) (beyond (space.after x t) (p ++ t ∷ []) left))
@@ -57,11 +67,18 @@ module _ {turns : List Turn} {S : Type 0} (space : Space turns S) (look : S → 
 
   -- the deepening to length d, and all deepenings
   abbrev pub deepening : S → ℕ → Part
-  deepening start d = record { paths = reaching space start d; looks = looks space look start d }
+  deepening start d = record {
+    paths = reaching space start d;
+    looks = looks space look start d;
+    events = None ∷ (beyond start [] d).events;
+  }
 
   abbrev pub all_deepenings : S → (n slack : ℕ) → Part
-  all_deepenings start n slack =
-      record { paths = solutions space start n slack; looks = all_looks space look start n slack }
+  all_deepenings start n slack = record {
+    paths = solutions space start n slack;
+    looks = all_looks space look start n slack;
+    events = (for_each (deepening start) (up_to (last_length (least_length space start n) n slack))).events;
+  }
 
 -- the same of a step, once a position was looked at, and with that look
 unfoldable pub beyond_at : Step → List GoalCoordinates → List Turn → ℕ → Part
@@ -98,12 +115,27 @@ pub record Progress (K : Type 0) : Type 0 where
 abbrev pub progress_at : {K : Type 0} → ℕ → ℕ → K → Progress K
 progress_at meter count sink = record { meter = meter; count = count; sink = sink }
 
+-- How the meter and the sink go through looks and paths: to the end; or up to a look before which the search was cut, or
+-- to a path that the sink refused.
+module _ {K : Type 0} (took refused : K → List Turn → K → Type 0) where
+  abbrev pub GoesAlong : List (Option (List Turn)) → ℕ → K → ℕ → K → Type 0
+  GoesAlong [] m s n t = (m ≡ n) × (s ≡ t)
+  GoesAlong (None ∷ es) m s n t = GoesAlong es (suc m) s n t
+  GoesAlong (Some p ∷ es) m s n t = (mid : K) × (took s p mid × GoesAlong es m mid n t)
+
+  abbrev pub EndsAt : Bool → List (Option (List Turn)) → ℕ → K → ℕ → K → Type 0
+  EndsAt cut [] m s n t = ⊥
+  EndsAt cut (None ∷ es) m s n t = ((cut ≡ true) × ((m ≡ n) × (s ≡ t))) ⊎ EndsAt cut es (suc m) s n t
+  EndsAt cut (Some p ∷ es) m s n t =
+      ((cut ≡ false) × ((m ≡ n) × refused s p t)) ⊎ ((mid : K) × (took s p mid × EndsAt cut es m mid n t))
+
 module _ {K : Type 0} (took refused : K → List Turn → K → Type 0) (part : Part) (old new : Progress K) where
   -- The sink took each of the paths, they were counted, and there were so many looks.
   pub record GoesThrough : Type 0 where
     pub delivered : WentThrough took old.sink part.paths new.sink
     pub counted : new.count ≡ old.count + length part.paths
     pub looked : new.meter ≡ old.meter + part.looks
+    pub along : GoesAlong took refused part.events old.meter old.sink new.meter new.sink
 
   -- The sink refused one of the paths, or the descent was cut since the part's looks pass the bound; after so many looks
   -- at most. Of the count nothing is said.
@@ -112,6 +144,7 @@ module _ {K : Type 0} (took refused : K → List Turn → K → Type 0) (part : 
     pub rises : old.meter ≤ new.meter
     pub looked : new.meter ≤ old.meter + part.looks
     pub over : cut ≡ true → bound < old.meter + part.looks
+    pub ends : EndsAt took refused cut part.events old.meter old.sink new.meter new.sink
 
   -- What a descent does that makes this part, by what it says.
   abbrev pub Descends : {E : Type 0} → (E → Bool) → ℕ → Result (Unit {0}) E → Type 0

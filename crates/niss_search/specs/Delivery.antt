@@ -1,5 +1,5 @@
 -- Paths, and how a sink goes through a list of them.
-use Rattle.std.specs.Prelude.{◌≡◌, ◌⊎◌, ℕ, Bool, true, false, List, [], ◌∷◌}
+use Rattle.std.specs.Prelude.{◌≡◌, ◌⊎◌, ℕ, Bool, true, false, List, [], ◌∷◌, ◌++◌}
 use Rattle.niss_search.specs.Names.{Turn}
 
 -- What a contract sees of a path.
@@ -22,6 +22,17 @@ module _ {K : Type 0} where
   StoppedIn took refused old [] new = ⊥
   StoppedIn took refused old (p ∷ ps) new =
       refused old p new ⊎ ((mid : K) × (took old p mid × StoppedIn took refused mid ps new))
+
+  -- The same, and the number of the one that was refused is known.
+  pub record StoppedAt (took refused : K → List Turn → K → Type 0) (number : List Turn → ℕ) (old : K) (all : List (List Turn)) (new : K) (made : ℕ) : Type 0 where
+    pub front : List (List Turn)
+    pub path : List Turn
+    pub rest : List (List Turn)
+    pub between : K
+    pub listed : all ≡ front ++ path ∷ rest
+    pub went : WentThrough took old front between
+    pub stopped : refused between path new
+    pub at : made ≡ number path
 
   -- It took some of the first paths, maybe none and maybe all, and none after them.
   abbrev pub WentInto : (took : K → List Turn → K → Type 0) → K → List (List Turn) → K → Type 0

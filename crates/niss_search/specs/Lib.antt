@@ -3,6 +3,7 @@ pub mod Solutions
 pub mod Positions
 pub mod Cubes
 pub mod Later
+pub mod LookNumbers
 pub mod Delivery
 pub mod Entries
 pub mod Laws

@@ -1,13 +1,14 @@
 //! The search: depth first to each length in turn (iterative deepening), up to the least at which something is found,
 //! and to as many lengths more as the slack allows.
-ghost use Rattle.std.specs.Prelude.{◌≡◌, ◌+◌, ◌≤◌, ◌<◌, ◌^◌, length, IfOk, OnOk, OnErr, [], ◌-◌, IfErr, true};
+ghost use Rattle.std.specs.Prelude.{◌≡◌, ◌+◌, ◌≤◌, ◌<◌, ◌^◌, length, IfOk, OnOk, OnErr, [], ◌-◌, IfErr, true, false, ℕ};
 ghost use Rattle.niss_moves.specs.Places.{Place};
 ghost use Rattle.niss_cube.specs.Steps.{turns_of};
 ghost use Rattle.niss_search.specs.Cubes.{IsPosition, HasPosition, least_length_of, near_solutions_of, near_looks_of};
 ghost use Rattle.niss_search.specs.Solutions.{look_bound, last_length, least_length};
 ghost use Rattle.niss_search.specs.Positions.{positions, distance_at};
-ghost use Rattle.niss_search.specs.Delivery.{WentThrough, StoppedIn, EndedIn, at_limit, Path};
+ghost use Rattle.niss_search.specs.Delivery.{WentThrough, StoppedIn, StoppedAt, EndedIn, at_limit, Path};
 ghost use Rattle.niss_search.specs.Budgets.{is_cut_in, HasSpent};
+ghost use Rattle.niss_search.specs.LookNumbers.{found_within_of, look_number_of};
 ghost use Rattle.niss_search.specs.Deepening.{deepening, all_deepenings, Delivers, turns};
 
 mod depth_first;
@@ -19,6 +20,7 @@ use crate::path::{Limit, TurnPath};
 use crate::tables::{Meter, Position, Tables};
 use depth_first::Descent;
 pub use later::search_after;
+use niss_cube::laws::step_turns_in_order;
 use std::alloc::Allocator;
 use std::mem;
 
@@ -54,7 +56,7 @@ pub struct Outcome {
 ///
 /// The position is one of the tables' step, the path is empty, and the meter is at most at 2^127. The path is empty
 /// again at the end, of the same limit. The meter rises by one for each look: by those of the whole search if the
-/// sink took every path, and by at most these if it refused one.
+/// sink took every path, and by those up to the one at a path that it refused.
 pub fn search<K: Sink, A: Allocator>(
     tables: &Tables<A>,
     position: &Position,
@@ -77,6 +79,9 @@ pub fn search<K: Sink, A: Allocator>(
     ensures err { (e : Place → Place) → HasPosition tables.now e position.now
         → OnErr result (StoppedIn (at_limit K.took path.old.limit) (at_limit K.refused path.old.limit)
         sink.old (near_solutions_of tables.now e path.old.limit slack) sink.new) }
+    ensures stopped { (e : Place → Place) (made : ℕ) → HasPosition tables.now e position.now → meter.new ≡ meter.old + made
+        → OnErr result (StoppedAt (at_limit K.took path.old.limit) (at_limit K.refused path.old.limit)
+        (look_number_of tables.now e) sink.old (near_solutions_of tables.now e path.old.limit slack) sink.new made) }
     ensures looks { (e : Place → Place) → HasPosition tables.now e position.now
         → OnOk result (meter.new ≡ meter.old + near_looks_of tables.now e path.old.limit slack) }
     ensures looks_at_most { (e : Place → Place) → HasPosition tables.now e position.now
@@ -84,15 +89,15 @@ pub fn search<K: Sink, A: Allocator>(
     ensures rises { meter.old ≤ meter.new }
     ensures bound { meter.new ≤ meter.old + look_bound (turns_of tables.now) path.old.limit }
 {
+    step_turns_in_order();
     positions_follow_cubes();
     let root = Root { tables, position };
     root.deepen_all(slack, path, meter, sink, &Unbounded)
 }
 
 /// Searches as `search` does, but makes at most so many looks: before looks that would pass them it ends with
-/// `Stopped::Cut`, and the sink took some of the first solutions, and was handed no other. It is cut only if the whole
-/// search looks more often, and leaves fewer of its looks than the step has turns. A refusal of the sink is
-/// `Stopped::Refused`.
+/// `Stopped::Cut`, and the sink took exactly the solutions that the looks made reach. It is cut only if the whole search
+/// looks more often, and leaves fewer of its looks than the step has turns. A refusal of the sink is `Stopped::Refused`.
 ///
 /// The position is one of the tables' step, the path is empty, and the meter is at most at 2^127. The path is empty
 /// again at the end, of the same limit. The meter rises by one for each look.
@@ -122,6 +127,13 @@ pub fn search_within<K: Sink, A: Allocator>(
     ensures cut { (e : Place → Place) → HasPosition tables.now e position.now
         → IfErr result (λ stop. is_cut_in stop ≡ true
         → looks < near_looks_of tables.now e path.old.limit slack) }
+    ensures found { (e : Place → Place) (made : ℕ) → HasPosition tables.now e position.now → meter.new ≡ meter.old + made
+        → IfErr result (λ stop. is_cut_in stop ≡ true → WentThrough (at_limit K.took path.old.limit)
+        sink.old (found_within_of tables.now e path.old.limit slack made) sink.new) }
+    ensures stopped { (e : Place → Place) (made : ℕ) → HasPosition tables.now e position.now → meter.new ≡ meter.old + made
+        → IfErr result (λ stop. is_cut_in stop ≡ false
+        → StoppedAt (at_limit K.took path.old.limit) (at_limit K.refused path.old.limit) (look_number_of tables.now e)
+        sink.old (near_solutions_of tables.now e path.old.limit slack) sink.new made) }
     ensures looks { (e : Place → Place) → HasPosition tables.now e position.now
         → OnOk result (meter.new ≡ meter.old + near_looks_of tables.now e path.old.limit slack) }
     ensures looks_at_most { (e : Place → Place) → HasPosition tables.now e position.now
@@ -130,6 +142,7 @@ pub fn search_within<K: Sink, A: Allocator>(
     ensures within { meter.new ≤ meter.old + looks }
     ensures spent { HasSpent is_cut_in (meter.old + looks) tables.now meter.new result }
 {
+    step_turns_in_order();
     positions_follow_cubes();
     let budget = UpTo {
         bound: meter.count().saturating_add(looks),

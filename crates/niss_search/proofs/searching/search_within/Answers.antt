@@ -3,6 +3,7 @@ use Rattle.niss_search.proofs.Bounds.{bound-small, all_looks-bound, turns_of-len
 use Rattle.niss_search.proofs.SpentLemmas.{spent-looks}
 use Rattle.niss_search.proofs.LookLemmas.{least_length-same}
 use Rattle.niss_search.proofs.DeepeningLemmas.{searched, cut-over}
+use Rattle.niss_search.proofs.FoundLemmas.{cut_found, stopped_found}
 use Rattle.niss_search.specs.Budgets.{is_cut_in}
 use Rattle.niss_search.proofs.searching.search_within.Goals as goal
 
@@ -24,6 +25,10 @@ returns g c =
           cut-over is_cut_in c.saturating_add.result c.args.meter.now (near_looks_of step e n c.args.slack) c.args.looks
           (λ over. omega (arith, over, c.saturating_add.ensures, c.count.ensures, c.requires.meter, all_looks-bound (cubes step) (distance_of step) e n c.args.slack, bound-small step n (omega (arith, small))))
           c.deepen_all.result (of e h).over;
+      found = λ e made h is.
+          cut_found c.step_turns_in_order.ensures g.K.Sink.took g.K.Sink.refused is_cut_in c.saturating_add.result step x n c.args.slack c.args.meter.now c.deepen_all.new.meter c.args.sink.now c.deepen_all.new.sink c.positions_follow_cubes.ensures e h made is c.deepen_all.result c.deepen_all.ensures.delivers;
+      stopped = λ e made h is.
+          stopped_found c.step_turns_in_order.ensures g.K.Sink.took g.K.Sink.refused is_cut_in c.saturating_add.result step x n c.args.slack c.args.meter.now c.deepen_all.new.meter c.args.sink.now c.deepen_all.new.sink c.positions_follow_cubes.ensures e h made is c.deepen_all.result c.deepen_all.ensures.delivers;
       looks = λ e h. (of e h).looks;
       looks_at_most = λ e h. (of e h).looks_at_most;
       rises = c.deepen_all.ensures.rises;

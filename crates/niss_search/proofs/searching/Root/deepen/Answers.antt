@@ -11,7 +11,7 @@ returns-in_err-ended-clause-delivers g c =
     let p = err_from_is_err_and c.from_residual.result c.from_residual.ensures.1 in
     let back : c.sink-1.given.0 ≡ c.begin-after.new.self.sink.now = c.sink-1.given.1 (sym c.begin-after.ensures.keeps.same_sink) in
     let stops = rw (c.requires.empty, below_at-start c.args.self.now.tables.now c.args.self.now.position.now c.args.length, c.replace-held.ensures.value, c.in_err-ended.was) at c.begin-after.ensures.makes in
-    rw (p.1, p.2, back) record { stopped = stops.stopped; rises = stops.rises; looked = stops.looked; over = stops.over }
+    rw (p.1, p.2, back) record { stopped = stops.stopped; rises = stops.rises; looked = stops.looked; over = stops.over; ends = stops.ends }
 
 pub returns-clause-delivers : goal.returns-clause-delivers
 returns-clause-delivers g c =

@@ -75,7 +75,7 @@ try_turns-follow-counted-requires g t c κs within =
 pub try_turns-returns-in-Err-clause-makes : goal.try_turns-returns-in-Err-clause-makes
 try_turns-returns-in-Err-clause-makes g t c =
     let inv = c.loop-stop.invariant in
-    Remains-cut inv.remains (g.B.Budget.bound c.args.budget.now) (g.B.Budget.is_cut c.in-Err.stop) c.in-Err.ensures.cut c.in-Err.ensures.over
+    Remains-cut inv.remains (g.B.Budget.bound c.args.budget.now) (g.B.Budget.is_cut c.in-Err.stop) c.in-Err.ensures.cut c.in-Err.ensures.over inv.within
 
 pub try_turns-returns-in-Err-clause-spent : goal.try_turns-returns-in-Err-clause-spent
 try_turns-returns-in-Err-clause-spent g t c = λ cut. omega (arith, c.in-Err.ensures.over, c.loop-stop.invariant.some)

@@ -4,7 +4,7 @@ use Rattle.niss_search.proofs.Words.{Descends, at_limit, below_at}
 use Rattle.niss_search.proofs.Words.{Contains-get_or, nat_tests, later_at, turns_of, no_turn, later_turn_at, distance_at, progress_of, Path, for_each}
 use Rattle.niss_search.proofs.DescentParts.{StopsIn-cut, StopsIn-before, GoesThrough-looks, Descends-then}
 use Rattle.niss_search.proofs.SpentLemmas.{some_turns}
-use Rattle.niss_search.proofs.LaterParts.{later_turn-goes_on, later_at-none, later_at-some, later_at-far, later_at-near, later_at-split, passed-more, passed-room}
+use Rattle.niss_search.proofs.LaterParts.{later_turn-goes_on, later_at-none, later_at-some, later_at-begins, later_at-far, later_at-near, later_at-split, passed-more, passed-room}
 use Rattle.niss_search.proofs.searching.depth_first.Descent.+passing.Goals as goal
 
 pub pass-returns-then-is_empty-clause-makes : goal.pass-returns-then-is_empty-clause-makes
@@ -26,6 +26,7 @@ pass-returns-in-Err-clause-makes g t c =
     StopsIn-cut (g.B.Budget.bound c.args.budget.now) (later_at c.args.tables.now c.args.position.now path.turns c.args.after.now) (progress_of c.args.meter c.args.self.now)
     (g.B.Budget.is_cut c.in-Err.stop) c.in-Err.ensures.cut
     (omega (arith, c.in-Err.ensures.over, later_at-some c.args.tables.now c.args.position.now path.turns c.args.after.now some))
+    (later_at-begins c.args.tables.now c.args.position.now path.turns c.args.after.now some)
 
 pub pass-returns-in-Err-clause-spent : goal.pass-returns-in-Err-clause-spent
 pass-returns-in-Err-clause-spent g t c = λ cut. omega (arith, c.in-Err.ensures.over, some_turns c.args.tables.now)

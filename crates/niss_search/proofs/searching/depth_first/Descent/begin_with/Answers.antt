@@ -22,7 +22,7 @@ returns-in-Err-clause-makes g c =
     let path = c.args.self.now.path.now in
     let below = below_at c.args.tables.now.step c.args.position.now path.turns c.args.left in
     StopsIn-cut (g.B.Budget.bound c.args.budget.now) below (progress_of c.args.meter c.args.self.now)
-    (g.B.Budget.is_cut c.in-Err.stop) c.in-Err.ensures.cut (omega (arith, c.in-Err.ensures.over))
+    (g.B.Budget.is_cut c.in-Err.stop) c.in-Err.ensures.cut (omega (arith, c.in-Err.ensures.over)) tt
 
 pub returns-in-Err-clause-spent : goal.returns-in-Err-clause-spent
 returns-in-Err-clause-spent g c = λ cut. omega (arith, c.in-Err.ensures.over, some_turns c.args.tables.now.step)
