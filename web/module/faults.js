@@ -58,7 +58,7 @@ export class SearchCut extends Error {
   /**
    * @param {import("./replies.js").Count} count what it had counted until then
    * @param {import("./replies.js").Solution[] | null} found the solutions that it had found, with which its list
-   * begins; null of a count
+   * begins; null of a count or of the best
    * @param {number | null} line of many, from 1; null if there was one
    */
   constructor(count, found, line = null) {
