@@ -210,7 +210,7 @@ private:
 };
 
 // How many groups of twins are tried at first, and at most, before their rows are known.
-constexpr std::size_t FIRST_BATCH = 8, MOST_BATCH = 256;
+constexpr std::size_t FIRST_BATCH = 1, MOST_BATCH = 256;
 
 // Finds the best orientations, each with a reduction. If the searches may be cut, `rows` are those of the orientations that were tried before they
 // are all.

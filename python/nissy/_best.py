@@ -21,7 +21,7 @@ _REDUCTIONS: Dict[Step, Dict[Step, Axis]] = {
     "eoud": {"drrl-eoud": "rl", "drfb-eoud": "fb"}}
 _MOST_SLACK = 20
 # so many groups of twins are tried at first, and at most, before their rows are known
-_FIRST_BATCH, _BATCH = 8, 256
+_FIRST_BATCH, _BATCH = 1, 256
 
 
 class _Twins(NamedTuple):
