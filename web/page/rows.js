@@ -21,7 +21,7 @@ export function takeButton(text, { key, twins = [], cases = [], isSeen, step }, 
   const open = [spoken(text, step), ...cases, ...twins, ...seen].join(", ");
   const names = named(open, ["Covered moves", ...cases, ...seen].join(", "));
   const take = button("", { class: ["take moves", ...seen].join(" "), "data-key": key, ...names, click });
-  take.append(...shownMoves(text, step));
+  take.replaceChildren(...shownMoves(text, step));
   return take;
 }
 
