@@ -236,7 +236,7 @@ function rowsOfBatch(nissy, position, batch, { bound, atOnce }) {
  */
 function* groupsFound(nissy, position, groups, going, isLast) {
   const all = isLast ? going.done + sizeOf(groups) : null;
-  yield { done: going.done, all, rows: [], isCut: false };
+  yield { ...nothingNew(going.done), all };
   for (const batch of batchesOf(groups, going.atOnce)) {
     const found = rowsOfBatch(nissy, position, batch, going);
     going.bound.add(found.rows);
