@@ -1,9 +1,9 @@
 -- The lines of a text one after the other, and answers to the first of them.
-use Rattle.std.proofs.Common.{◌≡◌, ◌≢◌, ◌⊎◌, ℕ, ◌+◌, ◌-◌, ◌<◌, ◌≤◌, inl, inr, List, [], ◌∷◌, ◌++◌, length, take, drop, get_or, set, refl, sym}
+use Rattle.std.proofs.Common.{◌≡◌, ◌≢◌, ◌⊎◌, ℕ, suc, zero, ◌+◌, ◌-◌, ◌<◌, ◌≤◌, inl, inr, List, [], ◌∷◌, ◌++◌, length, take, drop, get_or, set, refl, sym}
 use Rattle.std.proofs.Common.{ap, ◌∙◌, subst, append_assoc, arith, length-append}
 use Rattle.std.specs.Prelude.{flat_map}
 use Rattle.std.proofs.lemmas.Bool.Decides.{eqb_tells}
-use Rattle.std.proofs.lemmas.List.{drop-drop, drop-set-lt, get_or_append_left, get_or_push, get_or-set_same, get_or-set_other, length-set}
+use Rattle.std.proofs.lemmas.List.{drop_more, take_all, take-append-drop, drop-drop, drop-set-lt, get_or_append_left, get_or_push, get_or-set_same, get_or-set_other, length-set}
 use Rattle.std.proofs.lemmas.List.Elements.{All-nil, All-cons}
 use Rattle.niss_shell.specs.Lines.{HasNo, IsCutAt, ended_by, line_feed, ended_lines, last_part}
 use Rattle.niss_shell.specs.Laws.{OneCut}
@@ -11,12 +11,21 @@ use Rattle.niss_shell.specs.Output.{line_with_bytes}
 unfoldable use Rattle.niss_embed.specs.ManyLines.{text_lines}
 use Rattle.niss_embed.specs.ManyLines.{AnswersFirst, AnswersLines, taken}
 
-abbrev pub IsNoFeed : ℕ → Type 0
-IsNoFeed byte = byte ≢ line_feed
+-- the bytes before the first line feed, and all bytes if there is none
+none_below : (bytes : List ℕ) (n : ℕ) → n ≤ length bytes → ((k : ℕ) → k < n → get_or bytes k 0 ≢ line_feed) → HasNo line_feed (take n bytes)
+none_below bytes zero le h = All-nil (λ b. b ≢ line_feed)
+none_below [] (suc n) le h = absurd (omega (arith, le))
+none_below (b ∷ bs) (suc n) le h = All-cons (λ b. b ≢ line_feed) b _ (h 0 (omega arith)) (none_below bs n (omega (arith, le)) (λ k lt. h (suc k) (omega (arith, lt))))
 
-pub no_feed_before : (bytes : List ℕ) → HasNo line_feed (take 0 bytes)
-no_feed_before [] = All-nil IsNoFeed
-no_feed_before (b ∷ bytes) = All-nil IsNoFeed
+pub before_feed : (bytes : List ℕ) (at : ℕ) → at < length bytes → ((k : ℕ) → k < at → get_or bytes k 0 ≢ line_feed) → get_or bytes at 0 ≡ line_feed
+    → HasNo line_feed (take at bytes) × (take at bytes ++ line_feed ∷ drop (at + 1) bytes ≡ bytes)
+before_feed bytes at within before here = (
+  none_below bytes at (omega (arith, within)) before,
+  ap (λ v. take at bytes ++ v) (sym (drop_more bytes at 0 within ∙ ap (λ b. b ∷ drop (at + 1) bytes) here)) ∙ take-append-drop at bytes,
+)
+
+pub without_feed : (bytes : List ℕ) → ((k : ℕ) → k < length bytes → get_or bytes k 0 ≢ line_feed) → HasNo line_feed bytes
+without_feed bytes none = subst (HasNo line_feed) (take_all (length bytes) bytes (omega arith)) (none_below bytes (length bytes) (omega arith) none)
 
 -- the lines by any cut
 lines_by : OneCut → (text : List ℕ) (ended : List (List ℕ)) (last : List ℕ) → IsCutAt line_feed text ended last → text_lines text ≡ ended ++ line_with_bytes last

@@ -1,6 +1,6 @@
 -- The words of bytes, one after the other.
 use Rattle.std.proofs.Common.{◌≡◌, ◌≢◌, ℕ, ◌<◌, ◌==◌, Bool, true, false, ◌&&◌, if◌then◌else◌, ◌⊎◌, inl, inr, List, [], ◌∷◌, ◌++◌, length, refl, sym, ap, ◌∙◌, subst, append_assoc, append-nil, arith}
-use Rattle.std.proofs.Common.{Result, Ok, Err, String, map, take, length-append}
+use Rattle.std.proofs.Common.{Result, Ok, Err, String, map, length-append}
 use Rattle.std.specs.Prelude.{flat_map, IsUtf8, OnErr, string_bytes}
 use Rattle.std.specs.List.{list_all}
 use Rattle.std.specs.Str.{is_utf8}
@@ -13,7 +13,7 @@ use Rattle.niss_shell.specs.Output.{line_with_bytes}
 use Rattle.niss_shell.specs.Lines.{HasNo, IsCutAt, ended_by}
 use Rattle.niss_embed.specs.Run.{AreWords, TakesWords, IsFirstWord}
 
-abbrev pub IsNotZero : ℕ → Type 0
+abbrev IsNotZero : ℕ → Type 0
 IsNotZero byte = byte ≢ 0
 
 -- no bytes have no words
@@ -186,10 +186,6 @@ pushed_word items items_now text e f =
 pub on_err : {T E P : Type 0} (r : Result T E) → P → OnErr r P
 on_err (Ok x) p = tt
 on_err (Err e) p = p
-
-pub none_before : (bytes : List ℕ) → HasNo 0 (take 0 bytes)
-none_before [] = All-nil IsNotZero
-none_before (b ∷ bytes) = All-nil IsNotZero
 
 -- before anything is taken
 pub with_all : (bytes : List ℕ) → WithRest bytes bytes []

@@ -1,29 +1,14 @@
 //! The call that runs a command on bytes in memory.
-ghost use Rattle.std.specs.Prelude.{◌≡◌, ◌<◌, ◌+◌, ◌∷◌, [], MatchOption, IfOk, OnErr, Err, map, string_bytes, take};
-ghost use Rattle.std.specs.Prelude.{drop, length};
+ghost use Rattle.std.specs.Prelude.{◌≡◌, ◌<◌, [], MatchOption, IfOk, OnErr, Err, map, string_bytes, length};
 ghost use Rattle.niss_shell.specs.Output.{unsearched};
 ghost use Rattle.niss_embed.specs.Names.{OutOfMemory};
 ghost use Rattle.niss_embed.specs.Memory.{memory};
-ghost use Rattle.niss_shell.specs.Lines.{HasNo};
 ghost use Rattle.niss_embed.specs.Run.{IsFirstWord, TakesWords, Answers, RunsBytes, RunsWords};
 
 use crate::answer::{Answer, Status};
 use crate::memory::{MemorySource, MemoryTarget, put};
 use niss_shell::{Meter, more_input_keeps_answers, run_in};
 use std::alloc::{AllocError, Allocator};
-
-/// Where the first zero byte is.
-fn first_zero(bytes: &[u8]) -> Option<usize>
-    ensures { MatchOption result (HasNo 0 bytes.now) (λ at. (at < length bytes.now)
-        × HasNo 0 (take at bytes.now) × (drop at bytes.now ≡ 0 ∷ drop (at + 1) bytes.now)) }
-{
-    for (at, &byte) in bytes.iter().enumerate() {
-        if byte == 0 {
-            return Some(at);
-        }
-    }
-    None
-}
 
 /// The first word, and what is after it.
 fn first_word(bytes: &[u8]) -> Option<(&[u8], &[u8])>
@@ -33,7 +18,7 @@ fn first_word(bytes: &[u8]) -> Option<(&[u8], &[u8])>
     if bytes.is_empty() {
         return None;
     }
-    match first_zero(bytes) {
+    match bytes.iter().position(|byte| *byte == 0) {
         Some(at) => Some((&bytes[..at], &bytes[at + 1..])),
         None => Some((bytes, &[])),
     }

@@ -1,7 +1,6 @@
 //! An answer to each line of a text, one after another as long as there is room: counts by tables that the caller keeps, or
 //! facts.
-ghost use Rattle.std.specs.Prelude.{◌≡◌, ◌<◌, ◌≤◌, ◌-◌, ◌+◌, ◌∷◌, [], MatchOption, take, drop, length, List, ℕ};
-ghost use Rattle.niss_shell.specs.Lines.{HasNo, line_feed};
+ghost use Rattle.std.specs.Prelude.{◌≡◌, ◌<◌, ◌≤◌, ◌-◌, ◌∷◌, [], MatchOption, drop, length, List, ℕ};
 ghost use Rattle.niss_embed.specs.LineSearch.{CountsLine};
 ghost use Rattle.niss_embed.specs.ManyLines.{text_lines, AnswersLines, TellsFacts, taken};
 
@@ -51,19 +50,6 @@ impl<A: Allocator> Question<SearchAnswer> for Counts<'_, A> {
     }
 }
 
-/// Where the first line feed is.
-fn first_feed(bytes: &[u8]) -> Option<usize>
-    ensures { MatchOption result (HasNo line_feed bytes.now) (λ at. (at < length bytes.now)
-        × HasNo line_feed (take at bytes.now) × (drop at bytes.now ≡ line_feed ∷ drop (at + 1) bytes.now)) }
-{
-    for (at, &byte) in bytes.iter().enumerate() {
-        if byte == b'\n' {
-            return Some(at);
-        }
-    }
-    None
-}
-
 /// The first line, and what is after it.
 fn first_line(text: &[u8]) -> Option<(&[u8], &[u8])>
     ensures { MatchOption result (text.now ≡ []) (λ cut. (text_lines text.now ≡ cut.0.now ∷ text_lines cut.1.now)
@@ -75,7 +61,7 @@ fn first_line(text: &[u8]) -> Option<(&[u8], &[u8])>
     }
     // so the first cut is that of the first line
     lines_are_cut();
-    match first_feed(text) {
+    match text.iter().position(|byte| *byte == b'\n') {
         Some(at) => Some((&text[..at], &text[at + 1..])),
         None => Some((text, &[])),
     }
