@@ -25,14 +25,18 @@ use Rattle.niss_moves.specs.declared.fault.ReadFault.{ReadFault}
 use Rattle.niss_shell.specs.Output.{start_cube}
 use Rattle.niss_shell.specs.Words.{most_bytes, most_limit}
 use Rattle.niss_embed.specs.Memory.{Memory, memory}
-use Rattle.niss_embed.specs.LineSearch.{Hands, Only, unsolved, capped, is_cut, looks_for_all}
-use Rattle.niss_embed.specs.SolveAfter.{all_behind, looks_for_behind, SolvesBehind, SolvesBehindAt, SolvesAfter, Spells, line_of_turns}
+use Rattle.niss_embed.specs.LineSearch.{LinesState, Hands, Only, unsolved, capped, is_cut, looks_for_all}
+use Rattle.niss_search.specs.Deepening.{Part, EndsAt, looks_before, all_later}
+use Rattle.niss_search.specs.Positions.{position_of}
+use Rattle.niss_embed.specs.SolveAfter.{all_behind, looks_for_behind, looks_to_shortest, search_behind}
+use Rattle.niss_embed.specs.SolveAfter.{SolvesBehind, SolvesBehindAt, SolvesAfter, Spells, line_of_turns}
 use Rattle.niss_embed.specs.declared.line_search.CountedSolutions.{CountedSolutions}
 use Rattle.niss_embed.specs.declared.line_search.Refused.{Refused}
 use Rattle.niss_embed.specs.declared.line_search.SolutionLines.{SolutionLines}
 use Rattle.niss_embed.specs.declared.answer.Status.TheVariants as status
 use Rattle.niss_embed.specs.declared.line_search.Wanted.{Wanted}
 use Rattle.niss_embed.specs.declared.search_answer.SearchAnswer.{SearchAnswer}
+use Rattle.niss_embed.proofs.BehindLemmas.{stopped_by, cut_by}
 use Rattle.niss_embed.proofs.CountLemmas.{CountsPath, RefusesMore, stop as stop_counting}
 use Rattle.niss_embed.proofs.SolveLemmas.{Lines, begun, ended, told_of, solve_answer}
 use Rattle.niss_embed.proofs.WrittenLemmas.{Took, Stopped, Into, TakesPath, RefusesPath, state_of}
@@ -53,6 +57,12 @@ module _ (step : Step) (w : Wanted) (p : List Turn) (e : Place → Place) where
   abbrev all : List (List Turn)
   all = all_behind step w p e
 
+  abbrev behind : Part
+  behind = search_behind step w p e
+
+  abbrev to_shortest : ℕ
+  to_shortest = looks_to_shortest step e w.limit
+
   -- a search from a cube, by what it did to its lines
   module _ (a b : SolutionLines) (r : Handed)
       (ok : OnOk r (WentThrough TakesPath a all b))
@@ -71,10 +81,18 @@ module _ (step : Step) (w : Wanted) (p : List Turn) (e : Place → Place) where
         → least ≡ least_length_of step e w.limit → looks ≤ looks_for_behind step w e → capped looks ≤ w.most_nodes
         → IfErr r (λ stop. is_cut_in stop ≡ true → w.most_nodes < looks_for_behind step w e)
         → HasSpent is_cut_in w.most_nodes step (capped looks) r
+        → capped looks ≡ looks → OnOk r (looks ≡ to_shortest + behind.looks)
+        → IfErr r (λ stop. EndsAt TakesPath RefusesPath (is_cut_in stop) behind.events to_shortest a looks b)
         → SolvesBehind step w p e (memory l.before l.after) (told_of (is_cut r) l.too_small (is_err r) least l.written l.solutions (capped looks))
-    solves_behind l least looks most begins ends least_is at_most within cut spent = by_result r ok err cut spent where
+    solves_behind l least looks most begins ends least_is at_most within cut spent whole looked reached = by_result r ok err cut spent looked reached where
       known : unwrap_or least 0 ≡ unwrap_or (least_length_of step e w.limit) 0
       known = ap (λ o. unwrap_or o 0) least_is
+
+      none : a.solutions ≡ 0
+      none = ap (λ (s : LinesState). s.solutions) begins
+
+      came : b.solutions ≡ l.solutions
+      came = ap (λ (s : LinesState). s.solutions) ends
 
       few : capped looks ≤ capped (looks_for_behind step w e)
       few = capped_le looks (looks_for_behind step w e) at_most
@@ -82,8 +100,10 @@ module _ (step : Step) (w : Wanted) (p : List Turn) (e : Place → Place) where
       by_result : (r : Handed) → OnOk r (WentThrough TakesPath a all b) → IfErr r (λ stop. EndedIn TakesPath RefusesPath (is_cut_in stop) a all b)
           → IfErr r (λ stop. is_cut_in stop ≡ true → w.most_nodes < looks_for_behind step w e)
           → HasSpent is_cut_in w.most_nodes step (capped looks) r
+          → OnOk r (looks ≡ to_shortest + behind.looks)
+          → IfErr r (λ stop. EndsAt TakesPath RefusesPath (is_cut_in stop) behind.events to_shortest a looks b)
           → SolvesBehind step w p e (memory l.before l.after) (told_of (is_cut r) l.too_small (is_err r) least l.written l.solutions (capped looks))
-      by_result (Ok o) h k cut spent =
+      by_result (Ok o) h k cut spent looked reached =
           let t : Took all (begun l) (ended l) = subst (λ s. Took all s (ended l)) begins (subst (λ s. Took all (state_of a) s) ends (went all a b h)) in
           let hands = subst (λ m. Hands all m (memory l.before l.after) (solve_answer l false false (capped looks))) most (hands_all l all (capped looks) t) in
           record {
@@ -92,6 +112,9 @@ module _ (step : Step) (w : Wanted) (p : List Turn) (e : Place → Place) where
               more = λ n. is_not_less l.solutions (length all) (omega (arith, t.counted));
               maybe_more = λ c. absurd (no_cut l.too_small c);
               least = inl known;
+              looked = λ m. ap capped looked;
+              stopped = λ n m. absurd (let both : false ≡ true = m in cc);
+              found = λ c. absurd (no_cut l.too_small c);
               looks_at_most = few;
               within = within;
               cut = λ c. absurd (no_cut l.too_small c);
@@ -100,7 +123,7 @@ module _ (step : Step) (w : Wanted) (p : List Turn) (e : Place → Place) where
               no_column = refl;
             };
           }
-      by_result (Err (ending.Refused x)) h k cut spent =
+      by_result (Err (ending.Refused x)) h k cut spent looked reached =
           let s : Stopped all (begun l) (ended l) = subst (λ s. Stopped all s (ended l)) begins (subst (λ s. Stopped all (state_of a) s) ends (stop all a b k)) in
           let taken : length (take s.count all) ≡ s.count = length-take-le s.count all (omega (arith, s.within)) in
           let hands = subst (λ m. Hands all m (memory l.before l.after) (solve_answer l false true (capped looks))) most (hands_some l all (capped looks) s) in
@@ -110,6 +133,12 @@ module _ (step : Step) (w : Wanted) (p : List Turn) (e : Place → Place) where
               more = λ n. is_less l.solutions (length all) (omega (arith, taken, s.took.counted, s.refused.same_count, s.within));
               maybe_more = λ c. absurd (no_cut l.too_small c);
               least = inl known;
+              looked = λ m. absurd (let both : true ≡ false = m in cc);
+              stopped = λ n m.
+                  let by = stopped_by behind.events to_shortest a looks b reached in
+                  let count : by.count ≡ l.solutions = omega (arith, by.came, none, came) in
+                  ap capped (by.looks ∙ ap (λ (k : ℕ). to_shortest + looks_before behind.events k) count);
+              found = λ c. absurd (no_cut l.too_small c);
               looks_at_most = few;
               within = within;
               cut = λ c. absurd (no_cut l.too_small c);
@@ -118,7 +147,7 @@ module _ (step : Step) (w : Wanted) (p : List Turn) (e : Place → Place) where
               no_column = refl;
             };
           }
-      by_result (Err ending.Cut) h k cut spent =
+      by_result (Err ending.Cut) h k cut spent looked reached =
           let t : Into all (begun l) (ended l) = subst (λ s. Into all s (ended l)) begins (subst (λ s. Into all (state_of a) s) ends (into all a b k)) in
           let hands = subst (λ m. Hands all m (memory l.before l.after) (solve_answer l true true (capped looks))) most (hands_cut l all (capped looks) t) in
           record {
@@ -127,6 +156,11 @@ module _ (step : Step) (w : Wanted) (p : List Turn) (e : Place → Place) where
               more = λ n. absurd (n refl);
               maybe_more = λ c. refl;
               least = inl known;
+              looked = λ m. absurd (let both : true ≡ false = m in cc);
+              stopped = λ n. absurd (n refl);
+              found = λ c.
+                  let by = cut_by behind.events to_shortest a looks b reached in
+                  inr (by.made, whole ∙ by.looks, omega (arith, by.came, none, came));
               looks_at_most = few;
               within = within;
               cut = λ c. cut refl;
@@ -176,6 +210,9 @@ module _ (law : SolutionsAreSequences) (step : Step) (w : Wanted) (p : List Turn
   pub behind_is : later_of step e last p ≡ all_behind step w p e
   behind_is = ap (λ l. later_of step e l p) last_known ∙ sym (ap (filter (comes_after p)) (law.listed step e w.limit w.slack))
 
+  pub search_is : (x : _) → position_of step e ≡ x → all_later step x last p ≡ search_behind step w p e
+  search_is x here = ap (λ l. all_later step x l p) last_known ∙ sym (ap (λ y. all_later step y (last_length (least_length_of step e w.limit) w.limit w.slack) p) here)
+
   pub looks_are : deepening_looks_of step e last ≡ looks_for_all step w e
   looks_are = ap (deepening_looks_of step e) last_known ∙ sym (law.looked step e w.limit w.slack)
 
@@ -215,6 +252,10 @@ pub over_both : (r : Handed) (left all most whole : ℕ) → (left < all → mos
     → IfErr r (λ stop. is_cut_in stop ≡ true → most < whole)
 over_both (Ok count) left all most whole passes h = tt
 over_both (Err stop) left all most whole passes h = λ t. passes (h t)
+
+-- A number of 64 bits is told whole.
+pub capped_whole : (looks most : ℕ) → looks ≤ most → most ≤ 18446744073709551615 → capped looks ≡ looks
+capped_whole looks most within few = grind (arith, common_steps, within, few)
 
 -- What a search has spent is told whole if it is a number of 64 bits.
 pub capped_spent : {T E : Type 0} (is_cut : E → Bool) (r : Result T E) (step : Step) (most looks : ℕ) → looks ≤ most → most ≤ 18446744073709551615

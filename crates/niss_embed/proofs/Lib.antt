@@ -8,3 +8,4 @@ pub mod TextLemmas
 pub mod ManyLemmas
 pub mod CountLemmas
 pub mod AfterLemmas
+pub mod BehindLemmas

@@ -1,12 +1,16 @@
 -- What a search tells that goes on behind a solution.
-use Rattle.std.specs.Prelude.{◌≡◌, ◌≢◌, ◌⊎◌, ℕ, ◌+◌, ◌<◌, ◌≤◌, nat_lt, Bool, true, false, Result, Ok, Err, List, [], map, filter, length, unwrap_or}
+use Rattle.std.specs.Prelude.{◌≡◌, ◌≢◌, ◌⊎◌, ℕ, ◌+◌, ◌<◌, ◌≤◌, nat_lt, Bool, true, false, Result, Ok, Err, List, [], ◌∷◌, map, filter, length, unwrap_or}
 use Rattle.niss_moves.specs.Line.{Moves}
 use Rattle.niss_moves.specs.Places.{Place}
 use Rattle.niss_moves.specs.Reader.{read_line}
 use Rattle.niss_moves.specs.declared.token.Token.TheVariants as token
 use Rattle.niss_cube.specs.Steps.{turns_of}
-use Rattle.niss_search.specs.Cubes.{least_length_of, near_looks_of}
+use Rattle.niss_search.specs.Cubes.{least_length_of, near_looks_of, near_solutions_of}
+use Rattle.niss_search.specs.Deepening.{Part, all_later, looks_before, paths_before}
 use Rattle.niss_search.specs.Later.{comes_after}
+use Rattle.niss_search.specs.LookNumbers.{look_number_of}
+use Rattle.niss_search.specs.Positions.{position_of}
+use Rattle.niss_search.specs.Solutions.{last_length}
 use Rattle.niss_shell.specs.Names.{Step, Turn}
 use Rattle.niss_shell.specs.Output.{start_cube}
 use Rattle.niss_shell.specs.Words.{most_bytes, most_limit}
@@ -34,6 +38,19 @@ all_behind step w p e = filter (comes_after p) (all_found step w e)
 abbrev pub looks_for_behind : Step → Wanted → (Place → Place) → ℕ
 looks_for_behind step w e = near_looks_of step e w.limit 0 + looks_for_all step w e
 
+-- the looks up to the first of some solutions, or those that show that there is none
+abbrev pub up_to_first : (number : List Turn → ℕ) → ℕ → List (List Turn) → ℕ
+up_to_first number whole [] = whole
+up_to_first number whole (p ∷ ps) = number p
+
+-- those of a search that ends at the shortest solution
+abbrev pub looks_to_shortest : Step → (Place → Place) → ℕ → ℕ
+looks_to_shortest step e n = up_to_first (look_number_of step e) (near_looks_of step e n 0) (near_solutions_of step e n 0)
+
+-- the looks and the solutions, in order, of the search behind a sequence
+abbrev pub search_behind : Step → Wanted → List Turn → (Place → Place) → Part
+search_behind step w p e = all_later step (position_of step e) (last_length (least_length_of step e w.limit) w.limit w.slack) p
+
 -- the answer of a search that was cut after so many looks, before it knew the least length
 abbrev pub cut_before : ℕ → SearchAnswer
 cut_before looks = record {
@@ -57,6 +74,16 @@ pub record FindsBehind (step : Step) (w : Wanted) (p : List Turn) (e : Place →
       (told.least ≡ unwrap_or (least_length_of step e w.limit) 0)
       ⊎ ((told.status ≡ status_number Cut) × (told.solutions ≡ 0) × (told.least ≡ 0)
       × (w.most_nodes < near_looks_of step e w.limit 0))
+  -- the nodes are those up to the shortest solution, and then all of the search behind the sequence
+  pub looked : told.more ≡ false → told.nodes ≡ capped (looks_to_shortest step e w.limit + (search_behind step w p e).looks)
+  -- or those before the solution that was left
+  pub stopped : told.status ≢ status_number Cut → told.more ≡ true
+      → told.nodes ≡ capped (looks_to_shortest step e w.limit + looks_before (search_behind step w p e).events told.solutions)
+  -- or, if it was cut, as many of them as find the solutions that came
+  pub found : told.status ≡ status_number Cut →
+      ((told.solutions ≡ 0) × (told.nodes < looks_to_shortest step e w.limit))
+      ⊎ ((made : ℕ) × (told.nodes ≡ looks_to_shortest step e w.limit + made)
+      × (told.solutions ≡ paths_before (search_behind step w p e).events made))
   pub looks_at_most : told.nodes ≤ capped (looks_for_behind step w e)
   pub within : told.nodes ≤ w.most_nodes
   -- it is cut only if both searches look at more

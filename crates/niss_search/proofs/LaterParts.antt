@@ -12,7 +12,7 @@ use Rattle.std.proofs.lemmas.List.{take_more}
 use Rattle.niss_search.proofs.ListLemmas.{range_with_len-append}
 use Rattle.niss_search.proofs.LookLemmas.{reaching-same, looks-same, distance-cube}
 use Rattle.niss_search.proofs.Words.{GoesThrough, StopsIn, progress_at, Ok, Err, Path, Place, at_limit, Result, IfOk, OnOk, IfErr, WentThrough}
-use Rattle.niss_search.proofs.Words.{EndedIn, Delivers, PositionsFollowCubes, HasPosition, later_of, deepening_looks_of, distance_of, cubes}
+use Rattle.niss_search.proofs.Words.{EndedIn, EndsAt, Delivers, PositionsFollowCubes, HasPosition, later_of, deepening_looks_of, distance_of, cubes}
 use Rattle.niss_search.proofs.DescentParts.{for_each-cons, for_each-append, Descends-then, StopsIn-before, BeginsByLook}
 use Rattle.niss_search.proofs.Bounds.{looks-sum-small, turns_of-length}
 use Rattle.niss_search.proofs.LaterLemmas.{passed, later_below, later_turn, all_later-paths, all_later-looks, later_below-looks}
@@ -240,6 +240,13 @@ pub later_looked : {K E : Type 0} (took refused : K → Path → K → Type 0) (
     → Delivers took refused n part m m1 s s1 is_cut bound (λ count. count) r → OnOk r (m1 ≡ m + part.looks)
 later_looked took refused is_cut bound part n m m1 s s1 (Ok count) h = h.looked
 later_looked took refused is_cut bound part n m m1 s s1 (Err stop) h = tt
+
+-- one that ended before has gone along its looks and paths up to there
+pub later_ended : {K E : Type 0} (took refused : K → Path → K → Type 0) (is_cut : E → Bool) (bound : ℕ) (part : Part) (n m m1 : ℕ) (s s1 : K) (r : Result ℕ E)
+    → Delivers took refused n part m m1 s s1 is_cut bound (λ count. count) r
+    → IfErr r (λ stop. EndsAt (at_limit took n) (at_limit refused n) (is_cut stop) part.events m s m1 s1)
+later_ended took refused is_cut bound part n m m1 s s1 (Ok count) h = tt
+later_ended took refused is_cut bound part n m m1 s s1 (Err stop) h = h.ends
 
 -- the looks up to a length are few
 pub deepening_looks-small : (step : Step) (e : Place → Place) (n : ℕ) → n ≤ 20 → deepening_looks_of step e n ≤ 21 * (21 * 18 ^ 20)

@@ -106,6 +106,20 @@ all_later step x n ts =
     (for_each (deepening (positions step) (distance_at step) x) (range_with_len (length ts + 1) (n - length ts)))
     else only_looks 0
 
+-- Of looks and paths in order: how many looks come before a path, by its number from 0, and how many paths are there before
+-- the look behind so many.
+abbrev pub looks_before : List (Option (List Turn)) → ℕ → ℕ
+looks_before [] k = 0
+looks_before (None ∷ es) k = suc (looks_before es k)
+looks_before (Some p ∷ es) zero = 0
+looks_before (Some p ∷ es) (suc k) = looks_before es k
+
+abbrev pub paths_before : List (Option (List Turn)) → ℕ → ℕ
+paths_before [] m = 0
+paths_before (None ∷ es) zero = 0
+paths_before (None ∷ es) (suc m) = paths_before es m
+paths_before (Some p ∷ es) m = suc (paths_before es m)
+
 -- What a descent changes beside its path: the meter, the count of what was found, and the sink.
 pub record Progress (K : Type 0) : Type 0 where
   pub meter : ℕ

@@ -1,5 +1,5 @@
 //! A search that goes on behind a solution, so that a caller goes through a long list in pieces.
-ghost use Rattle.std.specs.Prelude.{◌≡◌, ◌≢◌, ◌≤◌, ◌<◌, ◌+◌, ℕ, List, IfOk, OnErr, MatchOption, length};
+ghost use Rattle.std.specs.Prelude.{◌≡◌, ◌≢◌, ◌≤◌, ◌<◌, ◌+◌, ℕ, List, IfOk, OnOk, OnErr, MatchOption, length};
 ghost use Rattle.niss_moves.specs.Places.{Place};
 ghost use Rattle.niss_cube.specs.Steps.{turns_of};
 ghost use Rattle.niss_search.specs.Cubes.{IsPosition, HasPosition, least_length_of, near_looks_of};
@@ -8,6 +8,7 @@ ghost use Rattle.niss_shell.specs.Names.{Turn};
 ghost use Rattle.niss_shell.specs.Words.{most_limit};
 ghost use Rattle.niss_embed.specs.Memory.{memory};
 ghost use Rattle.niss_embed.specs.SolveAfter.{line_of_turns, Spells, SolvesBehind, SolvesAfter, cut_before};
+ghost use Rattle.niss_embed.specs.SolveAfter.{looks_to_shortest};
 
 use super::{Bounds, CountedSolutions, SolutionLines, Wanted, begin, capped, status_of, was_cut};
 use crate::answer::Status;
@@ -70,6 +71,10 @@ fn least_length<A: Allocator>(
         → IfOk result (λ least. least ≡ least_length_of tables.now e limit) }
     ensures cut { (e : Place → Place) → HasPosition tables.now e position.now
         → OnErr result (most_nodes < near_looks_of tables.now e limit 0) }
+    ensures looked { (e : Place → Place) → HasPosition tables.now e position.now
+        → OnOk result (looks.new ≡ looks_to_shortest tables.now e limit) }
+    ensures unknown { (e : Place → Place) → HasPosition tables.now e position.now
+        → OnErr result (looks.new < looks_to_shortest tables.now e limit) }
     ensures looks_at_most { (e : Place → Place) → HasPosition tables.now e position.now
         → looks.new ≤ near_looks_of tables.now e limit 0 }
     ensures within { looks.new ≤ most_nodes }

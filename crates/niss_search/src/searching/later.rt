@@ -9,6 +9,7 @@ ghost use Rattle.niss_search.specs.Later.{turn_place, later_of, deepening_looks_
 ghost use Rattle.niss_search.specs.Delivery.{WentThrough, EndedIn, at_limit};
 ghost use Rattle.niss_search.specs.Budgets.{is_cut_in, HasSpent};
 ghost use Rattle.niss_search.specs.Deepening.{Delivers, Keeps, Makes, turns, below_at, later_at, all_later, later_turn_at};
+ghost use Rattle.niss_search.specs.Deepening.{EndsAt};
 
 use super::depth_first::Descent;
 use super::{Root, Sink};
@@ -58,6 +59,9 @@ pub fn search_after<K: Sink, A: Allocator>(
         (is_cut_in stop) sink.old (later_of tables.now e path.old.limit after.now) sink.new) }
     ensures cut { (e : Place → Place) → HasPosition tables.now e position.now
         → IfErr result (λ stop. is_cut_in stop ≡ true → looks < deepening_looks_of tables.now e path.old.limit) }
+    ensures ends { IfErr result (λ stop. EndsAt (at_limit K.took path.old.limit) (at_limit K.refused path.old.limit)
+        (is_cut_in stop) (all_later tables.now position.now path.old.limit after.now).events
+        meter.old sink.old meter.new sink.new) }
     ensures looks { OnOk result (meter.new
         ≡ meter.old + (all_later tables.now position.now path.old.limit after.now).looks) }
     ensures looks_at_most { (e : Place → Place) → HasPosition tables.now e position.now

@@ -1,18 +1,20 @@
-use Rattle.std.proofs.Common.{◌≡◌, ◌≤◌, refl, cond, sym, ap, ◌∙◌, subst, Bool, ℕ, arith, ◌-◌}
+use Rattle.std.proofs.Common.{◌≡◌, ◌≤◌, ◌+◌, refl, cond, sym, ap, ◌∙◌, subst, Bool, ℕ, arith, ◌-◌}
 use Rattle.std.specs.Prelude.{OnOk, IfErr, is_err}
 use Rattle.niss_search.specs.Budgets.{is_cut_in, HasSpent}
 use Rattle.niss_search.specs.Cubes.{least_length_of, near_looks_of}
+use Rattle.niss_search.specs.Deepening.{Part, EndsAt}
 use Rattle.niss_search.specs.Delivery.{Path, WentThrough, EndedIn}
 use Rattle.niss_search.specs.Later.{deepening_looks_of}
 use Rattle.niss_search.specs.Solutions.{last_length}
 use Rattle.niss_embed.specs.Memory.{memory}
 use Rattle.niss_embed.specs.LineSearch.{lines_state, capped, is_cut}
-use Rattle.niss_embed.specs.SolveAfter.{all_behind, looks_for_behind, SolvesBehind}
+use Rattle.niss_embed.specs.SolveAfter.{all_behind, looks_for_behind, looks_to_shortest, search_behind, SolvesBehind}
 use Rattle.niss_embed.specs.declared.line_search.Wanted.{Wanted}
 use Rattle.niss_embed.specs.declared.search_answer.SearchAnswer.{SearchAnswer}
 use Rattle.niss_embed.proofs.SolveLemmas.{Lines, told_of}
 use Rattle.niss_embed.proofs.WrittenLemmas.{TakesPath, RefusesPath}
-use Rattle.niss_embed.proofs.AfterLemmas.{behind_is, looks_are, least_known, over_both, capped_spent, same_memory_behind, solves_behind}
+use Rattle.niss_embed.proofs.AfterLemmas.{behind_is, looks_are, search_is, least_known, over_both, capped_spent, capped_whole}
+use Rattle.niss_embed.proofs.AfterLemmas.{same_memory_behind, solves_behind}
 use Rattle.niss_embed.proofs.line_search.after.solve_behind.Goals as goal
 
 pub returns : goal.returns
@@ -46,6 +48,15 @@ returns g c = λ e at.
     let all = deepening_looks_of step e last in
     let at_most : looks ≤ looks_for_behind step w e = omega (arith, by.looks_at_most e at, looks_same, first) in
     let within : capped looks ≤ w.most_nodes = omega (arith, by.within, c.in-Ok.ensures.within, c.from.ensures, c.count.ensures) in
+    let few : looks ≤ w.most_nodes = omega (arith, by.within, c.in-Ok.ensures.within, c.from.ensures, c.count.ensures) in
+    let search = search_is law step w p e least n slack last n_is slack_is least_is last_is c.args.position.now at.here in
+    let shortest : before ≡ looks_to_shortest step e w.limit = c.in-Ok.ensures.looked e at ∙ ap (looks_to_shortest step e) n_is in
+    let looked : OnOk found (looks ≡ looks_to_shortest step e w.limit + (search_behind step w p e).looks) =
+    subst (λ k. OnOk found (looks ≡ k + (search_behind step w p e).looks)) shortest
+    (subst (λ (q : Part). OnOk found (looks ≡ before + q.looks)) search by.looks) in
+    let reached : IfErr found (λ stop. EndsAt TakesPath RefusesPath (is_cut_in stop) (search_behind step w p e).events (looks_to_shortest step e w.limit) a looks b) =
+    subst (λ k. IfErr found (λ stop. EndsAt TakesPath RefusesPath (is_cut_in stop) (search_behind step w p e).events k a looks b)) shortest
+    (subst (λ (q : Part). IfErr found (λ stop. EndsAt TakesPath RefusesPath (is_cut_in stop) q.events before a looks b)) search by.ends) in
     let cut = over_both found (c.from.result - c.count.result) all w.most_nodes (looks_for_behind step w e)
     (λ over. omega (arith, over, looks_same, first, c.in-Ok.ensures.within, c.from.ensures, c.count.ensures)) (by.cut e at) in
     let spent = capped_spent is_cut_in found step w.most_nodes looks (omega (arith, by.within, c.in-Ok.ensures.within, c.from.ensures, c.count.ensures)) (omega arith)
@@ -91,4 +102,5 @@ returns g c = λ e at.
     (solves_behind step w p e a b found ok err l least looks refl
     (λ i. lines_state (new.unchanged i) a.bytes.ghost_name (new.empty i) (new.none i) (new.most i) (new.first i) (new.works i))
     (λ i. lines_state b.bytes.now b.bytes.ghost_name b.written b.solutions b.most b.first b.too_small)
-    (least_known law step w p e least n slack last n_is slack_is least_is last_is) at_most within cut spent))
+    (least_known law step w p e least n slack last n_is slack_is least_is last_is) at_most within cut spent
+    (capped_whole looks w.most_nodes few (omega arith)) looked reached))

@@ -3,7 +3,7 @@ use Rattle.niss_search.proofs.Bounds.{turns_of-length}
 use Rattle.niss_search.proofs.SpentLemmas.{spent-looks}
 use Rattle.niss_search.specs.Deepening.{all_later}
 use Rattle.niss_search.proofs.DeepeningLemmas.{cut-over}
-use Rattle.niss_search.proofs.LaterParts.{later_searched, later_looked, deepening_looks-small}
+use Rattle.niss_search.proofs.LaterParts.{later_searched, later_looked, later_ended, deepening_looks-small}
 use Rattle.niss_search.specs.Budgets.{is_cut_in}
 use Rattle.niss_search.proofs.searching.later.search_after.Goals as goal
 
@@ -24,6 +24,7 @@ returns g c =
           cut-over is_cut_in c.saturating_add.result c.args.meter.now (deepening_looks_of step e n) c.args.looks
           (λ over. omega (arith, over, c.saturating_add.ensures, c.count.ensures, c.requires.meter, deepening_looks-small step e n small))
           c.deepen_later.result (of e h).over;
+      ends = later_ended g.K.Sink.took g.K.Sink.refused is_cut_in c.saturating_add.result (all_later step c.args.position.now n after) n c.args.meter.now c.deepen_later.new.meter c.args.sink.now c.deepen_later.new.sink c.deepen_later.result c.deepen_later.ensures.delivers;
       looks = later_looked g.K.Sink.took g.K.Sink.refused is_cut_in c.saturating_add.result (all_later step c.args.position.now n after) n c.args.meter.now c.deepen_later.new.meter c.args.sink.now c.deepen_later.new.sink c.deepen_later.result c.deepen_later.ensures.delivers;
       looks_at_most = λ e h. (of e h).looks_at_most;
       rises = c.deepen_later.ensures.rises;
