@@ -15,7 +15,8 @@ export NISSY_LIBRARY=$folder/libnissy.so.2
 
 if missing python3 || [ ! -e "$NISSY_LIBRARY" ]; then skips_all "there is no python3 here, or no library that make lib built"; fi
 typed tests/hosts/*.py
-others=() sanitized=("-fsanitize=address,undefined" -fno-sanitize-recover=all)
+# -O0 behind -O1, as in library.sh
+others=() sanitized=(-O0 "-fsanitize=address,undefined" -fno-sanitize-recover=all)
 compiled() { g++ -std=c++17 -O1 -Wall -Wextra -Wpedantic -Werror -Iinclude "$@" -o "$room/caller" tests/hosts/caller.cpp "$folder/libnissy.a"; }
 if missing g++; then skips "C++, since there is no g++"; else
     holds "caller.cpp compiles" eval 'compiled "${sanitized[@]}" || compiled'

@@ -154,13 +154,28 @@ def listed(trial: BesideHosts) -> None:
     for run in runs():
         trial.compare("listed runs", [word.decode("utf-8", "surrogateescape") for word in run.words], run.data)
     for line in listed_lines():
-        for words in (*([command] for command in model.REWRITES), ["solve", "eofb", "2"], ["count", "dr-eofb", "2"]):
+        for words in (*([command] for command in model.REWRITES), ["solve", "eofb", "2"]):
             trial.compare("listed lines", words, line)
+    reduced(trial)
     for it in called.searches():
         for words in (["near", it.step, str(it.limit), str(it.slack)], ["count", it.step, str(it.limit)]):
             trial.compare("listed searches", words, it.line.encode())
     for state, stream, length, count, _ in called.rows("scrambles"):
         trial.compare("listed scrambles", ["scramble", state, stream, length, count])
+
+
+def reduced(trial: BesideHosts) -> None:
+    """Each line that is listed by a step that may not start everywhere. A run builds the tables of a reduction anew and
+    ends at a fault, so there is one for all lines without a fault, and calls ask the others, beside the model."""
+    words, whole = ["count", "dr-eofb", "2"], b""
+    for line in listed_lines():
+        expected = model.run(words, line)
+        if expected[2] == 0:
+            whole += line + b"\n"
+        for host in trial.hosts:
+            if expected[2] != 0 and host.has_calls:
+                trial.compare_calls(host, words, line, expected)
+    trial.compare("listed lines", words, whole)
 
 
 def token_of_model(move: Move, inverse: bool) -> str:
