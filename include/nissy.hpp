@@ -29,6 +29,13 @@
 
 namespace nissy {
 
+// A column in bytes of a text in UTF-8, from 1, as one in characters; 0, which is no place, is 0.
+inline std::size_t character(std::string_view text, std::size_t column) noexcept {
+    const auto begins = [](char byte) { return (static_cast<unsigned char>(byte) & 0xc0) != 0x80; };
+    const std::string_view before = text.substr(0, column ? column - 1 : 0);
+    return column ? static_cast<std::size_t>(std::count_if(before.begin(), before.end(), begins)) + 1 : 0;
+}
+
 // A line that can't be read, or on whose cube a step may not start. what() says both place and fault.
 class fault : public std::runtime_error {
 public:
@@ -41,12 +48,7 @@ public:
     int line() const noexcept { return line_; } // of a call on two lines which one has it: 1 the scramble, 2 the other; else 0
     // the place of the fault in bytes, from 1; 0 of NISSY_START
     std::size_t column() const noexcept { return column_; }
-    // the same in characters of the line, which is in UTF-8
-    std::size_t character(std::string_view line) const noexcept {
-        const auto begins = [](char byte) { return (static_cast<unsigned char>(byte) & 0xc0) != 0x80; };
-        const std::string_view before = line.substr(0, column_ ? column_ - 1 : 0);
-        return column_ ? static_cast<std::size_t>(std::count_if(before.begin(), before.end(), begins)) + 1 : 0;
-    }
+    std::size_t character(std::string_view line) const noexcept { return nissy::character(line, column_); } // the same in characters
     // what is wrong, without the place; a view into what()
     std::string_view text() const noexcept { return std::string_view(what()).substr(place_); }
     // the step that would have to hold, with which text() begins; empty but of NISSY_START
@@ -59,8 +61,7 @@ private:
 
     nissy_fault code_;
     int line_;
-    std::size_t column_;
-    std::size_t place_; // where text() begins in what(): a copy of an exception mustn't throw, as that of a string of its own may
+    std::size_t column_, place_; // text() begins in what() at place_: a copy of an exception mustn't throw, as that of a string of its own may
 };
 
 // A search that would have looked at more positions than it may.
@@ -265,8 +266,8 @@ public:
     // NISSY_FAULT, or NISSY_STOPPED of a line that is too long; NISSY_DONE, or NISSY_CUT, if there is a value
     nissy_status status() const noexcept { return static_cast<nissy_status>(status_); }
     nissy_fault code() const noexcept { return static_cast<nissy_fault>(code_); }
-    // as that of fault
-    std::size_t column() const noexcept { return column_; }
+    std::size_t column() const noexcept { return column_; } // as that of fault
+    std::size_t character(std::string_view line) const noexcept { return nissy::character(line, column_); }
     // throws what the call on this line alone throws, if there is no value
     const Value &value() const {
         detail::end_unless_read(status_, code_, column_, step_);

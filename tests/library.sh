@@ -122,12 +122,13 @@ by_cffi() {
     ended
 }
 read_by_bindgen() {
-    callable_forms > "$made/nissy_forms.c" && bindgen "$made/nissy_forms.c" -- -Iinclude > "$made/nissy.rs" &&
-        test "$(grep -oE 'fn nissy_[a-z_]+' "$made/nissy.rs" | cut -c 4- | sort)" = "$({ declared && of_forms; } | sort)"
+    callable_forms > "$made/nissy_forms.c" &&
+        bindgen --allowlist-file '.*nissy.*' "$made/nissy_forms.c" -- -Iinclude > "$made/nissy.rs" &&
+        test "$(grep -oE 'pub fn [A-Za-z0-9_]+' "$made/nissy.rs" | cut -c 8- | sort)" = "$({ declared && of_forms; } | sort)"
 }
 of_forms() { sed -n 's/^static inline .*\(nissy_[a-z_]*\)(.*/\1/p' include/nissy_forms.h; }
 if python3 -c "import cffi" 2> /dev/null; then part by_cffi; else skips "cffi isn't installed"; fi
-if missing bindgen; then skips "bindgen isn't installed"; else holds "bindgen reads each call of both headers for C" read_by_bindgen; fi
+if missing bindgen; then skips "bindgen isn't installed"; else holds "bindgen reads each call of both headers for C, and no other" read_by_bindgen; fi
 
 # The oldest processor that the library is for, which does some of its instructions otherwise, and one that is older. The positions of the
 # last answer are the model's.

@@ -32,15 +32,16 @@ from ._runs import run, scrambles
 from ._searches import Tables, count, count_all, near, solutions, solve, solve_all
 from ._tokens import FormPlace, Token, form_places, tokens
 from ._values import Answer, Count, Cut, Fault, LineFault, Solution, Solutions, StartFault, raising
+from ._written import PlainLine, plain_line
 
 __all__ = [
     "DONE", "FAULT", "MOST_INPUT", "STOPPED", "USAGE",
     "Answer", "Case", "Check", "Continuation", "Continuations", "Count", "Cut", "Facts", "Fault", "FormPlace",
-    "Lengths", "LineFault", "Orientation", "Pieces", "Reduction", "Solution", "Solutions", "StartFault", "Tables",
-    "Token",
+    "Lengths", "LineFault", "Orientation", "Pieces", "PlainLine", "Reduction", "Solution", "Solutions", "StartFault",
+    "Tables", "Token",
     "best", "check", "cleanup", "count", "count_all", "facelets", "facts", "facts_all", "form_places", "invert",
-    "near", "raising", "run", "scramble", "scrambles", "solutions", "solve", "solve_all", "start_of", "steps", "tokens",
-    "unniss",
+    "near", "plain_line", "raising", "run", "scramble", "scrambles", "solutions", "solve", "solve_all", "start_of",
+    "steps", "tokens", "unniss",
 ]
 
 __version__ = version()
@@ -49,7 +50,7 @@ del version
 # what others see of these, as in a traceback or in what was pickled, is named by the package
 for _public in (
     Answer, Case, Check, Continuation, Continuations, Count, Cut, Facts, Fault, FormPlace, Lengths, LineFault,
-    Orientation, Pieces, Reduction, Solution, Solutions, StartFault, Tables, Token,
+    Orientation, Pieces, PlainLine, Reduction, Solution, Solutions, StartFault, Tables, Token,
 ):
     _public.__module__ = __name__
 del _public

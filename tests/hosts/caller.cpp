@@ -2,6 +2,7 @@
 #include "nissy_best.hpp"
 #include "nissy_names.hpp"
 #include "nissy_tokens.hpp"
+#include "nissy_written.hpp"
 
 #include <iostream>
 #include <memory>
@@ -115,6 +116,19 @@ std::string forms_of(std::string_view line) {
     return text;
 }
 
+// A text as one line, the places of its signs in characters, and what is left out.
+std::string plain_of(std::string_view text) {
+    const nissy::plain it = nissy::plain_line(text);
+    std::string places, left_out;
+    for (std::size_t at = 0; at < it.line.size(); at++) {
+        const bool goes_on = (static_cast<unsigned char>(it.line[at]) & 0xc0) == 0x80;
+        if (goes_on && it.places[at] != it.places[at - 1] + 1) return "another place";
+        if (!goes_on) places += (places.empty() ? "" : " ") + std::to_string(nissy::character(text, it.places[at] + 1) - 1);
+    }
+    for (const std::string &name : it.left_out) left_out += (left_out.empty() ? "" : "|") + name;
+    return it.places.size() == it.line.size() ? it.line + "\n" + places + "\n" + left_out : "other places";
+}
+
 // What an orientation and a reduction have in common.
 template <typename Step> std::string part(const Step &it) {
     const std::string side = it.side == nissy::side::normal ? "normal" : "inverse";
@@ -148,6 +162,7 @@ std::string called(const std::string &call, std::istream &asked) {
     if (call == "check") return checked(line.view(), exact(other).view());
     if (call == "facts") return seen(line.view());
     if (call == "tokens") return moves_of(line.view());
+    if (call == "plain_line") return plain_of(line.view());
     if (call == "form_places") return forms_of(line.view());
     if (call == "invert") return nissy::invert(line.view());
     if (call == "unniss") return nissy::unniss(line.view());

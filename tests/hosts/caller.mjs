@@ -4,7 +4,7 @@
 //     node tests/hosts/caller.mjs MODULE
 import { readFileSync } from "node:fs";
 import { createInterface } from "node:readline";
-import { Nissy, NissyFault, NissyWorker, SearchCut } from "../../web/module/node.js";
+import { Nissy, NissyFault, NissyWorker, SearchCut, plainLine } from "../../web/module/node.js";
 
 const ALL = 2n ** 64n - 1n;
 const AXES = ["fb", "rl", "ud"];
@@ -47,6 +47,15 @@ const seen = ({ solved: is, moves, cleanMoves, holds, cases, ...pieces }) => {
   return isCase ? [Number(is), moves, cleanMoves, holds.join(), ...axes].join(" ") : "another case";
 };
 
+/** A text as one line, the places of its signs in characters, and what is left out. */
+function plain(text) {
+  const { line, places, leftOut } = plainLine(text);
+  const begins = [...line].map((sign, at, signs) => signs.slice(0, at).join("").length);
+  const goesOn = places.some((place, at) => !begins.includes(at) && place !== places[at - 1] + 1);
+  if (goesOn || places.length !== line.length) return "another place";
+  return [line, begins.map((at) => [...text.slice(0, places[at])].length).join(" "), leftOut.join("|")].join("\n");
+}
+
 // each call by an engine, and what is given to it
 const CALLS = {
   facts: async (engine, line) => seen(await engine.facts(lineOf(line))),
@@ -54,6 +63,7 @@ const CALLS = {
     const told = (await engine.tokens(lineOf(line))).sort((one, other) => one.inverse - other.inverse);
     return told.map((it) => [it.text, it.axis, it.layers.join(), it.quarters, Number(it.inverse)].join("/")).join(" ");
   },
+  plain_line: async (_, text) => plain(string(bytesOf(text))),
   form_places: async (engine, line) => {
     const told = await engine.formPlaces(lineOf(line));
     return told.map(({ column, text, forms }) => [column, text, forms.join().replaceAll("-", "_")].join("/")).join(" ");

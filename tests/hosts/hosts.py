@@ -160,6 +160,11 @@ def form_places(places: List[nissy.FormPlace]) -> str:
     return " ".join(f"{it.column}/{it.text}/{','.join(it.forms)}" for it in places)
 
 
+def plain_line(it: nissy.PlainLine) -> str:
+    """A text as one line, the places of its signs, and what is left out."""
+    return f"{it.line}\n{' '.join(map(str, it.places))}\n{'|'.join(it.left_out)}"
+
+
 class Python(Host):
     """The package, with a line in one form after another, and searches by one call after another."""
 
@@ -196,7 +201,7 @@ class Python(Host):
             scramble, so_far, slack, most, nodes, partial = given
             found = nissy.best(self.line(scramble), self.line(so_far), slack=slack, most=most, nodes=nodes, partial=partial == 1)
             return lines([*map(row, found), *(["cut"] if found.cut else [])])
-        written: Any = {"facts": facts, "tokens": tokens, "form_places": form_places, "check": checked}.get(call, str)
+        written: Any = {"facts": facts, "tokens": tokens, "form_places": form_places, "check": checked, "plain_line": plain_line}.get(call, str)
         return str(written(getattr(nissy, call)(*map(self.line, given))))
 
     def ask(self, call: str, *given: Given) -> bytes:

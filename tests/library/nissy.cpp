@@ -1,10 +1,11 @@
 /* The headers for C++: values out of strings, exceptions with their column, objects that are copied and shared by threads, the moves of a line,
-   names, solutions one after another, and the bounds and progress of `best`, whose rows tests/hosts tries. It is linked with --wrap for malloc,
+   names, text as solvers write it, solutions one after another, and the bounds and progress of `best`, whose rows tests/hosts tries. It is linked with --wrap for malloc,
    realloc and free, by which the library's memory is refused. */
 #include "nissy_best.hpp"
 #include "nissy_names.hpp"
 #include "nissy_solutions.hpp"
 #include "nissy_tokens.hpp"
+#include "nissy_written.hpp"
 
 #include "refused.h"
 #include "searches.h"
@@ -102,6 +103,36 @@ void faults_are_thrown() {
     } catch (const nissy::fault &thrown) {
         holds(thrown.column() == 11 && thrown.character("R\xe2\x80\x99 U\xe2\x80\x99 q") == 7, "bytes and characters", "R’ U’ q");
     }
+}
+
+// A column in bytes as one in characters, of any text, and of the answers of many lines.
+void columns_are_counted() {
+    // signs of one byte, two, three and four, and a byte that is none of UTF-8
+    static constexpr std::string_view TEXT = "R\xc3\xa9\xe2\x80\x99\xf0\x9f\x98\x80" "q\xff";
+    static constexpr std::size_t PLACES[][2] = {{0, 0}, {1, 1}, {2, 2}, {4, 3}, {7, 4}, {11, 5}, {12, 6}, {13, 7}};
+    for (const auto &[column, place] : PLACES) holds(nissy::character(TEXT, column) == place, "its place in characters", std::to_string(column).c_str());
+    holds(nissy::character({}, 0) == 0 && nissy::character({}, 1) == 1, "nor behind the end of nothing", "");
+    static constexpr std::string_view LINES = "R\nU2\xe2\x80\x99 q";
+    const auto facts = nissy::facts_all(LINES);
+    holds(facts[1].column() == 7 && facts[1].character(LINES.substr(2)) == 5 && facts[0].character(LINES) == 0, "one of many lines", "U2’ q");
+}
+
+// A text as a line, whose fault is found in the text. What is left out, the rows of tests/calls.tsv say, which tests/hosts tries.
+void text_is_read() {
+    static constexpr std::string_view TEXT = "EO: R\xe2\x80\x99, U\xff q // to try";
+    const auto [line, places, left_out] = nissy::plain_line(TEXT);
+    holds(line == " R'  U\xff q " && left_out == names{"labels", "comments", "commas"}, "its line", "EO: R’, U\\xff q");
+    holds(places == std::vector<std::size_t>{3, 4, 5, 8, 9, 10, 11, 12, 13, 14}, "its places", "EO: R’, U\\xff q");
+    try {
+        nissy::invert(line);
+        holds(0, "it has a fault", "EO: R’, U\\xff q");
+    } catch (const nissy::fault &thrown) {
+        holds(places[thrown.column() - 1] == 11, "where it stands in the text", "EO: R’, U\\xff q");
+    }
+    // what begins a sign and has too few bytes, or more than it needs, is no blank and no letter
+    for (const char *text : {"\xc2", "\xe2\x80", "\xc0\xa0", "\xe0\x82\xa0", "\xf0\x80\x82\xa0", "\xed\xa0\x80", "\xf4\x90\x80\x80", "\x80"})
+        holds(nissy::plain_line(std::string("EO") + text + ": R").line == std::string("EO") + text + ": R", "bytes that aren't UTF-8", text);
+    holds(nissy::plain_line({}).line.empty() && nissy::plain_line(std::string_view("//", 1)).line == "/", "nothing behind its end", "/");
 }
 
 void misuse_is_thrown() {
@@ -285,8 +316,8 @@ int main() {
     // first, so that each step is built while others ask for it
     threads_agree();
     for (const search_row &row : SEARCHES) solves(nissy::tables(row.step), row);
-    for (const auto trial : {lines_are_read, faults_are_thrown, misuse_is_thrown, many_lines_are_answered, searches_are_cut, progress_is_told,
-                             refused_memory_is_thrown, many_are_whole, objects_are_values})
+    for (const auto trial : {lines_are_read, faults_are_thrown, columns_are_counted, text_is_read, misuse_is_thrown, many_lines_are_answered,
+                             searches_are_cut, progress_is_told, refused_memory_is_thrown, many_are_whole, objects_are_values})
         trial();
     holds(nissy::version() == nissy_version() && nissy_version() == NISSY_VERSION_NUMBER, "the library's", "version");
     return ended();

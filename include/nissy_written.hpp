@@ -1,0 +1,232 @@
+// nissy for C++17 and later: reads text as solvers write it. What is no move but is written beside moves becomes a blank or an apostrophe, or is
+// left out; what comes of it is a line for the other calls, or it is at fault there. Header alone, without the library.
+//
+// The text is in UTF-8, and other bytes stay as they are. Python and JavaScript know which signs of Unicode are letters; here a letter of a label
+// is A to Z, a to z, and beyond ASCII each sign that isn't in detail::NO_LETTERS, which is right for Latin, Greek, Cyrillic, Chinese, Japanese
+// and Korean words, and takes digits and marks of other scripts for letters too.
+#ifndef NISSY_WRITTEN_HPP
+#define NISSY_WRITTEN_HPP
+
+#if __cplusplus < 201703L
+#error "nissy_written.hpp is for C++17 and later"
+#endif
+
+#include <algorithm>
+#include <array>
+#include <cstddef>
+#include <string>
+#include <string_view>
+#include <vector>
+
+namespace nissy {
+
+// A text as one line.
+struct plain {
+    std::string line;
+    std::vector<std::size_t> places;   // the place in the text of each byte of the line, from 0: a fault stands at places[fault.column() - 1]
+    std::vector<std::string> left_out; // what the line hasn't, by the names of detail::LEFT_OUT
+};
+
+namespace detail {
+
+struct sign_range {
+    char32_t first, last;
+};
+
+// Signs of a text that are no letters: those among the letters of the scripts named above, marks, punctuation, arrows, pictures, and bytes that
+// aren't UTF-8.
+inline constexpr std::array<sign_range, 37> NO_LETTERS = {{
+    {0x80, 0xa9}, {0xab, 0xb4}, {0xb6, 0xb9}, {0xbb, 0xbf}, {0xd7, 0xd7}, {0xf7, 0xf7}, {0x2c2, 0x2c5}, {0x2d2, 0x2df}, {0x2e5, 0x2eb},
+    {0x2ed, 0x2ed}, {0x2ef, 0x36f}, {0x375, 0x375}, {0x37e, 0x37e}, {0x384, 0x385}, {0x387, 0x387}, {0x3f6, 0x3f6}, {0x482, 0x489},
+    {0x1680, 0x1680}, {0x2000, 0x2bff}, {0x2e00, 0x2e7f}, {0x3000, 0x3004}, {0x3007, 0x3030}, {0x3036, 0x303a}, {0x303d, 0x303f},
+    {0x3099, 0x309c}, {0x30a0, 0x30a0}, {0x30fb, 0x30fb}, {0x3190, 0x319f}, {0x31c0, 0x31e3}, {0x3200, 0x33ff}, {0xd800, 0xf8ff},
+    {0xfe00, 0xfe6f}, {0xfeff, 0xff20}, {0xff3b, 0xff40}, {0xff5b, 0xff65}, {0xffe0, 0xffff}, {0x1f000, 0x1faff},
+}};
+// Those of them that are numbers.
+inline constexpr std::array<sign_range, 9> NUMBERS = {{{'0', '9'}, {0xb2, 0xb3}, {0xb9, 0xb9}, {0xbc, 0xbe}, {0x2460, 0x249b}, {0x3007, 0x3007},
+                                                       {0x3021, 0x3029}, {0x3038, 0x303a}, {0xff10, 0xff19}}};
+// White space, a line feed too.
+inline constexpr std::array<sign_range, 10> BLANKS = {{
+    {'\t', '\r'}, {' ', ' '}, {0xa0, 0xa0}, {0x1680, 0x1680}, {0x2000, 0x200a}, {0x2028, 0x2029}, {0x202f, 0x202f}, {0x205f, 0x205f},
+    {0x3000, 0x3000}, {0xfeff, 0xfeff},
+}};
+inline constexpr std::array<sign_range, 3> UNSEEN = {{{0x200b, 0x200d}, {0x2060, 0x2060}, {0xfeff, 0xfeff}}};
+inline constexpr std::array<sign_range, 5> APOSTROPHES = {{{'`', '`'}, {0xb4, 0xb4}, {0x2bc, 0x2bc}, {0x2018, 0x2019}, {0x2032, 0x2032}}};
+
+// What is left out, by a name of its place.
+inline constexpr std::array<const char *, 7> LEFT_OUT = {"", "labels", "comments", "line numbers", "the word Scramble", "commas",
+                                                         "signs that aren't seen"};
+enum omitted : unsigned char { NOTHING, LABEL, COMMENT, LINE_NUMBER, SCRAMBLE, COMMA, UNSEEN_SIGN };
+
+template <std::size_t Size> bool is_in(const std::array<sign_range, Size> &ranges, char32_t code) {
+    return std::any_of(ranges.begin(), ranges.end(), [code](const sign_range &it) { return it.first <= code && code <= it.last; });
+}
+
+// A sign of a text, and how many bytes it has: none behind its end.
+struct written_sign {
+    char32_t code;
+    std::size_t size;
+};
+
+// The sign that begins there. A byte that begins none is one that is no letter.
+inline written_sign sign_at(std::string_view text, std::size_t at) {
+    if (at >= text.size()) return {0xdfff, 0};
+    const auto byte = [=](std::size_t ahead) { return static_cast<unsigned char>(text[at + ahead]); };
+    const unsigned char first = byte(0);
+    if (first < 0x80) return {first, 1};
+    const std::size_t size = first < 0xe0 ? 2 : first < 0xf0 ? 3 : 4;
+    const written_sign none = {0xdf00, 1};
+    if (first < 0xc2 || first > 0xf4 || text.size() - at < size) return none;
+    char32_t code = first & (0x7fU >> size);
+    for (std::size_t ahead = 1; ahead < size; ahead++) {
+        if ((byte(ahead) & 0xc0) != 0x80) return none;
+        code = code << 6 | (byte(ahead) & 0x3fU);
+    }
+    const bool is_short = size == 3 ? code < 0x800 : size == 4 && code < 0x10000, is_half = code >= 0xd800 && code < 0xe000;
+    return is_short || is_half || code > 0x10ffff ? none : written_sign{code, size};
+}
+
+inline bool is_blank(char32_t code) { return is_in(BLANKS, code); }
+inline bool is_number(char32_t code) { return is_in(NUMBERS, code); }
+inline bool is_letter(char32_t code) {
+    return code < 0x80 ? (code >= 'A' && code <= 'Z') || (code >= 'a' && code <= 'z') : !is_in(NO_LETTERS, code);
+}
+
+// Where the signs end that begin there and are such.
+template <typename Which> std::size_t behind(std::string_view text, std::size_t at, Which which) {
+    for (written_sign it; (it = sign_at(text, at)).size != 0 && which(it.code); at += it.size) {}
+    return at;
+}
+inline std::size_t behind_blanks(std::string_view text, std::size_t at) {
+    return behind(text, at, [](char32_t code) { return is_blank(code) && code != '\n'; });
+}
+
+// Each of the next three says where a form ends that begins there, or that place itself if none does.
+
+// What stands before the moves of a line, such as "EO:" or "Final solution:".
+inline std::size_t behind_label(std::string_view text, std::size_t begin) {
+    const written_sign first = sign_at(text, begin);
+    const std::size_t second = begin + first.size;
+    std::size_t at = behind(text, second, [](char32_t code) { return is_letter(code) || is_number(code); });
+    if (first.size == 0 || !is_letter(first.code) || at == second) return begin;
+    for (int further = 0; further < 2 && sign_at(text, at).code == ' ' && is_letter(sign_at(text, at + 1).code); further++)
+        at = behind(text, at + 1, is_letter);
+    at = behind_blanks(text, at);
+    const bool is_label = sign_at(text, at).code == ':' && (at + 1 == text.size() || is_blank(sign_at(text, at + 1).code));
+    return is_label ? at + 1 : begin;
+}
+
+inline std::size_t behind_line_number(std::string_view text, std::size_t begin) {
+    const std::size_t at = behind(text, begin, [](char32_t code) { return code >= '0' && code <= '9'; });
+    const char32_t code = sign_at(text, at).code;
+    return at > begin && (code == '.' || code == ')') ? at + 1 : begin;
+}
+
+inline std::size_t behind_scramble(std::string_view text, std::size_t begin) {
+    constexpr std::string_view WORD = "scramble";
+    const std::string_view found = text.substr(begin, WORD.size());
+    // the bit by which capitals differ from other letters
+    const auto is_alike = [](char letter, char wanted) { return (letter | 0x20) == wanted; };
+    const bool is_there = std::equal(found.begin(), found.end(), WORD.begin(), WORD.end(), is_alike);
+    const std::size_t at = behind_blanks(text, begin + WORD.size());
+    return is_there && sign_at(text, at).code == ':' ? at + 1 : begin;
+}
+
+// Adds a name unless it is there already, or is none.
+inline void add_name(std::vector<std::string> &names, omitted name) {
+    const std::string_view text = LEFT_OUT[name];
+    if (!text.empty() && std::find(names.begin(), names.end(), text) == names.end()) names.emplace_back(text);
+}
+
+// The bytes of a text that are left out, those of a sign together.
+class omissions {
+public:
+    explicit omissions(std::string_view text) : text_(text), names_(text.size(), NOTHING) {
+        mark_lines(behind_label, LABEL);
+        mark_comments();
+        mark_lines(behind_line_number, LINE_NUMBER);
+        mark_lines(behind_scramble, SCRAMBLE);
+    }
+
+    bool has(std::size_t at) const { return names_[at] != NOTHING; }
+    // the names of what stands there; of a place that has two the last one counts
+    std::vector<std::string> names() const {
+        std::vector<std::string> those;
+        for (const std::size_t at : marked_) add_name(those, names_[at]);
+        return those;
+    }
+
+private:
+    void mark(std::size_t begin, std::size_t end, omitted name) {
+        for (std::size_t at = begin; at < end; at++) {
+            if (!has(at)) marked_.push_back(at);
+            names_[at] = name;
+        }
+    }
+
+    // A form at the beginning of a line, behind its blanks, which may end lines.
+    template <typename Form> void mark_lines(Form form, omitted name) {
+        bool is_begin = true;
+        for (std::size_t at = 0, next; at < text_.size(); at = next) {
+            const std::size_t begin = is_begin ? behind_blanks(text_, at) : at, end = is_begin ? form(text_, begin) : begin;
+            if (end > begin) mark(at, end, name);
+            next = end > at ? end : at + sign_at(text_, at).size;
+            is_begin = ends_line(next);
+        }
+    }
+
+    void mark_comments() {
+        for (std::size_t at = 0, next; (at = text_.find("//", at)) != std::string_view::npos; at = next) {
+            next = std::min(text_.find('\n', at), text_.size());
+            mark(at, next, COMMENT);
+        }
+    }
+
+    // Whether a line ends before a place: by a line feed, a return, U+2028 or U+2029.
+    bool ends_line(std::size_t at) const {
+        const std::string_view last = text_.substr(at < 3 ? 0 : at - 3, std::min<std::size_t>(at, 3));
+        return at > 0 && (last.back() == '\n' || last.back() == '\r' || last == "\xe2\x80\xa8" || last == "\xe2\x80\xa9");
+    }
+
+    std::string_view text_;
+    std::vector<omitted> names_;
+    std::vector<std::size_t> marked_; // the places in the order in which they were
+};
+
+// What a sign is read as, itself if that is empty and nothing is left out.
+struct read_sign {
+    std::string_view as;
+    omitted name = NOTHING;
+};
+inline read_sign read_as(char32_t code) {
+    if (is_in(UNSEEN, code)) return {"", UNSEEN_SIGN};
+    if (code == ',' || code == ';') return {" ", COMMA};
+    return {is_in(APOSTROPHES, code) ? "'" : is_blank(code) ? " " : ""};
+}
+
+inline void put(plain &made, std::string_view bytes, std::size_t place) {
+    made.line += bytes;
+    for (std::size_t ahead = 0; ahead < bytes.size(); ahead++) made.places.push_back(place + ahead);
+}
+
+} // namespace detail
+
+// A text as solvers write it as one line: without labels, comments and line numbers.
+inline plain plain_line(std::string_view text) {
+    const detail::omissions gone(text);
+    plain made = {{}, {}, gone.names()};
+    std::size_t size = 0;
+    for (std::size_t at = 0; at < text.size(); at += size) {
+        const detail::written_sign sign = detail::sign_at(text, at);
+        size = sign.size;
+        if (gone.has(at)) continue;
+        const auto [as, name] = detail::read_as(sign.code);
+        detail::add_name(made.left_out, name);
+        detail::put(made, as.empty() && name == detail::NOTHING ? text.substr(at, size) : as, at);
+    }
+    return made;
+}
+
+} // namespace nissy
+
+#endif

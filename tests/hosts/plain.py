@@ -1,0 +1,66 @@
+#!/usr/bin/env python3
+"""Texts as solvers write them, read by each host as one line: the rows of tests/calls.tsv, and drawn texts, which all hosts read as Python does.
+
+    tests/hosts/plain.py SEED COUNT HOST..
+
+A host is one of hosts.py, with the library of NISSY_LIBRARY. The last line is `N passed, M failed`, and the status is 1 if M isn't 0.
+"""
+from __future__ import annotations
+
+import random
+import sys
+import unicodedata
+from typing import Iterator, List
+
+from hosts import Python, hosts_of, told  # isort: skip
+
+import called
+from tally import Tally
+
+# of the letters that C++ knows from other signs
+PARTS = """R U2 F' L\u2019 B\u2032 ( ) ` ' \u02bc EO DR Final finale R\u00e9duction re\u0301 \u042d\u041e \u89e3 \U00010400 F2L EO\u00b2 \u00bd A Scramble
+    SCRAMBLE scramble 1. 23) 4 . // / , ; _ - \u2192 \U0001f600 \u200b \u2060 \ufeff""".split()
+BLANKS = [" ", " ", " ", ": ", ":", "\n", "\n", "\r\n", "\r", "\t", "\u00a0", "\u2009", "\u2028", "\u3000", "\u0085", "", "", "\n\n", " : "]
+# Latin, Greek, Cyrillic, the punctuation of all, Japanese and Korean, and the middle of Chinese, which C++ reads by a table of its own
+SCRIPTS = [*range(0xa0, 0x530), *range(0x2010, 0x2030), *range(0x3000, 0x3100), *range(0x4e00, 0x4f00), *range(0xac00, 0xad00),
+           *range(0xff00, 0xfff0)]
+ALL_NAMES = {"labels", "comments", "line numbers", "the word Scramble", "commas", "signs that aren't seen"}
+
+
+def wanted_rows() -> Iterator[List[str]]:
+    """Each row of the table: a text, and what is told of it."""
+    for text, line, places, names in called.rows("plain"):
+        ranges = (it.partition("-") for it in places.split())
+        each = [str(at) for first, _, last in ranges for at in range(int(first), int(last or first) + 1)]
+        yield [text, f"{line}\n{' '.join(each)}\n{names}"]
+
+
+def each_sign() -> str:
+    """Each sign of the scripts behind two letters, and before one, in a line that may have a label."""
+    signs = [chr(code) for code in SCRIPTS if unicodedata.category(chr(code)) != "Cn"]
+    return "".join(f"ab{sign}: R\n{sign}a: R\n" for sign in signs)
+
+
+def drawn(seed: int, count: int) -> Iterator[str]:
+    """Texts of the signs that are read otherwise than others, each in any place."""
+    draw = random.Random(seed)
+    for _ in range(count):
+        yield "".join(draw.choice(BLANKS) + draw.choice(PARTS) for _ in range(draw.randrange(9))) + draw.choice(BLANKS)
+
+
+def main() -> None:
+    """All rows and texts, by each host."""
+    tally, python, (seed, count) = Tally(), Python(), map(int, sys.argv[1:3])
+    rows, texts = list(wanted_rows()), [each_sign(), *drawn(seed, count)]
+    ours = [told(python, "plain_line", text.encode()) for text in texts]
+    for host in hosts_of(sys.argv[3:]):
+        for text, wanted in [*rows, *zip(texts, ours)]:
+            tally.equal(f"{text!r} in {host.name}", told(host, "plain_line", text.encode()), wanted)
+        tally.equal(f"{host.name} ends, and has said no more", host.end(), 0)
+    for lines in ([wanted for _, wanted in rows], ours):
+        tally.equal("each name is there", {name for it in lines for name in it.rpartition("\n")[2].split("|") if name}, ALL_NAMES)
+    tally.end()
+
+
+if __name__ == "__main__":
+    main()
