@@ -27,6 +27,7 @@ STATES = (("empty", "", ""), ("a scramble", SCRAMBLE, ""), ("an EO that is taken
     ("the best with one move more", "#scramble=R_U_F", FIELD % ("#best-slack", "1") + "field.dispatchEvent(new Event('change'))"),
     ("kept lines", BOTH + "&kept=inverse.B_D_R_F2_B_D;a_note,normal.R-_U_F-_R_L", ""),
     ("a fault", "#scramble=R_U", FIELD % ("#scramble", "R U q F") + "field.dispatchEvent(new Event('input'))"),
+    ("several scrambles", "#scramble=R_U", FIELD % ("#scramble", "1. R U F\\n2. D L") + "field.dispatchEvent(new Event('input'))"),
     ("a line that is too long", "#scramble=" + "_".join(["R", "U"] * 129), ""), ("a solved cube", "#scramble=R_U&steps=normal.U-_R-", ""),
     ("a reduction", BOTH + "~normal.D2_R", ""),
     ("an edit", BOTH, PRESS % "#line-list button" + FIELD % ("#line-list input", "(B D)") + "field.form.requestSubmit()"),
@@ -124,6 +125,9 @@ def main() -> None:
         for what, one, other in zip(names, found[browser], found[here[0]]):
             compare(tally, browser, here[0], one, other, what)
     tally.holds("there are browsers to compare", len(here) > 1)
+    several = next(at for at, (name, _, _) in enumerate(STATES) if name == "several scrambles")
+    silent = [name for name in here if "Left out: 1 other scramble." not in str(found[name][several])]
+    tally.equal("browsers that don't say that a scramble was left out", silent, [])
     # those of a scramble; of less than a net it is said how many stickers there are
     tally.equal("browsers without nets", [name for name in here if "stickers" in str(found[name][1]["nets"])], [])
     tally.end()

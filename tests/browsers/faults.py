@@ -25,7 +25,11 @@ PASTED = (("R\u00a0U\u2009F2", "R U F2", ""), ("R\u200b U\u200b2\ufeff", "R U2",
     ("R\u2032 U\u00b4 F` D\u2019 L\u2018", "R' U' F' D' L'", ""), ("R, U'; F2", "R U' F2", "Left out: commas."),
     ("1. R U F2", "R U F2", "Left out: line numbers."), ("3) R U F2 // the third", "R U F2", "Left out: comments, line numbers."),
     ("Scramble: R U F2", "R U F2", "Left out: the word Scramble."), ("EO: R U F2", "R U F2", "Left out: labels."),
-    ("Final solution : R U F2", "R U F2", "Left out: labels."), ("R U // up\nF2", "R U F2", "Left out: comments."))
+    ("Final solution : R U F2", "R U F2", "Left out: labels."), ("R U // up\nF2", "R U F2", "Left out: comments."),
+    # one scramble on several lines, and several of them
+    ("R U\nF2\nD L\n", "R U F2 D L", ""), ("1. R U\nF2\n2. D L\n", "R U F2", "Left out: 1 other scramble."),
+    ("Scramble 1: R U F2\nScramble 2: D\nScramble 3: L\n", "R U F2", "Left out: 2 other scrambles."),
+    ("Hello!\n1 R, U F2\n2 D\nE1 L\n", "R U F2", "Left out: 1 line before the scramble, 2 other scrambles, commas."))
 # a text of several lines with comments: its scramble, its steps, and the candidates after it with their notes
 FMC = "2. R' U' F D2 // scramble\nF R' B // EO F/B (3)\n(D R) B2 // (3/6)\n\nL2 D\u2032 // another\n// a note\n\n(U F)\n"
 # of a long line 24 signs before the fault are shown, and a sign for those before them

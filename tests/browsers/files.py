@@ -30,7 +30,7 @@ REFUSED = (("main.js", 'import { part } from "./element.js";\nconst part = 1;\n'
     ("main.js", 'const text = "<!--";\n', "a comment of the page"), ("main.js", "const text = `R\n  U`;\n", "a text of several lines"),
     ("style.css", "</style>", "an end of the style"), ("print.css", "</style>", "an end of the style in a part of it"),
     ("style.css", '@import url("./print.css");', "an import of another form in the style"),
-    ("main.js", "// " + "x" * MOST_BYTES, "a page that is too large"))
+    ("main.js", 'const text = "\U0001f9e9";\n', "a sign that an escape hasn't"), ("main.js", "// " + "x" * MOST_BYTES, "a page that is too large"))
 
 
 def element(page: str, pattern: str) -> str:
@@ -55,6 +55,7 @@ def is_closed(tally: Tally, page: str) -> None:
     tally.holds("it stands before what it rules", page.index("Content-Security-Policy") < min(page.index("<style"), page.index("<link")))
     links = re.findall(r'\b(?:src|href|action|data|poster)="([^"]*)"', page)
     tally.holds("its links are data", links and all(link.startswith("data:image/svg+xml,") for link in links))
+    tally.equal("its signs beyond ASCII", re.findall(r"[^\x00-\x7f]", page), [])
     tally.holds("no style asks for a file", not re.search(r"url\(|@import", element(page, "style")))
     tally.equal("inline handlers", re.findall(r"<[^>]* on[a-z]+=", page.split("<script")[0]), [])
 

@@ -40,7 +40,7 @@ export function read(text: string, places: readonly EdgePlace[]): number {
   const { line, places: at, leftOut }: PlainLine = plainLine(text);
   const written: Fmc | null = readFmc(text);
   const numbers: number[] = stickersOf([...places, "URF"]);
-  return line.length + at.length + leftOut.length + (written?.candidates.length ?? 0) + numbers.length;
+  return line.length + at.length + leftOut.length + (written?.candidates.length ?? 0) + (written?.others ?? 0) + numbers.length;
 }
 
 export function judged(nissy: Nissy): string {

@@ -9,8 +9,9 @@
 
 /**
  * A text that has a scramble and steps after it, each a line of text: those of the solution, and of candidates beside
- * it. So many lines of prose stood `before` the scramble.
- * @typedef {{scramble: string, steps: string[], candidates: {steps: string[], note: string}[], before: number}} Fmc
+ * it. So many lines of prose stood `before` the scramble, and the text numbers so many `others`.
+ * @typedef {{scramble: string, steps: string[], candidates: {steps: string[], note: string}[], before: number,
+ * others: number}} Fmc
  */
 
 const APOSTROPHES = /[\u2018\u2019\u02BC\u2032\u00B4\u0060]/;
@@ -27,6 +28,13 @@ const LEFT_OUT = [
   { form: /^[^\S\n]*\d+[.)]/gm, name: "line numbers" },
   { form: /^[^\S\n]*scramble[^\S\n]*:/gim, name: "the word Scramble" },
 ];
+
+/** What stands before each of several scrambles: a word, or a number as lists and the WCA's sheets have it. */
+const WORD = /^\s*(?:scramble|attempt)\s*(?:#?\d+(?:\s*(?:of|\/)\s*\d+)?(?:\s*[-–.):]|(?=\s|$))|:)/i;
+const NUMBER = /^\s*(?:[#(]?\d+|extra\s*\d+)(?:[.):](?!\d)|(?=\s|$))/i;
+/** The extras of such a sheet: E2 is a move too, but not beside E1, which is none. */
+const EXTRA = /^\s*E1(?=\s|$)/;
+const NUMBER_OR_EXTRA = /^\s*(?:[#(]?\d+|E\d+)(?:[.):](?!\d)|(?=\s|$))/;
 
 /**
  * The places in a text that are left out, each with the name of what stands there.
@@ -85,6 +93,37 @@ function isProse(line) {
 /** @param {string} line */
 const isMoves = (line) => plainLine(line).line.trim() !== "";
 
+/** @param {string} line @returns {boolean} whether it says what its moves are */
+const isTold = (line) => line.includes("//") || line.search(LABEL) >= 0;
+
+/**
+ * The first of several scrambles that a text tells apart by heads, with what stands before it, and how many others
+ * there are. Lines are steps of one scramble if moves without a head stand before them, or if it is said what they are.
+ * @param {string[]} lines
+ * @param {RegExp} head
+ */
+function firstHeaded(lines, head) {
+  const rests = lines.map((line) => line.replace(head, ""));
+  const isAlone = (/** @type {string} */ rest) => rest.trim() === "";
+  const heads = [...lines.keys()].filter((at) =>
+    rests[at] !== lines[at] && (isAlone(rests[at]) || !isProse(rests[at])));
+  const endOf = (/** @type {number} */ from) => heads.find((at) => at > from);
+  const hasMoves = (/** @type {number} */ from, to = endOf(from)) =>
+    rests.slice(from, to).some((rest) => !isProse(rest));
+  const [first, ...others] = heads.filter((at) => hasMoves(at));
+  if (others.length === 0 || hasMoves(0, heads[0])) return null;
+  if (head !== WORD && others.some((at) => isTold(rests[at]))) return null;
+  const own = [...lines.slice(0, first), rests[first], ...lines.slice(first + 1, endOf(first))];
+  return { lines: own, others: others.length };
+}
+
+/** @param {string} text @returns the lines of it, or those of the first of its scrambles, and how many others it has */
+function linesOfFirst(text) {
+  const lines = text.split("\n");
+  const number = lines.some((line) => EXTRA.test(line)) ? NUMBER_OR_EXTRA : NUMBER;
+  return firstHeaded(lines, WORD) ?? firstHeaded(lines, number) ?? { lines, others: 0 };
+}
+
 /** @param {string} block @returns {string[]} its lines that aren't blank */
 const linesOfBlock = (block) => block.split("\n").filter((line) => line.trim() !== "");
 
@@ -100,20 +139,24 @@ const candidateOf = (block) => ({
 /**
  * Text with moves on several lines, as solvers write a solution: the scramble, then a step a line with a comment or a
  * label; blocks after a blank line are candidates. The only one is the solution itself, if nothing stands between it
- * and the scramble. Prose before the scramble is left out. Null if the text isn't of this form.
+ * and the scramble. Prose before the scramble is left out; of several numbered scrambles the first is read, which may
+ * have no steps. Null if the text isn't of this form.
  * @param {string} text
  * @returns {Fmc | null}
  */
 export function readFmc(text) {
-  const all = text.split("\n");
+  const { lines: all, others } = linesOfFirst(text);
   const begin = Math.max(all.findIndex((line) => !isProse(line)), 0);
   const texts = all.slice(begin).join("\n").split(/\n[^\S\n]*\n/);
   const blocks = texts.map(linesOfBlock).filter((block) => block.length > 0);
-  if (!blocks.flat().slice(1).some((line) => line.includes("//") || line.search(LABEL) >= 0)) return null;
-  const [[scramble, ...first], ...others] = blocks;
-  const candidates = others.map(candidateOf).filter(({ steps }) => steps.length > 0);
-  const own = first.filter(isMoves);
   const before = linesOfBlock(all.slice(0, begin).join("\n")).length;
+  if (!blocks.flat().slice(1).some(isTold)) {
+    // its lines are those of one scramble
+    return others === 0 ? null : { scramble: blocks.flat().join("\n"), steps: [], candidates: [], before, others };
+  }
+  const [[scramble, ...first], ...further] = blocks;
+  const candidates = further.map(candidateOf).filter(({ steps }) => steps.length > 0);
+  const own = first.filter(isMoves);
   const steps = own.length === 0 && candidates.length === 1 ? candidates[0].steps : own;
-  return { scramble, steps, candidates, before };
+  return { scramble, steps, candidates, before, others };
 }

@@ -177,20 +177,23 @@ export class ScrambleField {
   /** @param {boolean} isReplaced by a text that was pasted: by another scramble, if it isn't the same again */
   #read(isReplaced) {
     const text = this.#field.value;
-    const fmc = readFmc(text);
-    const plain = plainLine(fmc ? fmc.scramble : text);
+    const read = readFmc(text);
+    // the first of several scrambles may have no steps
+    const fmc = read && read.steps.length + read.candidates.length > 0 ? read : null;
+    const plain = plainLine(read ? read.scramble : text);
     this.#leftOut = [
-      ...(fmc?.before ? [`${counted(fmc.before, "line")} before the scramble`] : []),
+      ...(read?.before ? [`${counted(read.before, "line")} before the scramble`] : []),
+      ...(read?.others ? [counted(read.others, "other scramble")] : []),
       ...plain.leftOut,
       ...(this.#isCut ? [`what is beyond ${LONGEST_SCRAMBLE.toLocaleString("en")} signs`] : []),
     ];
     this.#isCut = false;
-    if (fmc) this.#field.value = plain.line.trim();
+    if (read) this.#field.value = plain.line.trim();
     const isNew = this.#isOther(plain.line.trim(), isReplaced) || fmc !== null;
     // Back leads to the scramble that was deleted and its lines, also once another one is typed
     const isStep = (isNew || this.#isEmptied) && !this.#isDraft;
     this.#isDraft = this.#isEmptied;
-    this.#changed(fmc ? plain.line.trim() : plain.line, { isNew, fmc, isStep });
+    this.#changed(read ? plain.line.trim() : plain.line, { isNew, fmc, isStep });
   }
 
   /** Whether a scramble is another one than the last: it was pasted in its place, or typed after it was deleted. The
