@@ -1,4 +1,4 @@
--- From what a search behind a sequence did to its lines in memory to what it answers.
+-- From what a search after a sequence did to its lines in memory to what it answers.
 use Rattle.std.proofs.Common.{◌≡◌, ◌⊎◌, inl, inr, ℕ, ◌+◌, ◌<◌, ◌≤◌, Bool, true, false, Option, None, Result, Ok, Err, List, [], ◌∷◌, map}
 use Rattle.std.proofs.Common.{take, length, refl, sym, ap, ◌∙◌, subst, arith, unwrap_or}
 use Rattle.std.proofs.Common.{ap₂, get_or, ◌++◌}
@@ -15,7 +15,7 @@ use Rattle.niss_search.specs.Budgets.{is_cut_in, HasSpent}
 use Rattle.niss_search.specs.Cubes.{least_length_of, near_solutions_of, cubes}
 use Rattle.niss_search.specs.Delivery.{WentThrough, StoppedIn, EndedIn}
 use Rattle.niss_search.specs.Laws.{FirstIsLeast, SolutionsAreSequences}
-use Rattle.niss_search.specs.Later.{comes_after, later_of, deepening_looks_of}
+use Rattle.niss_search.specs.After.{comes_after, sequences_after, deepening_looks_of}
 use Rattle.niss_search.specs.Solutions.{last_length}
 use Rattle.niss_search.specs.declared.budget.Stopped.{Stopped as Ending}
 use Rattle.niss_search.specs.declared.budget.Stopped.TheVariants as ending
@@ -26,7 +26,7 @@ use Rattle.niss_shell.specs.Output.{start_cube}
 use Rattle.niss_shell.specs.Words.{most_bytes, most_limit}
 use Rattle.niss_embed.specs.Memory.{Memory, memory}
 use Rattle.niss_embed.specs.LineSearch.{Hands, Only, unsolved, capped, is_cut, looks_for_all}
-use Rattle.niss_embed.specs.SolveAfter.{all_behind, looks_for_behind, SolvesBehind, SolvesBehindAt, SolvesAfter, Spells, line_of_turns}
+use Rattle.niss_embed.specs.SolveAfter.{all_after, looks_for_after, SolvesCubeAfter, SolvesAtAfter, SolvesAfter, Spells, line_of_turns}
 use Rattle.niss_embed.specs.declared.line_search.CountedSolutions.{CountedSolutions}
 use Rattle.niss_embed.specs.declared.line_search.Refused.{Refused}
 use Rattle.niss_embed.specs.declared.line_search.SolutionLines.{SolutionLines}
@@ -51,14 +51,14 @@ Handed = Result ℕ (Ending Refused)
 
 module _ (step : Step) (w : Wanted) (p : List Turn) (e : Place → Place) where
   abbrev all : List (List Turn)
-  all = all_behind step w p e
+  all = all_after step w p e
 
   -- a search from a cube, by what it did to its lines
   module _ (a b : SolutionLines) (r : Handed)
       (ok : OnOk r (WentThrough TakesPath a all b))
       (err : IfErr r (λ stop. EndedIn TakesPath RefusesPath (is_cut_in stop) a all b)) where
-    pub same_memory_behind : b.bytes.ghost_name ≡ a.bytes.ghost_name
-    same_memory_behind = by_result r ok err where
+    pub same_memory_after : b.bytes.ghost_name ≡ a.bytes.ghost_name
+    same_memory_after = by_result r ok err where
       by_result : (r : Handed) → OnOk r (WentThrough TakesPath a all b)
           → IfErr r (λ stop. EndedIn TakesPath RefusesPath (is_cut_in stop) a all b) → b.bytes.ghost_name ≡ a.bytes.ghost_name
       by_result (Ok o) h k = (went all a b h).same_reference
@@ -67,22 +67,22 @@ module _ (step : Step) (w : Wanted) (p : List Turn) (e : Place → Place) where
           s.refused.same_reference ∙ s.took.same_reference
       by_result (Err ending.Cut) h k = (into all a b k).took.same_reference
 
-    pub solves_behind : (l : Lines) (least : Option ℕ) (looks : ℕ) → l.most ≡ w.most → state_of a ≡ begun l → state_of b ≡ ended l
-        → least ≡ least_length_of step e w.limit → looks ≤ looks_for_behind step w e → capped looks ≤ w.most_nodes
-        → IfErr r (λ stop. is_cut_in stop ≡ true → w.most_nodes < looks_for_behind step w e)
+    pub solves_cube_after : (l : Lines) (least : Option ℕ) (looks : ℕ) → l.most ≡ w.most → state_of a ≡ begun l → state_of b ≡ ended l
+        → least ≡ least_length_of step e w.limit → looks ≤ looks_for_after step w e → capped looks ≤ w.most_nodes
+        → IfErr r (λ stop. is_cut_in stop ≡ true → w.most_nodes < looks_for_after step w e)
         → HasSpent is_cut_in w.most_nodes step (capped looks) r
-        → SolvesBehind step w p e (memory l.before l.after) (told_of (is_cut r) l.too_small (is_err r) least l.written l.solutions (capped looks))
-    solves_behind l least looks most begins ends least_is at_most within cut spent = by_result r ok err cut spent where
+        → SolvesCubeAfter step w p e (memory l.before l.after) (told_of (is_cut r) l.too_small (is_err r) least l.written l.solutions (capped looks))
+    solves_cube_after l least looks most begins ends least_is at_most within cut spent = by_result r ok err cut spent where
       known : unwrap_or least 0 ≡ unwrap_or (least_length_of step e w.limit) 0
       known = ap (λ o. unwrap_or o 0) least_is
 
-      few : capped looks ≤ capped (looks_for_behind step w e)
-      few = capped_le looks (looks_for_behind step w e) at_most
+      few : capped looks ≤ capped (looks_for_after step w e)
+      few = capped_le looks (looks_for_after step w e) at_most
 
       by_result : (r : Handed) → OnOk r (WentThrough TakesPath a all b) → IfErr r (λ stop. EndedIn TakesPath RefusesPath (is_cut_in stop) a all b)
-          → IfErr r (λ stop. is_cut_in stop ≡ true → w.most_nodes < looks_for_behind step w e)
+          → IfErr r (λ stop. is_cut_in stop ≡ true → w.most_nodes < looks_for_after step w e)
           → HasSpent is_cut_in w.most_nodes step (capped looks) r
-          → SolvesBehind step w p e (memory l.before l.after) (told_of (is_cut r) l.too_small (is_err r) least l.written l.solutions (capped looks))
+          → SolvesCubeAfter step w p e (memory l.before l.after) (told_of (is_cut r) l.too_small (is_err r) least l.written l.solutions (capped looks))
       by_result (Ok o) h k cut spent =
           let t : Took all (begun l) (ended l) = subst (λ s. Took all s (ended l)) begins (subst (λ s. Took all (state_of a) s) ends (went all a b h)) in
           let hands = subst (λ m. Hands all m (memory l.before l.after) (solve_answer l false false (capped looks))) most (hands_all l all (capped looks) t) in
@@ -164,7 +164,7 @@ another_move line i d inside other turns h =
     ∙ get_or_default (map token.Face turns) i d (token.Face no_turn) (omega (arith, within, length-map turns token.Face))
     ∙ get_or-map token.Face turns i no_turn (token.Face no_turn) within)
 
--- The solutions behind a sequence, up to the last length of the list, and the looks for them.
+-- The solutions after a sequence, up to the last length of the list, and the looks for them.
 module _ (law : SolutionsAreSequences) (step : Step) (w : Wanted) (p : List Turn) (e : Place → Place) (least : Option ℕ) (n slack last : ℕ)
     (n_is : n ≡ w.limit) (slack_is : slack ≡ w.slack) (least_is : least ≡ least_length_of step e n) (last_is : last ≡ last_length least n slack) where
   pub least_known : least ≡ least_length_of step e w.limit
@@ -173,8 +173,8 @@ module _ (law : SolutionsAreSequences) (step : Step) (w : Wanted) (p : List Turn
   last_known : last ≡ last_length (least_length_of step e w.limit) w.limit w.slack
   last_known = last_is ∙ (λ i. last_length (least_known i) (n_is i) (slack_is i))
 
-  pub behind_is : later_of step e last p ≡ all_behind step w p e
-  behind_is = ap (λ l. later_of step e l p) last_known ∙ sym (ap (filter (comes_after p)) (law.listed step e w.limit w.slack))
+  pub after_is : sequences_after step e last p ≡ all_after step w p e
+  after_is = ap (λ l. sequences_after step e l p) last_known ∙ sym (ap (filter (comes_after p)) (law.listed step e w.limit w.slack))
 
   pub looks_are : deepening_looks_of step e last ≡ looks_for_all step w e
   looks_are = ap (deepening_looks_of step e) last_known ∙ sym (law.looked step e w.limit w.slack)
@@ -194,12 +194,12 @@ module _ (step : Step) (w : Wanted) (line after : List ℕ) (out : Memory) (told
   not_beyond (inr h) = absurd (omega (arith, h, slack))
 
   -- what a search tells of the line
-  pub after_solves : length line ≤ most_bytes → SolvesBehindAt (start_cube step (read_line line)) step w p out told → SolvesAfter step w line after out told
+  pub after_solves : length line ≤ most_bytes → SolvesAtAfter (start_cube step (read_line line)) step w p out told → SolvesAfter step w line after out told
   after_solves short solved = record {
     beyond = λ b. absurd (not_beyond b);
     no_turns = λ none. absurd (none p spells);
     too_long = λ q s l k long. absurd (omega (arith, short, long));
-    solves = λ q s l k m. subst (λ r. SolvesBehindAt (start_cube step (read_line line)) step w r out told) (one_spelling after p q spells s) solved;
+    solves = λ q s l k m. subst (λ r. SolvesAtAfter (start_cube step (read_line line)) step w r out told) (one_spelling after p q spells s) solved;
   }
 
   pub after_too_long : most_bytes < length line → Only (unsolved status.Stopped 0 0) out told → SolvesAfter step w line after out told
