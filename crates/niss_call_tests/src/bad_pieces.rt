@@ -9,12 +9,13 @@ fn a_turn_has_its_bad_pieces(rt: HostRuntime) {
     let cube = cube_after(&rt, "F");
     let edges = (1u16 << 1) + (1 << 5) + (1 << 8) + (1 << 9);
     let corners = (1u16 << 0) + (1 << 1) + (1 << 4) + (1 << 5);
-    assert!(rt; cube.bad_edges(Axis::Fb) == 4 && cube.bad_edges(Axis::Rl) == 0);
-    assert!(rt; cube.bad_corners(Axis::Ud) == 4 && cube.bad_corners(Axis::Fb) == 0);
-    assert!(rt; cube.slice_edges_outside(Axis::Ud) == 2 && cube.slice_edges_outside(Axis::Fb) == 0);
     assert!(rt; Coordinate::Flip.bad_places(Axis::Fb, &cube) == edges);
+    assert!(rt; Coordinate::Flip.bad_places(Axis::Rl, &cube) == 0);
+    assert!(rt; Coordinate::Twist.bad_places(Axis::Ud, &cube) == corners);
     assert!(rt; Coordinate::Twist.bad_places(Axis::Rl, &cube) == corners);
+    assert!(rt; Coordinate::Twist.bad_places(Axis::Fb, &cube) == 0);
     assert!(rt; Coordinate::Slice.bad_places(Axis::Ud, &cube) == edges);
+    assert!(rt; Coordinate::Slice.bad_places(Axis::Fb, &cube) == 0);
 }
 
 /// F disorients edges on the axis of F and B alone, and keeps what a domino reduction to F and B keeps besides.

@@ -17,8 +17,6 @@ mod farthest;
 #[cfg(test)]
 mod generator;
 #[cfg(test)]
-mod levels;
-#[cfg(test)]
 mod memory;
 #[cfg(test)]
 mod path_sinks;
@@ -28,6 +26,8 @@ mod pieces;
 mod reading;
 #[cfg(test)]
 mod rewriting;
+#[cfg(test)]
+mod scan;
 #[cfg(test)]
 mod searches;
 #[cfg(test)]

@@ -6,18 +6,18 @@ use Rattle.niss_cube.proofs.Words.{arith, Bool, true, false, not, ◌&&◌, List
 use Rattle.niss_cube.proofs.Words.{count_by, eq-eqb, eqb-true, same_truth, false_from_ne_true, lt-ltb, Fact, Same, Alike}
 use Rattle.niss_cube.proofs.Words.{Both, Numbers, Holds, holds, Place, SameMap, Axis}
 use Rattle.niss_cube.proofs.Words.{Ud, Rl, Fb, Cube, Coordinate, Flip, Twist, Slice, set_of}
-use Rattle.niss_cube.proofs.Words.{slice_set, map_of, renamed_for, standard_axis}
+use Rattle.niss_cube.proofs.Words.{slice_set, map_of, renamed_for}
 use Rattle.niss_cube.proofs.Words.{Goal, IsTrue, is_kept, flip_set, twist_set, and_left, and_right}
 use Rattle.niss_cube.proofs.Words.{and_both}
-use Rattle.niss_cube.specs.BadPieces.{leaving, stickers_in, pieces_in, bad_pieces, AreBad}
-use Rattle.niss_cube.specs.BadPieces.{BadEdgesAreEven, NoCornerAlone, NoneIsBad, GoalsByBadPieces}
+use Rattle.niss_cube.specs.BadPieces.{leaving, stickers_in, pieces_in, bad_pieces}
+use Rattle.niss_cube.specs.BadPieces.{BadPiecesAreCounted, BadEdgesAreEven, NoCornerAlone, NoneIsBad, GoalsByBadPieces}
 use Rattle.niss_cube.specs.Steps.{holds as goal_holds}
 use Rattle.niss_cube.specs.declared.step.Goal.TheVariants as goals
 use Rattle.niss_cube.proofs.CubieKinds.{CubieLists, Valid, map_lists, lists_of, Kind, Corners, Edges, count, facelets, at, is_of}
 use Rattle.niss_cube.proofs.CubieKinds.{turns, home_at, turn_at, place_of, stand, stands, stands-at, once, low, some_facelet}
 use Rattle.niss_cube.proofs.CubieKinds.{shown_at, map_place, place_at, number_at}
 use Rattle.niss_cube.proofs.Codes.{cubies_for, renaming, standard_set, standard_kind, row_fact, slice_at, goes}
-use Rattle.niss_cube.proofs.Codes.{sets_are_places, unrenamed, kept_is_tested}
+use Rattle.niss_cube.proofs.Codes.{sets_are_places, kept_is_tested}
 use Rattle.niss_cube.proofs.MovedCubies.{KeepsPlaces}
 use Rattle.niss_cube.proofs.Ranks.{edge-once}
 use Rattle.niss_cube.proofs.Sums.{below, one_if, below_same, below_zero, below_times, below_at_most, one_of}
@@ -197,15 +197,6 @@ module _ (k : Coordinate) (a : Axis) (c : CubieLists) (v : Valid c) (e : Place �
       halved Twist n = omega arith
       halved Slice n = omega arith
 
--- of the cubies of the renamed cube
-pub standard-bad : (k : Coordinate) (c : Cube) → bad_pieces k (standard_axis k) (map_of c) ≡ bad_cubies k (lists_of c)
-standard-bad k c =
-    bad_pieces-is k (standard_axis k) (lists_of c) c.are_cubies (map_of c) (map_place (lists_of c) c.are_cubies) (λ q p. sym (unrenamed k (map_of c) q))
-
-pub renamed-bad : (k : Coordinate) (a : Axis) (c d : Cube) → SameMap (map_of c) (renamed_for k a (map_of d)) → bad_pieces k (standard_axis k) (map_of c) ≡ bad_pieces k a (map_of d)
-renamed-bad k a c d s =
-    standard-bad k c ∙ sym (bad_pieces-is k a (lists_of c) c.are_cubies (map_of d) (map_place (lists_of d) d.are_cubies) s)
-
 bad_cubies-few : (k : Coordinate) (c : CubieLists) → Valid c → bad_cubies k c ≤ pieces_in k
 bad_cubies-few Flip c v = omega (arith, count_by-le-length (nat_lt 0) c.flips, v.flips_oriented.places)
 bad_cubies-few Twist c v = omega (arith, count_by-le-length (nat_lt 0) c.twists, v.twists_oriented.places)
@@ -236,12 +227,11 @@ no_stickers Flip n = ((λ h. omega arith), (λ h. omega arith))
 no_stickers Twist n = ((λ h. omega arith), (λ h. omega arith))
 no_stickers Slice n = ((λ h. omega arith), (λ h. omega arith))
 
-pub are_bad : (k : Coordinate) (a : Axis) (c : Cube) → AreBad k a (map_of c) (bad_pieces k a (map_of c))
-are_bad k a c =
+pub bad_pieces_are_counted : BadPiecesAreCounted
+bad_pieces_are_counted k a c =
     let zero = leaving-none (set_of k a) (sets_are_places k a) (map_of c) in
     let stickers = stickers-here k a c in
     let none = no_stickers k (bad_pieces k a (map_of c)) in record {
-      value = refl;
       stickers = stickers;
       at_most = subst (λ n. n ≤ pieces_in k) (sym (here-is k a c)) (bad_cubies-few k (here k a c) (here-valid k a c));
       none = ((λ n. zero.0 (sym stickers ∙ none.1 n)), (λ kept. none.0 (stickers ∙ zero.1 kept)));
@@ -287,7 +277,7 @@ goals_by_bad_pieces goal c = go goal
     one : (k : Coordinate) (a : Axis) → (is_kept (set_of k a) (map_of c) ≡ true) ↔ (bad_pieces k a (map_of c) ≡ 0)
     one k a =
         let tested = kept_is_tested (set_of k a) (map_of c) (sets_are_places k a) in
-        let bad = are_bad k a c in
+        let bad = bad_pieces_are_counted k a c in
         ((λ h. bad.none.1 (tested.0 h)), (λ n. tested.1 (bad.none.0 n)))
 
     go : (goal : Goal) → IsTrue (goal_holds goal (map_of c)) ↔ NoneIsBad goal (map_of c)

@@ -23,7 +23,7 @@ use Rattle.niss_cube.proofs.Codes.{kind_for, set_kind}
 use Rattle.niss_cube.proofs.Ranks.{edge-once}
 use Rattle.niss_cube.proofs.Sums.{below, one_if, below_same, below_add, below_times, below_permuted, sum_by-below}
 use Rattle.niss_cube.proofs.Leaving.{leaves}
-use Rattle.niss_cube.proofs.BadPieces.{leaving-rows, by_places, are_bad}
+use Rattle.niss_cube.proofs.BadPieces.{leaving-rows, by_places, bad_pieces_are_counted}
 use lib.Lanes.{mask_l}
 use mir.Val.{bool_byte}
 
@@ -353,7 +353,7 @@ count-leaving Slice a c v =
     omega (arith, count-away Slice a c v, each, below_add 12 out come, out-in a c v, leaving-each Slice a c v, below_times 12 out 2)
 
 pub bad_places_are_counted : BadPlacesAreCounted
-bad_places_are_counted k a c = count-leaving k a (lists_of c) c.are_cubies ∙ sym (are_bad k a c).stickers ∙ by k
+bad_places_are_counted k a c = count-leaving k a (lists_of c) c.are_cubies ∙ sym (bad_pieces_are_counted k a c).stickers ∙ by k
   where
     by : (k : Coordinate) → stickers_in k * bad_pieces k a (map_of c) ≡ sides k * bad_pieces k a (map_of c)
     by Flip = refl

@@ -44,7 +44,6 @@ impl Cube {
     ghost use Rattle.niss_cube.specs.Map.{map_of, same_cubies, BeganAt, is_home};
     ghost use Rattle.niss_cube.specs.CubieTurns.{renamed_by};
     ghost use Rattle.niss_cube.specs.Coordinates.{IsRank};
-    ghost use Rattle.niss_cube.specs.BadPieces.{AreBad};
     ghost use Rattle.niss_cube.specs.declared.cube.coordinate.Coordinate.TheVariants.{Flip, Twist, Slice};
 
     /// The solved cube.
@@ -129,29 +128,6 @@ impl Cube {
         ensures { IsRank Slice axis (map_of self.now) result }
     {
         Coordinate::Slice.rank(axis, self)
-    }
-
-    /// How many edges are bad on an axis, of 12: an edge is bad if it can't come home without quarter turns of the axis's
-    /// faces, which is told by its sticker of the set `flip_set`. The number is even, and the same on the inverse.
-    pub fn bad_edges(&self, axis: Axis) -> u8
-        ensures { AreBad Flip axis (map_of self.now) result }
-    {
-        Coordinate::Flip.bad_pieces(axis, self)
-    }
-
-    /// How many corners are misoriented on an axis, of 8: their sticker of the axis's faces is on another face. It is never
-    /// 1, and the same on the inverse.
-    pub fn bad_corners(&self, axis: Axis) -> u8
-        ensures { AreBad Twist axis (map_of self.now) result }
-    {
-        Coordinate::Twist.bad_pieces(axis, self)
-    }
-
-    /// How many of the four edges between an axis's two faces stand outside this slice. On the inverse they are as many.
-    pub fn slice_edges_outside(&self, axis: Axis) -> u8
-        ensures { AreBad Slice axis (map_of self.now) result }
-    {
-        Coordinate::Slice.bad_pieces(axis, self)
     }
 
     /// Whether the same cubies stand at the same places, turned alike.

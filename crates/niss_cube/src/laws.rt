@@ -4,7 +4,7 @@
 ghost use Rattle.niss_cube.specs.AfterTurn.{TurnedIsCube, AreCoordinates};
 ghost use Rattle.niss_cube.specs.Sets.{KeptIsTested, SetsArePlaces, CubesPermutePlaces, KeptIsEqual};
 ghost use Rattle.niss_cube.specs.BadPieces.{InverseIsAsBad, BadEdgesAreEven, NoCornerAlone, BadPiecesSeePlaces};
-ghost use Rattle.niss_cube.specs.BadPieces.{GoalsByBadPieces};
+ghost use Rattle.niss_cube.specs.BadPieces.{BadPiecesAreCounted, GoalsByBadPieces};
 ghost use Rattle.niss_cube.specs.BadPlaces.{BadPlacesAreCounted, BadPlacesSeePlaces};
 ghost use Rattle.niss_cube.specs.StepLaws.{StartIsKept, OtherTurnsLeaveStart, StepsSeePlaces, InversesOfSteps};
 ghost use Rattle.niss_cube.specs.StepLaws.{ReachedStepsSeePlaces};
@@ -45,6 +45,12 @@ pub fn sets_are_places()
 /// On the inverse of a cube as many edges are flipped, corners twisted and slice edges outside as on the cube.
 pub fn inverse_is_as_bad()
     ensures { InverseIsAsBad }
+{}
+
+/// Each piece with a sticker that a cube brings out of a coordinate's set is bad, and counted once. None is bad exactly if
+/// the cube keeps the set.
+pub fn bad_pieces_are_counted()
+    ensures { BadPiecesAreCounted }
 {}
 
 /// The number of flipped edges is even.

@@ -36,11 +36,13 @@ mod cube;
 mod cubie_turns;
 mod facelet_text;
 pub mod laws;
+mod out_of_memory;
 mod step;
 mod turn_tables;
 
 pub use cube::Cube;
 pub use cube::coordinate::Coordinate;
 pub use niss_moves::{Axis, Face, Power, Rotation, Turn};
+pub use out_of_memory::OutOfMemory;
 pub use step::{Goal, Step};
-pub use turn_tables::{OutOfMemory, TurnTables};
+pub use turn_tables::TurnTables;

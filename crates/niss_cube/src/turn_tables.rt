@@ -7,6 +7,7 @@ ghost use Rattle.niss_cube.specs.declared.cube.coordinate.Coordinate as kinds;
 ghost use Rattle.niss_cube.specs.declared.cube.coordinate.Coordinate.TheVariants.{Flip, Twist, Slice};
 
 use crate::cube::coordinate::Coordinate;
+use crate::out_of_memory::OutOfMemory;
 use niss_moves::{Axis, Turn, turn_order};
 use std::alloc::{Allocator, Global};
 use std::marker::Model;
@@ -18,10 +19,6 @@ fn turn_number(turn: Turn) -> usize
 {
     3 * turn.face as usize + turn.power as usize
 }
-
-/// The allocator refused memory. Nothing is kept then.
-#[derive(Clone, Copy, Debug, PartialEq, Eq)]
-pub struct OutOfMemory;
 
 /// The ranks of a coordinate after a turn. The rank of a turned cube follows from its rank before the turn alone, so there
 /// is a row for each rank, and one table serves the three axes.

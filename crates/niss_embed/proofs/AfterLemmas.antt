@@ -1,4 +1,4 @@
--- From what a search behind a sequence did to its lines in memory to what it answers.
+-- From what a search after a sequence did to its lines in memory to what it answers.
 use Rattle.std.proofs.Common.{◌≡◌, ◌⊎◌, inl, inr, ℕ, ◌+◌, ◌<◌, ◌≤◌, Bool, true, false, Option, None, Result, Ok, Err, List, [], ◌∷◌, map}
 use Rattle.std.proofs.Common.{take, length, refl, sym, ap, ◌∙◌, subst, arith, unwrap_or}
 use Rattle.std.proofs.Common.{ap₂, get_or, ◌++◌}
@@ -15,7 +15,7 @@ use Rattle.niss_search.specs.Budgets.{is_cut_in, HasSpent}
 use Rattle.niss_search.specs.Cubes.{least_length_of, near_solutions_of, cubes}
 use Rattle.niss_search.specs.Delivery.{WentThrough, StoppedIn, EndedIn}
 use Rattle.niss_search.specs.Laws.{FirstIsLeast, SolutionsAreSequences}
-use Rattle.niss_search.specs.Later.{comes_after, later_of, deepening_looks_of}
+use Rattle.niss_search.specs.After.{comes_after, sequences_after, deepening_looks_of}
 use Rattle.niss_search.specs.Solutions.{last_length}
 use Rattle.niss_search.specs.declared.budget.Stopped.{Stopped as Ending}
 use Rattle.niss_search.specs.declared.budget.Stopped.TheVariants as ending
@@ -26,17 +26,17 @@ use Rattle.niss_shell.specs.Output.{start_cube}
 use Rattle.niss_shell.specs.Words.{most_bytes, most_limit}
 use Rattle.niss_embed.specs.Memory.{Memory, memory}
 use Rattle.niss_embed.specs.LineSearch.{LinesState, Hands, Only, unsolved, capped, is_cut, looks_for_all}
-use Rattle.niss_search.specs.Deepening.{Part, EndsAt, looks_before, all_later}
+use Rattle.niss_search.specs.Deepening.{Part, EndsAt, looks_before, all_after}
 use Rattle.niss_search.specs.Positions.{position_of}
-use Rattle.niss_embed.specs.SolveAfter.{all_behind, looks_for_behind, looks_to_shortest, search_behind}
-use Rattle.niss_embed.specs.SolveAfter.{SolvesBehind, SolvesBehindAt, SolvesAfter, Spells, line_of_turns}
+use Rattle.niss_embed.specs.SolveAfter.{all_after, looks_for_after, looks_to_shortest, searched_after}
+use Rattle.niss_embed.specs.SolveAfter.{SolvesCubeAfter, SolvesAtAfter, SolvesAfter, Spells, line_of_turns}
 use Rattle.niss_embed.specs.declared.line_search.CountedSolutions.{CountedSolutions}
 use Rattle.niss_embed.specs.declared.line_search.Refused.{Refused}
 use Rattle.niss_embed.specs.declared.line_search.SolutionLines.{SolutionLines}
 use Rattle.niss_embed.specs.declared.answer.Status.TheVariants as status
 use Rattle.niss_embed.specs.declared.line_search.Wanted.{Wanted}
 use Rattle.niss_embed.specs.declared.search_answer.SearchAnswer.{SearchAnswer}
-use Rattle.niss_embed.proofs.BehindLemmas.{stopped_by, cut_by}
+use Rattle.niss_embed.proofs.RestLemmas.{stopped_by, cut_by}
 use Rattle.niss_embed.proofs.CountLemmas.{CountsPath, RefusesMore, stop as stop_counting}
 use Rattle.niss_embed.proofs.SolveLemmas.{Lines, begun, ended, told_of, solve_answer}
 use Rattle.niss_embed.proofs.WrittenLemmas.{Took, Stopped, Into, TakesPath, RefusesPath, state_of}
@@ -55,10 +55,10 @@ Handed = Result ℕ (Ending Refused)
 
 module _ (step : Step) (w : Wanted) (p : List Turn) (e : Place → Place) where
   abbrev all : List (List Turn)
-  all = all_behind step w p e
+  all = all_after step w p e
 
-  abbrev behind : Part
-  behind = search_behind step w p e
+  abbrev rest : Part
+  rest = searched_after step w p e
 
   abbrev to_shortest : ℕ
   to_shortest = looks_to_shortest step e w.limit
@@ -67,8 +67,8 @@ module _ (step : Step) (w : Wanted) (p : List Turn) (e : Place → Place) where
   module _ (a b : SolutionLines) (r : Handed)
       (ok : OnOk r (WentThrough TakesPath a all b))
       (err : IfErr r (λ stop. EndedIn TakesPath RefusesPath (is_cut_in stop) a all b)) where
-    pub same_memory_behind : b.bytes.ghost_name ≡ a.bytes.ghost_name
-    same_memory_behind = by_result r ok err where
+    pub same_memory_after : b.bytes.ghost_name ≡ a.bytes.ghost_name
+    same_memory_after = by_result r ok err where
       by_result : (r : Handed) → OnOk r (WentThrough TakesPath a all b)
           → IfErr r (λ stop. EndedIn TakesPath RefusesPath (is_cut_in stop) a all b) → b.bytes.ghost_name ≡ a.bytes.ghost_name
       by_result (Ok o) h k = (went all a b h).same_reference
@@ -77,14 +77,14 @@ module _ (step : Step) (w : Wanted) (p : List Turn) (e : Place → Place) where
           s.refused.same_reference ∙ s.took.same_reference
       by_result (Err ending.Cut) h k = (into all a b k).took.same_reference
 
-    pub solves_behind : (l : Lines) (least : Option ℕ) (looks : ℕ) → l.most ≡ w.most → state_of a ≡ begun l → state_of b ≡ ended l
-        → least ≡ least_length_of step e w.limit → looks ≤ looks_for_behind step w e → capped looks ≤ w.most_nodes
-        → IfErr r (λ stop. is_cut_in stop ≡ true → w.most_nodes < looks_for_behind step w e)
+    pub solves_cube_after : (l : Lines) (least : Option ℕ) (looks : ℕ) → l.most ≡ w.most → state_of a ≡ begun l → state_of b ≡ ended l
+        → least ≡ least_length_of step e w.limit → looks ≤ looks_for_after step w e → capped looks ≤ w.most_nodes
+        → IfErr r (λ stop. is_cut_in stop ≡ true → w.most_nodes < looks_for_after step w e)
         → HasSpent is_cut_in w.most_nodes step (capped looks) r
-        → capped looks ≡ looks → OnOk r (looks ≡ to_shortest + behind.looks)
-        → IfErr r (λ stop. EndsAt TakesPath RefusesPath (is_cut_in stop) behind.events to_shortest a looks b)
-        → SolvesBehind step w p e (memory l.before l.after) (told_of (is_cut r) l.too_small (is_err r) least l.written l.solutions (capped looks))
-    solves_behind l least looks most begins ends least_is at_most within cut spent whole looked reached = by_result r ok err cut spent looked reached where
+        → capped looks ≡ looks → OnOk r (looks ≡ to_shortest + rest.looks)
+        → IfErr r (λ stop. EndsAt TakesPath RefusesPath (is_cut_in stop) rest.events to_shortest a looks b)
+        → SolvesCubeAfter step w p e (memory l.before l.after) (told_of (is_cut r) l.too_small (is_err r) least l.written l.solutions (capped looks))
+    solves_cube_after l least looks most begins ends least_is at_most within cut spent whole looked reached = by_result r ok err cut spent looked reached where
       known : unwrap_or least 0 ≡ unwrap_or (least_length_of step e w.limit) 0
       known = ap (λ o. unwrap_or o 0) least_is
 
@@ -94,15 +94,15 @@ module _ (step : Step) (w : Wanted) (p : List Turn) (e : Place → Place) where
       came : b.solutions ≡ l.solutions
       came = ap (λ (s : LinesState). s.solutions) ends
 
-      few : capped looks ≤ capped (looks_for_behind step w e)
-      few = capped_le looks (looks_for_behind step w e) at_most
+      few : capped looks ≤ capped (looks_for_after step w e)
+      few = capped_le looks (looks_for_after step w e) at_most
 
       by_result : (r : Handed) → OnOk r (WentThrough TakesPath a all b) → IfErr r (λ stop. EndedIn TakesPath RefusesPath (is_cut_in stop) a all b)
-          → IfErr r (λ stop. is_cut_in stop ≡ true → w.most_nodes < looks_for_behind step w e)
+          → IfErr r (λ stop. is_cut_in stop ≡ true → w.most_nodes < looks_for_after step w e)
           → HasSpent is_cut_in w.most_nodes step (capped looks) r
-          → OnOk r (looks ≡ to_shortest + behind.looks)
-          → IfErr r (λ stop. EndsAt TakesPath RefusesPath (is_cut_in stop) behind.events to_shortest a looks b)
-          → SolvesBehind step w p e (memory l.before l.after) (told_of (is_cut r) l.too_small (is_err r) least l.written l.solutions (capped looks))
+          → OnOk r (looks ≡ to_shortest + rest.looks)
+          → IfErr r (λ stop. EndsAt TakesPath RefusesPath (is_cut_in stop) rest.events to_shortest a looks b)
+          → SolvesCubeAfter step w p e (memory l.before l.after) (told_of (is_cut r) l.too_small (is_err r) least l.written l.solutions (capped looks))
       by_result (Ok o) h k cut spent looked reached =
           let t : Took all (begun l) (ended l) = subst (λ s. Took all s (ended l)) begins (subst (λ s. Took all (state_of a) s) ends (went all a b h)) in
           let hands = subst (λ m. Hands all m (memory l.before l.after) (solve_answer l false false (capped looks))) most (hands_all l all (capped looks) t) in
@@ -135,9 +135,9 @@ module _ (step : Step) (w : Wanted) (p : List Turn) (e : Place → Place) where
               least = inl known;
               looked = λ m. absurd (let both : true ≡ false = m in cc);
               stopped = λ n m.
-                  let by = stopped_by behind.events to_shortest a looks b reached in
+                  let by = stopped_by rest.events to_shortest a looks b reached in
                   let count : by.count ≡ l.solutions = omega (arith, by.came, none, came) in
-                  ap capped (by.looks ∙ ap (λ (k : ℕ). to_shortest + looks_before behind.events k) count);
+                  ap capped (by.looks ∙ ap (λ (k : ℕ). to_shortest + looks_before rest.events k) count);
               found = λ c. absurd (no_cut l.too_small c);
               looks_at_most = few;
               within = within;
@@ -159,7 +159,7 @@ module _ (step : Step) (w : Wanted) (p : List Turn) (e : Place → Place) where
               looked = λ m. absurd (let both : true ≡ false = m in cc);
               stopped = λ n. absurd (n refl);
               found = λ c.
-                  let by = cut_by behind.events to_shortest a looks b reached in
+                  let by = cut_by rest.events to_shortest a looks b reached in
                   inr (by.made, whole ∙ by.looks, omega (arith, by.came, none, came));
               looks_at_most = few;
               within = within;
@@ -198,7 +198,7 @@ another_move line i d inside other turns h =
     ∙ get_or_default (map token.Face turns) i d (token.Face no_turn) (omega (arith, within, length-map turns token.Face))
     ∙ get_or-map token.Face turns i no_turn (token.Face no_turn) within)
 
--- The solutions behind a sequence, up to the last length of the list, and the looks for them.
+-- The solutions after a sequence, up to the last length of the list, and the looks for them.
 module _ (law : SolutionsAreSequences) (step : Step) (w : Wanted) (p : List Turn) (e : Place → Place) (least : Option ℕ) (n slack last : ℕ)
     (n_is : n ≡ w.limit) (slack_is : slack ≡ w.slack) (least_is : least ≡ least_length_of step e n) (last_is : last ≡ last_length least n slack) where
   pub least_known : least ≡ least_length_of step e w.limit
@@ -207,11 +207,11 @@ module _ (law : SolutionsAreSequences) (step : Step) (w : Wanted) (p : List Turn
   last_known : last ≡ last_length (least_length_of step e w.limit) w.limit w.slack
   last_known = last_is ∙ (λ i. last_length (least_known i) (n_is i) (slack_is i))
 
-  pub behind_is : later_of step e last p ≡ all_behind step w p e
-  behind_is = ap (λ l. later_of step e l p) last_known ∙ sym (ap (filter (comes_after p)) (law.listed step e w.limit w.slack))
+  pub after_is : sequences_after step e last p ≡ all_after step w p e
+  after_is = ap (λ l. sequences_after step e l p) last_known ∙ sym (ap (filter (comes_after p)) (law.listed step e w.limit w.slack))
 
-  pub search_is : (x : _) → position_of step e ≡ x → all_later step x last p ≡ search_behind step w p e
-  search_is x here = ap (λ l. all_later step x l p) last_known ∙ sym (ap (λ y. all_later step y (last_length (least_length_of step e w.limit) w.limit w.slack) p) here)
+  pub search_is : (x : _) → position_of step e ≡ x → all_after step x last p ≡ searched_after step w p e
+  search_is x here = ap (λ l. all_after step x l p) last_known ∙ sym (ap (λ y. all_after step y (last_length (least_length_of step e w.limit) w.limit w.slack) p) here)
 
   pub looks_are : deepening_looks_of step e last ≡ looks_for_all step w e
   looks_are = ap (deepening_looks_of step e) last_known ∙ sym (law.looked step e w.limit w.slack)
@@ -231,12 +231,12 @@ module _ (step : Step) (w : Wanted) (line after : List ℕ) (out : Memory) (told
   not_beyond (inr h) = absurd (omega (arith, h, slack))
 
   -- what a search tells of the line
-  pub after_solves : length line ≤ most_bytes → SolvesBehindAt (start_cube step (read_line line)) step w p out told → SolvesAfter step w line after out told
+  pub after_solves : length line ≤ most_bytes → SolvesAtAfter (start_cube step (read_line line)) step w p out told → SolvesAfter step w line after out told
   after_solves short solved = record {
     beyond = λ b. absurd (not_beyond b);
     no_turns = λ none. absurd (none p spells);
     too_long = λ q s l k long. absurd (omega (arith, short, long));
-    solves = λ q s l k m. subst (λ r. SolvesBehindAt (start_cube step (read_line line)) step w r out told) (one_spelling after p q spells s) solved;
+    solves = λ q s l k m. subst (λ r. SolvesAtAfter (start_cube step (read_line line)) step w r out told) (one_spelling after p q spells s) solved;
   }
 
   pub after_too_long : most_bytes < length line → Only (unsolved status.Stopped 0 0) out told → SolvesAfter step w line after out told

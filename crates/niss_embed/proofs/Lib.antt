@@ -8,4 +8,4 @@ pub mod TextLemmas
 pub mod ManyLemmas
 pub mod CountLemmas
 pub mod AfterLemmas
-pub mod BehindLemmas
+pub mod RestLemmas

@@ -1,4 +1,4 @@
--- What a search tells that goes on behind a solution.
+-- What a search tells that goes on after a solution.
 use Rattle.std.specs.Prelude.{◌≡◌, ◌≢◌, ◌⊎◌, ℕ, ◌+◌, ◌<◌, ◌≤◌, nat_lt, Bool, true, false, Result, Ok, Err, List, [], ◌∷◌, map, filter, length, unwrap_or}
 use Rattle.niss_moves.specs.Line.{Moves}
 use Rattle.niss_moves.specs.Places.{Place}
@@ -6,8 +6,8 @@ use Rattle.niss_moves.specs.Reader.{read_line}
 use Rattle.niss_moves.specs.declared.token.Token.TheVariants as token
 use Rattle.niss_cube.specs.Steps.{turns_of}
 use Rattle.niss_search.specs.Cubes.{least_length_of, near_looks_of, near_solutions_of}
-use Rattle.niss_search.specs.Deepening.{Part, all_later, looks_before, paths_before}
-use Rattle.niss_search.specs.Later.{comes_after}
+use Rattle.niss_search.specs.Deepening.{Part, all_after, looks_before, paths_before}
+use Rattle.niss_search.specs.After.{comes_after}
 use Rattle.niss_search.specs.LookNumbers.{look_number_of}
 use Rattle.niss_search.specs.Positions.{position_of}
 use Rattle.niss_search.specs.Solutions.{last_length}
@@ -31,12 +31,12 @@ abbrev pub Spells : List ℕ → List Turn → Type 0
 Spells bytes turns = (length bytes ≤ most_bytes) × (read_line bytes ≡ Ok (line_of_turns turns))
 
 -- of all solutions that a search finds from a cube those that come after a sequence
-abbrev pub all_behind : Step → Wanted → List Turn → (Place → Place) → List (List Turn)
-all_behind step w p e = filter (comes_after p) (all_found step w e)
+abbrev pub all_after : Step → Wanted → List Turn → (Place → Place) → List (List Turn)
+all_after step w p e = filter (comes_after p) (all_found step w e)
 
 -- how many looks the search for all solutions makes, and one for the shortest alone before it
-abbrev pub looks_for_behind : Step → Wanted → (Place → Place) → ℕ
-looks_for_behind step w e = near_looks_of step e w.limit 0 + looks_for_all step w e
+abbrev pub looks_for_after : Step → Wanted → (Place → Place) → ℕ
+looks_for_after step w e = near_looks_of step e w.limit 0 + looks_for_all step w e
 
 -- the looks up to the first of some solutions, or those that show that there is none
 abbrev pub up_to_first : (number : List Turn → ℕ) → ℕ → List (List Turn) → ℕ
@@ -47,9 +47,9 @@ up_to_first number whole (p ∷ ps) = number p
 abbrev pub looks_to_shortest : Step → (Place → Place) → ℕ → ℕ
 looks_to_shortest step e n = up_to_first (look_number_of step e) (near_looks_of step e n 0) (near_solutions_of step e n 0)
 
--- the looks and the solutions, in order, of the search behind a sequence
-abbrev pub search_behind : Step → Wanted → List Turn → (Place → Place) → Part
-search_behind step w p e = all_later step (position_of step e) (last_length (least_length_of step e w.limit) w.limit w.slack) p
+-- the looks and the solutions, in order, of the search after a sequence
+abbrev pub searched_after : Step → Wanted → List Turn → (Place → Place) → Part
+searched_after step w p e = all_after step (position_of step e) (last_length (least_length_of step e w.limit) w.limit w.slack) p
 
 -- the answer of a search that was cut after so many looks, before it knew the least length
 abbrev pub cut_before : ℕ → SearchAnswer
@@ -64,44 +64,44 @@ cut_before looks = record {
   nodes = capped looks;
 }
 
--- What a search for those behind a sequence tells of what it found.
-pub record FindsBehind (step : Step) (w : Wanted) (p : List Turn) (e : Place → Place) (told : SearchAnswer) : Type 0 where
-  -- whether there are more behind it than came; of a search that was cut it isn't known
-  pub more : told.status ≢ status_number Cut → told.more ≡ nat_lt told.solutions (length (all_behind step w p e))
+-- What a search for those after a sequence tells of what it found.
+pub record FindsAfter (step : Step) (w : Wanted) (p : List Turn) (e : Place → Place) (told : SearchAnswer) : Type 0 where
+  -- whether there are more after it than came; of a search that was cut it isn't known
+  pub more : told.status ≢ status_number Cut → told.more ≡ nat_lt told.solutions (length (all_after step w p e))
   pub maybe_more : told.status ≡ status_number Cut → told.more ≡ true
   -- the least length of all solutions, unless it was cut before it knew it, since the search for the shortest looks at more
   pub least :
       (told.least ≡ unwrap_or (least_length_of step e w.limit) 0)
       ⊎ ((told.status ≡ status_number Cut) × (told.solutions ≡ 0) × (told.least ≡ 0)
       × (w.most_nodes < near_looks_of step e w.limit 0))
-  -- the nodes are those up to the shortest solution, and then all of the search behind the sequence
-  pub looked : told.more ≡ false → told.nodes ≡ capped (looks_to_shortest step e w.limit + (search_behind step w p e).looks)
+  -- the nodes are those up to the shortest solution, and then all of the search after the sequence
+  pub looked : told.more ≡ false → told.nodes ≡ capped (looks_to_shortest step e w.limit + (searched_after step w p e).looks)
   -- or those before the solution that was left
   pub stopped : told.status ≢ status_number Cut → told.more ≡ true
-      → told.nodes ≡ capped (looks_to_shortest step e w.limit + looks_before (search_behind step w p e).events told.solutions)
+      → told.nodes ≡ capped (looks_to_shortest step e w.limit + looks_before (searched_after step w p e).events told.solutions)
   -- or, if it was cut, as many of them as find the solutions that came
   pub found : told.status ≡ status_number Cut →
       ((told.solutions ≡ 0) × (told.nodes < looks_to_shortest step e w.limit))
       ⊎ ((made : ℕ) × (told.nodes ≡ looks_to_shortest step e w.limit + made)
-      × (told.solutions ≡ paths_before (search_behind step w p e).events made))
-  pub looks_at_most : told.nodes ≤ capped (looks_for_behind step w e)
+      × (told.solutions ≡ paths_before (searched_after step w p e).events made))
+  pub looks_at_most : told.nodes ≤ capped (looks_for_after step w e)
   pub within : told.nodes ≤ w.most_nodes
   -- it is cut only if both searches look at more
-  pub cut : told.status ≡ status_number Cut → w.most_nodes < looks_for_behind step w e
+  pub cut : told.status ≡ status_number Cut → w.most_nodes < looks_for_after step w e
   -- and whichever of them was cut, it leaves fewer of the nodes than the step has turns
   pub spent : told.status ≡ status_number Cut → w.most_nodes < told.nodes + length (turns_of step)
   pub no_fault : told.fault ≡ 0
   pub no_column : told.column ≡ 0
 
 -- What it hands out from a cube, and what it tells.
-pub record SolvesBehind (step : Step) (w : Wanted) (p : List Turn) (e : Place → Place) (out : Memory) (told : SearchAnswer) : Type 0 where
-  pub hands : Hands (all_behind step w p e) w.most out told
-  pub finds : FindsBehind step w p e told
+pub record SolvesCubeAfter (step : Step) (w : Wanted) (p : List Turn) (e : Place → Place) (out : Memory) (told : SearchAnswer) : Type 0 where
+  pub hands : Hands (all_after step w p e) w.most out told
+  pub finds : FindsAfter step w p e told
 
 -- the same of a line, by the cube that the search begins at, or its fault
-abbrev pub SolvesBehindAt : Result (Place → Place) LineFault → Step → Wanted → List Turn → Memory → SearchAnswer → Type 0
-SolvesBehindAt (Ok e) step w p out told = SolvesBehind step w p e out told
-SolvesBehindAt (Err fault) step w p out told = Only (unsolved Fault (number_of_fault fault) (column_of_fault fault)) out told
+abbrev pub SolvesAtAfter : Result (Place → Place) LineFault → Step → Wanted → List Turn → Memory → SearchAnswer → Type 0
+SolvesAtAfter (Ok e) step w p out told = SolvesCubeAfter step w p e out told
+SolvesAtAfter (Err fault) step w p out told = Only (unsolved Fault (number_of_fault fault) (column_of_fault fault)) out told
 
 -- The same of any numbers, any line and any bytes as the sequence.
 pub record SolvesAfter (step : Step) (w : Wanted) (line after : List ℕ) (out : Memory) (told : SearchAnswer) : Type 0 where
@@ -110,7 +110,7 @@ pub record SolvesAfter (step : Step) (w : Wanted) (line after : List ℕ) (out :
   pub too_long : (p : List Turn) → Spells after p → w.limit ≤ most_limit → w.slack ≤ most_limit →
       most_bytes < length line → Only (unsolved Stopped 0 0) out told
   pub solves : (p : List Turn) → Spells after p → w.limit ≤ most_limit → w.slack ≤ most_limit → length line ≤ most_bytes →
-      SolvesBehindAt (start_cube step (read_line line)) step w p out told
+      SolvesAtAfter (start_cube step (read_line line)) step w p out told
 
 -- the same by the tables of a step that a caller keeps, or by none
 abbrev pub SolvesAfterWith : Bool → Step → Wanted → (line after : List ℕ) → Memory → SearchAnswer → Type 0

@@ -4,7 +4,7 @@ use Rattle.niss_search.proofs.Words.{◌≡◌, arith, ◌+◌, ◌<◌, ℕ, ap
 use Rattle.niss_search.proofs.Words.{suc, zero, inl, inr, ◌++◌, filter, subst, None, Some, nat_le, le-leb, lt-leb, cond, sum_by-cons}
 use Rattle.niss_search.proofs.Words.{StoppedAt, Part, for_each, then_part, only_looks, only_paths, EndsAt, WentThrough, Space, beyond, ap₂}
 use Rattle.niss_search.proofs.DescentParts.{Events}
-use Rattle.niss_search.proofs.LaterLemmas.{nexts}
+use Rattle.niss_search.proofs.AfterLemmas.{nexts}
 
 -- the paths among them, and how many looks
 abbrev pub paths_in : Events → List (List Turn)

@@ -6,8 +6,8 @@ pub mod SpentLemmas
 pub mod LookLemmas
 pub mod Bounds
 pub mod DeepeningLemmas
-pub mod LaterLemmas
-pub mod LaterParts
+pub mod AfterLemmas
+pub mod AfterParts
 pub mod OrderLemmas
 pub mod Events
 pub mod TreeOrder

@@ -13,10 +13,10 @@ use Rattle.std.proofs.lemmas.List.{get_or_at}
 use Rattle.niss_moves.proofs.CallerLemmas.{and_left, and_right}
 use Rattle.std.proofs.lemmas.List.Kept.{AllPairs-cons, AllPairs-filter}
 use Rattle.niss_moves.specs.Canonical.{DiffersFirst}
-use Rattle.niss_search.specs.Laws.{LaterIsRest, SolutionsAreSequences}
+use Rattle.niss_search.specs.Laws.{AfterIsRest, SolutionsAreSequences}
 use Rattle.niss_search.proofs.DeepeningLemmas.{solutions-up_to}
 use Rattle.niss_search.proofs.LookLemmas.{filter-each}
-use Rattle.niss_search.proofs.LaterLemmas.{canonical-length, filter-true}
+use Rattle.niss_search.proofs.AfterLemmas.{canonical-length, filter-true}
 
 -- what `niss_moves` says of the order of all canonical sequences of a length
 abbrev pub CanonicalOrder : Type 0
@@ -156,8 +156,8 @@ solutions_are_sequences = record {
   looked = λ step e n slack. refl;
 }
 
-pub later_is_rest : StepTurnsInOrder → CanonicalOrder → LaterIsRest
-later_is_rest in_order canonical step e n slack front rest p h =
+pub after_is_rest : StepTurnsInOrder → CanonicalOrder → AfterIsRest
+after_is_rest in_order canonical step e n slack front rest p h =
     let last = last_length (least_length_of step e n) n slack in
     let whole : sequences_of step e last ≡ front ++ p ∷ rest = sym (solutions_are_sequences.listed step e n slack) ∙ h in
     let ordered = all-in_order (turns-in_order in_order step) canonical (cubes step) e 0 (last + 1) in

@@ -45,7 +45,7 @@ pub use Rattle.niss_search.specs.Cubes.{HasPosition, near_looks_of, near_solutio
 pub use Rattle.niss_search.specs.Deepening.{Delivers, progress_of, Keeps, GoesThrough, progress_at, Descends, Progress, StopsIn, GoesAlong, EndsAt}
 pub use Rattle.niss_search.specs.Delivery.{Path, at_limit, EndedIn, StoppedIn, StoppedAt, WentInto, WentThrough}
 pub use Rattle.niss_search.specs.Deepening.{Part, only_looks, only_paths, then_part, for_each, deepening, all_deepenings, below_at}
-pub use Rattle.niss_search.specs.Deepening.{by_place, later_turn_at, all_later}
+pub use Rattle.niss_search.specs.Deepening.{by_place, later_turn_at, all_after}
 unfoldable pub use Rattle.niss_search.specs.Deepening.{beyond, beyond_at, later, later_at}
 pub use Rattle.niss_search.specs.Draw.{after_words, choice, choices}
 unfoldable pub use Rattle.niss_search.specs.Draw.{draw, next_words}
@@ -55,8 +55,8 @@ pub use Rattle.niss_search.specs.Filling.{Alternative, IsFilling, IsExtended, Is
 pub use Rattle.niss_search.specs.Filling.{AreStarts, IsEntry, KeepsMet, MayBeAt, entry_number, row_length}
 unfoldable pub use Rattle.niss_search.specs.Filling.{entry_distance, entry_after, goal_ticks, AreEntries}
 pub use Rattle.niss_search.specs.Followers.{IsFollower, distance_after, AreFar, IsNextNear}
-pub use Rattle.niss_search.specs.Later.{turn_place, comes_after, sequences_of, later_of, deepening_looks_of}
-unfoldable pub use Rattle.niss_search.specs.Later.{is_later}
+pub use Rattle.niss_search.specs.After.{turn_place, comes_after, sequences_of, sequences_after, deepening_looks_of}
+unfoldable pub use Rattle.niss_search.specs.After.{is_later}
 pub use Rattle.niss_search.specs.Laws.{PositionsFollowCubes, BoundIsSmall, CountRecurrence, DistanceIsLeast, EdgeFillIsSmall}
 pub use Rattle.niss_search.specs.Laws.{EntriesAreCounted, FillIsSmall, NoSlackIsLeast, PartHasNoMore, StepBoundIsLess}
 pub use Rattle.niss_search.specs.Moves.{turn_at}

@@ -7,7 +7,7 @@ use Rattle.std.specs.Prelude.{List, [], ◌∷◌, ◌++◌, length, filter, fla
 use Rattle.niss_search.specs.Names.{Turn, Step, GoalCoordinates, no_turn}
 use Rattle.niss_moves.specs.Canonical.{may_follow, last_turn}
 use Rattle.niss_search.specs.Solutions.{Space, reaching, looks, solutions, all_looks, up_to, last_length, least_length}
-use Rattle.niss_search.specs.Later.{turn_place}
+use Rattle.niss_search.specs.After.{turn_place}
 use Rattle.niss_search.specs.Delivery.{Path, at_limit, WentThrough, EndedIn}
 use Rattle.niss_search.specs.Positions.{positions, distance_at, position_after}
 use Rattle.niss_search.specs.declared.searching.depth_first.Descent.{Descent}
@@ -99,8 +99,8 @@ later_turn_at step x p ts u =
     else only_looks 0
 
 -- what is done of the sequences of at most n turns that come after ts: of those as long, and then of each greater length
-abbrev pub all_later : Step → List GoalCoordinates → ℕ → List Turn → Part
-all_later step x n ts =
+abbrev pub all_after : Step → List GoalCoordinates → ℕ → List Turn → Part
+all_after step x n ts =
     if nat_le (length ts) n
     then then_part (later_at step x [] ts)
     (for_each (deepening (positions step) (distance_at step) x) (range_with_len (length ts + 1) (n - length ts)))

@@ -12,7 +12,7 @@ use Rattle.niss_search.specs.Solutions.{solutions, looks, all_looks, distance, a
 use Rattle.niss_search.specs.Entries.{entries_of, entry_count, fill_ticks}
 use Rattle.niss_search.specs.Positions.{position_of, positions, distance_at}
 use Rattle.niss_search.specs.Cubes.{cubes, HasPosition, least_length_of, near_solutions_of, near_looks_of}
-use Rattle.niss_search.specs.Later.{sequences_of, later_of, deepening_looks_of}
+use Rattle.niss_search.specs.After.{sequences_of, sequences_after, deepening_looks_of}
 
 -- Over the 18 turns, c(k + 2) = 12 c(k + 1) + 18 c(k) for k of at least 1.
 abbrev pub CountRecurrence : Type 0
@@ -122,8 +122,8 @@ pub record SolutionsAreSequences : Type 0 where
       near_looks_of s e n slack ≡ deepening_looks_of s e (last_length (least_length_of s e n) n slack)
 
 -- Of the solutions those that come after one of them are those that stand behind it.
-abbrev pub LaterIsRest : Type 0
-LaterIsRest =
+abbrev pub AfterIsRest : Type 0
+AfterIsRest =
     (s : Step) (e : Place → Place) (n slack : ℕ) (front rest : List (List Turn)) (p : List Turn) →
     near_solutions_of s e n slack ≡ front ++ p ∷ rest →
-    later_of s e (last_length (least_length_of s e n) n slack) p ≡ rest
+    sequences_after s e (last_length (least_length_of s e n) n slack) p ≡ rest

@@ -2,7 +2,7 @@ pub mod Names
 pub mod Solutions
 pub mod Positions
 pub mod Cubes
-pub mod Later
+pub mod After
 pub mod LookNumbers
 pub mod Delivery
 pub mod Entries

@@ -5,7 +5,7 @@ use Rattle.niss_moves.specs.Canonical.{all_canonical}
 use Rattle.niss_moves.specs.Places.{Place}
 use Rattle.niss_search.specs.Names.{Turn, Step}
 use Rattle.niss_search.specs.Solutions.{Space, up_to, is_looked_at, looks, solutions}
-use Rattle.niss_search.specs.Later.{is_later}
+use Rattle.niss_search.specs.After.{is_later}
 use Rattle.niss_search.specs.Cubes.{cubes, distance_of}
 
 module _ {turns : List Turn} {S : Type 0} (space : Space turns S) (look : S → ℕ) where

@@ -3,7 +3,7 @@ ghost use Rattle.std.specs.Prelude.{◌≡◌};
 ghost use Rattle.niss_search.specs.Laws.{CountRecurrence, PartHasNoMore, LooksWithinBound, NoSlackIsLeast};
 ghost use Rattle.niss_search.specs.Laws.{FirstIsLeast, DistanceIsShortest, StepBoundIsLess, BoundIsSmall};
 ghost use Rattle.niss_search.specs.Laws.{EntriesAreCounted, EdgeFillIsSmall, FillIsSmall, DistanceIsLeast};
-ghost use Rattle.niss_search.specs.Laws.{PositionsFollowCubes, SolutionsAreSequences, LaterIsRest};
+ghost use Rattle.niss_search.specs.Laws.{PositionsFollowCubes, SolutionsAreSequences, AfterIsRest};
 ghost use Rattle.niss_search.specs.Filling.{EntriesTurn};
 
 use crate::path::Limit;
@@ -53,10 +53,10 @@ pub fn first_is_least()
 
 /// A search's solutions are all sequences that reach the step, up to its last length, and those that come after one of
 /// them, which `search_after` hands out, are those that stand behind it.
-#[tactic(auto, using(crate::proofs::OrderLemmas::solutions_are_sequences, crate::proofs::OrderLemmas::later_is_rest))]
-pub fn later_is_rest()
+#[tactic(auto, using(crate::proofs::OrderLemmas::solutions_are_sequences, crate::proofs::OrderLemmas::after_is_rest))]
+pub fn after_is_rest()
     ensures sequences { SolutionsAreSequences }
-    ensures rest { LaterIsRest }
+    ensures rest { AfterIsRest }
 {
     step_turns_in_order();
     canonical_members();

@@ -11,15 +11,15 @@ ghost use Rattle.niss_search.specs.Budgets.{is_cut_in, HasSpent};
 ghost use Rattle.niss_search.specs.LookNumbers.{found_within_of, look_number_of};
 ghost use Rattle.niss_search.specs.Deepening.{deepening, all_deepenings, Delivers, turns};
 
+mod after;
 mod depth_first;
-mod later;
 
 use crate::budget::{Budget, Stopped, Unbounded, UpTo};
 use crate::laws::positions_follow_cubes;
 use crate::path::{Limit, TurnPath};
 use crate::tables::{Meter, Position, Tables};
+pub use after::search_after;
 use depth_first::Descent;
-pub use later::search_after;
 use niss_cube::laws::step_turns_in_order;
 use std::alloc::Allocator;
 use std::mem;

@@ -6,19 +6,16 @@ ghost use Rattle.niss_cube.specs.Map.{map_of};
 ghost use Rattle.niss_cube.specs.Sets.{Kept, is_kept, set_of};
 ghost use Rattle.niss_cube.specs.Coordinates.{IsRank, count_of, face_for, rank_of, renamed_for, renaming_for, standard_axis, turn_for};
 ghost use Rattle.niss_cube.specs.AfterTurn.{rank_after};
-ghost use Rattle.niss_cube.specs.BadPieces.{AreBad, bad_pieces};
 ghost use Rattle.niss_cube.specs.BadPlaces.{bad_mask, bad_count};
 ghost use Rattle.std.specs.Int.RustNames.{count_ones};
 
 use super::{CORNERS_HOME, Cube, EDGES_HOME};
 use crate::cubie_turns::{cubie_turn, turn_homes, turn_orientations};
-use bad_pieces::{count_outside, count_turned};
 use bad_places::{flip_marks, mask_of_turned, slice_marks, twist_marks};
 use niss_moves::{Axis, Face, Turn};
 use ranking::{rank_digits, rank_slice, unrank_orientations, unrank_slice};
 use renaming::Renaming;
 
-mod bad_pieces;
 mod bad_places;
 mod move_rows;
 mod ranking;
@@ -60,14 +57,6 @@ impl Coordinate {
         ensures kept { IsTrue result ↔ Kept (set_of self axis) (map_of cube.now) }
     {
         self.rank(axis, cube) == 0
-    }
-
-    /// How many pieces are bad on an axis: flipped edges, twisted corners, or edges of the slice outside it. It is 0 exactly
-    /// if the cube keeps the coordinate's set of places.
-    pub fn bad_pieces(self, axis: Axis, cube: &Cube) -> u8
-        ensures { AreBad self axis (map_of cube.now) result }
-    {
-        self.standard_bad_pieces(&self.renamed(axis, cube))
     }
 
     /// At which places a bad piece stands on an axis, as a mask: bit i is set if the piece at place i is bad. The 8 places of
@@ -128,17 +117,6 @@ impl Coordinate {
             Coordinate::Flip => rank_digits(2, &cube.flips[..11]),
             Coordinate::Twist => rank_digits(3, &cube.twists[..7]),
             Coordinate::Slice => rank_slice(&cube.edges),
-        }
-    }
-
-    /// How many pieces are bad on the standard axis, for which the cube isn't renamed.
-    fn standard_bad_pieces(self, cube: &Cube) -> u8
-        ensures { result ≡ bad_pieces self (standard_axis self) (map_of cube.now) }
-    {
-        match self {
-            Coordinate::Flip => count_turned(&cube.flips),
-            Coordinate::Twist => count_turned(&cube.twists),
-            Coordinate::Slice => count_outside(&cube.edges),
         }
     }
 

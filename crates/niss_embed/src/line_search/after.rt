@@ -1,4 +1,4 @@
-//! A search that goes on behind a solution, so that a caller goes through a long list in pieces.
+//! A search that goes on after a solution, so that a caller goes through a long list in pieces.
 ghost use Rattle.std.specs.Prelude.{◌≡◌, ◌≢◌, ◌≤◌, ◌<◌, ◌+◌, ℕ, List, IfOk, OnOk, OnErr, MatchOption, length};
 ghost use Rattle.niss_moves.specs.Places.{Place};
 ghost use Rattle.niss_cube.specs.Steps.{turns_of};
@@ -7,14 +7,14 @@ ghost use Rattle.niss_search.specs.Solutions.{last_length};
 ghost use Rattle.niss_shell.specs.Names.{Turn};
 ghost use Rattle.niss_shell.specs.Words.{most_limit};
 ghost use Rattle.niss_embed.specs.Memory.{memory};
-ghost use Rattle.niss_embed.specs.SolveAfter.{line_of_turns, Spells, SolvesBehind, SolvesAfter, cut_before};
+ghost use Rattle.niss_embed.specs.SolveAfter.{line_of_turns, Spells, SolvesCubeAfter, SolvesAfter, cut_before};
 ghost use Rattle.niss_embed.specs.SolveAfter.{looks_to_shortest};
 
 use super::{Bounds, CountedSolutions, SolutionLines, Wanted, begin, capped, status_of, was_cut};
 use crate::answer::Status;
 use crate::search_answer::SearchAnswer;
 use niss_moves::{Faces, Niss, Token, Turn, read};
-use niss_search::laws::{first_is_least, later_is_rest, zero_is_no_turn};
+use niss_search::laws::{after_is_rest, first_is_least, zero_is_no_turn};
 use niss_search::{Limit, Meter, Position, Stopped, Tables, TurnPath, search_after, search_within};
 use niss_shell::MOST_BYTES;
 use std::alloc::Allocator;
@@ -125,7 +125,7 @@ fn cut_at(looks: &Meter) -> SearchAnswer
 }
 
 /// Hands out the solutions from a position that come after a sequence.
-fn solve_behind<A: Allocator>(
+fn solve_cube_after<A: Allocator>(
     tables: &Tables<A>,
     position: &Position,
     after: &[Turn],
@@ -137,10 +137,10 @@ fn solve_behind<A: Allocator>(
     requires limit { bounds.limit ≡ wanted.limit }
     requires slack { bounds.slack ≡ wanted.slack }
     ensures { (e : Place → Place) → HasPosition tables.now e position.now →
-        SolvesBehind tables.now wanted after.now e (memory out.old out.new) result }
+        SolvesCubeAfter tables.now wanted after.now e (memory out.old out.new) result }
 {
     // so the solutions up to the last length are those that are asked for
-    later_is_rest();
+    after_is_rest();
     let mut looks = Meter::new();
     let found = least_length(
         tables,
@@ -193,7 +193,7 @@ pub fn solve_after<A: Allocator>(
         return SearchAnswer::too_long();
     }
     match begin(tables, line) {
-        Ok(position) => solve_behind(tables, &position, turns.as_slice(), bounds, wanted, out),
+        Ok(position) => solve_cube_after(tables, &position, turns.as_slice(), bounds, wanted, out),
         Err(fault) => SearchAnswer::faulty(fault),
     }
 }

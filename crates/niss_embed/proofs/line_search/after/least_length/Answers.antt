@@ -2,7 +2,7 @@ use Rattle.std.proofs.Common.{◌<◌, refl, arith}
 use Rattle.niss_search.specs.Cubes.{near_looks_of, near_solutions_of}
 use Rattle.niss_search.specs.LookNumbers.{look_number_of}
 use Rattle.niss_embed.proofs.AfterLemmas.{least_is_first}
-use Rattle.niss_embed.proofs.BehindLemmas.{first_refused, none_came, before_first}
+use Rattle.niss_embed.proofs.RestLemmas.{first_refused, none_came, before_first}
 use Rattle.niss_embed.proofs.line_search.after.least_length.Goals as goal
 
 pub returns-in-Err-Refused-clause-least : goal.returns-in-Err-Refused-clause-least

@@ -4,7 +4,7 @@ use Rattle.niss_search.proofs.Words.{Descends, at_limit, below_at}
 use Rattle.niss_search.proofs.Words.{Contains-get_or, nat_tests, later_at, turns_of, no_turn, later_turn_at, distance_at, progress_of, Path, for_each}
 use Rattle.niss_search.proofs.DescentParts.{StopsIn-cut, StopsIn-before, GoesThrough-looks, Descends-then}
 use Rattle.niss_search.proofs.SpentLemmas.{some_turns}
-use Rattle.niss_search.proofs.LaterParts.{later_turn-goes_on, later_at-none, later_at-some, later_at-begins, later_at-far, later_at-near, later_at-split, passed-more, passed-room}
+use Rattle.niss_search.proofs.AfterParts.{later_turn-goes_on, later_at-none, later_at-some, later_at-begins, later_at-far, later_at-near, later_at-split, passed-more, passed-room}
 use Rattle.niss_search.proofs.searching.depth_first.Descent.+passing.Goals as goal
 
 pub pass-returns-then-is_empty-clause-makes : goal.pass-returns-then-is_empty-clause-makes

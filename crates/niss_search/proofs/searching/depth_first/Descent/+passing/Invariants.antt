@@ -1,5 +1,5 @@
 use Rattle.niss_search.proofs.Words.{length, ◌+◌, ◌≤◌, ◌*◌, at_limit, progress_of, Keeps, GoesThrough}
-use Rattle.niss_search.proofs.LaterLemmas.{passed}
+use Rattle.niss_search.proofs.AfterLemmas.{passed}
 use Rattle.niss_search.proofs.searching.depth_first.Descent.+passing.Given as goal
 
 abbrev pub decreases-pass : goal.decreases-pass

@@ -3,7 +3,7 @@ use Rattle.niss_search.proofs.Words.{◌≡◌, arith, length, ◌+◌, ◌<◌,
 use Rattle.niss_search.proofs.Words.{cond, suc, zero, range_with_len, ◌++◌, flat_map, filter, drop, take, get_or, append_assoc, append-nil, subst}
 use Rattle.niss_search.proofs.Words.{All, All-cons, All-nil, All-map, All-weaker, drop_at, may_follow, last_turn, nat_le, nat_lt, ◌==◌}
 use Rattle.niss_search.proofs.Words.{Space, Part, only_looks, then_part, for_each, beyond, later, later_at, beyond_at, by_place}
-use Rattle.niss_search.proofs.Words.{later_turn_at, all_later, turn_place, comes_after, is_later, reaching, looks, deepening, positions}
+use Rattle.niss_search.proofs.Words.{later_turn_at, all_after, turn_place, comes_after, is_later, reaching, looks, deepening, positions}
 use Rattle.niss_search.proofs.Words.{distance_at, Step, GoalCoordinates, turns_of, up_to, all_canonical, canonical_extensions, length-append}
 use Rattle.niss_search.proofs.Words.{sum_by, sum_by-cons, sum_by-append, sum_by-le-sum_by, ap₂}
 use Rattle.niss_search.proofs.Words.{◌||◌, ◌&&◌, le-ltb, lt-ltb, ne_eqb, eq-eqb, All-filter, flat_map-append, leb_tells, inl, inr}
@@ -124,8 +124,8 @@ abbrev pub passed : Step → List GoalCoordinates → (p ts : List Turn) → ℕ
 passed step x p ts i = then_part (only_looks 1) (for_each (later_turn_at step x p ts) (take i (turns_of step)))
 
 -- what is done of the later ones up to a length
-abbrev pub later_below : Step → List GoalCoordinates → List Turn → ℕ → Part
-later_below step x ts d =
+abbrev pub after_below : Step → List GoalCoordinates → List Turn → ℕ → Part
+after_below step x ts d =
     then_part (later_at step x [] ts)
     (for_each (deepening (positions step) (distance_at step) x) (range_with_len (length ts + 1) (d - (length ts + 1))))
 
@@ -201,23 +201,23 @@ module _ (step : Step) (x : List GoalCoordinates) (p : List Turn) where
       omega (arith, ap (λ (q : Part). q.looks) (below_at-start step x (length p)), later-looks (positions step) (distance_at step) p x [])
 
   -- all that is done is what the filter leaves of all sequences
-  pub all_later-paths : (n : ℕ) → filter (comes_after p) (flat_map (reaching (positions step) x) (up_to n)) ≡ (all_later step x n p).paths
-  all_later-paths n = elim (leb_tells (length p) n) [
+  pub all_after-paths : (n : ℕ) → filter (comes_after p) (flat_map (reaching (positions step) x) (up_to n)) ≡ (all_after step x n p).paths
+  all_after-paths n = elim (leb_tells (length p) n) [
     | inl w ↦ rw w.0 (levels (positions step) x p n w.1 ∙ ap (λ (a : List (List Turn)). a ++ flat_map (reaching (positions step) x) (range_with_len (length p + 1) (n - length p))) later_at-paths)
     | inr w ↦ rw w.0 (no-levels (positions step) x p n w.1)
   ]
 
   -- the looks up to a length
-  pub later_below-looks : (d : ℕ) → length p + 1 ≤ d → (later_below step x p d).looks ≤ sum_by (looks (positions step) (distance_at step) x) (range_with_len 0 d)
-  later_below-looks d h =
+  pub after_below-looks : (d : ℕ) → length p + 1 ≤ d → (after_below step x p d).looks ≤ sum_by (looks (positions step) (distance_at step) x) (range_with_len 0 d)
+  after_below-looks d h =
       let each = looks (positions step) (distance_at step) x in
       let count : d - length p ≡ suc (d - (length p + 1)) = omega (arith, h) in
       let rest = range_with_len (length p + 1) (d - (length p + 1)) in
       let split = ap (sum_by each) (range-split (length p) d (omega (arith, h)) ∙ ap (λ m. range_with_len 0 (length p) ++ range_with_len (length p) m) count) in
       omega (arith, split, sum_by-append each (range_with_len 0 (length p)) (length p ∷ rest), sum_by-cons each (length p) rest, later_at-looks)
 
-  pub all_later-looks : (n : ℕ) → (all_later step x n p).looks ≤ sum_by (looks (positions step) (distance_at step) x) (up_to n)
-  all_later-looks n = elim (leb_tells (length p) n) [
-    | inl w ↦ (let count : n + 1 - (length p + 1) ≡ n - length p = omega (arith, w.1) in rw w.0 (subst (λ m. (later_at step x [] p).looks + sum_by (looks (positions step) (distance_at step) x) (range_with_len (length p + 1) m) ≤ sum_by (looks (positions step) (distance_at step) x) (up_to n)) count (later_below-looks (n + 1) (omega (arith, w.1)))))
+  pub all_after-looks : (n : ℕ) → (all_after step x n p).looks ≤ sum_by (looks (positions step) (distance_at step) x) (up_to n)
+  all_after-looks n = elim (leb_tells (length p) n) [
+    | inl w ↦ (let count : n + 1 - (length p + 1) ≡ n - length p = omega (arith, w.1) in rw w.0 (subst (λ m. (later_at step x [] p).looks + sum_by (looks (positions step) (distance_at step) x) (range_with_len (length p + 1) m) ≤ sum_by (looks (positions step) (distance_at step) x) (up_to n)) count (after_below-looks (n + 1) (omega (arith, w.1)))))
     | inr w ↦ rw w.0 (omega arith)
   ]

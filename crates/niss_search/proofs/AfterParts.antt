@@ -4,7 +4,7 @@ use Rattle.niss_search.proofs.Words.{cond, suc, range_with_len, ◌++◌, flat_m
 use Rattle.niss_search.proofs.Words.{may_follow, last_turn, turn_place, no_turn, length-drop, ◌==◌, nat_lt, eqb_tells}
 use Rattle.niss_search.proofs.Words.{eq-eqb, ne_eqb, lt-ltb, inl, inr}
 use Rattle.niss_search.proofs.Words.{Part, only_looks, then_part, for_each, later, later_at, below_at, beyond_at, by_place}
-use Rattle.niss_search.proofs.Words.{later_turn_at, all_later, comes_after, looks, deepening, positions}
+use Rattle.niss_search.proofs.Words.{later_turn_at, all_after, comes_after, looks, deepening, positions}
 use Rattle.niss_search.proofs.Words.{distance_at, Step, GoalCoordinates, turns_of, up_to}
 use Rattle.niss_search.proofs.Words.{sum_by, position_after, le-leb, lt-leb}
 use Rattle.niss_search.proofs.Words.{add-zero, take_all, take-append-drop, ◌*◌, ◌^◌}
@@ -12,10 +12,10 @@ use Rattle.std.proofs.lemmas.List.{take_more}
 use Rattle.niss_search.proofs.ListLemmas.{range_with_len-append}
 use Rattle.niss_search.proofs.LookLemmas.{reaching-same, looks-same, distance-cube}
 use Rattle.niss_search.proofs.Words.{GoesThrough, StopsIn, progress_at, Ok, Err, Path, Place, at_limit, Result, IfOk, OnOk, IfErr, WentThrough}
-use Rattle.niss_search.proofs.Words.{EndedIn, EndsAt, Delivers, PositionsFollowCubes, HasPosition, later_of, deepening_looks_of, distance_of, cubes}
+use Rattle.niss_search.proofs.Words.{EndedIn, EndsAt, Delivers, PositionsFollowCubes, HasPosition, sequences_after, deepening_looks_of, distance_of, cubes}
 use Rattle.niss_search.proofs.DescentParts.{for_each-cons, for_each-append, Descends-then, StopsIn-before, BeginsByLook}
 use Rattle.niss_search.proofs.Bounds.{looks-sum-small, turns_of-length}
-use Rattle.niss_search.proofs.LaterLemmas.{passed, later_below, later_turn, all_later-paths, all_later-looks, later_below-looks}
+use Rattle.niss_search.proofs.AfterLemmas.{passed, after_below, later_turn, all_after-paths, all_after-looks, after_below-looks}
 
 -- Parts one after another.
 part-assoc : (a b c : Part) → then_part (then_part a b) c ≡ then_part a (then_part b c)
@@ -130,16 +130,16 @@ module _ (step : Step) (x : List GoalCoordinates) (ts : List Turn) where
   one_length = deepening (positions step) (distance_at step) x
 
   -- the looks are few
-  pub later_below-small : (d : ℕ) → length ts + 1 ≤ d → d ≤ 21 → (later_below step x ts d).looks ≤ 21 * (21 * 18 ^ 20)
-  later_below-small d h l =
-      omega (arith, later_below-looks step x ts d h, looks-sum-small (positions step) (distance_at step) x d (turns_of-length step) l)
+  pub after_below-small : (d : ℕ) → length ts + 1 ≤ d → d ≤ 21 → (after_below step x ts d).looks ≤ 21 * (21 * 18 ^ 20)
+  after_below-small d h l =
+      omega (arith, after_below-looks step x ts d h, looks-sum-small (positions step) (distance_at step) x d (turns_of-length step) l)
 
   pub later_at-small : length ts ≤ 20 → (later_at step x [] ts).looks ≤ 21 * (21 * 18 ^ 20)
-  later_at-small h = omega (arith, later_below-small (length ts + 1) (omega arith) (omega (arith, h)))
+  later_at-small h = omega (arith, after_below-small (length ts + 1) (omega arith) (omega (arith, h)))
 
   -- one length more
-  pub later_below-more : (d : ℕ) → length ts + 1 ≤ d → later_below step x ts (d + 1) ≡ then_part (later_below step x ts d) (one_length d)
-  later_below-more d h =
+  pub after_below-more : (d : ℕ) → length ts + 1 ≤ d → after_below step x ts (d + 1) ≡ then_part (after_below step x ts d) (one_length d)
+  after_below-more d h =
       let k = length ts + 1 in
       let count : d + 1 - k ≡ d - k + 1 = omega (arith, h) in
       let last : k + (d - k) ≡ d = omega (arith, h) in
@@ -149,14 +149,14 @@ module _ (step : Step) (x : List GoalCoordinates) (ts : List Turn) where
       ∙ sym (part-assoc (later_at step x [] ts) (for_each one_length (range_with_len k (d - k))) (one_length d))
 
   -- up to the last
-  pub all_later-is : (n : ℕ) → length ts ≤ n → all_later step x n ts ≡ later_below step x ts (n + 1)
-  all_later-is n h =
+  pub all_after-is : (n : ℕ) → length ts ≤ n → all_after step x n ts ≡ after_below step x ts (n + 1)
+  all_after-is n h =
       let count : n - length ts ≡ n + 1 - (length ts + 1) = omega (arith, h) in
       rw (le-leb (length ts) n h) (ap (λ m. then_part (later_at step x [] ts) (for_each one_length (range_with_len (length ts + 1) m))) count)
 
-  pub all_later-split : (n d : ℕ) → length ts + 1 ≤ d → d ≤ n
-      → all_later step x n ts ≡ then_part (then_part (later_below step x ts d) (one_length d)) (for_each one_length (range_with_len (d + 1) (n - d)))
-  all_later-split n d h l =
+  pub all_after-split : (n d : ℕ) → length ts + 1 ≤ d → d ≤ n
+      → all_after step x n ts ≡ then_part (then_part (after_below step x ts d) (one_length d)) (for_each one_length (range_with_len (d + 1) (n - d)))
+  all_after-split n d h l =
       let k = length ts + 1 in
       let count : n - length ts ≡ d + 1 - k + (n - d) = omega (arith, h, l) in
       let next : k + (d + 1 - k) ≡ d + 1 = omega (arith, h) in
@@ -165,88 +165,88 @@ module _ (step : Step) (x : List GoalCoordinates) (ts : List Turn) where
       ∙ ap (λ ks. then_part (later_at step x [] ts) (for_each one_length ks)) (range_with_len-append k (d + 1 - k) (n - d) ∙ ap (λ j. range_with_len k (d + 1 - k) ++ range_with_len j (n - d)) next)
       ∙ ap (then_part (later_at step x [] ts)) (for_each-append one_length (range_with_len k (d + 1 - k)) (range_with_len (d + 1) (n - d)))
       ∙ sym (part-assoc (later_at step x [] ts) (for_each one_length (range_with_len k (d + 1 - k))) (for_each one_length (range_with_len (d + 1) (n - d))))
-      ∙ ap (λ q. then_part q (for_each one_length (range_with_len (d + 1) (n - d)))) (later_below-more d h))
+      ∙ ap (λ q. then_part q (for_each one_length (range_with_len (d + 1) (n - d)))) (after_below-more d h))
 
-  pub all_later-start : (n : ℕ) → length ts ≤ n
-      → all_later step x n ts ≡ then_part (later_at step x [] ts) (for_each one_length (range_with_len (length ts + 1) (n - length ts)))
-  all_later-start n h = rw (le-leb (length ts) n h) refl
+  pub all_after-start : (n : ℕ) → length ts ≤ n
+      → all_after step x n ts ≡ then_part (later_at step x [] ts) (for_each one_length (range_with_len (length ts + 1) (n - length ts)))
+  all_after-start n h = rw (le-leb (length ts) n h) refl
 
-  pub all_later-none : (n : ℕ) → n < length ts → all_later step x n ts ≡ only_looks 0
-  all_later-none n h = rw (lt-leb (length ts) n h) refl
+  pub all_after-none : (n : ℕ) → n < length ts → all_after step x n ts ≡ only_looks 0
+  all_after-none n h = rw (lt-leb (length ts) n h) refl
 
 -- The later ones of each length below d were handed out.
 module _
     (step : Step) (x : List GoalCoordinates) (ts : List Turn) (d : ℕ) {K : Type 0} {took refused : K → List Turn → K → Type 0}
-    {m0 m1 c : ℕ} {s0 s1 : K} (went : GoesThrough took refused (later_below step x ts d) (progress_at m0 0 s0) (progress_at m1 c s1))
+    {m0 m1 c : ℕ} {s0 s1 : K} (went : GoesThrough took refused (after_below step x ts d) (progress_at m0 0 s0) (progress_at m1 c s1))
     (from : length ts + 1 ≤ d)
   where
     abbrev next : Part
     next = deepening (positions step) (distance_at step) x d
 
     -- one length more has room
-    pub room_later : m0 ≤ 2 ^ 127 → d ≤ 20 → m1 + next.looks < 2 ^ 128
-    room_later few within =
-        omega (arith, went.looked, ap (λ (q : Part). q.looks) (later_below-more step x ts d from), later_below-small step x ts (d + 1) (omega (arith, from)) (omega (arith, within)))
+    pub room_after : m0 ≤ 2 ^ 127 → d ≤ 20 → m1 + next.looks < 2 ^ 128
+    room_after few within =
+        omega (arith, went.looked, ap (λ (q : Part). q.looks) (after_below-more step x ts d from), after_below-small step x ts (d + 1) (omega (arith, from)) (omega (arith, within)))
 
     -- and may go on
-    pub goes-on_later : {m2 e : ℕ} {s2 : K} → GoesThrough took refused next (progress_at m1 0 s1) (progress_at m2 e s2)
-        → GoesThrough took refused (later_below step x ts (d + 1)) (progress_at m0 0 s0) (progress_at m2 (c + e) s2)
-    goes-on_later {m2} {e} {s2} h = rw (later_below-more step x ts d from)
+    pub goes-on_after : {m2 e : ℕ} {s2 : K} → GoesThrough took refused next (progress_at m1 0 s1) (progress_at m2 e s2)
+        → GoesThrough took refused (after_below step x ts (d + 1)) (progress_at m0 0 s0) (progress_at m2 (c + e) s2)
+    goes-on_after {m2} {e} {s2} h = rw (after_below-more step x ts d from)
         (Descends-then {E = Bool} (λ b. b) 0 (Ok tt) next (progress_at m2 (c + e) s2) went
         record { delivered = h.delivered; counted = omega (arith, h.counted); looked = h.looked; along = h.along })
 
     -- or stop
-    pub stops_later : (n : ℕ) → d ≤ n → {m2 : ℕ} {s2 : K} {cut : Bool} {bound : ℕ} → StopsIn took refused next (progress_at m1 0 s1) (progress_at m2 0 s2) cut bound
-        → StopsIn took refused (all_later step x n ts) (progress_at m0 0 s0) (progress_at m2 0 s2) cut bound
-    stops_later n within {m2} {s2} {cut} {bound} h =
-        rw (all_later-split step x ts n d from within)
+    pub stops_after : (n : ℕ) → d ≤ n → {m2 : ℕ} {s2 : K} {cut : Bool} {bound : ℕ} → StopsIn took refused next (progress_at m1 0 s1) (progress_at m2 0 s2) cut bound
+        → StopsIn took refused (all_after step x n ts) (progress_at m0 0 s0) (progress_at m2 0 s2) cut bound
+    stops_after n within {m2} {s2} {cut} {bound} h =
+        rw (all_after-split step x ts n d from within)
         (StopsIn-before (for_each (deepening (positions step) (distance_at step) x) (range_with_len (d + 1) (n - d)))
         (Descends-then (λ b. b) bound (Err cut) next (progress_at m2 0 s2) went
         record { stopped = h.stopped; rises = h.rises; looked = h.looked; over = h.over; ends = h.ends }))
 
 -- those of the same length
-pub starts_later : (step : Step) (x : List GoalCoordinates) (ts : List Turn) → later_below step x ts (length ts + 1) ≡ later_at step x [] ts
-starts_later step x ts =
+pub starts_after : (step : Step) (x : List GoalCoordinates) (ts : List Turn) → after_below step x ts (length ts + 1) ≡ later_at step x [] ts
+starts_after step x ts =
     let none : length ts + 1 - (length ts + 1) ≡ 0 = omega arith in
     ap (λ m. then_part (later_at step x [] ts) (for_each (deepening (positions step) (distance_at step) x) (range_with_len (length ts + 1) m))) none
     ∙ part-none (later_at step x [] ts)
 
 -- What a search for the later ones says of a cube, by what it returns.
-pub record LaterSearched {K E : Type 0} (took refused : K → Path → K → Type 0) (is_cut : E → Bool) (bound : ℕ) (step : Step) (e : Place → Place) (n : ℕ) (ts : List Turn) (m m1 : ℕ) (s s1 : K) (r : Result ℕ E) : Type 0 where
-  pub solutions : IfOk r (λ count. count ≡ length (later_of step e n ts))
-  pub ok : OnOk r (WentThrough (at_limit took n) s (later_of step e n ts) s1)
-  pub err : IfErr r (λ stop. EndedIn (at_limit took n) (at_limit refused n) (is_cut stop) s (later_of step e n ts) s1)
+pub record AfterSearched {K E : Type 0} (took refused : K → Path → K → Type 0) (is_cut : E → Bool) (bound : ℕ) (step : Step) (e : Place → Place) (n : ℕ) (ts : List Turn) (m m1 : ℕ) (s s1 : K) (r : Result ℕ E) : Type 0 where
+  pub solutions : IfOk r (λ count. count ≡ length (sequences_after step e n ts))
+  pub ok : OnOk r (WentThrough (at_limit took n) s (sequences_after step e n ts) s1)
+  pub err : IfErr r (λ stop. EndedIn (at_limit took n) (at_limit refused n) (is_cut stop) s (sequences_after step e n ts) s1)
   pub looks_at_most : m1 ≤ m + deepening_looks_of step e n
   pub over : IfErr r (λ stop. is_cut stop ≡ true → bound < m + deepening_looks_of step e n)
 
-pub later_searched : {K E : Type 0} (took refused : K → Path → K → Type 0) (is_cut : E → Bool) (bound : ℕ) (step : Step) (x : List GoalCoordinates) (n : ℕ) (ts : List Turn) (m m1 : ℕ) (s s1 : K) (r : Result ℕ E)
-    → Delivers took refused n (all_later step x n ts) m m1 s s1 is_cut bound (λ count. count) r
-    → PositionsFollowCubes → (e : Place → Place) → HasPosition step e x → LaterSearched took refused is_cut bound step e n ts m m1 s s1 r
-later_searched {E = E} took refused is_cut bound step x n ts m m1 s s1 r h law e at = by_result r h where
-  found : later_of step e n ts ≡ (all_later step x n ts).paths
-  found = (λ i. filter (comes_after ts) (flat_map (λ k. reaching-same (law.follow step) e x at k i) (up_to n))) ∙ all_later-paths step x ts n
+pub after_searched : {K E : Type 0} (took refused : K → Path → K → Type 0) (is_cut : E → Bool) (bound : ℕ) (step : Step) (x : List GoalCoordinates) (n : ℕ) (ts : List Turn) (m m1 : ℕ) (s s1 : K) (r : Result ℕ E)
+    → Delivers took refused n (all_after step x n ts) m m1 s s1 is_cut bound (λ count. count) r
+    → PositionsFollowCubes → (e : Place → Place) → HasPosition step e x → AfterSearched took refused is_cut bound step e n ts m m1 s s1 r
+after_searched {E = E} took refused is_cut bound step x n ts m m1 s s1 r h law e at = by_result r h where
+  found : sequences_after step e n ts ≡ (all_after step x n ts).paths
+  found = (λ i. filter (comes_after ts) (flat_map (λ k. reaching-same (law.follow step) e x at k i) (up_to n))) ∙ all_after-paths step x ts n
 
   looked : deepening_looks_of step e n ≡ sum_by (looks (positions step) (distance_at step) x) (up_to n)
   looked = λ i. sum_by (λ d. looks-same (law.follow step) e x at (distance_of step) (distance_at step) (distance-cube law step) d i) (up_to n)
 
-  by_result : (r : Result ℕ E) → Delivers took refused n (all_later step x n ts) m m1 s s1 is_cut bound (λ count. count) r → LaterSearched took refused is_cut bound step e n ts m m1 s s1 r
+  by_result : (r : Result ℕ E) → Delivers took refused n (all_after step x n ts) m m1 s s1 is_cut bound (λ count. count) r → AfterSearched took refused is_cut bound step e n ts m m1 s s1 r
   by_result (Ok count) h =
-      record { solutions = omega (arith, ap length found, h.counted); ok = rw found h.delivered; err = tt; looks_at_most = omega (arith, looked, h.looked, all_later-looks step x ts n); over = tt }
+      record { solutions = omega (arith, ap length found, h.counted); ok = rw found h.delivered; err = tt; looks_at_most = omega (arith, looked, h.looked, all_after-looks step x ts n); over = tt }
   by_result (Err stop) h =
-      record { solutions = tt; ok = tt; err = rw found h.stopped; looks_at_most = omega (arith, looked, h.looked, all_later-looks step x ts n); over = λ t. omega (arith, looked, h.over t, all_later-looks step x ts n) }
+      record { solutions = tt; ok = tt; err = rw found h.stopped; looks_at_most = omega (arith, looked, h.looked, all_after-looks step x ts n); over = λ t. omega (arith, looked, h.over t, all_after-looks step x ts n) }
 
 -- what went through made all of its looks
-pub later_looked : {K E : Type 0} (took refused : K → Path → K → Type 0) (is_cut : E → Bool) (bound : ℕ) (part : Part) (n m m1 : ℕ) (s s1 : K) (r : Result ℕ E)
+pub after_looked : {K E : Type 0} (took refused : K → Path → K → Type 0) (is_cut : E → Bool) (bound : ℕ) (part : Part) (n m m1 : ℕ) (s s1 : K) (r : Result ℕ E)
     → Delivers took refused n part m m1 s s1 is_cut bound (λ count. count) r → OnOk r (m1 ≡ m + part.looks)
-later_looked took refused is_cut bound part n m m1 s s1 (Ok count) h = h.looked
-later_looked took refused is_cut bound part n m m1 s s1 (Err stop) h = tt
+after_looked took refused is_cut bound part n m m1 s s1 (Ok count) h = h.looked
+after_looked took refused is_cut bound part n m m1 s s1 (Err stop) h = tt
 
 -- one that ended before has gone along its looks and paths up to there
-pub later_ended : {K E : Type 0} (took refused : K → Path → K → Type 0) (is_cut : E → Bool) (bound : ℕ) (part : Part) (n m m1 : ℕ) (s s1 : K) (r : Result ℕ E)
+pub after_ended : {K E : Type 0} (took refused : K → Path → K → Type 0) (is_cut : E → Bool) (bound : ℕ) (part : Part) (n m m1 : ℕ) (s s1 : K) (r : Result ℕ E)
     → Delivers took refused n part m m1 s s1 is_cut bound (λ count. count) r
     → IfErr r (λ stop. EndsAt (at_limit took n) (at_limit refused n) (is_cut stop) part.events m s m1 s1)
-later_ended took refused is_cut bound part n m m1 s s1 (Ok count) h = tt
-later_ended took refused is_cut bound part n m m1 s s1 (Err stop) h = h.ends
+after_ended took refused is_cut bound part n m m1 s s1 (Ok count) h = tt
+after_ended took refused is_cut bound part n m m1 s s1 (Err stop) h = h.ends
 
 -- the looks up to a length are few
 pub deepening_looks-small : (step : Step) (e : Place → Place) (n : ℕ) → n ≤ 20 → deepening_looks_of step e n ≤ 21 * (21 * 18 ^ 20)

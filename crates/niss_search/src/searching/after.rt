@@ -5,10 +5,10 @@ ghost use Rattle.std.specs.Prelude.{if◌then◌else◌};
 ghost use Rattle.niss_moves.specs.Places.{Place};
 ghost use Rattle.niss_cube.specs.Steps.{turns_of};
 ghost use Rattle.niss_search.specs.Cubes.{IsPosition, HasPosition};
-ghost use Rattle.niss_search.specs.Later.{turn_place, later_of, deepening_looks_of};
+ghost use Rattle.niss_search.specs.After.{turn_place, sequences_after, deepening_looks_of};
 ghost use Rattle.niss_search.specs.Delivery.{WentThrough, EndedIn, at_limit};
 ghost use Rattle.niss_search.specs.Budgets.{is_cut_in, HasSpent};
-ghost use Rattle.niss_search.specs.Deepening.{Delivers, Keeps, Makes, turns, below_at, later_at, all_later, later_turn_at};
+ghost use Rattle.niss_search.specs.Deepening.{Delivers, Keeps, Makes, turns, below_at, later_at, all_after, later_turn_at};
 ghost use Rattle.niss_search.specs.Deepening.{EndsAt};
 
 use super::depth_first::Descent;
@@ -30,7 +30,7 @@ fn turn_place(turn: Turn) -> usize
 
 /// Hands each solution within the path's limit that comes after the turns of `after` to the sink, until the sink refuses
 /// one: those as long as it that are later in turn order, and then the longer ones, as `search` hands them out. `after`
-/// may be any sequence. A search that handed out up to one of its solutions so goes on behind this one, with the
+/// may be any sequence. A search that handed out up to one of its solutions so goes on after this one, with the
 /// greatest length of that search as the path's limit. Returns how many these are.
 ///
 /// It makes at most so many looks, as `search_within`. The position is one of the tables' step, the path is empty, and
@@ -49,21 +49,21 @@ pub fn search_after<K: Sink, A: Allocator>(
     requires empty { path.old.turns ≡ [] }
     requires meter { meter.old ≤ 2 ^ 127 }
     ensures solutions { (e : Place → Place) → HasPosition tables.now e position.now
-        → IfOk result (λ count. count ≡ length (later_of tables.now e path.old.limit after.now)) }
+        → IfOk result (λ count. count ≡ length (sequences_after tables.now e path.old.limit after.now)) }
     ensures path { path.new ≡ path.old }
     ensures ok { (e : Place → Place) → HasPosition tables.now e position.now
         → OnOk result (WentThrough (at_limit K.took path.old.limit)
-        sink.old (later_of tables.now e path.old.limit after.now) sink.new) }
+        sink.old (sequences_after tables.now e path.old.limit after.now) sink.new) }
     ensures err { (e : Place → Place) → HasPosition tables.now e position.now
         → IfErr result (λ stop. EndedIn (at_limit K.took path.old.limit) (at_limit K.refused path.old.limit)
-        (is_cut_in stop) sink.old (later_of tables.now e path.old.limit after.now) sink.new) }
+        (is_cut_in stop) sink.old (sequences_after tables.now e path.old.limit after.now) sink.new) }
     ensures cut { (e : Place → Place) → HasPosition tables.now e position.now
         → IfErr result (λ stop. is_cut_in stop ≡ true → looks < deepening_looks_of tables.now e path.old.limit) }
     ensures ends { IfErr result (λ stop. EndsAt (at_limit K.took path.old.limit) (at_limit K.refused path.old.limit)
-        (is_cut_in stop) (all_later tables.now position.now path.old.limit after.now).events
+        (is_cut_in stop) (all_after tables.now position.now path.old.limit after.now).events
         meter.old sink.old meter.new sink.new) }
     ensures looks { OnOk result (meter.new
-        ≡ meter.old + (all_later tables.now position.now path.old.limit after.now).looks) }
+        ≡ meter.old + (all_after tables.now position.now path.old.limit after.now).looks) }
     ensures looks_at_most { (e : Place → Place) → HasPosition tables.now e position.now
         → meter.new ≤ meter.old + deepening_looks_of tables.now e path.old.limit }
     ensures rises { meter.old ≤ meter.new }
@@ -75,13 +75,13 @@ pub fn search_after<K: Sink, A: Allocator>(
         bound: meter.count().saturating_add(looks),
     };
     let root = Root { tables, position };
-    root.deepen_later(after, path, meter, sink, &budget)
+    root.deepen_all_after(after, path, meter, sink, &budget)
 }
 
 impl<A: Allocator> Root<'_, A> {
     /// Hands out what comes after a sequence: of its length, and then of each greater one up to the path's limit. Returns
     /// how many solutions these are.
-    fn deepen_later<K: Sink, B: Budget<K::Fault>>(
+    fn deepen_all_after<K: Sink, B: Budget<K::Fault>>(
         &self,
         after: &[Turn],
         path: &mut TurnPath,
@@ -95,7 +95,7 @@ impl<A: Allocator> Root<'_, A> {
         requires budget { meter.old ≤ B.bound budget.now }
         ensures path { path.new ≡ path.old }
         ensures delivers { Delivers K.took K.refused path.old.limit
-            (all_later self.now.tables.now self.now.position.now path.old.limit after.now)
+            (all_after self.now.tables.now self.now.position.now path.old.limit after.now)
             meter.old meter.new sink.old sink.new B.is_cut (B.bound budget.now) (λ count. count) result }
         ensures rises { meter.old ≤ meter.new }
         ensures within { meter.new ≤ B.bound budget.now }
@@ -106,7 +106,7 @@ impl<A: Allocator> Root<'_, A> {
         if after.len() > usize::from(limit) {
             return Ok(0);
         }
-        let mut solutions = self.deepen_after(after, path, meter, sink, budget)?;
+        let mut solutions = self.deepen_later(after, path, meter, sink, budget)?;
         let mut length = after.len() as u8 + 1;
         while length <= limit {
             solutions += self.deepen(length, path, meter, sink, budget)?;
@@ -116,7 +116,7 @@ impl<A: Allocator> Root<'_, A> {
     }
 
     /// Hands out the solutions that are as long as a sequence and later, and returns how many they are.
-    fn deepen_after<K: Sink, B: Budget<K::Fault>>(
+    fn deepen_later<K: Sink, B: Budget<K::Fault>>(
         &self,
         after: &[Turn],
         path: &mut TurnPath,
@@ -206,7 +206,7 @@ impl<K: Sink> Descent<'_, K> {
         (meter, Ok(()))
     }
 
-    /// Goes on by one turn if it may follow the path: if it is the first of `after`, behind the others; if it is later,
+    /// Goes on by one turn if it may follow the path: if it is the first of `after`, after the others; if it is later,
     /// by as many turns as there are others.
     #[cycle(passing)]
     fn pass_turn<A: Allocator, B: Budget<K::Fault>>(
@@ -253,13 +253,13 @@ impl<K: Sink> Descent<'_, K> {
         below
     }
 
-    /// Goes on behind the path and the turns of `rest`, or else below the path by as many turns.
+    /// Goes on after the path and the turns of `rest` if the path is the same as far, or else below it by as many turns.
     #[cycle(passing)]
     fn go_on<A: Allocator, B: Budget<K::Fault>>(
         &mut self,
         tables: &Tables<A>,
         position: &Position,
-        behind: bool,
+        same: bool,
         rest: &[Turn],
         meter: Meter,
         budget: &B,
@@ -267,7 +267,7 @@ impl<K: Sink> Descent<'_, K> {
         requires position { IsPosition tables.now position.now }
         requires few { length rest.now ≤ 20 }
         requires room { length (turns self.old) + length rest.now ≤ self.old.path.now.limit }
-        requires meter { meter + (if behind then later_at tables.now position.now (turns self.old) rest.now
+        requires meter { meter + (if same then later_at tables.now position.now (turns self.old) rest.now
             else below_at tables.now position.now (turns self.old) (length rest.now)).looks < 2 ^ 128 }
         requires budget { meter ≤ B.bound budget.now }
         requires count { self.old.count ≤ meter }
@@ -275,11 +275,11 @@ impl<K: Sink> Descent<'_, K> {
         ensures within { result.0 ≤ B.bound budget.now }
         ensures spent { HasSpent B.is_cut (B.bound budget.now) tables.now result.0 result.1 }
         ensures makes { Makes K.took K.refused B.is_cut (B.bound budget.now)
-            (if behind then later_at tables.now position.now (turns self.old) rest.now
+            (if same then later_at tables.now position.now (turns self.old) rest.now
             else below_at tables.now position.now (turns self.old) (length rest.now))
             meter result.0 self.old self.new result.1 }
     {
-        if behind {
+        if same {
             self.pass(tables, position, rest, meter, budget)
         } else {
             self.begin(tables, position, rest.len() as u8, meter, budget)

@@ -1,7 +1,7 @@
 use Rattle.niss_search.proofs.Words.{◌≡◌, ◌+◌, ◌≤◌, ◌-◌, at_limit, GoesThrough, length}
 use Rattle.niss_search.proofs.Words.{progress_at}
-use Rattle.niss_search.proofs.LaterLemmas.{later_below}
-use Rattle.niss_search.proofs.searching.Root.deepen_later.Given as goal
+use Rattle.niss_search.proofs.AfterLemmas.{after_below}
+use Rattle.niss_search.proofs.searching.Root.deepen_all_after.Given as goal
 
 abbrev pub decreases-loop-length : goal.decreases-loop-length
 decreases-loop-length g l = 21 - l.length
@@ -14,6 +14,6 @@ invariant-loop-length g l = record {
   within : l.length ≤ l.fn.path.limit + 1;
   counted : l.fn.meter + l.solutions ≤ l.meter;
   went : GoesThrough (at_limit g.K.Sink.took l.fn.path.limit) (at_limit g.K.Sink.refused l.fn.path.limit)
-      (later_below l.self.tables.now l.self.position.now l.after l.length)
+      (after_below l.self.tables.now l.self.position.now l.after l.length)
       (progress_at l.fn.meter 0 l.fn.sink) (progress_at l.meter l.solutions l.sink);
 }

@@ -26,8 +26,8 @@ abbrev pub sequences_of : Step → (Place → Place) → ℕ → List (List Turn
 sequences_of step e n = flat_map (reaching (cubes step) e) (up_to n)
 
 -- those of them that come after p
-abbrev pub later_of : Step → (Place → Place) → ℕ → List Turn → List (List Turn)
-later_of step e n p = filter (comes_after p) (sequences_of step e n)
+abbrev pub sequences_after : Step → (Place → Place) → ℕ → List Turn → List (List Turn)
+sequences_after step e n p = filter (comes_after p) (sequences_of step e n)
 
 -- the looks of the deepenings to each length up to n
 abbrev pub deepening_looks_of : Step → (Place → Place) → ℕ → ℕ

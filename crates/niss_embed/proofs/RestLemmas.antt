@@ -1,4 +1,4 @@
--- How many looks a search made that ended at the first solution, and one behind a sequence, by what came of it.
+-- How many looks a search made that ended at the first solution, and one after a sequence, by what came of it.
 use Rattle.std.proofs.Common.{◌≡◌, inl, inr, ℕ, suc, ◌+◌, ◌<◌, Bool, true, false, cond, Option, None, Some, List, [], ◌∷◌, ◌++◌, refl, sym, ap, ◌∙◌, arith}
 use Rattle.std.specs.Prelude.{nat_le, filter}
 use Rattle.std.proofs.lemmas.Bool.Decides.{leb_tells}
