@@ -1,5 +1,5 @@
 // Engines in several threads that share many lines: 40,000 of them beside one engine, in order; their faults, their progress, what gives
-// them up, and threads that end.
+// them up, and threads that end. Calls on one line, as an engine has them.
 //
 //     node tests/module/pool.mjs MODULE
 //
@@ -10,9 +10,11 @@ import { mkdtempSync, rmSync, writeFileSync } from "node:fs";
 import { tmpdir } from "node:os";
 import { join } from "node:path";
 import { performance } from "node:perf_hooks";
-import { NissyPool } from "../../web/module/node.js";
+import { NissyPool, NissyWorker } from "../../web/module/node.js";
 import { Nissy } from "../../web/module/nissy.js";
 import { WorkerPool } from "../../web/module/pool.js";
+import { tryEach, tryOptions, tryReadOptions, tryRows, tryWrongValues } from "./called.mjs";
+import { tryBounds, tryChecks, tryMixed } from "./judged.mjs";
 import { TURNS, drawn, ended, moduleBytes, same, thrown } from "./tally.mjs";
 
 const LINES = 40_000;
@@ -42,7 +44,8 @@ async function tryMany(pool, lines) {
   const told = [];
   const onProgress = (done, all) => told.push([done, all]);
   same("facts of many lines", differing(await pool.factsAll(lines, { faults, onProgress }), nissy.factsAll(lines, { faults })), "nowhere");
-  same("the progress goes on", told.every(([done], at) => at === 0 || done > told[at - 1][0]), true);
+  same("the progress begins with none of all", told[0], [0, lines.length]);
+  same("it goes on", told.every(([done], at) => at === 0 || done > told[at - 1][0]), true);
   same("up to all", told[told.length - 1], [lines.length, lines.length]);
   same("which is said each time", new Set(told.map(([, all]) => all)), new Set([lines.length]));
   const counts = await pool.countAll("eofb", lines, { faults, slack: 1, onProgress: () => {} });
@@ -90,6 +93,81 @@ async function tryWrong(pool) {
   };
   same("what the caller throws", await thrown(() => pool.factsAll(["R", "U"], { onProgress: enough })), ["RangeError", "enough"]);
   same("a call after these", (await pool.countAll("eofb", ["F"]))[0].length, 1);
+}
+
+/** Calls on one line have what `Nissy` has, and are given up by a signal. */
+async function trySingle(pool) {
+  for (const part of [tryRows, tryEach, tryWrongValues, tryOptions, tryReadOptions, tryChecks, tryBounds, tryMixed]) await part(pool);
+  const line = "R U2 R'";
+  same("facts of a line", await pool.facts(line), nissy.facts(line));
+  same("a check", await pool.check(line, "R U2"), nissy.check(line, "R U2"));
+  const ended = thrown(() => pool.count("eo", ENDLESS, { ...LONG, signal: AbortSignal.timeout(50) }));
+  same("others go on meanwhile", await Promise.all([pool.invert("R"), pool.facelets("R")]), ["R'", nissy.facelets("R")]);
+  same("a call with its signal", (await ended)[0], "TimeoutError");
+  const stopped = thrown(() => pool.solve("eo", ENDLESS, LONG));
+  pool.stop();
+  same("a call by stop", await stopped, ["AbortError", "stopped"]);
+}
+
+/** Workers that keep what they are sent. */
+function keeping(count) {
+  const workers = [];
+  const pool = new WorkerPool(count, moduleBytes, (took) => {
+    const worker = { sent: [], answer: (reply) => took({ id: worker.sent.shift().id, reply }) };
+    workers.push(worker);
+    return { postMessage: (message) => "module" in message || worker.sent.push(message), terminate: () => {} };
+  });
+  return { pool, workers, sent: () => workers.map((worker) => worker.sent.map(({ request }) => request.line)) };
+}
+
+/** A call on one line goes to the worker that has fewest. */
+async function tryIdlest() {
+  const { pool, workers, sent } = keeping(2);
+  const calls = ["R", "U", "F"].map((line) => pool.invert(line));
+  same("each worker has one", sent(), [["R"], ["U"]]);
+  workers[1].answer({ status: 0, out: "U'" });
+  await calls[1];
+  const last = pool.invert("D");
+  same("then the one that has none", sent(), [["R"], ["D"]]);
+  workers[0].answer({ status: 0, out: "R'" });
+  await calls[0];
+  workers[0].answer({ status: 0, out: "F'" });
+  workers[1].answer({ status: 0, out: "D'" });
+  same("each has its answer", await Promise.all([...calls, last]), ["R'", "U'", "F'", "D'"]);
+}
+
+/** A promise of the caller's `onProgress` is waited for, and one that rejects ends the call. */
+async function tryPromises(pool) {
+  const unheard = [];
+  const hear = (reason) => unheard.push(reason.message);
+  process.on("unhandledRejection", hear);
+  const scramble = nissy.scramble(20261127, 1, 25);
+  const worker = await NissyWorker.start(moduleBytes);
+  const lines = Array.from({ length: 200 }, () => "R U F");
+  for (const [what, call] of [
+    ["lines", (onProgress) => pool.countAll("eofb", lines, { onProgress })],
+    ["the best", (onProgress) => pool.best(scramble, { onProgress })],
+    ["the best of one worker", (onProgress) => worker.best(scramble, { onProgress })],
+  ]) {
+    const late = new Promise((done) => setTimeout(done, 30));
+    const enough = async () => {
+      throw new RangeError("enough");
+    };
+    same(`${what}: what is rejected at once`, await thrown(() => call(enough)), ["RangeError", "enough"]);
+    same(`${what}: at the end`, await thrown(() => call((done, all) => (done === all ? late.then(enough) : null))), ["RangeError", "enough"]);
+    const [told, heard] = [[], []];
+    await call(async (done) => {
+      told.push(done);
+      await late;
+      await new Promise((next) => setTimeout(next, 20));
+      heard.push(done);
+    });
+    same(`${what}: all is heard before the call ends`, [heard, told.length > 1], [told, true]);
+  }
+  worker.end();
+  await new Promise((done) => setTimeout(done, 20));
+  process.off("unhandledRejection", hear);
+  same("nothing is rejected that nobody hears", unheard, []);
 }
 
 /** Calls that are given up, each with what it rejects with. */
@@ -193,6 +271,9 @@ async function tryBest(pool) {
     const rows = await pool.best(scramble, { soFar, slack, onProgress: (done, all) => told.push([done, all]) });
     same(`the best of ${soFar}, slack ${slack}`, rows, nissy.best(scramble, { soFar, slack }));
     same("up to all", told[told.length - 1][0], told[told.length - 1][1]);
+    // of several workers some may have begun before the last one knows
+    const known = told.find(([, all]) => all !== null);
+    if (pool.size === 1 && slack === 0) same("all is known before the first is done", [known[0], known[1] > 0], [0, true]);
   }
   same("a fault", await thrown(() => pool.best("R", { soFar: "q" })), ["NissyFault", "line 2, column 1: not a move"]);
   same("the best that are given up", await thrown(() => pool.best(scramble, { slack: 3, signal: AbortSignal.timeout(20) })), ["TimeoutError", "The operation was aborted due to timeout"]);
@@ -217,6 +298,9 @@ await tryFaults(pool);
 await tryWrong(pool);
 await tryGivenUp(pool);
 await tryBest(pool);
+await trySingle(pool);
+await tryIdlest();
+await tryPromises(pool);
 await tryDead();
 await tryAhead();
 const alone = await NissyPool.start(1, moduleBytes);

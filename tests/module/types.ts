@@ -77,9 +77,13 @@ export async function followed(nissy: Nissy, worker: NissyWorker, bytes: Uint8Ar
   // a function written in the call has the types of what it is told, also beside other options
   await pools[0].countAll("eofb", ["R"], { signal, onProgress: (done, all) => onProgress(done, all) });
   await pools[0].solveAll("eofb", ["R"], { faults: "value", onProgress: (done, all) => onProgress(done, all) });
+  const [seen, { solved }]: [Facts, Check] = await Promise.all([pools[0].facts("R", { signal }), pools[1].check("R", bytes)]);
+  for await (const { length } of pools[0].solutions("eofb", "R")) if (length > seen.moves) break;
+  // what is told of the progress may take its time
+  await pools[0].countAll("eofb", ["R"], { onProgress: async (done, all) => void (await Promise.resolve(onProgress(done, all))) });
   const best: Best = await pools[1].best("R U F", { slack: 1, nodes: 1_000, cut: "value" });
   for (const pool of pools) pool.end();
-  return [rows, total, eo?.moves, lengths, tokens.map(({ layers }) => layers[0]), counts, facts, solutions, best, pools[0].size].join(" ");
+  return [rows, total, eo?.moves, lengths, tokens.map(({ layers }) => layers[0]), counts, facts, solutions, best, solved, pools[0].size].join(" ");
 }
 
 export async function oneByOne(nissy: Nissy, worker: NissyWorker, signal: AbortSignal): Promise<string> {
@@ -146,6 +150,8 @@ export function wrong(nissy: Nissy, worker: NissyWorker): void {
   nissy.best("R")[0].eo.moves.trim();
   // @ts-expect-error a pool is told how many workers it has
   void NissyPool.start();
+  // @ts-expect-error what pools are told to do is a promise too
+  void (async (pool: NissyPool) => pool.facts("R").solved);
   // @ts-expect-error nor is there a module beside those of a browser
   void NissyPoolOfBrowsers.start(2);
   // @ts-expect-error a browser's worker has no module beside it

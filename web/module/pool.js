@@ -1,26 +1,26 @@
 // Several workers that share many lines: these go to them in pieces, and the answers come back in the order of the
-// lines.
+// lines. Another call goes to the worker that has least to do.
 import { BestRows } from "./best-rows.js";
-import { ORIENTATIONS } from "./best-steps.js";
 import { wholeNumber } from "./bytes.js";
 import { Stopped } from "./faults.js";
 import { Pieces } from "./pieces.js";
 import { bestIn, countIn, factsIn, solutionsIn } from "./replies.js";
-import { allRequest, bestRequest, countRequest, factsRequest, solveRequest, stepsRequest } from "./requests.js";
-import { Signals, progressOf, reasonOf, signalOf } from "./signals.js";
+import { allRequest, bestRequest, countRequest, factsRequest, solveRequest } from "./requests.js";
+import { Signals, Telling, reasonOf, signalOf } from "./signals.js";
+import { SingleCalls } from "./single-calls.js";
 import { compiled } from "./source.js";
 import { WorkerQueue } from "./worker-queue.js";
 
 /** @typedef {import("./best.js").BestProgress} BestProgress */
 /** @typedef {import("./best.js").BestReply} BestReply */
 /** @typedef {import("./best.js").Best} Best */
-/** @typedef {import("./best.js").TellProgress} TellProgress */
 /** @typedef {import("./bytes.js").Text} Text */
 /** @typedef {import("./facts.js").Facts} Facts */
 /** @typedef {import("./replies.js").Count} Count */
 /** @typedef {import("./replies.js").Solutions} Solutions */
 /** @typedef {import("./requests.js").AllRequest} AllRequest */
 /** @typedef {import("./requests.js").Asked} Asked */
+/** @typedef {import("./requests.js").BestRequest} BestRequest */
 /** @typedef {import("./requests.js").BestWanted} BestWanted */
 /** @typedef {import("./requests.js").Many} Many */
 /** @typedef {import("./requests.js").Wanted} Wanted */
@@ -57,9 +57,20 @@ const sumOf = (each) => ({
 });
 
 /**
+ * The axes that each request is for: as many as there are workers, so that each soon knows how many orientations it
+ * has. A bound is for each axis by itself.
+ * @param {number} workers
+ * @param {BestRequest} request
+ */
+function sharesOf(workers, { axes, nodes }) {
+  const shares = nodes === Infinity ? Math.min(workers, axes.length) : axes.length;
+  return Array.from({ length: shares }, (_, at) => axes.filter((_, place) => place % shares === at));
+}
+
+/**
  * What is told of all axes together.
  * @param {BestReply[]} replies
- * @param {import("./requests.js").BestRequest} request
+ * @param {BestRequest} request
  * @returns {BestReply}
  */
 function joinedBest(replies, { most, nodes }) {
@@ -79,7 +90,7 @@ function joinedBest(replies, { most, nodes }) {
  * Asks a worker of the next pieces that none has, until there are none.
  * @param {WorkerQueue} queue
  * @param {Pieces} pieces
- * @param {{signal: AbortSignal, tell: TellProgress, whole: () => void, failed: (reason: unknown) => void}} ways `whole`
+ * @param {{signal: AbortSignal, tell: Telling["tell"], whole: () => void, failed: (reason: unknown) => void}} ways `whole`
  * is called once all is told that is wanted: what is behind a fault isn't waited for
  */
 function workOn(queue, pieces, { signal, tell, whole, failed }) {
@@ -97,7 +108,7 @@ function workOn(queue, pieces, { signal, tell, whole, failed }) {
     // the worker goes on while the reply is read
     ask();
     pieces.take(at, reply);
-    tell(pieces.progress());
+    tell(pieces.progress())?.catch(failed);
     if (pieces.areWhole()) whole();
   };
   ask();
@@ -107,7 +118,7 @@ function workOn(queue, pieces, { signal, tell, whole, failed }) {
  * Engines in several workers. What `Nissy` throws, the promises of their calls are rejected with; so is each whose
  * worker ends.
  */
-export class WorkerPool {
+export class WorkerPool extends SingleCalls {
   /** @type {WorkerQueue[]} */ #queues;
   /** @type {Set<Going>} */ #going = new Set();
   /** @type {Signals<Going>} */ #signals = new Signals((going, signal) => this.#giveUp(going, reasonOf(signal)));
@@ -119,6 +130,7 @@ export class WorkerPool {
    * @param {NewWorker} newWorker
    */
   constructor(workers, module, newWorker) {
+    super((request, options) => this.#together(options, (signal) => this.#idlest().answer(request, { signal })));
     this.#queues = Array.from({ length: workers }, () => new WorkerQueue(module, newWorker));
   }
 
@@ -135,13 +147,18 @@ export class WorkerPool {
     if (count === 0) throw new RangeError("a pool has one worker at least");
     const pool = new this(count, await compiled(source), newWorker);
     // one that isn't answered means that no worker can be started
-    await pool.#queues[0].answer(stepsRequest());
+    await pool.steps();
     return pool;
   }
 
   /** How many workers there are. */
   get size() {
     return this.#queues.length;
+  }
+
+  /** The worker that has the fewest requests, the first of them. */
+  #idlest() {
+    return this.#queues.reduce((least, queue) => (queue.length < least.length ? queue : least));
   }
 
   /**
@@ -175,22 +192,21 @@ export class WorkerPool {
     return this.#answerAll(request, options, factsIn);
   }
 
-  /**
-   * Each axis is looked at by a worker.
-   * @param {Text} scramble @param {BestWanted & Followed & Stoppable} [options] @returns {Promise<Best>}
-   */
+  /** @param {Text} scramble @param {BestWanted & Followed & Stoppable} [options] @returns {Promise<Best>} */
   async best(scramble, options) {
-    const requests = ORIENTATIONS.map(({ name }) => bestRequest(scramble, options, [name]));
-    const tell = progressOf(options);
+    const whole = bestRequest(scramble, options);
+    const requests = sharesOf(this.size, whole).map((axes) => ({ ...whole, axes }));
+    const telling = new Telling(options);
     /** @type {BestProgress[]} */
     const progress = requests.map(() => ({ done: 0, all: null }));
     const follow = (/** @type {number} */ at) => (/** @type {BestProgress} */ told) => {
       progress[at] = told;
-      tell(sumOf(progress));
+      return telling.tell(sumOf(progress));
     };
     const replies = await this.#together(options, (signal) =>
       Promise.all(requests.map((request, at) => this.#queues[at % this.size].answer(request, { signal }, follow(at)))));
-    return bestIn(joinedBest(replies, requests[0]), requests[0]);
+    await telling.heard();
+    return bestIn(joinedBest(replies, whole), whole);
   }
 
   /** Gives up all calls. */
@@ -212,12 +228,15 @@ export class WorkerPool {
    * @returns {Promise<any[]>} what is told in the order of the lines
    */
   async #answerAll(request, options, one) {
-    const tell = progressOf(options);
+    const telling = new Telling(options);
     const pieces = new Pieces(request, this.size, one);
     await this.#together(options, (signal) => new Promise((resolve, failed) => {
-      const ways = { signal, tell, whole: () => resolve(undefined), failed };
+      const ways = { signal, tell: telling.tell, whole: () => resolve(undefined), failed };
       for (const queue of this.#queues) workOn(queue, pieces, ways);
+      // how many lines there are is told once the caller has its promise, before any reply
+      Promise.resolve(pieces.progress()).then((none) => (signal.aborted ? undefined : telling.tell(none))).catch(failed);
     }));
+    await telling.heard();
     return pieces.told();
   }
 

@@ -157,16 +157,11 @@ export const checkRequest = (scramble, solution) => ({
   solution: takenLine(solution, "the solution"),
 });
 
-/** Each orientation. */
+/** The orientations that are looked at. */
 const ALL_AXES = ORIENTATIONS.map(({ name }) => name);
 
-/**
- * @param {unknown} scramble
- * @param {unknown} [options]
- * @param {readonly Step[]} [axes] the orientations that are looked at
- * @returns {BestRequest}
- */
-export const bestRequest = (scramble, options = {}, axes = ALL_AXES) => ({
+/** @param {unknown} scramble @param {unknown} [options] @returns {BestRequest} */
+export const bestRequest = (scramble, options = {}) => ({
   call: "best",
   scramble: takenLine(scramble, "the scramble"),
   soFar: takenLine(optionOf(options, "soFar", ""), "the moves so far"),
@@ -174,7 +169,7 @@ export const bestRequest = (scramble, options = {}, axes = ALL_AXES) => ({
   most: boundOf(options, "most", "the greatest number of rows", MOST_TOLD),
   nodes: boundOf(options, "nodes", "the greatest number of nodes"),
   cut: toldBy(options, "cut"),
-  axes,
+  axes: ALL_AXES,
 });
 
 /**

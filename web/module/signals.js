@@ -9,19 +9,51 @@ import { optionOf } from "./requests.js";
  */
 
 /**
- * What is told how far a call is: how much is done, and of how much, null until that is known.
- * @typedef {{onProgress?: (done: number, all: number | null) => void}} Followed
+ * What is told how far a call is: how much is done, and of how much, null until that is known. What it throws ends the
+ * call; of a worker so does a promise that it returns and that rejects.
+ * @typedef {{onProgress?: (done: number, all: number | null) => unknown}} Followed
  */
+
+/** @typedef {{done: number, all: number | null}} Progress */
 
 /**
  * @param {unknown} [options]
- * @returns {(progress: {done: number, all: number | null}) => void}
+ * @returns {(progress: Progress) => unknown}
  */
 export function progressOf(options = {}) {
   const onProgress = optionOf(options, "onProgress");
   if (onProgress === undefined) return () => {};
   if (typeof onProgress !== "function") throw new TypeError("what is told of the progress is no function");
   return ({ done, all }) => onProgress(done, all);
+}
+
+/** What a call of workers tells of its progress. It waits for the promises that this returns. */
+export class Telling {
+  /** @type {(progress: Progress) => unknown} */ #onProgress;
+  /** @type {Set<Promise<unknown>>} */ #open = new Set();
+
+  /** @param {unknown} [options] of the call */
+  constructor(options) {
+    this.#onProgress = progressOf(options);
+  }
+
+  /**
+   * @param {Progress} progress
+   * @returns {Promise<unknown> | undefined} what ends the call if it rejects
+   */
+  tell = (progress) => {
+    const told = /** @type {any} */ (this.#onProgress(progress));
+    if (typeof told?.then !== "function") return undefined;
+    /** @type {Promise<unknown>} */
+    const heard = Promise.resolve(told).then(() => this.#open.delete(heard));
+    this.#open.add(heard);
+    return heard;
+  };
+
+  /** Waits for what isn't heard yet, and rejects as the first that does. */
+  async heard() {
+    await Promise.all(this.#open);
+  }
 }
 
 /**

@@ -1,33 +1,22 @@
-// Calls of an engine in a worker as promises, one after another.
-import {
-  allOf, bestIn, checkIn, countIn, factsIn, formPlacesIn, lineIn, linesIn, outputLinesIn, solutionsIn, tokensIn,
-} from "./replies.js";
-import {
-  allRequest, bestRequest, checkRequest, countRequest, factsRequest, lineRequest, optionOf, runRequest, scrambleRequest,
-  scramblesRequest, solutionsRequest, solveRequest, stepsRequest,
-} from "./requests.js";
-import { progressOf, signalOf } from "./signals.js";
-import { solutionsLaterBy } from "./solutions.js";
+// Calls of an engine in a worker as promises, one after another: those that are one request each, and the others.
+import { allOf, bestIn, countIn, factsIn, solutionsIn } from "./replies.js";
+import { allRequest, bestRequest, countRequest, factsRequest, solveRequest } from "./requests.js";
+import { Telling } from "./signals.js";
+import { SingleCalls } from "./single-calls.js";
 import { compiled } from "./source.js";
 import { WorkerQueue } from "./worker-queue.js";
 
 /** @typedef {import("./bytes.js").Text} Text */
 /** @typedef {import("./best.js").Best} Best */
-/** @typedef {import("./replies.js").Answer} Answer */
 /** @typedef {import("./replies.js").Count} Count */
-/** @typedef {import("./facts.js").Check} Check */
 /** @typedef {import("./facts.js").Facts} Facts */
-/** @typedef {import("./replies.js").Solution} Solution */
 /** @typedef {import("./replies.js").Solutions} Solutions */
 /** @typedef {import("./requests.js").BestWanted} BestWanted */
 /** @typedef {import("./requests.js").Many} Many */
-/** @typedef {import("./steps.js").Step} Step */
 /** @typedef {import("./requests.js").Wanted} Wanted */
 /** @typedef {import("./signals.js").Followed} Followed */
 /** @typedef {import("./signals.js").Stoppable} Stoppable */
 /** @typedef {import("./source.js").ModuleSource} ModuleSource */
-/** @typedef {import("./tokens.js").FormPlace} FormPlace */
-/** @typedef {import("./tokens.js").Token} Token */
 /** @typedef {import("./worker-queue.js").NewWorker} NewWorker */
 /** @typedef {import("./worker-queue.js").Sent} Sent */
 /** @typedef {import("./worker-queue.js").SentModule} SentModule */
@@ -46,7 +35,7 @@ import { WorkerQueue } from "./worker-queue.js";
  * The engine in a worker. Its calls are those of `Nissy`, and what these throw, the promises are rejected with. Each
  * may be given up by an `AbortSignal`: the tables of the steps are built anew after a call that ran.
  */
-export class WorkerCalls {
+export class WorkerCalls extends SingleCalls {
   /** @type {WorkerQueue} */ #queue;
 
   /**
@@ -55,6 +44,7 @@ export class WorkerCalls {
    * @param {NewWorker} newWorker
    */
   constructor(module, newWorker) {
+    super((request, options) => this.#queue.answer(request, options));
     this.#queue = new WorkerQueue(module, newWorker);
   }
 
@@ -72,59 +62,6 @@ export class WorkerCalls {
     return calls;
   }
 
-  /** @param {Text} line @param {Stoppable} [options] @returns {Promise<string>} */
-  async invert(line, options) {
-    return lineIn(await this.#queue.answer(lineRequest("invert", line), options));
-  }
-
-  /** @param {Text} line @param {Stoppable} [options] @returns {Promise<string>} */
-  async unniss(line, options) {
-    return lineIn(await this.#queue.answer(lineRequest("unniss", line), options));
-  }
-
-  /** @param {Text} line @param {Stoppable} [options] @returns {Promise<string>} */
-  async cleanup(line, options) {
-    return lineIn(await this.#queue.answer(lineRequest("cleanup", line), options));
-  }
-
-  /** @param {Text} line @param {Stoppable} [options] @returns {Promise<Token[]>} */
-  async tokens(line, options) {
-    const request = lineRequest("unniss", line);
-    lineIn(await this.#queue.answer(request, options));
-    return tokensIn(request);
-  }
-
-  /** @param {Text} line @param {Stoppable} [options] @returns {Promise<FormPlace[]>} */
-  async formPlaces(line, options) {
-    const request = lineRequest("unniss", line);
-    lineIn(await this.#queue.answer(request, options));
-    return formPlacesIn(request);
-  }
-
-  /** @param {Text} line @param {Stoppable} [options] @returns {Promise<string>} */
-  async facelets(line, options) {
-    return lineIn(await this.#queue.answer(lineRequest("facelets", line), options));
-  }
-
-  /**
-   * @template {string} Name
-   * @param {StepName<Name>} step @param {Text} line @param {Wanted & Stoppable} [options] @returns {Promise<Solutions>}
-   */
-  async solve(step, line, options) {
-    const request = solveRequest(step, line, options);
-    return solutionsIn(await this.#queue.answer(request, options), request);
-  }
-
-  /**
-   * @template {string} Name
-   * @param {StepName<Name>} step @param {Text} line @param {Pick<Wanted, "limit" | "slack"> & Stoppable} [options]
-   * @returns {AsyncGenerator<Solution, void, undefined>}
-   */
-  solutions(step, line, options) {
-    const stoppable = { signal: signalOf(options) };
-    return solutionsLaterBy(solutionsRequest(step, line, options), (request) => this.#queue.answer(request, stoppable));
-  }
-
   /**
    * @template {string} Name
    * @template {Wanted & Many & Stoppable} [Options={}]
@@ -139,15 +76,6 @@ export class WorkerCalls {
 
   /**
    * @template {string} Name
-   * @param {StepName<Name>} step @param {Text} line @param {Wanted & Stoppable} [options] @returns {Promise<Count>}
-   */
-  async count(step, line, options) {
-    const request = countRequest(step, line, options);
-    return countIn(await this.#queue.answer(request, options), request);
-  }
-
-  /**
-   * @template {string} Name
    * @template {Wanted & Many & Stoppable} [Options={}]
    * @param {StepName<Name>} step @param {readonly Text[]} lines @param {Options} [options]
    * @returns {Promise<Told<Count, Options>[]>}
@@ -156,11 +84,6 @@ export class WorkerCalls {
     const request = allRequest(() => countRequest(step, "", options), lines, options);
     const replies = await this.#queue.answer(request, options);
     return allOf(replies, request, (/** @type {any} */ reply) => countIn(reply, request.each));
-  }
-
-  /** @param {Text} line @param {Stoppable} [options] @returns {Promise<Facts>} */
-  async facts(line, options) {
-    return factsIn(await this.#queue.answer(factsRequest(line), options));
   }
 
   /**
@@ -172,51 +95,13 @@ export class WorkerCalls {
     return allOf(await this.#queue.answer(request, options), request, factsIn);
   }
 
-  /** @param {Text} scramble @param {Text} solution @param {Stoppable} [options] @returns {Promise<Check>} */
-  async check(scramble, solution, options) {
-    return checkIn(await this.#queue.answer(checkRequest(scramble, solution), options));
-  }
-
   /** @param {Text} scramble @param {BestWanted & Followed & Stoppable} [options] @returns {Promise<Best>} */
   async best(scramble, options) {
     const request = bestRequest(scramble, options);
-    return bestIn(await this.#queue.answer(request, options, progressOf(options)), request);
-  }
-
-  /** @param {Stoppable} [options] @returns {Promise<Step[]>} */
-  async steps(options) {
-    return /** @type {Step[]} */ (linesIn(await this.#queue.answer(stepsRequest(), options)));
-  }
-
-  /**
-   * @param {number | bigint} state
-   * @param {number | bigint} stream
-   * @param {number} length
-   * @param {Stoppable} [options]
-   * @returns {Promise<string>}
-   */
-  async scramble(state, stream, length, options) {
-    return lineIn(await this.#queue.answer(scrambleRequest(state, stream, length), options));
-  }
-
-  /**
-   * @param {number | bigint} state
-   * @param {number | bigint} stream
-   * @param {number} length
-   * @param {number} count
-   * @param {Stoppable} [options]
-   * @returns {Promise<string[]>}
-   */
-  async scrambles(state, stream, length, count, options) {
-    return outputLinesIn(await this.#queue.answer(scramblesRequest(state, stream, length, count), options));
-  }
-
-  /**
-   * @param {readonly Text[]} words @param {Text} [input] @param {Stoppable & {room?: number}} [options]
-   * @returns {Promise<Answer>}
-   */
-  async run(words, input, options = {}) {
-    return this.#queue.answer(runRequest(words, input, optionOf(options, "room")), options);
+    const telling = new Telling(options);
+    const reply = await this.#queue.answer(request, options, telling.tell);
+    await telling.heard();
+    return bestIn(reply, request);
   }
 
   /** Gives up the calls that wait for their turn; one that runs goes on. */

@@ -4,11 +4,11 @@ import { EngineMissing, Stopped } from "./faults.js";
 import { hasOwn } from "./natives.js";
 import { Signals, reasonOf, signalOf } from "./signals.js";
 
-/** @typedef {import("./best.js").TellProgress} TellProgress */
 /** @typedef {import("./requests.js").Asked} Asked */
 /** @typedef {import("./serve.js").Answered} Answered */
 /** @typedef {import("./serve.js").Progressed} Progressed */
 /** @typedef {import("./serve.js").Unanswered} Unanswered */
+/** @typedef {import("./signals.js").Progress} Progress */
 /** @typedef {import("./signals.js").Stoppable} Stoppable */
 
 /**
@@ -28,7 +28,12 @@ import { Signals, reasonOf, signalOf } from "./signals.js";
  */
 
 /**
- * @typedef {{id: number, request: Asked, signal: AbortSignal | undefined, followed: TellProgress, answered: (reply:
+ * Is told how far a call is, and gives it up by what it throws, or by a promise that rejects.
+ * @typedef {(progress: Progress) => unknown} Follow
+ */
+
+/**
+ * @typedef {{id: number, request: Asked, signal: AbortSignal | undefined, followed: Follow, answered: (reply:
  * any) => void, refused: (reason: unknown) => void}} Call
  */
 
@@ -89,6 +94,11 @@ export class WorkerQueue {
     this.#newWorker = newWorker;
   }
 
+  /** How many requests have no answer yet. */
+  get length() {
+    return this.#sent.length + this.#waiting.length;
+  }
+
   /** Gives up the requests that wait for their turn; one that runs goes on. */
   drop() {
     const dropped = this.#waiting;
@@ -111,7 +121,7 @@ export class WorkerQueue {
    * What the engine returns.
    * @param {Asked} request
    * @param {Stoppable} [options]
-   * @param {TellProgress} [followed]
+   * @param {Follow} [followed]
    * @returns {Promise<any>}
    */
   answer(request, options, followed = () => {}) {
@@ -182,15 +192,16 @@ export class WorkerQueue {
   }
 
   /**
-   * Tells how far a call is. What that throws gives it up.
    * @param {Call} call
-   * @param {import("./best.js").BestProgress} progress
+   * @param {Progress} progress
    */
   #follow(call, progress) {
+    const failed = (/** @type {unknown} */ reason) => this.#giveUp(new Set([call]), reason);
     try {
-      call.followed(progress);
+      const told = call.followed(progress);
+      if (told instanceof Promise) told.catch(failed);
     } catch (error) {
-      this.#giveUp(new Set([call]), error);
+      failed(error);
     }
   }
 

@@ -1,0 +1,149 @@
+// Calls of an engine as promises that are one request each, by whatever answers it: a worker, or one of several.
+import {
+  checkIn, countIn, factsIn, formPlacesIn, lineIn, linesIn, outputLinesIn, solutionsIn, tokensIn,
+} from "./replies.js";
+import {
+  checkRequest, countRequest, factsRequest, lineRequest, optionOf, runRequest, scrambleRequest, scramblesRequest,
+  solutionsRequest, solveRequest, stepsRequest,
+} from "./requests.js";
+import { signalOf } from "./signals.js";
+import { solutionsLaterBy } from "./solutions.js";
+
+/** @typedef {import("./bytes.js").Text} Text */
+/** @typedef {import("./facts.js").Check} Check */
+/** @typedef {import("./facts.js").Facts} Facts */
+/** @typedef {import("./replies.js").Answer} Answer */
+/** @typedef {import("./replies.js").Count} Count */
+/** @typedef {import("./replies.js").Solution} Solution */
+/** @typedef {import("./replies.js").Solutions} Solutions */
+/** @typedef {import("./requests.js").OneRequest} OneRequest */
+/** @typedef {import("./requests.js").Wanted} Wanted */
+/** @typedef {import("./signals.js").Stoppable} Stoppable */
+/** @typedef {import("./steps.js").Step} Step */
+/** @typedef {import("./tokens.js").FormPlace} FormPlace */
+/** @typedef {import("./tokens.js").Token} Token */
+
+/**
+ * @template {string} Name
+ * @typedef {import("./steps.js").StepName<Name>} StepName
+ */
+
+/** @typedef {(request: OneRequest, options?: Stoppable) => Promise<any>} Ask returns what the engine does */
+
+/** The calls of `Nissy` that are one request each. What these throw, the promises are rejected with. */
+export class SingleCalls {
+  /** @type {Ask} */ #ask;
+
+  /** @param {Ask} ask */
+  constructor(ask) {
+    this.#ask = ask;
+  }
+
+  /** @param {Text} line @param {Stoppable} [options] @returns {Promise<string>} */
+  async invert(line, options) {
+    return lineIn(await this.#ask(lineRequest("invert", line), options));
+  }
+
+  /** @param {Text} line @param {Stoppable} [options] @returns {Promise<string>} */
+  async unniss(line, options) {
+    return lineIn(await this.#ask(lineRequest("unniss", line), options));
+  }
+
+  /** @param {Text} line @param {Stoppable} [options] @returns {Promise<string>} */
+  async cleanup(line, options) {
+    return lineIn(await this.#ask(lineRequest("cleanup", line), options));
+  }
+
+  /** @param {Text} line @param {Stoppable} [options] @returns {Promise<Token[]>} */
+  async tokens(line, options) {
+    const request = lineRequest("unniss", line);
+    lineIn(await this.#ask(request, options));
+    return tokensIn(request);
+  }
+
+  /** @param {Text} line @param {Stoppable} [options] @returns {Promise<FormPlace[]>} */
+  async formPlaces(line, options) {
+    const request = lineRequest("unniss", line);
+    lineIn(await this.#ask(request, options));
+    return formPlacesIn(request);
+  }
+
+  /** @param {Text} line @param {Stoppable} [options] @returns {Promise<string>} */
+  async facelets(line, options) {
+    return lineIn(await this.#ask(lineRequest("facelets", line), options));
+  }
+
+  /**
+   * @template {string} Name
+   * @param {StepName<Name>} step @param {Text} line @param {Wanted & Stoppable} [options] @returns {Promise<Solutions>}
+   */
+  async solve(step, line, options) {
+    const request = solveRequest(step, line, options);
+    return solutionsIn(await this.#ask(request, options), request);
+  }
+
+  /**
+   * @template {string} Name
+   * @param {StepName<Name>} step @param {Text} line @param {Pick<Wanted, "limit" | "slack"> & Stoppable} [options]
+   * @returns {AsyncGenerator<Solution, void, undefined>}
+   */
+  solutions(step, line, options) {
+    const stoppable = { signal: signalOf(options) };
+    return solutionsLaterBy(solutionsRequest(step, line, options), (request) => this.#ask(request, stoppable));
+  }
+
+  /**
+   * @template {string} Name
+   * @param {StepName<Name>} step @param {Text} line @param {Wanted & Stoppable} [options] @returns {Promise<Count>}
+   */
+  async count(step, line, options) {
+    const request = countRequest(step, line, options);
+    return countIn(await this.#ask(request, options), request);
+  }
+
+  /** @param {Text} line @param {Stoppable} [options] @returns {Promise<Facts>} */
+  async facts(line, options) {
+    return factsIn(await this.#ask(factsRequest(line), options));
+  }
+
+  /** @param {Text} scramble @param {Text} solution @param {Stoppable} [options] @returns {Promise<Check>} */
+  async check(scramble, solution, options) {
+    return checkIn(await this.#ask(checkRequest(scramble, solution), options));
+  }
+
+  /** @param {Stoppable} [options] @returns {Promise<Step[]>} */
+  async steps(options) {
+    return /** @type {Step[]} */ (linesIn(await this.#ask(stepsRequest(), options)));
+  }
+
+  /**
+   * @param {number | bigint} state
+   * @param {number | bigint} stream
+   * @param {number} length
+   * @param {Stoppable} [options]
+   * @returns {Promise<string>}
+   */
+  async scramble(state, stream, length, options) {
+    return lineIn(await this.#ask(scrambleRequest(state, stream, length), options));
+  }
+
+  /**
+   * @param {number | bigint} state
+   * @param {number | bigint} stream
+   * @param {number} length
+   * @param {number} count
+   * @param {Stoppable} [options]
+   * @returns {Promise<string[]>}
+   */
+  async scrambles(state, stream, length, count, options) {
+    return outputLinesIn(await this.#ask(scramblesRequest(state, stream, length, count), options));
+  }
+
+  /**
+   * @param {readonly Text[]} words @param {Text} [input] @param {Stoppable & {room?: number}} [options]
+   * @returns {Promise<Answer>}
+   */
+  async run(words, input, options = {}) {
+    return this.#ask(runRequest(words, input, optionOf(options, "room")), options);
+  }
+}
