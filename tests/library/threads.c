@@ -97,7 +97,9 @@ int main(int count, char **words) {
     if (count > 1) run_rounds = atoi(words[1]);
     if (count > 2) search_rounds = atoi(words[2]);
     if (pthread_attr_init(&small) || (!is_sanitized() && pthread_attr_setstacksize(&small, given()))) return 2;
-    for (size_t at = 0; at < SEARCH_COUNT; at++) shared[at] = built(SEARCHES[at].step);
+    // rows of one step, which stand together, have the same tables
+    for (size_t at = 0; at < SEARCH_COUNT; at++)
+        shared[at] = at && !strcmp(SEARCHES[at].step, SEARCHES[at - 1].step) ? shared[at - 1] : built(SEARCHES[at].step);
     if (!all_threads(call_all, &small) || !all_threads(search_all, &small)) return 2;
     return ended();
 }
