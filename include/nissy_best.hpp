@@ -85,7 +85,7 @@ struct candidate {
         least = std::min(least, made + *length - saved);
     }
 
-    int most() const { return twins->is_longer ? NEVER : most_found; }
+    int most() const { return twins->shorter.empty() ? most_found : NEVER; }
 };
 
 // The best way on a side after any of the twins, and after which.
@@ -98,12 +98,18 @@ inline std::pair<std::size_t, way> best_on(searches &by, const candidate &one, s
     return best;
 }
 
-// How many moves there are in all, or NEVER if it has no row.
+// How many moves there are in all.
 inline int total_of(searches &by, const candidate &one) {
     if (one.least == one.most()) return one.least;
+    const int normal = best_on(by, one, NORMAL).second.total;
+    return std::min(normal, best_on(by, one, INVERSE).second.total);
+}
+
+// How many moves there are in all if these are fewer on the other side than on their own, and than a bound, or NEVER.
+inline int total_within(searches &by, const candidate &one, int bound) {
     const std::size_t on = one.twins->on;
-    const int own = best_on(by, one, on).second.total, other = best_on(by, one, 1 - on).second.total;
-    return other < own || !one.twins->is_longer ? std::min(own, other) : NEVER;
+    const int total = one.least < bound ? best_on(by, one, 1 - on).second.total : NEVER;
+    return total < bound && total < best_on(by, one, on).second.total ? total : NEVER;
 }
 
 // Moves as a line, those on the inverse side in brackets.
@@ -118,7 +124,7 @@ constexpr side side_of(std::size_t on) { return on == NORMAL ? side::normal : si
 
 // A candidate with its moves, the reduction on the side of the orientation if the other one isn't better.
 inline continuation continued(searches &by, const candidate &one, const start &from, const std::string &dr_case) {
-    const auto &[step, own, place, moves, is_longer] = *one.twins;
+    const auto &[step, own, place, moves, shorter] = *one.twins;
     const std::array<std::pair<std::size_t, way>, 2> ways = {best_on(by, one, NORMAL), best_on(by, one, INVERSE)};
     const std::size_t on = ways[own].second.total <= ways[1 - own].second.total ? own : 1 - own;
     const auto &[at, found] = ways[on];
@@ -145,7 +151,7 @@ inline candidate candidate_of(searches &by, const cube &before, const twins &eac
     const tables of_step(step.name);
     for (const cube &after : cubes)
         for (const std::size_t on : {NORMAL, INVERSE})
-            if (on != each.on || !each.is_longer) found.look(by, of_step, before, after, on, enough);
+            if (on != each.on || each.shorter.empty()) found.look(by, of_step, before, after, on, enough);
     return found;
 }
 
@@ -157,7 +163,7 @@ struct judged {
     std::optional<continuation> row;
 
     auto rank() const {
-        const auto &[step, on, place, moves, is_longer] = *one.twins;
+        const auto &[step, on, place, moves, shorter] = *one.twins;
         return std::make_tuple(total, moves[0].length, facts.bad_corners + facts.misplaced_edges, step.axis, on, place);
     }
 };
@@ -165,7 +171,8 @@ struct judged {
 // The best orientations with a reduction until now.
 class best_until_now {
 public:
-    best_until_now(searches &by, const start &from, std::uint64_t most) : by_(by), from_(from), most_(most), least_(most) {}
+    best_until_now(searches &by, const start &from, std::uint64_t most)
+        : by_(by), from_(from), most_(most), least_(most), shorter_(by, from.cube) {}
 
     // As many as are asked for have no more moves in all than this, so one that can't come down to it is left out.
     int enough() const { return least_.enough(); }
@@ -184,7 +191,7 @@ public:
     // The best of all that was looked for.
     std::vector<continuation> rows() {
         for (candidate &one : open_) {
-            const int total = one.least <= enough() ? total_of(by_, one) : NEVER;
+            const int total = one.least <= enough() ? counted(one) : NEVER;
             if (total == NEVER) continue;
             const axis_facts seen = facts(one.cubes[0].lines[NORMAL]).axes[one.step.axis];
             best_.push_back({std::move(one), total, seen, std::nullopt});
@@ -201,10 +208,17 @@ public:
     }
 
 private:
+    // How many moves there are in all with a candidate, or NEVER if it has no row.
+    int counted(const candidate &one) {
+        const twins &each = *one.twins;
+        return each.shorter.empty() ? total_of(by_, one) : total_within(by_, one, shorter_.least(each, one.step));
+    }
+
     searches &by_;
     const start &from_;
     std::uint64_t most_;
     least_until_now least_;
+    shorter_ones shorter_;
     std::vector<candidate> open_;
     std::vector<judged> best_;
 };
@@ -334,8 +348,9 @@ inline std::vector<continuation> rows_by(searches &by, std::string_view scramble
 
 // What may follow a scramble and the moves so far, the best first, up to a domino reduction: each orientation on three axes and both sides, up
 // to `slack` moves longer than the shortest of its axis and side, and after it the reduction on each of two axes with the fewest moves in
-// all, on the better side. An orientation that goes on after it was reached has a row only if the reduction is better on the other side than on
-// its own. If an orientation holds, the reductions, up to `slack` longer; if a reduction is reached, nothing.
+// all, on the better side. An orientation that goes on after it was reached has a row only if the reduction on the other side makes fewer
+// moves in all than on its own, and than the same one with each shorter orientation that it begins with. If an orientation holds, the
+// reductions, up to `slack` longer; if a reduction is reached, nothing.
 //
 // Moves of `so_far` in brackets are made on the inverse side. All moves count, those so far too, once they are merged on each side. The order
 // is by these, by the moves of the first step, and by the pieces of the case. `most` is how many are returned. Each unit of slack makes this

@@ -4,14 +4,14 @@
 #define NISSY_WAYS_HPP
 
 #include "nissy.hpp"
+#include "nissy_twins.hpp"
 
 #include <functional>
 #include <iterator>
 #include <limits>
+#include <map>
 #include <numeric>
 #include <queue>
-#include <unordered_map>
-#include <unordered_set>
 
 namespace nissy {
 
@@ -22,24 +22,11 @@ using progress = std::function<void(std::size_t, std::size_t)>;
 
 namespace nissy::continuing {
 
-using texts = std::vector<std::string>;
-
 // The sides of a cube, as indices.
 inline constexpr std::size_t NORMAL = 0, INVERSE = 1;
-// The faces of the axes, by nissy_axis.
-inline constexpr std::array<std::string_view, 3> FACES = {"FB", "RL", "UD"};
 // More moves than there can be in all.
 inline constexpr int NEVER = std::numeric_limits<int>::max() / 2;
 inline constexpr int MOST_TURNS = 20;
-
-// A step of the search: an orientation on an axis, or a reduction on an axis after the orientation on another one; and the axis whose quarter
-// turns end its solutions.
-struct axis_step {
-    const char *name;
-    nissy_axis axis, oriented, last;
-
-    std::string_view last_faces() const { return FACES[last]; }
-};
 
 // The orientations, and the reductions that may follow each.
 struct oriented_steps {
@@ -125,61 +112,6 @@ inline start start_of(std::string_view scramble, std::string_view so_far) {
     return from;
 }
 
-// Where the turns at the end of a solution begin that are all of these faces.
-inline std::size_t last_turns_at(std::string_view moves, std::string_view faces) {
-    std::size_t begin = moves.size();
-    while (begin > 0) {
-        const std::size_t before = moves.rfind(' ', begin - 2) + 1;
-        if (faces.find(moves[before]) == std::string_view::npos) break;
-        begin = before;
-    }
-    return begin;
-}
-
-// The last turns of the twins but one.
-inline texts last_turns_of_others(const std::vector<solution> &twins, const solution &one, const axis_step &step) {
-    texts others;
-    for (const solution &each : twins)
-        if (each != one) others.push_back(each.moves.substr(last_turns_at(each.moves, step.last_faces())));
-    return others;
-}
-
-// Solutions with their twins together, which differ in the direction of their last quarter turns alone, in the order of the first of each.
-inline std::vector<std::vector<solution>> grouped(const std::vector<solution> &solutions, const axis_step &step) {
-    std::vector<std::vector<solution>> groups;
-    std::unordered_map<std::string, std::size_t> known;
-    for (const solution &each : solutions) {
-        std::string key = each.moves;
-        const auto last = key.begin() + static_cast<std::ptrdiff_t>(last_turns_at(key, step.last_faces()));
-        key.erase(std::remove(last, key.end(), '\''), key.end());
-        const auto [place, is_new] = known.emplace(std::move(key), groups.size());
-        if (is_new) groups.emplace_back();
-        groups[place->second].push_back(each);
-    }
-    return groups;
-}
-
-// Whether one of the shorter beginnings of a solution, which have at least so many turns, is a solution too. Of two turns of opposite faces,
-// which may change places, each may come first.
-inline bool is_reached_earlier(const solution &one, int least, const std::unordered_set<std::string_view> &known) {
-    const std::string_view moves = one.moves;
-    std::size_t end = moves.size();
-    for (int count = one.length; count > least; count--) {
-        const std::size_t blank = moves.rfind(' ', end - 1), last = blank + 1, cut = blank == std::string_view::npos ? 0 : blank;
-        if (known.count(moves.substr(0, cut))) return true;
-        const std::size_t before = cut ? moves.rfind(' ', cut - 1) + 1 : 0;
-        const auto is_of_both = [&](std::string_view faces) {
-            return faces.find(moves[before]) != std::string_view::npos && faces.find(moves[last]) != std::string_view::npos;
-        };
-        if (cut && std::any_of(FACES.begin(), FACES.end(), is_of_both)) {
-            const std::string other = std::string(moves.substr(0, before)) + std::string(moves.substr(last, end - last));
-            if (known.count(other)) return true;
-        }
-        end = cut;
-    }
-    return false;
-}
-
 // The searches of a call: how many positions they may look at together, and who is told how far the call is.
 class searches {
 public:
@@ -251,27 +183,12 @@ private:
     std::priority_queue<int> totals_;
 };
 
-// Tells of a step's solutions, all of which are given from the shortest on, which are longer ones: those that go on after the step was reached.
-class longer_among {
-public:
-    explicit longer_among(const std::vector<solution> &all) : least_(all.empty() ? 0 : all.front().length) {
-        const auto moves = [](const solution &one) { return std::string_view(one.moves); };
-        std::transform(all.begin(), all.end(), std::inserter(known_, known_.end()), moves);
-    }
-
-    bool has(const solution &one) const { return is_reached_earlier(one, least_, known_); }
-
-private:
-    std::unordered_set<std::string_view> known_;
-    int least_;
-};
-
-// The solutions of a step on a side but longer ones.
+// The solutions of a step on a side but longer ones, which go on after the step was reached.
 inline std::vector<solution> reaching(searches &by, const std::string &line, const axis_step &step, std::int64_t slack) {
     const std::vector<solution> all = by.solve(step, line, slack);
-    const longer_among longer(all);
+    const shorter_among shorter(all);
     std::vector<solution> kept;
-    std::remove_copy_if(all.begin(), all.end(), std::back_inserter(kept), [&](const solution &one) { return longer.has(one); });
+    std::copy_if(all.begin(), all.end(), std::back_inserter(kept), [&](const solution &one) { return shorter.of(one).empty(); });
     return kept;
 }
 
@@ -319,13 +236,44 @@ inline way best_way(searches &by, const cube &from, std::size_t on, const axis_s
     return best;
 }
 
-// Twins of an orientation on a side, and whether they are longer ones, which go on after it was reached. What these go on with belongs on their
-// own side to the reduction after a shorter one, so they have a row only if the other side is better.
+// Twins of an orientation on a side, and the shorter ones that they begin with, if they go on after it was reached. What such ones go on with
+// belongs on their own side to the reduction after a shorter one, so they have a row only if the other side is better, and better than what
+// follows each shorter one.
 struct twins {
     axis_step step;
     std::size_t on, place;
     std::vector<solution> moves;
-    bool is_longer;
+    texts shorter;
+};
+
+// All moves with the orientations that longer ones begin with, the best of their twins, and a reduction. They are counted once.
+class shorter_ones {
+public:
+    shorter_ones(searches &by, const cube &from) : by_(by), from_(from) {}
+
+    // The least of all that twins begin with.
+    int least(const twins &longer, const axis_step &step) {
+        int least = NEVER;
+        for (const std::string &moves : longer.shorter) least = std::min(least, total(longer, all_twins(moves, longer.step), step));
+        return least;
+    }
+
+private:
+    // The least of one that twins begin with, and of its twins.
+    int total(const twins &longer, const texts &every, const axis_step &step) {
+        const auto [place, is_new] = totals_.emplace(std::make_tuple(longer.on, every[0], std::string_view(step.name)), NEVER);
+        if (!is_new) return place->second;
+        int least = NEVER;
+        for (const std::string &moves : every) {
+            const cube after = from_.after(longer.on, moves);
+            for (const std::size_t on : {NORMAL, INVERSE}) least = std::min(least, best_way(by_, after, on, step).total);
+        }
+        return place->second = least;
+    }
+
+    searches &by_;
+    const cube &from_;
+    std::map<std::tuple<std::size_t, std::string, std::string_view>, int> totals_;
 };
 
 // How much longer than the shortest of their axis and side some orientations are, at least and at most.
@@ -344,13 +292,15 @@ inline std::vector<stage> stages(const searches &by, std::int64_t slack) {
 // The orientations of a stage on a side.
 inline std::vector<twins> orientations_on(searches &by, const cube &from, std::size_t on, const axis_step &step, const stage &which) {
     const std::vector<solution> all = by.solve(step, from.lines[on], which.most);
-    const longer_among longer(all);
+    const shorter_among shorter(all);
     std::vector<twins> found;
     std::size_t place = 0;
     for (std::vector<solution> &group : grouped(all, step)) {
-        // twins are longer ones together
-        const bool is_longer = longer.has(group[0]), is_of_stage = group[0].length >= all[0].length + which.least;
-        if (is_of_stage) found.push_back({step, on, place, std::move(group), is_longer});
+        if (group[0].length >= all[0].length + which.least) {
+            // what one begins with, its twins begin with too, or with twins of that
+            texts begun = shorter.of(group[0]);
+            found.push_back({step, on, place, std::move(group), std::move(begun)});
+        }
         place++;
     }
     return found;

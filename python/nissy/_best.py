@@ -8,7 +8,7 @@ from ._continuations import Continuation, Continuations, Lengths, Orientation, R
 from ._facts import Axis, Case, check, facts, facts_all
 from ._given import Progress, Step, Text, bytes_of, number_of, progress_of
 from ._lines import MOST_WORD
-from ._twins import grouped, last_turns, longer_among
+from ._twins import all_twins, grouped, last_turns, longer_among, shorter_among
 from ._values import Cut, Fault, LineFault, Solution, raising
 from ._ways import NEVER, NORMAL, SIDES, Cube, LeastUntilNow, Searches, Start, Way
 from ._ways import best_way, bounds_of, read, sought_on, totals, turns_of
@@ -25,15 +25,15 @@ _FIRST_BATCH, _BATCH = 1, 256
 
 
 class _Twins(NamedTuple):
-    """Twins of an orientation on a side, and whether they are longer ones, which go on after it was reached.
-    What these go on with belongs on their own side to the reduction after a shorter one, so they have a row only
-    if the other side is better."""
+    """Twins of an orientation on a side, and the shorter ones that they begin with, if they go on after it was reached.
+    What such ones go on with belongs on their own side to the reduction after a shorter one, so they have a row only
+    if the other side is better, and better than what follows each shorter one."""
 
     step: Step
     side: int
     place: int
     moves: List[Solution]
-    is_longer: bool
+    shorter: List[str]
 
     def order(self) -> Tuple[int, int, int]:
         """Returns what those come in the order of that are as good."""
@@ -61,11 +61,15 @@ class _Candidate(NamedTuple):
         return min(ways, key=lambda found: found[1][:2])
 
     def total(self, searches: Searches) -> int:
-        """Returns how many moves there are in all, or NEVER if it has no row."""
-        if self.least == self.most:
-            return self.most
-        own, other = (self.best_on(searches, side)[1].total for side in (self.twins.side, 1 - self.twins.side))
-        return min(own, other) if other < own or not self.twins.is_longer else NEVER
+        """Returns how many moves there are in all."""
+        return self.most if self.least == self.most else min(self.best_on(searches, side)[1].total for side in SIDES)
+
+    def total_within(self, searches: Searches, bound: int) -> int:
+        """Returns how many moves there are in all if these are fewer on the other side than on their own, and than a
+        bound, or NEVER."""
+        own = self.twins.side
+        total = self.best_on(searches, 1 - own)[1].total if self.least < bound else NEVER
+        return total if total < bound and total < self.best_on(searches, own)[1].total else NEVER
 
     def continuation(self, searches: Searches, start: Start, case: Case) -> Continuation:
         """Returns it with its moves, on the side of the orientation if the other one isn't better."""
@@ -77,6 +81,31 @@ class _Candidate(NamedTuple):
         lengths = Lengths(*(way.length for _, way in best))
         dr = Reduction(self.step, _NAMES[side], start.named(side, moves), turns_of(moves), (), lengths)
         return Continuation(total, _written((own, eo.moves), (side, dr.moves)), eo, dr, case)
+
+
+class _Shorter:
+    """All moves with the orientations that longer ones begin with, the best of their twins, and a reduction. They are
+    counted once."""
+
+    __slots__ = ("_searches", "_cube", "_totals")
+
+    def __init__(self, searches: Searches, cube: Cube) -> None:
+        self._searches, self._cube = searches, cube
+        self._totals: Dict[Tuple[int, str, Step], int] = {}
+
+    def least(self, twins: _Twins, step: Step) -> int:
+        """Returns the least of all that twins begin with."""
+        return min(self._total(twins, moves, step) for moves in twins.shorter)
+
+    def _total(self, twins: _Twins, moves: str, step: Step) -> int:
+        """Returns the least of one that twins begin with, and of its twins."""
+        every = all_twins(moves, twins.step)
+        key = twins.side, every[0], step
+        if key not in self._totals:
+            cubes = [self._cube.after(twins.side, each) for each in every]
+            ways = [best_way(self._searches, cube, side, step) for cube in cubes for side in SIDES]
+            self._totals[key] = min(way.total for way in ways)
+        return self._totals[key]
 
 
 def _written(*parts: Tuple[int, str]) -> str:
@@ -102,10 +131,10 @@ def _stages(searches: Searches, slack: int) -> List[_Stage]:
 def _twins_on(searches: Searches, cube: Cube, side: int, step: Step, stage: _Stage) -> List[_Twins]:
     """Returns the orientations of a stage on a side."""
     solutions = searches.solve(step, cube.lines[side], stage.most)
-    longer, least = longer_among(solutions), (solutions[0].length if solutions else 0) + stage.least
-    # twins are longer ones together
-    return [_Twins(step, side, place, twins, twins[0] in longer) for place, twins in enumerate(grouped(solutions, step))
-            if twins[0].length >= least]
+    shorter_of, least = shorter_among(solutions), (solutions[0].length if solutions else 0) + stage.least
+    places = enumerate(grouped(solutions, step))
+    # what one begins with, its twins begin with too, or with twins of that
+    return [_Twins(step, side, at, twins, shorter_of(twins[0])) for at, twins in places if twins[0].length >= least]
 
 
 def _orientations(searches: Searches, cube: Cube, stage: _Stage) -> List[_Twins]:
@@ -116,7 +145,7 @@ def _orientations(searches: Searches, cube: Cube, stage: _Stage) -> List[_Twins]
 
 def _sides_of(twins: _Twins) -> Tuple[int, ...]:
     """Returns on which sides a reduction is looked for: after longer ones on the other side alone."""
-    return (1 - twins.side,) if twins.is_longer else SIDES
+    return (1 - twins.side,) if twins.shorter else SIDES
 
 
 def _candidates(searches: Searches, cube: Cube, batch: List[_Twins], most: int) -> Iterator[_Candidate]:
@@ -129,7 +158,7 @@ def _candidates(searches: Searches, cube: Cube, batch: List[_Twins], most: int) 
     for twins, cubes, step, sought in each:
         least, greatest = bounds_of([one.bounds(next(lengths)) for one in sought])
         if least < NEVER:
-            yield _Candidate(twins, cubes, step, least, NEVER if twins.is_longer else greatest)
+            yield _Candidate(twins, cubes, step, least, NEVER if twins.shorter else greatest)
 
 
 def _batches(every: List[_Twins]) -> Iterator[List[_Twins]]:
@@ -166,6 +195,7 @@ class _BestUntilNow:
 
     def __init__(self, searches: Searches, start: Start, most: int) -> None:
         self._searches, self._start, self._most = searches, start, most
+        self._shorter = _Shorter(searches, start.cube)
         # as many as are asked for have no more moves in all than these, so one that can't come down to it is left out
         self._bounds, self._totals = LeastUntilNow(most), LeastUntilNow(most)
         self._open: List[_Candidate] = []
@@ -187,11 +217,17 @@ class _BestUntilNow:
 
     def _counted(self, candidates: List[_Candidate]) -> List[_Counted]:
         """Returns those candidates that may be among the best, counted."""
-        counted = [(each.total(self._searches), each) for each in candidates]
+        counted = [(self._total(each), each) for each in candidates]
         self._totals.add(total for total, _ in counted)
         kept = [(total, each) for total, each in counted if total < NEVER and total <= self._totals.enough()]
         seen = raising(facts_all([each.cubes[0].lines[NORMAL] for _, each in kept]))
         return [_Counted(total, each, it.case[each.axis]) for (total, each), it in zip(kept, seen)]
+
+    def _total(self, one: _Candidate) -> int:
+        """Returns how many moves there are in all with a candidate, or NEVER if it has no row."""
+        if not one.twins.shorter:
+            return one.total(self._searches)
+        return one.total_within(self._searches, self._shorter.least(one.twins, one.step))
 
 
 def _count(every: List[_Twins]) -> int:
@@ -262,8 +298,9 @@ def best(scramble: Text, so_far: Text = "", *, slack: int = 0, most: Optional[in
     """What may follow a scramble and the moves so far, the best first, up to a domino reduction: each orientation on
     three axes and both sides, up to `slack` moves longer than the shortest of its axis and side, and after it the
     reduction on each of two axes with the fewest moves in all, on the better side. An orientation that goes on after it
-    was reached has a row only if the reduction is better on the other side than on its own. If an orientation holds,
-    the reductions, up to `slack` longer; if a reduction is reached, nothing.
+    was reached has a row only if the reduction on the other side makes fewer moves in all than on its own, and than the
+    same one with each shorter orientation that it begins with. If an orientation holds, the reductions, up to `slack`
+    longer; if a reduction is reached, nothing.
 
     Moves of `so_far` in brackets are made on the inverse side. All moves count, those so far too, once they are merged
     on each side. The order is by these, then by the moves of the first step, then by the pieces of the case. No more

@@ -4,7 +4,7 @@ from __future__ import annotations
 
 import re
 from functools import lru_cache
-from typing import Dict, Iterable, Iterator, List, Pattern, Sequence, Set
+from typing import Callable, Dict, Iterable, Iterator, List, Pattern, Sequence, Set
 
 from ._given import Step
 from ._values import Solution
@@ -32,6 +32,16 @@ def last_turns(moves: str, step: Step) -> str:
     return found.group() if found else ""
 
 
+def all_twins(moves: str, step: Step) -> List[str]:
+    """Returns a solution and its twins, in an order that is the same for each of them."""
+    last = last_turns(moves, step)
+    begun = [moves[:len(moves) - len(last)].split()]
+    for turn in last.split():
+        ways = (turn,) if turn.endswith("2") else (turn[0], turn[0] + "'")
+        begun = [turns + [way] for turns in begun for way in ways]
+    return [" ".join(turns) for turns in begun]
+
+
 def grouped(solutions: Iterable[Solution], step: Step) -> List[List[Solution]]:
     """Returns solutions with their twins together, in the order of the first of each."""
     last = _last_turns(step)
@@ -52,8 +62,15 @@ def _beginnings(moves: str, least: int) -> Iterator[str]:
             yield " ".join([*turns[:count - 1], turns[count]])
 
 
+def shorter_among(solutions: Sequence[Solution]) -> Callable[[Solution], List[str]]:
+    """Returns what tells of each of a step's solutions, which are all up to some length, with which
+    shorter ones it begins."""
+    known, least = set(solutions), solutions[0].length if solutions else 0
+    return lambda moves: [each for each in _beginnings(moves, least) if each in known]
+
+
 def longer_among(solutions: Sequence[Solution]) -> Set[Solution]:
     """Returns those of a step's solutions, which are all up to some length, in which it is
     reached before their last turn."""
-    known, least = set(solutions), solutions[0].length if solutions else 0
-    return {moves for moves in solutions if moves.length > least and not known.isdisjoint(_beginnings(moves, least))}
+    shorter_of = shorter_among(solutions)
+    return {moves for moves in solutions if shorter_of(moves)}

@@ -6,7 +6,8 @@ tests/model cleans the moves, tells the case and what is reached. All rows are c
 import os
 import subprocess
 import sys
-from typing import Any, Dict, Iterator, List, NamedTuple, Sequence, Tuple
+from itertools import product
+from typing import Any, Dict, FrozenSet, Iterator, List, NamedTuple, Sequence, Tuple
 
 HERE = os.path.dirname(os.path.abspath(__file__))
 sys.path[:0] = [os.path.join(HERE, "..", folder) for folder in ("model", "", os.path.join("..", "python"))]
@@ -48,11 +49,11 @@ class Cube(NamedTuple):
 
 
 class Group(NamedTuple):
-    """Twins, with the cube after each, their place, and whether the step isn't reached before their last move."""
+    """Twins, with the cube after each, their place, and the shorter ones that they begin with, with which the step is reached already."""
 
     place: Tuple[int, int, int]
     key: Key
-    is_new: bool
+    shorter: FrozenSet[Key]
     cubes: List[Cube]
 
 
@@ -104,11 +105,6 @@ def beginnings(moves: Moves) -> Iterator[Moves]:
             yield moves[:count - 1] + [moves[count]]
 
 
-def is_new(before: Moves, moves: Moves, step: str, least: int) -> bool:
-    """Whether a step isn't reached before the last move. None is with fewer moves than the least."""
-    return not any(holds(before + some, step) for some in beginnings(moves) if len(some) >= least)
-
-
 def twin_key(moves: Moves, step: str) -> Key:
     """The moves, without the direction of the last quarter turns of the axis that reaches the step."""
     last = next(faces for axis, faces in FACES_OF.items() if axis not in (step[2:4], step[-2:])) if "-" in step else FACES_OF[step[2:]]
@@ -118,23 +114,41 @@ def twin_key(moves: Moves, step: str) -> Key:
     return (*moves[:end], *((face, quarters == 2) for face, quarters in moves[end:]))
 
 
+def key_of(side: int, moves: Moves, step: str) -> Key:
+    """What twins are known by among all solutions of a step."""
+    return step, SIDES[side], twin_key(moves, step)
+
+
 def groups(program: Program, cube: Cube, step: str, slack: int) -> List[Group]:
-    """The solutions of a step on both sides. Those are together that are twins, and alike in whether they are new."""
+    """The solutions of a step on both sides. Those are together that are twins, and alike in what they begin with."""
     found: Dict[Key, Group] = {}
     for side, solutions in enumerate(program.near(step, slack, cube.lines)):
+        # the step is reached with no fewer moves than the least
         least = len(solutions[0])
         for at, moves in enumerate(solutions):
-            new = is_new(cube.lines[side], moves, step, least)
-            key = (step, SIDES[side], twin_key(moves, step), new)
-            found.setdefault(key, Group((len(moves), side, at), key[:-1], new, [])).cubes.append(cube.after(side, moves))
+            reached = [some for some in beginnings(moves) if len(some) >= least and holds(cube.lines[side] + some, step)]
+            key, shorter = key_of(side, moves, step), frozenset(key_of(side, some, step) for some in reached)
+            found.setdefault((key, shorter), Group((len(moves), side, at), key, shorter, [])).cubes.append(cube.after(side, moves))
     return list(found.values())
 
 
-def has_row(group: Group, best: List[Tuple[int, int]]) -> bool:
-    """Whether orientations have a row with the best reduction on each side: what they go on with belongs on their own side to the reduction
-    after a shorter one, so there is none then if the other side isn't better."""
+def has_row(group: Group, best: List[Tuple[int, int]], totals: Dict[Key, int]) -> bool:
+    """Whether orientations have a row with the best reduction on each side. If they go on after the orientation was reached, they have one only
+    if the reduction on the other side makes fewer moves in all than on their own, and than what each shorter one comes to with its own."""
     own = group.place[1]
-    return group.is_new or best[1 - own][0] < best[own][0]
+    return not group.shorter or best[1 - own][0] < min([best[own][0], *(totals[key] for key in group.shorter)])
+
+
+def best_ways(program: Program, every: List[Group], step: str) -> List[List[Tuple[int, int]]]:
+    """Of each group the best reduction on each side after any of its twins: all moves, and its own."""
+    found = iter(program.near(step, 0, [line for group in every for after in group.cubes for line in after.lines]))
+    each = []
+    for group in every:
+        ways: Tuple[List[Tuple[int, int]], List[Tuple[int, int]]] = ([], [])
+        for after, side in product(group.cubes, (0, 1)):
+            ways[side].extend((after.after(side, moves).total(), len(moves)) for moves in next(found))
+        each.append([min(on) for on in ways])
+    return each
 
 
 def after_orientations(program: Program, cube: Cube, slack: int) -> Iterator[Wanted]:
@@ -142,15 +156,10 @@ def after_orientations(program: Program, cube: Cube, slack: int) -> Iterator[Wan
     for number, axis in enumerate(AXES):
         every = groups(program, cube, "eo" + axis, slack)
         for at, step in enumerate(STEPS[axis]):
-            lines = [line for group in every for after in group.cubes for line in after.lines]
-            found = iter(program.near(step, 0, lines))
-            for group in every:
-                ways: Tuple[List[Tuple[int, int]], List[Tuple[int, int]]] = ([], [])
-                for after in group.cubes:
-                    for side in (0, 1):
-                        ways[side].extend((after.after(side, moves).total(), len(moves)) for moves in next(found))
-                best = [min(on) for on in ways]
-                if has_row(group, best):
+            ways = best_ways(program, every, step)
+            totals = {group.key: min(best)[0] for group, best in zip(every, ways)}
+            for group, best in zip(every, ways):
+                if has_row(group, best, totals):
                     yield Wanted(min(best)[0], group.place[0], sum(pieces(group.cubes[0].lines[0], step)), (number, *group.place, at),
                                  (step, *group.key), (best[0][1], best[1][1]))
 
@@ -160,7 +169,7 @@ def reductions(program: Program, cube: Cube, axes: List[str], slack: int) -> Ite
     for axis in axes:
         for at, step in enumerate(STEPS[axis]):
             least = program.near(step, 0, cube.lines)
-            for group in (it for it in groups(program, cube, step, slack) if it.is_new):
+            for group in (it for it in groups(program, cube, step, slack) if not it.shorter):
                 side, best = group.place[1], min(group.cubes, key=Cube.total)
                 key = (step, SIDES[side], words_of(best.lines[side][len(cube.lines[side]):]))
                 yield Wanted(best.total(), group.place[0], sum(pieces(cube.lines[0], step)), (AXES.index(axis), at, *group.place[1:]), key,

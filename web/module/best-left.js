@@ -1,31 +1,67 @@
 // Which orientations may have a row with a reduction: one that has too many moves on each side on which it counts is
 // looked for no further.
-import { movesIn } from "./merging.js";
 import { SIDES, joined, otherSide } from "./sides.js";
-import { alikeOn, isWithin, limitWithin, totalWith } from "./ways.js";
+import { allTwins } from "./twins.js";
+import { Lengths, afterPart, alikeOn, isWithin, limitWithin, totalWith, wayTo } from "./ways.js";
 
 /** @typedef {import("./best-rows.js").Sided} Sided */
 /** @typedef {import("./best-search.js").Group} Group */
 /** @typedef {import("./best-search.js").Tried} Tried */
 /** @typedef {import("./best-steps.js").StepOnAxis} StepOnAxis */
+/** @typedef {import("./nissy.js").Nissy} Nissy */
 /** @typedef {import("./sides.js").Side} Side */
 /** @typedef {import("./steps.js").Step} Step */
-/** @typedef {import("./ways.js").Lengths} Lengths */
 /** @typedef {import("./ways.js").Position} Position */
 
 /**
- * More moves in all than a reduction needs on the side of twins that go on after the orientation was reached, where
- * that is known without looking for it: their last move may be taken back before what follows the moves up to it.
+ * All moves with the shorter orientations that others begin with, the best of their twins, and a reduction. They are
+ * counted once.
+ */
+export class Shorter {
+  #lengths;
+  #position;
+  /** @type {Map<string, number>} */ #totals = new Map();
+
+  /** @param {Nissy} nissy @param {Position} position */
+  constructor(nissy, position) {
+    this.#lengths = new Lengths(nissy);
+    this.#position = position;
+  }
+
+  /**
+   * The least of all that an orientation begins with, or Infinity if it begins with none.
+   * @param {Sided} longer
+   * @param {Step} orientation
+   * @param {Step} reduction
+   */
+  least({ side, shorter }, orientation, reduction) {
+    return Math.min(...shorter.map((moves) => this.#total(side, allTwins(moves, orientation), reduction)));
+  }
+
+  /** @param {Side} side @param {string[]} twins @param {Step} reduction */
+  #total(side, twins, reduction) {
+    const key = [side, twins[0], reduction].join(".");
+    const known = this.#totals.get(key);
+    if (known !== undefined) return known;
+    const after = twins.map((moves) => afterPart(this.#lengths.nissy, this.#position, { side, moves }));
+    const ways = after.flatMap((each) => SIDES.map((on) => wayTo(this.#lengths, reduction, each, on)));
+    const total = Math.min(...ways.map((way) => way.total));
+    this.#totals.set(key, total);
+    return total;
+  }
+}
+
+/**
+ * All moves with the shorter orientations that twins begin with, the best of these, and a reduction on their own side.
  * @param {Lengths} lengths
  * @param {Position} position
- * @param {readonly Sided[]} twins
+ * @param {Sided} twin one of them
  * @param {Step} reduction
  */
-function boundOnOwn(lengths, position, twins, reduction) {
-  return Math.min(...twins.map(({ side, length, earlier }) => {
-    if (earlier === null || movesIn(earlier).length < length - 1) return Infinity;
-    const least = lengths.after(reduction, joined(position.lines[side], earlier));
-    return least === null ? Infinity : totalWith(lengths.nissy, position, { side, moves: earlier }) + least + 1;
+function boundOnOwn(lengths, position, { side, shorter }, reduction) {
+  return Math.min(...shorter.map((moves) => {
+    const least = lengths.after(reduction, joined(position.lines[side], moves));
+    return least === null ? Infinity : totalWith(lengths.nissy, position, { side, moves }) + least;
   }));
 }
 
@@ -51,14 +87,14 @@ function boundOnOwn(lengths, position, twins, reduction) {
  * @returns {Looked}
  */
 function lookedFor(lengths, position, group, reduction, most) {
-  const [{ side, earlier }] = group.group;
-  const other = otherSide(side);
-  const own = earlier === null ? Infinity : boundOnOwn(lengths, position, group.group, reduction.name);
+  const [twin] = group.group;
+  const other = otherSide(twin.side);
+  const own = boundOnOwn(lengths, position, twin, reduction.name);
   return {
     group,
     twins: group.twins.map(({ part, after }) => ({ part, after: alikeOn(reduction.name, after, other) })),
     reduction,
-    sides: earlier === null ? SIDES : [other],
+    sides: twin.shorter.length === 0 ? SIDES : [other],
     bound: Math.min(most, own),
     isCut: most < own,
   };
@@ -97,8 +133,8 @@ function askWithin(lengths, reduction, all) {
  */
 export function leftOf(lengths, position, groups, reduction, { most, atOnce }) {
   const { name } = reduction;
-  const before = groups.flatMap(({ group }) => group.flatMap(({ side, earlier }) =>
-    (earlier === null ? [] : [joined(position.lines[side], earlier)])));
+  const before = groups.flatMap(({ group: [{ side, shorter }] }) =>
+    shorter.map((moves) => joined(position.lines[side], moves)));
   if (atOnce) lengths.ask(name, before);
   const all = groups.map((group) => lookedFor(lengths, position, group, reduction, most));
   if (atOnce) askWithin(lengths, name, all);

@@ -11,10 +11,10 @@ import { twinKey } from "./twins.js";
  */
 
 /**
- * @typedef {Part & {length: number, place: number[], earlier: string | null, known: ReadonlySet<string>}} Sided a
- * solution on its side, its place among all: by sides, and within its list; and with which beginning the step was
- * reached, if it goes on after that, so that only what follows it on the other side is anything new; `known`: what such
- * a beginning may be
+ * @typedef {Part & {length: number, place: number[], shorter: readonly string[], known: ReadonlySet<string>}} Sided a
+ * solution on its side, its place among all: by sides, and within its list; and the shorter ones that it begins with, if
+ * it goes on after the step was reached, so that only what follows it on the other side is anything new; `known`: what
+ * these may be
  */
 
 /**

@@ -1,12 +1,12 @@
 // The search for the best continuations of a cube: before an orientation each orientation on both sides, with each
 // reduction that may follow it; after one its reductions. It has the engine at hand, and tells of rows as it finds
 // them.
-import { leftOf } from "./best-left.js";
+import { Shorter, leftOf } from "./best-left.js";
 import { Bound, batchesOf, twinsOf } from "./best-rows.js";
 import { ORIENTATIONS, reductionsAfter } from "./best-steps.js";
 import { SIDES, otherSide } from "./sides.js";
 import { STEPS } from "./steps.js";
-import { earlierAmong, lastTurnsOf, mayBegin, reachedBy } from "./twins.js";
+import { lastTurnsOf, mayBegin, reachedBy, shorterAmong } from "./twins.js";
 import { Lengths, afterEach, totalWith, wayTo } from "./ways.js";
 
 /** @typedef {import("./best-left.js").Looked} Looked */
@@ -67,9 +67,9 @@ function* onSides(nissy, step, { lines }, { slack, isAll }, done) {
     yield nothingNew(done);
     const solutions = nissy.solve(step, lines[side], { slack, most: MOST_SOLUTIONS });
     const known = mayBegin(solutions);
-    const earlierOf = isAll ? () => null : earlierAmong(solutions, known);
+    const shorterOf = isAll ? () => [] : shorterAmong(solutions, known);
     sides.push(solutions.map((each, at) => (
-      { side, moves: each.moves, length: each.length, place: [sideAt, at], earlier: earlierOf(each), known })));
+      { side, moves: each.moves, length: each.length, place: [sideAt, at], shorter: shorterOf(each), known })));
   }
   return sides;
 }
@@ -131,14 +131,16 @@ const bestOn = (ways, side) => ways.reduce((best, each) => (byWay(each[side], be
 
 /**
  * The row of twins with a reduction: the moves are those of the twin that goes on best, on their own side if the other
- * one isn't better. Those that go on after the orientation was reached have a row if the other side is better: on their
- * own, what they go on with belongs to the reduction after a shorter one.
+ * one isn't better. Those that go on after the orientation was reached have a row if the other side is better, and
+ * better than what follows each shorter one that they begin with: on their own, what they go on with belongs to the
+ * reduction after that.
  * @param {Lengths} lengths
+ * @param {Shorter} shorter
  * @param {Looked} looked
  * @param {Facts} facts after any of the twins
  * @returns {Row | null} null if there is none
  */
-function rowOf(lengths, { group: { orientation: { name }, key }, twins, reduction }, facts) {
+function rowOf(lengths, shorter, { group: { orientation: { name }, key }, twins, reduction }, facts) {
   const ways = twins.map((twin) => ({
     twin,
     normal: wayTo(lengths, reduction.name, twin.after, "normal"),
@@ -146,9 +148,11 @@ function rowOf(lengths, { group: { orientation: { name }, key }, twins, reductio
   }));
   const [normal, inverse] = SIDES.map((each) => bestOn(ways, each)[each]);
   const totals = { normal: normal.total, inverse: inverse.total };
-  const { side: own, place, earlier } = twins[0].part;
+  const [{ part: first }] = twins;
+  const { side: own, place } = first;
   const side = totals[otherSide(own)] < totals[own] ? otherSide(own) : own;
-  if (earlier !== null && side === own) return null;
+  const isLonger = first.shorter.length > 0;
+  if (isLonger && (side === own || totals[side] >= shorter.least(first, name, reduction.name))) return null;
   const { twin: { part }, ...shown } = bestOn(ways, side);
   return {
     total: totals[side],
@@ -195,8 +199,8 @@ const sizeOf = (groups) => groups.reduce((sum, { group }) => sum + group.length,
  * are tried
  */
 /**
- * @typedef {{bound: Bound, done: number, atOnce: boolean}} Going how far a search is, and whether it asks of many at
- * once
+ * @typedef {{bound: Bound, done: number, atOnce: boolean, shorter: Shorter}} Going how far a search is, whether it asks
+ * of many at once, and what it knows of shorter ones
  */
 
 /**
@@ -207,7 +211,7 @@ const sizeOf = (groups) => groups.reduce((sum, { group }) => sum + group.length,
  * @param {Going} going
  * @returns {{rows: Row[], isCut: boolean}}
  */
-function rowsOfBatch(nissy, position, batch, { bound, atOnce }) {
+function rowsOfBatch(nissy, position, batch, { bound, atOnce, shorter }) {
   const [lengths, most] = [new Lengths(nissy), bound.get()];
   const after = afterEach(nissy, position, batch.flatMap(({ group }) => group)).values();
   const groups = batch.map((untried) => (
@@ -220,7 +224,9 @@ function rowsOfBatch(nissy, position, batch, { bound, atOnce }) {
   const seen = [...new Set(all.map(({ group }) => group))];
   const facts = nissy.factsAll(seen.map(({ twins }) => twins[0].after.lines.normal));
   const factsOf = new Map(seen.map((group, at) => [group, facts[at]]));
-  const rows = all.map((each) => rowOf(lengths, each, /** @type {Facts} */ (factsOf.get(each.group)))).filter(isRow);
+  const rowWith = (/** @type {Looked} */ each) =>
+    rowOf(lengths, shorter, each, /** @type {Facts} */ (factsOf.get(each.group)));
+  const rows = all.map(rowWith).filter(isRow);
   const kept = rows.filter(({ total }) => total < most);
   return { rows: kept, isCut: kept.length < rows.length || found.some(({ isCut }) => isCut) };
 }
@@ -265,7 +271,7 @@ function stagesOf({ slack, from = 0, isBounded = false }) {
  */
 function* orientationsFound(nissy, position, orientations, wish) {
   const { isAll, most, totals, atOnce = false } = wish;
-  const going = { bound: new Bound(most, totals), done: 0, atOnce };
+  const going = { bound: new Bound(most, totals), done: 0, atOnce, shorter: new Shorter(nissy, position) };
   for (const [from, slack] of stagesOf(wish)) {
     const groups = yield* groupsOf(nissy, position, orientations, { from, slack, isAll, done: going.done });
     yield* groupsFound(nissy, position, groups, going, slack === wish.slack);
@@ -312,7 +318,7 @@ function* reductionsFound(nissy, position, orientations, wish) {
   let done = 0;
   for (const reduction of orientations.flatMap(({ name }) => reductionsAfter(name))) {
     const sides = yield* onSides(nissy, reduction.name, position, wish, done);
-    const groups = twinsOf(sides.flat().filter(({ earlier }) => earlier === null), reduction.name, wish.isAll);
+    const groups = twinsOf(sides.flat().filter(({ shorter }) => shorter.length === 0), reduction.name, wish.isAll);
     const reached = { reduction, known: caseOf(facts, reduction) };
     const rows = groups.map(({ group }) => rowOfReduction(nissy, position, reached, group));
     done += rows.length;

@@ -51,11 +51,12 @@ import { hasOwn } from "./natives.js";
 /**
  * What is wanted of the best continuations: `soFar`, the moves that were made after the scramble, those in brackets on
  * its inverse, none if it isn't given; `slack`, how many turns longer than the shortest of its side an orientation may
- * be, none if it isn't given: one that goes on after it was reached has a row only if the reduction is better on the
- * other side than on its own; `most`, how many rows, 20 if it isn't given; `nodes`, at how many positions all its
- * searches look together at most, at as many as there are if it isn't given. In a pool each axis is searched up to this
- * bound. If they would look at more, they are cut: `cut` says whether `SearchCut` is thrown, as it is if it isn't given,
- * or the best of what was tried until then returned.
+ * be, none if it isn't given: one that goes on after it was reached has a row only if the reduction on the other side
+ * makes fewer moves in all than on its own, and than the same one with each shorter orientation that it begins with;
+ * `most`, how many rows, 20 if it isn't given; `nodes`, at how many positions all its searches look together at most, at
+ * as many as there are if it isn't given. In a pool each axis is searched up to this bound. If they would look at more,
+ * they are cut: `cut` says whether `SearchCut` is thrown, as it is if it isn't given, or the best of what was tried
+ * until then returned.
  * @typedef {{soFar?: Text, slack?: number, most?: number, nodes?: number, cut?: Telling}} BestWanted
  */
 

@@ -1,6 +1,7 @@
 // Twins: solutions of one step that differ in the direction of their last quarter turns alone. The same holds after
 // each, and all have one case. And solutions in which the step was reached before their last move.
 import { AXES, FACES_OF, lastAxisOf, stepNamed } from "./best-steps.js";
+import { joined } from "./sides.js";
 
 /** @typedef {import("./replies.js").Solution} Solution */
 /** @typedef {Solution & {others: string[]}} Twins a solution, with the last moves of its twins */
@@ -39,6 +40,21 @@ export function twinKey(moves, step) {
  * @param {string} step its name
  */
 export const lastTurnsOf = (moves, step) => moves.slice(startOfTwin(moves, step));
+
+/**
+ * Some moves and all their twins, in an order that is the same for each of them.
+ * @param {string} moves
+ * @param {string} step its name
+ */
+export function allTwins(moves, step) {
+  const start = startOfTwin(moves, step);
+  const turns = moves.slice(start).match(/[A-Z]2?/g) ?? [];
+  return turns.reduce((begun, turn) => {
+    // a quarter turn may go either way
+    const ways = turn.endsWith("2") ? [turn] : [turn, `${turn}'`];
+    return begun.flatMap((each) => ways.map((way) => joined(each, way)));
+  }, [moves.slice(0, start).trimEnd()]);
+}
 
 /**
  * Some moves, and those of their twins.
@@ -122,19 +138,15 @@ export function reachedBy(moves, known) {
 }
 
 /**
- * What tells of each of some solutions with which beginning the step is reached before its last move: the longest one,
- * or null if it is with none.
+ * What tells of each of some solutions with which shorter ones it begins, the longest first.
  * @param {readonly Solution[]} solutions all, from the shortest on
  * @param {ReadonlySet<string>} known
- * @returns {(solution: Solution) => string | null}
+ * @returns {(solution: Solution) => readonly string[]}
  */
-export function earlierAmong(solutions, known = mayBegin(solutions)) {
+export function shorterAmong(solutions, known = mayBegin(solutions)) {
   const least = solutions[0]?.length ?? 0;
-  if (known.size === 0) return () => null;
-  return ({ moves, length }) => {
-    for (const beginning of beginningsOf(moves, length, least)) if (known.has(beginning)) return beginning;
-    return null;
-  };
+  if (known.size === 0) return () => [];
+  return ({ moves, length }) => [...beginningsOf(moves, length, least)].filter((each) => known.has(each));
 }
 
 /**
@@ -143,6 +155,6 @@ export function earlierAmong(solutions, known = mayBegin(solutions)) {
  * @param {Each[]} solutions all, from the shortest on
  */
 export function withoutEarlier(solutions) {
-  const earlierOf = earlierAmong(solutions);
-  return solutions.filter((each) => earlierOf(each) === null);
+  const shorterOf = shorterAmong(solutions);
+  return solutions.filter((each) => shorterOf(each).length === 0);
 }
