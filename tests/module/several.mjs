@@ -35,4 +35,6 @@ for (const [text, steps, others] of STEPS) {
   const { scramble, ...rest } = readFmc(text) ?? { scramble: "" };
   same(`the steps of ${JSON.stringify(text)}`, [lineOf(scramble), rest], [FIRST, { steps, candidates: [], before: 0, others }]);
 }
+// what took a time by the square of its length
+for (const text of ["\r".repeat(1_000_000), "1.\n".repeat(100_000)]) same(`${text.length} signs have no moves`, readFmc(text), null);
 ended();

@@ -18,16 +18,26 @@ const APOSTROPHES = /[\u2018\u2019\u02BC\u2032\u00B4\u0060]/;
 const UNSEEN = /[\u200B-\u200D\u2060\uFEFF]/;
 const COMMAS = /[,;]/;
 
-/** What stands before the moves of a line, such as `EO:` or `Final solution:`. */
-const LABEL = /^[^\S\n]*\p{L}[\p{L}\p{N}]+(?: \p{L}+){0,2}[^\S\n]*:(?=\s|$)/gmu;
+/**
+ * What stands before the moves of a line, such as `EO:` or `Final solution:`. As in the forms below, what is meant is
+ * caught, and nothing if something else follows the blanks: so these are gone through once, however many lines they end.
+ */
+const LABEL = /^[^\S\n]*(\p{L}[\p{L}\p{N}]+(?: \p{L}+){0,2}[^\S\n]*:(?=\s|$))?/gmu;
 
 /** What is left out as a whole, and what it is called; the last name counts. */
 const LEFT_OUT = [
   { form: LABEL, name: "labels" },
-  { form: /\/\/[^\n]*/g, name: "comments" },
-  { form: /^[^\S\n]*\d+[.)]/gm, name: "line numbers" },
-  { form: /^[^\S\n]*scramble[^\S\n]*:/gim, name: "the word Scramble" },
+  { form: /(\/\/[^\n]*)/g, name: "comments" },
+  { form: /^[^\S\n]*(\d+[.)])?/gm, name: "line numbers" },
+  { form: /^[^\S\n]*(scramble[^\S\n]*:)?/gim, name: "the word Scramble" },
 ];
+
+/**
+ * Where a form stands in a text.
+ * @param {string} text
+ * @param {RegExp} form
+ */
+const foundIn = (text, form) => [...text.matchAll(form)].filter((found) => found[1] !== undefined);
 
 /** What stands before each of several scrambles: a word, or a number as lists and the WCA's sheets have it. */
 const WORD = /^\s*(?:scramble|attempt)\s*(?:#?\d+(?:\s*(?:of|\/)\s*\d+)?(?:\s*[-–.):]|(?=\s|$))|:)/i;
@@ -44,7 +54,7 @@ function omitted(text) {
   /** @type {Map<number, string>} */
   const places = new Map();
   for (const { form, name } of LEFT_OUT) {
-    for (const { 0: found, index = 0 } of text.matchAll(form)) {
+    for (const { 0: found, index = 0 } of foundIn(text, form)) {
       for (let at = index; at < index + found.length; at += 1) places.set(at, name);
     }
   }
@@ -94,7 +104,7 @@ function isProse(line) {
 const isMoves = (line) => plainLine(line).line.trim() !== "";
 
 /** @param {string} line @returns {boolean} whether it says what its moves are */
-const isTold = (line) => line.includes("//") || line.search(LABEL) >= 0;
+const isTold = (line) => line.includes("//") || foundIn(line, LABEL).length > 0;
 
 /**
  * The first of several scrambles that a text tells apart by heads, with what stands before it, and how many others
@@ -107,13 +117,13 @@ function firstHeaded(lines, head) {
   const isAlone = (/** @type {string} */ rest) => rest.trim() === "";
   const heads = [...lines.keys()].filter((at) =>
     rests[at] !== lines[at] && (isAlone(rests[at]) || !isProse(rests[at])));
-  const endOf = (/** @type {number} */ from) => heads.find((at) => at > from);
-  const hasMoves = (/** @type {number} */ from, to = endOf(from)) =>
+  const ends = new Map(heads.map((at, place) => [at, heads[place + 1]]));
+  const hasMoves = (/** @type {number} */ from, to = ends.get(from)) =>
     rests.slice(from, to).some((rest) => !isProse(rest));
   const [first, ...others] = heads.filter((at) => hasMoves(at));
   if (others.length === 0 || hasMoves(0, heads[0])) return null;
   if (head !== WORD && others.some((at) => isTold(rests[at]))) return null;
-  const own = [...lines.slice(0, first), rests[first], ...lines.slice(first + 1, endOf(first))];
+  const own = [...lines.slice(0, first), rests[first], ...lines.slice(first + 1, ends.get(first))];
   return { lines: own, others: others.length };
 }
 
