@@ -13,9 +13,10 @@ ghost use Rattle.niss_embed.specs.LineFacts.{begins_with_apostrophe, has_half_pr
 
 use crate::answer::Status;
 use crate::fact_answers::{AxisFacts, CheckAnswer, FactsAnswer};
+use crate::line_texts::feed_line;
 use niss_cube::laws::{bad_places_see_places, home_sees_places, reached_steps_see_places};
 use niss_cube::{Axis, Coordinate, Cube, Step};
-use niss_moves::{Niss, read};
+use niss_moves::{LineReader, Niss};
 use niss_shell::{MOST_BYTES, clean_count, cube_of, move_count, solves};
 
 /// The bad pieces of a cube on an axis.
@@ -85,8 +86,10 @@ pub fn facts_of_line(line: &[u8]) -> FactsAnswer
     if line.len() > MOST_BYTES {
         return FactsAnswer::too_long();
     }
-    match read(line) {
-        Ok(moves) => facts_of_moves(&moves),
+    let mut reader = LineReader::new();
+    feed_line(&mut reader, line);
+    match reader.end() {
+        Ok(()) => facts_of_moves(reader.moves()),
         Err(fault) => FactsAnswer::unread(fault),
     }
 }
@@ -204,12 +207,15 @@ pub fn check_line(scramble: &[u8], solution: &[u8]) -> CheckAnswer
     if solution.len() > MOST_BYTES {
         return CheckAnswer::too_long(2);
     }
-    let first = match read(scramble) {
-        Ok(moves) => moves,
-        Err(fault) => return CheckAnswer::unread(1, fault),
-    };
-    match read(solution) {
-        Ok(second) => check_moves(&first, &second, forms_of(solution)),
-        Err(fault) => CheckAnswer::unread(2, fault),
+    let mut first = LineReader::new();
+    feed_line(&mut first, scramble);
+    if let Err(fault) = first.end() {
+        return CheckAnswer::unread(1, fault);
     }
+    let mut second = LineReader::new();
+    feed_line(&mut second, solution);
+    if let Err(fault) = second.end() {
+        return CheckAnswer::unread(2, fault);
+    }
+    check_moves(first.moves(), second.moves(), forms_of(solution))
 }

@@ -18,10 +18,11 @@ ghost use Rattle.niss_embed.specs.declared.answer.Status.TheVariants.{Done, NoRo
 mod after;
 
 use crate::answer::Status;
+use crate::line_texts::feed_line;
 use crate::memory::put;
 use crate::search_answer::SearchAnswer;
 pub use after::solve_after;
-use niss_moves::{LineText, Turn, read};
+use niss_moves::{LineReader, LineText, Turn};
 use niss_search::laws::first_is_least;
 use niss_search::{
     Limit, Meter, Outcome, Position, Sink, Stopped, Tables, TurnPath, search, search_within,
@@ -159,11 +160,12 @@ fn begin<A: Allocator>(tables: &Tables<A>, line: &[u8]) -> Result<Position, Line
         × HasPosition tables.now e position)
         (λ fault. start_cube tables.now (read_line line.now) ≡ Err fault) }
 {
-    let moves = match read(line) {
-        Ok(moves) => moves,
-        Err(fault) => return Err(LineFault::Unread(fault)),
-    };
-    match start_position(tables, &moves) {
+    let mut reader = LineReader::new();
+    feed_line(&mut reader, line);
+    if let Err(fault) = reader.end() {
+        return Err(LineFault::Unread(fault));
+    }
+    match start_position(tables, reader.moves()) {
         Some(position) => Ok(position),
         None => Err(LineFault::NoStart(tables.step())),
     }

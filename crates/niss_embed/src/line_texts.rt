@@ -1,18 +1,29 @@
 //! Short texts for a caller's buffer: what is written of one line without a search, a scramble, and what things are
 //! called.
-ghost use Rattle.std.specs.Prelude.{◌≡◌, ◌≢◌, ◌+◌, ◌<◌, ◌≤◌, List, ℕ, ◌++◌, length, take};
+ghost use Rattle.std.specs.Prelude.{◌≡◌, ◌≢◌, ◌+◌, ◌<◌, ◌≤◌, List, ℕ, [], ◌++◌, length, take};
 ghost use Rattle.std.specs.Option.{option_copied};
+ghost use Rattle.niss_moves.specs.Reader.{IsFed};
 ghost use Rattle.niss_shell.specs.Output.{line_text};
+ghost use Rattle.niss_shell.specs.Words.{most_bytes};
 ghost use Rattle.niss_embed.specs.LineCalls.{status_number, Does, Rewrites, outcome_of_text, outcome_of_scramble};
 ghost use Rattle.niss_embed.specs.LineCalls.{outcome_of_steps, outcome_of_start, outcome_of_some, fault_text_of};
 ghost use Rattle.niss_embed.specs.declared.answer.Status.TheVariants.{NoRoom};
 
 use crate::answer::LineAnswer;
-use niss_moves::{LineText, Niss, ReadFault, read};
+use niss_moves::{LineReader, LineText, Niss, ReadFault};
 use niss_shell::{MOST_BYTES, Rewriting, rewrite, set_scramble, set_steps, step_named};
 
 /// The most turns of a scramble.
 const MOST_TURNS: u32 = 256;
+
+/// Feeds a whole line to a new reader.
+pub(crate) fn feed_line(reader: &mut LineReader, line: &[u8])
+    requires new { IsFed reader.old [] }
+    requires room { length line.now ≤ most_bytes }
+    ensures { IsFed reader.new line.now }
+{
+    reader.feed_all(line);
+}
 
 /// Writes the text of a line's moves, without the line feed.
 fn put_rewritten(rewriting: Rewriting, line: &Niss, out: &mut [u8]) -> LineAnswer
@@ -33,8 +44,10 @@ pub fn rewrite_line(rewriting: Rewriting, line: &[u8], out: &mut [u8]) -> LineAn
     if line.len() > MOST_BYTES {
         return LineAnswer::too_long();
     }
-    match read(line) {
-        Ok(moves) => put_rewritten(rewriting, &moves, out),
+    let mut reader = LineReader::new();
+    feed_line(&mut reader, line);
+    match reader.end() {
+        Ok(()) => put_rewritten(rewriting, reader.moves(), out),
         Err(fault) => LineAnswer::unread(fault),
     }
 }

@@ -12,8 +12,9 @@ ghost use Rattle.niss_embed.specs.SolveAfter.{looks_to_shortest};
 
 use super::{Bounds, CountedSolutions, SolutionLines, Wanted, begin, capped, status_of, was_cut};
 use crate::answer::Status;
+use crate::line_texts::feed_line;
 use crate::search_answer::SearchAnswer;
-use niss_moves::{Faces, Niss, Token, Turn, read};
+use niss_moves::{Faces, LineReader, Niss, Token, Turn};
 use niss_search::laws::{after_is_rest, first_is_least, zero_is_no_turn};
 use niss_search::{Limit, Meter, Position, Stopped, Tables, TurnPath, search_after, search_within};
 use niss_shell::MOST_BYTES;
@@ -46,8 +47,10 @@ fn turns_of_text(text: &[u8]) -> Option<Faces>
     if text.len() > MOST_BYTES {
         return None;
     }
-    match read(text) {
-        Ok(line) => turns_of_line(&line),
+    let mut reader = LineReader::new();
+    feed_line(&mut reader, text);
+    match reader.end() {
+        Ok(()) => turns_of_line(reader.moves()),
         Err(_) => None,
     }
 }
