@@ -34,5 +34,5 @@ returns-in-Err-Cut-clause-unknown g c = λ e h.
     let made = c.search_within.new.meter in
     let found = rw (c.in-Err-Cut.field-0-is, c.zero_is_no_turn-none.ensures, c.new-path.ensures) at c.in-Err-Cut.ensures.found e made h (omega (arith, c.requires.meter)) in
     let cut = rw (c.in-Err-Cut.field-0-is, c.zero_is_no_turn-none.ensures, c.new-path.ensures) at c.in-Err-Cut.ensures.cut e h in
-    let less : made < near_looks_of step e n 0 = omega (arith, cut refl, c.search_within.ensures.within, c.requires.meter, c.from-most.ensures) in
+    let less : made < near_looks_of step e n 0 = omega (arith, cut refl, c.search_within.ensures.within, c.requires.meter) in
     before_first (look_number_of step e) (near_looks_of step e n 0) made (near_solutions_of step e n 0) c.new-first.result c.search_within.new.sink c.new-first.ensures.most less (found refl)
