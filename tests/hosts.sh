@@ -26,6 +26,6 @@ if missing node || [ ! -e "$folder/nissy.wasm" ]; then skips "JavaScript, since 
 fi
 part python3 tests/hosts/drawn.py "$program" 1 0.12 python "${others[@]}"
 part python3 tests/hosts/best.py 1 24 "${others[@]}"
-part python3 tests/hosts/counted.py "$program" 1 9
+part python3 tests/hosts/counted.py "$program" 1 10
 parts_end
 ended
