@@ -28,6 +28,6 @@ fi
 part python3 tests/hosts/drawn.py "$program" 1 0.12 python "${others[@]}"
 part python3 tests/hosts/best.py 1 24 "${others[@]}"
 part python3 tests/hosts/plain.py 1 2000 python "${others[@]}"
-part python3 tests/hosts/counted.py "$program" 1 9
+part python3 tests/hosts/counted.py "$program" 1 10
 parts_end
 ended

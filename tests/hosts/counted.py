@@ -221,7 +221,8 @@ def main() -> None:
     draw, counted = Drawing(seed), 0
     # after 25 turns a slack takes half a minute
     slow = [Question(draw.scramble(), so_far, 1) for so_far in ("", draw.both_sides())] if count > MOST_QUICK else []
-    slow.append(Question("R U F2 L D R B", "", 1))
+    # in the second one F B2 takes back the B2 that was made, so that on its own side it comes to fewer moves than F does
+    slow += [Question("R U F2 L D R B", "", 1), Question("U R F2 R D' F'", "B2", 1)]
     for question in [*slow, *(it for it in drawn(seed, 4 * count) if it.slack == 0 or "(" in it.so_far and it.most == 5)]:
         if counted == count:
             break
