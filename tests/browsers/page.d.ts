@@ -32,6 +32,10 @@ interface Array<T> {
 declare function scrollTo(to: { top: number; behavior: "instant" }): void;
 declare function scrollBy(by: { top: number; behavior: "instant" }): void;
 
+interface Uint8ArrayConstructor {
+  fromBase64?(text: string): Uint8Array;
+}
+
 /** A form of packing undone, byte by byte. */
 declare class DecompressionStream implements ReadableWritablePair<Uint8Array, Uint8Array> {
   constructor(format: "gzip");

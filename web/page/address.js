@@ -68,6 +68,9 @@ export function addressOf({ scramble, parts, side, list, kept }) {
 /** @param {State} state @returns whether an address has room for a state */
 export const fitsAddress = (state) => addressOf(state).length <= LONGEST_ADDRESS;
 
+/** @param {State} state @returns whether there is more to read than a scramble, which is read with what is asked of it */
+export const hasLines = ({ parts, kept }) => parts.length + kept.length > 0;
+
 /** @param {string} text @returns {Part} */
 function readPart(text) {
   const [side, moves, ...rest] = text.split(".");

@@ -10,8 +10,9 @@ import { watched } from "./watch.js";
 
 const UNREADABLE = "An answer of it can't be read.";
 
-/** What starts workers of the page, by the text of their script. One is started early, since that takes a while.
- * @param {string} script @returns {() => Worker} */
+/** What starts workers of the page, by the text of their script. One is started early, since that takes a while, and
+ * others once what is known is shown.
+ * @param {string} script @returns {() => Promise<Worker>} */
 export function workersOf(script) {
   const start = () => {
     const address = URL.createObjectURL(new Blob([script], { type: "text/javascript" }));
@@ -35,9 +36,10 @@ export function workersOf(script) {
   } catch {
     // whoever asks for one is told why it can't be started
   }
-  return () => {
+  return async () => {
     const ready = early;
     early = null;
+    if (ready === null) await new Promise((done) => setTimeout(done));
     return ready ?? start();
   };
 }
@@ -52,7 +54,7 @@ export class Calls {
   /** @type {string[]} the steps whose tables are still to be built */
   #unready = [];
 
-  /** @param {() => Worker} newWorker @param {import("../module/worker-queue.js").SentModule} module */
+  /** @param {() => Promise<Worker>} newWorker @param {import("../module/worker-queue.js").SentModule} module */
   constructor(newWorker, module) {
     this.#queue = new WorkerQueue(module, watched(newWorker));
   }

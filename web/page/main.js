@@ -13,12 +13,16 @@ const newWorker = workersOf(part("worker-script").textContent);
 
 /** The bytes of the module. */
 async function unpacked() {
-  const text = atob(part("engine-module").textContent.trim());
-  const packed = new Uint8Array(text.length);
+  const base64 = part("engine-module").textContent.trim();
+  const text = Uint8Array.fromBase64 ? "" : atob(base64);
+  const packed = Uint8Array.fromBase64?.(base64) ?? new Uint8Array(text.length);
   // a call for each byte would take as long as all the rest here
-  for (let at = 0; at < packed.length; at += 1) packed[at] = text.charCodeAt(at);
-  const bytes = new Blob([packed]).stream().pipeThrough(new DecompressionStream("gzip"));
-  return new Uint8Array(await new Response(bytes).arrayBuffer());
+  for (let at = 0; at < text.length; at += 1) packed[at] = text.charCodeAt(at);
+  const { readable, writable } = new DecompressionStream("gzip");
+  const writer = writable.getWriter();
+  writer.write(packed);
+  writer.close();
+  return new Uint8Array(await new Response(readable).arrayBuffer());
 }
 
 /** @param {import("../module/worker-queue.js").SentModule} module */

@@ -1,7 +1,7 @@
 // The page's state, and what each change of it makes the parts of the page show.
 import { NissyFault, Stopped } from "../module/faults.js";
 import { plainLine } from "../module/written.js";
-import { emptyState, readAddress } from "./address.js";
+import { emptyState, hasLines, readAddress } from "./address.js";
 import { BestContinuations } from "./best.js";
 import { Readiness } from "./calls.js";
 import { copy } from "./copying.js";
@@ -119,7 +119,7 @@ export class Page {
     showBeginning(state);
     awaitAnswer(state);
     try {
-      Object.assign(state, await this.#calls.ask("readAddressed", state));
+      if (hasLines(state)) Object.assign(state, await this.#calls.ask("readAddressed", state));
     } catch (stop) {
       if (turn !== this.#turn) return;
       if (!(stop instanceof NissyFault)) return this.#showUnread(state, stop);
@@ -130,6 +130,7 @@ export class Page {
     this.#state = state;
     this.#scramble.show(state.scramble);
     await this.#refresh();
+    if (this.#cube === null && this.#turn === turn + 1 && !hasLines(state)) setUsable(false);
   }
 
   /** Shows what an address says as it stands there, where no engine reads it.

@@ -38,31 +38,33 @@ class Silence {
   }
 }
 
-/** What starts a worker of which the page says that it failed, or that it is silent.
- * @param {() => Worker} made @returns {import("../module/worker-queue.js").NewWorker} */
+/** What starts a worker of which the page says that it failed, or that it is silent. What it is sent waits for it.
+ * @param {() => Promise<Worker>} made @returns {import("../module/worker-queue.js").NewWorker} */
 export function watched(made) {
-  const start = listenedTo(made);
   return (took, failed) => {
     const silence = new Silence();
-    const worker = start((data) => {
+    const fails = ({ message }) => {
+      silence.end();
+      tellFailed(engineFails(message));
+      failed(message);
+    };
+    const listens = (worker) => listenedTo(() => worker)((data) => {
       // of the best it tells some after the other
       if ("progress" in data) silence.begin();
       else silence.end();
       took(data);
-    }, (message) => {
-      silence.end();
-      tellFailed(engineFails(message));
-      failed(message);
-    });
+    }, (message) => fails({ message }));
+    const started = made().then(listens);
+    started.catch(fails);
     return {
       postMessage: (/** @type {object} */ message) => {
-        worker.postMessage(message);
+        started.then((worker) => worker.postMessage(message), () => {});
         // what brings the module has no answer
         if ("request" in message) silence.begin();
       },
       terminate: () => {
         silence.end();
-        worker.terminate();
+        started.then((worker) => worker.terminate(), () => {});
       },
     };
   };
