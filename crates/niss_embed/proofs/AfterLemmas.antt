@@ -28,7 +28,7 @@ use Rattle.niss_embed.specs.Memory.{Memory, memory}
 use Rattle.niss_embed.specs.LineSearch.{LinesState, Hands, Only, unsolved, capped, is_cut, looks_for_all}
 use Rattle.niss_search.specs.Deepening.{Part, EndsAt, looks_before, all_after}
 use Rattle.niss_search.specs.Positions.{position_of}
-use Rattle.niss_embed.specs.SolveAfter.{all_after, looks_for_after, looks_to_shortest, searched_after}
+use Rattle.niss_embed.specs.SolveAfter.{found_after, looks_for_after, looks_to_shortest, searched_after}
 use Rattle.niss_embed.specs.SolveAfter.{SolvesCubeAfter, SolvesAtAfter, SolvesAfter, Spells, line_of_turns}
 use Rattle.niss_embed.specs.declared.line_search.CountedSolutions.{CountedSolutions}
 use Rattle.niss_embed.specs.declared.line_search.Refused.{Refused}
@@ -55,7 +55,7 @@ Handed = Result ℕ (Ending Refused)
 
 module _ (step : Step) (w : Wanted) (p : List Turn) (e : Place → Place) where
   abbrev all : List (List Turn)
-  all = all_after step w p e
+  all = found_after step w p e
 
   abbrev rest : Part
   rest = searched_after step w p e
@@ -207,7 +207,7 @@ module _ (law : SolutionsAreSequences) (step : Step) (w : Wanted) (p : List Turn
   last_known : last ≡ last_length (least_length_of step e w.limit) w.limit w.slack
   last_known = last_is ∙ (λ i. last_length (least_known i) (n_is i) (slack_is i))
 
-  pub after_is : sequences_after step e last p ≡ all_after step w p e
+  pub after_is : sequences_after step e last p ≡ found_after step w p e
   after_is = ap (λ l. sequences_after step e l p) last_known ∙ sym (ap (filter (comes_after p)) (law.listed step e w.limit w.slack))
 
   pub search_is : (x : _) → position_of step e ≡ x → all_after step x last p ≡ searched_after step w p e

@@ -31,8 +31,8 @@ abbrev pub Spells : List ℕ → List Turn → Type 0
 Spells bytes turns = (length bytes ≤ most_bytes) × (read_line bytes ≡ Ok (line_of_turns turns))
 
 -- of all solutions that a search finds from a cube those that come after a sequence
-abbrev pub all_after : Step → Wanted → List Turn → (Place → Place) → List (List Turn)
-all_after step w p e = filter (comes_after p) (all_found step w e)
+abbrev pub found_after : Step → Wanted → List Turn → (Place → Place) → List (List Turn)
+found_after step w p e = filter (comes_after p) (all_found step w e)
 
 -- how many looks the search for all solutions makes, and one for the shortest alone before it
 abbrev pub looks_for_after : Step → Wanted → (Place → Place) → ℕ
@@ -67,7 +67,7 @@ cut_before looks = record {
 -- What a search for those after a sequence tells of what it found.
 pub record FindsAfter (step : Step) (w : Wanted) (p : List Turn) (e : Place → Place) (told : SearchAnswer) : Type 0 where
   -- whether there are more after it than came; of a search that was cut it isn't known
-  pub more : told.status ≢ status_number Cut → told.more ≡ nat_lt told.solutions (length (all_after step w p e))
+  pub more : told.status ≢ status_number Cut → told.more ≡ nat_lt told.solutions (length (found_after step w p e))
   pub maybe_more : told.status ≡ status_number Cut → told.more ≡ true
   -- the least length of all solutions, unless it was cut before it knew it, since the search for the shortest looks at more
   pub least :
@@ -95,7 +95,7 @@ pub record FindsAfter (step : Step) (w : Wanted) (p : List Turn) (e : Place → 
 
 -- What it hands out from a cube, and what it tells.
 pub record SolvesCubeAfter (step : Step) (w : Wanted) (p : List Turn) (e : Place → Place) (out : Memory) (told : SearchAnswer) : Type 0 where
-  pub hands : Hands (all_after step w p e) w.most out told
+  pub hands : Hands (found_after step w p e) w.most out told
   pub finds : FindsAfter step w p e told
 
 -- the same of a line, by the cube that the search begins at, or its fault

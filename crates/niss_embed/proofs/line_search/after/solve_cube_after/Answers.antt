@@ -8,7 +8,7 @@ use Rattle.niss_search.specs.After.{deepening_looks_of}
 use Rattle.niss_search.specs.Solutions.{last_length}
 use Rattle.niss_embed.specs.Memory.{memory}
 use Rattle.niss_embed.specs.LineSearch.{lines_state, capped, is_cut}
-use Rattle.niss_embed.specs.SolveAfter.{all_after, looks_for_after, looks_to_shortest, searched_after, SolvesCubeAfter}
+use Rattle.niss_embed.specs.SolveAfter.{found_after, looks_for_after, looks_to_shortest, searched_after, SolvesCubeAfter}
 use Rattle.niss_embed.specs.declared.line_search.Wanted.{Wanted}
 use Rattle.niss_embed.specs.declared.search_answer.SearchAnswer.{SearchAnswer}
 use Rattle.niss_embed.proofs.SolveLemmas.{Lines, told_of}
@@ -38,9 +38,9 @@ returns g c = λ e at.
     let last_is : last ≡ last_length least n slack = ap (λ (q : Path). q.limit) c.new-path.ensures ∙ c.last_limit.ensures in
     let same = after_is law step w p e least n slack last n_is slack_is least_is last_is in
     let looks_same = looks_are law step w p e least n slack last n_is slack_is least_is last_is in
-    let ok : OnOk found (WentThrough TakesPath a (all_after step w p e) b) =
+    let ok : OnOk found (WentThrough TakesPath a (found_after step w p e) b) =
     subst (λ ps. OnOk found (WentThrough TakesPath a ps b)) same (by.ok e at) in
-    let err : IfErr found (λ stop. EndedIn TakesPath RefusesPath (is_cut_in stop) a (all_after step w p e) b) =
+    let err : IfErr found (λ stop. EndedIn TakesPath RefusesPath (is_cut_in stop) a (found_after step w p e) b) =
     subst (λ ps. IfErr found (λ stop. EndedIn TakesPath RefusesPath (is_cut_in stop) a ps b)) same (by.err e at) in
     let before = c.least_length-found.new.looks in
     let looks = c.search_after-handed.new.meter in
