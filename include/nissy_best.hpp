@@ -129,10 +129,10 @@ inline continuation continued(searches &by, const candidate &one, const start &f
     const std::size_t on = ways[own].second.total <= ways[1 - own].second.total ? own : 1 - own;
     const auto &[at, found] = ways[on];
     texts others = last_turns_of_others(moves, moves[at], step);
-    for (std::string &each : others) each = from.named(own, each);
-    const orientation eo = {step.name, side_of(own), from.named(own, moves[at].moves), moves[at].length, others};
+    for (std::string &each : others) each = from.named(each);
+    const orientation eo = {step.name, side_of(own), from.named(moves[at].moves), moves[at].length, others};
     const lengths both = {ways[NORMAL].second.length, ways[INVERSE].second.length};
-    const reduction dr = {one.step.name, side_of(on), from.named(on, found.moves), turns_of(found.moves), {}, both};
+    const reduction dr = {one.step.name, side_of(on), from.named(found.moves), turns_of(found.moves), {}, both};
     return {found.total, written(own, eo.moves, on, dr.moves), eo, dr, dr_case};
 }
 
@@ -263,8 +263,8 @@ inline continuation reduced(const start &from, const reductions &all, std::size_
     const auto is_better = [&](const solution &one, const solution &other) { return total(one) < total(other); };
     const solution &best = *std::min_element(group.begin(), group.end(), is_better);
     texts others = last_turns_of_others(group, best, all.step);
-    for (std::string &each : others) each = from.named(on, each);
-    const reduction dr = {all.step.name, side_of(on), from.named(on, best.moves), best.length, others, all.least};
+    for (std::string &each : others) each = from.named(each);
+    const reduction dr = {all.step.name, side_of(on), from.named(best.moves), best.length, others, all.least};
     return {total(best), written(on, dr.moves), std::nullopt, dr, ""};
 }
 

@@ -67,18 +67,21 @@ struct cube {
     }
 };
 
-// The cube after a scramble and the moves so far, and what the faces U D R L F B are called for whoever holds it as these moves leave it: on
-// the normal side alone, since moves on the inverse side come before all rotations.
+inline constexpr std::string_view FACES_IN_ORDER = "UDRLFB";
+
+// Moves whose faces have other names: those at the same places.
+inline std::string renamed(std::string moves, std::string_view from, std::string_view to) {
+    for (char &letter : moves)
+        if (const auto at = from.find(letter); at != std::string_view::npos) letter = to[at];
+    return moves;
+}
+
+// The cube after a scramble and the moves so far, and what the faces are called for whoever holds it as these moves leave it.
 struct start {
     continuing::cube cube;
     std::string names;
 
-    std::string named(std::size_t on, std::string moves) const {
-        if (on == NORMAL)
-            for (char &letter : moves)
-                if (const auto at = std::string_view("UDRLFB").find(letter); at != std::string_view::npos) letter = names[at];
-        return moves;
-    }
+    std::string named(std::string moves) const { return renamed(std::move(moves), FACES_IN_ORDER, names); }
 };
 
 // The face turns of a line, clean and named by the centres, and the rotation that is left behind them.
@@ -100,16 +103,17 @@ inline std::array<std::string, 2> sides_of(std::string_view line) {
     return sides;
 }
 
-// Where a search begins after a scramble and the moves so far. Moves on the inverse side come before the scramble, inverted.
+// Where a search begins after a scramble and the moves so far. Moves on the inverse side come before the scramble, inverted: a line has them
+// behind the others, so they name the faces as these leave the cube.
 inline start start_of(std::string_view scramble, std::string_view so_far) {
     const std::array<std::string, 2> sides = sides_of(so_far);
-    const std::string before = invert(sides[INVERSE]);
-    const auto [turns, rotation] = home(before + " " + unniss(scramble));
-    const auto [normal, last_rotation] = home(rotation + " " + sides[NORMAL]);
-    const std::string line = joined(turns, normal);
-    start from = {{{line, invert(line)}, {normal, invert(home(before).first)}}, ""};
-    for (const char face : std::string_view("UDRLFB")) from.names += home(invert(face + (" " + last_rotation))).first[0];
-    return from;
+    const std::string whole = unniss(scramble);
+    const auto [normal, rotation] = home(home(whole).second + " " + sides[NORMAL]);
+    std::string names;
+    for (const char face : FACES_IN_ORDER) names += home(invert(face + (" " + rotation))).first[0];
+    const std::string before = renamed(home(invert(sides[INVERSE])).first, names, FACES_IN_ORDER);
+    const std::string line = joined(home(before + " " + whole).first, normal);
+    return {{{line, invert(line)}, {normal, invert(before)}}, names};
 }
 
 // The searches of a call: how many positions they may look at together, and who is told how far the call is.

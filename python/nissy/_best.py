@@ -76,10 +76,10 @@ class _Candidate(NamedTuple):
         (step, own, _, twins, _), best = self.twins, [self.best_on(searches, side) for side in SIDES]
         side = own if best[own][1].total <= best[1 - own][1].total else 1 - own
         at, (total, _, moves) = best[side]
-        others = tuple(start.named(own, last_turns(each, step)) for each in twins[:at] + twins[at + 1:])
-        eo = Orientation(step, _NAMES[own], start.named(own, twins[at]), twins[at].length, others)
+        others = tuple(start.named(last_turns(each, step)) for each in twins[:at] + twins[at + 1:])
+        eo = Orientation(step, _NAMES[own], start.named(twins[at]), twins[at].length, others)
         lengths = Lengths(*(way.length for _, way in best))
-        dr = Reduction(self.step, _NAMES[side], start.named(side, moves), turns_of(moves), (), lengths)
+        dr = Reduction(self.step, _NAMES[side], start.named(moves), turns_of(moves), (), lengths)
         return Continuation(total, _written((own, eo.moves), (side, dr.moves)), eo, dr, case)
 
 
@@ -262,8 +262,8 @@ def _reductions(searches: Searches, start: Start, step: Step, axis: Axis, slack:
         counted = dict(zip(solutions, totals(cube, side, solutions)))
         for twins in grouped((moves for moves in solutions if moves not in longer), step):
             moves = min(twins, key=counted.__getitem__)
-            others = tuple(start.named(side, last_turns(each, step)) for each in twins if each != moves)
-            dr = Reduction(step, _NAMES[side], start.named(side, moves), moves.length, others, lengths)
+            others = tuple(start.named(last_turns(each, step)) for each in twins if each != moves)
+            dr = Reduction(step, _NAMES[side], start.named(moves), moves.length, others, lengths)
             yield Continuation(counted[moves], _written((side, dr.moves)), None, dr, case)
 
 

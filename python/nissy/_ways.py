@@ -123,14 +123,14 @@ class Cube(NamedTuple):
 
 class Start(NamedTuple):
     """The cube after a scramble and the moves so far, and what the faces are called for whoever holds it as these moves
-    leave it: on the normal side alone, since those on the inverse side come before all rotations."""
+    leave it."""
 
     cube: Cube
     names: Dict[int, str]
 
-    def named(self, side: int, moves: str) -> str:
-        """Returns moves on a side as they are written behind the moves so far."""
-        return moves.translate(self.names) if side == NORMAL else str(moves)
+    def named(self, moves: str) -> str:
+        """Returns moves as they are written behind the moves so far."""
+        return moves.translate(self.names)
 
 
 def _on(side: int, own: str, other: str) -> Tuple[str, str]:
@@ -152,15 +152,16 @@ def _home(line: str) -> Tuple[str, str]:
 
 def read(scramble: str, so_far: str) -> Start:
     """Returns where a search begins after a scramble and the moves so far, both of which spell moves. Moves on the
-    inverse side come before the scramble, inverted. Raises LineFault if they are too many together."""
+    inverse side come before the scramble, inverted: a line has them behind the others, so they name the faces as these
+    leave the cube. Raises LineFault if they are too many together."""
     # inside brackets is each second part
-    parts = re.split("[()]", so_far)
-    before = invert(" ".join(parts[1::2]))
-    start, rotation = _home(f"{before} {unniss(scramble)}")
-    normal, rotation = _home(f"{rotation} {' '.join(parts[::2])}")
-    line = f"{start} {normal}".strip()
-    names = {ord(face): _home(invert(f"{face} {rotation}"))[0][0] for face in "UDRLFB"} if rotation else {}
-    return Start(Cube((line, invert(line)), (normal, invert(_home(before)[0]))), names)
+    parts, whole = re.split("[()]", so_far), unniss(scramble)
+    normal, rotation = _home(f"{_home(whole)[1]} {' '.join(parts[::2])}")
+    names = {face: _home(invert(f"{face} {rotation}"))[0][0] for face in "UDRLFB"} if rotation else {}
+    faces = str.maketrans({name: face for face, name in names.items()})
+    before = _home(invert(" ".join(parts[1::2])))[0].translate(faces)
+    line = f"{_home(f'{before} {whole}')[0]} {normal}".strip()
+    return Start(Cube((line, invert(line)), (normal, invert(before))), str.maketrans(names))
 
 
 def _most_saved(made: str, step: Step) -> int:

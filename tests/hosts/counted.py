@@ -13,8 +13,8 @@ HERE = os.path.dirname(os.path.abspath(__file__))
 sys.path[:0] = [os.path.join(HERE, "..", folder) for folder in ("model", "", os.path.join("..", "python"))]
 
 import nissy  # noqa: E402
-from bad_pieces import EDGES, is_reached, misfits, of_axis  # noqa: E402
-from cube import Move, brought_home, effect_of, inverse_of  # noqa: E402
+from bad_pieces import EDGES, is_reached, is_solution, misfits, of_axis  # noqa: E402
+from cube import UNMOVED, Move, brought_home, effect_of, inverse_of  # noqa: E402
 from notation import OPPOSITE, clean, read, to_faces, words_of  # noqa: E402
 from questions import Drawing, Question, drawn  # noqa: E402
 from solving import AXIS, flip_set  # noqa: E402
@@ -199,15 +199,26 @@ def as_wanted(row: nissy.Continuation) -> Tuple[object, ...]:
     return row.total, part.length, row.case.corners + row.case.edges, key, (row.dr.lengths.normal, row.dr.lengths.inverse)
 
 
+def as_held(scramble: Moves, outside: Moves, inside: Moves) -> Moves:
+    """The cube on which steps are judged: with the inverse of what stands in brackets before the scramble in place of behind all, and by the
+    same faces, which are those of a cube as the moves outside leave it."""
+    turned = to_faces(scramble + outside)[1]
+    before = to_faces(turned + inverse_of(inside))[0]
+    return to_faces(before + scramble + outside)[0]
+
+
 def goes_on(question: Question, row: nissy.Continuation) -> bool:
-    """Whether what a solver writes on reaches the reduction, from a cube of this case, with as many moves as is said."""
-    normal, bracketed = read(f"{question.so_far} {row.line}".encode())
+    """Whether what a solver writes on reaches the reduction, from a cube of this case, with as many moves as is said; and whether the cube
+    is solved then exactly if the whole line solves the scramble."""
+    line = f"{question.so_far} {row.line}"
+    normal, bracketed = read(line.encode())
     start, before = read(question.scramble.encode()), read(f"{question.so_far} {written(row)}".encode())
     scramble = start[0] + inverse_of(start[1])
-    cubes = [to_faces(inverse_of(inside) + scramble + outside)[0] for outside, inside in (before, (normal, bracketed))]
+    cubes = [as_held(scramble, outside, inside) for outside, inside in (before, (normal, bracketed))]
     count = sum(len(clean(to_faces(moves)[0])) for moves in (normal, bracketed))
     is_long = all(part.length == len(part.moves.split()) for part in (row.eo, row.dr) if part)
-    return is_long and holds(cubes[1], row.dr.step) and count == row.total and row.case == "{}c{}e".format(*pieces(cubes[0], row.dr.step))
+    is_so = (effect_of(cubes[1]) == UNMOVED) == is_solution(question.scramble.encode(), line.encode())
+    return is_so and is_long and holds(cubes[1], row.dr.step) and count == row.total and row.case == "{}c{}e".format(*pieces(cubes[0], row.dr.step))
 
 
 def written(row: nissy.Continuation) -> str:
@@ -223,6 +234,8 @@ def main() -> None:
     slow = [Question(draw.scramble(), so_far, 1) for so_far in ("", draw.both_sides())] if count > MOST_QUICK else []
     # in the second one F B2 takes back the B2 that was made, so that on its own side it comes to fewer moves than F does
     slow += [Question("R U F2 L D R B", "", 1), Question("U R F2 R D' F'", "B2", 1)]
+    # some rows of these solve a cube that is turned
+    slow += [Question("D F2 L x"), Question("L' B2 U", "x (F)"), Question("F R2 (Rw U)", "y (M D) L")]
     for question in [*slow, *(it for it in drawn(seed, 4 * count) if it.slack == 0 or "(" in it.so_far and it.most == 5)]:
         if counted == count:
             break

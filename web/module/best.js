@@ -59,7 +59,7 @@ import { afterPart, leastOf, totalWith } from "./ways.js";
 /** @typedef {(progress: BestProgress) => void} TellProgress */
 
 /** @typedef {(moves: string) => string} Naming of moves by the letters that they have after a turn of the whole cube */
-/** @typedef {{position: Position, named: OnSides<Naming>}} Start */
+/** @typedef {{position: Position, named: Naming}} Start */
 
 /**
  * A line as face turns, and the turn of the whole cube that is left then.
@@ -72,23 +72,27 @@ function cleanedIn(nissy, line) {
 }
 
 /**
- * How moves are written after a turn of the whole cube: the engine reads them in the turned frame.
+ * How moves are written after a turn of the whole cube, and which moves are written so: the engine reads them in the
+ * turned frame.
  * @param {Nissy} nissy
  * @param {string} rotation
- * @returns {Naming}
+ * @returns {{named: Naming, read: Naming}}
  */
 function namingAfter(nissy, rotation) {
-  if (rotation === "") return (moves) => moves;
+  if (rotation === "") return { named: (moves) => moves, read: (moves) => moves };
   const turned = (/** @type {string} */ face) => nissy.invert(nissy.cleanup(nissy.invert(joined(face, rotation))));
-  const letterOf = (/** @type {string} */ face) => movesIn(turned(face))[0][0];
-  const letters = new Map([..."UDRLFB"].map((face) => [face, letterOf(face)]));
-  return (moves) => moves.replace(/[UDRLFB]/g, (face) => String(letters.get(face)));
+  const letters = [..."UDRLFB"].map((face) => ({ face, letter: movesIn(turned(face))[0][0] }));
+  const names = new Map(letters.map(({ face, letter }) => [face, letter]));
+  const faces = new Map(letters.map(({ face, letter }) => [letter, face]));
+  /** @type {(known: Map<string, string>) => Naming} */
+  const by = (known) => (moves) => moves.replace(/[UDRLFB]/g, (sign) => String(known.get(sign)));
+  return { named: by(names), read: by(faces) };
 }
 
 /**
  * The cube on both sides, where its axes are those of the normal side's centres. A turn of the whole cube that is left
- * at the end of the normal side renames what follows there; on the inverse side it stands before all moves, and renames
- * none.
+ * at the end of the normal side renames what follows there, and what is made on the inverse side, since a line has that
+ * behind the rest.
  * @param {Nissy} nissy
  * @param {string} scramble
  * @param {string} soFar
@@ -96,18 +100,17 @@ function namingAfter(nissy, rotation) {
  */
 function startAfter(nissy, scramble, soFar) {
   const moves = movesOfSides(soFar);
-  const undone = nissy.invert(moves.inverse);
-  const before = cleanedIn(nissy, joined(undone, nissy.unniss(scramble)));
-  const made = cleanedIn(nissy, joined(before.rotation, moves.normal));
-  const normal = joined(...before.turns, ...made.turns);
-  // named as what follows them names the faces
-  const madeInverse = movesIn(nissy.invert(joined(...cleanedIn(nissy, undone).turns)));
+  const whole = nissy.unniss(scramble);
+  const made = cleanedIn(nissy, joined(cleanedIn(nissy, whole).rotation, moves.normal));
+  const { named, read } = namingAfter(nissy, made.rotation);
+  const undone = read(joined(...cleanedIn(nissy, nissy.invert(moves.inverse)).turns));
+  const normal = joined(...cleanedIn(nissy, joined(undone, whole)).turns, ...made.turns);
   return {
     position: {
       lines: { normal, inverse: nissy.invert(normal) },
-      made: { normal: made.turns, inverse: madeInverse },
+      made: { normal: made.turns, inverse: movesIn(nissy.invert(undone)) },
     },
-    named: { normal: namingAfter(nissy, made.rotation), inverse: (each) => each },
+    named,
   };
 }
 
@@ -152,13 +155,13 @@ class RowsWithMoves {
   #shownOf({ total, step, part, length, next, others, case: name }) {
     const { position, named } = this.#start;
     const { side } = part;
-    const found = { step, side, moves: named[side](part.moves), length, twins: others.map(named[side]) };
+    const found = { step, side, moves: named(part.moves), length, twins: others.map(named) };
     if (next === null) {
       const alone = { ...found, lengths: this.#lengthsOf(step) };
       return { total, line: bracketed([found]), eo: null, dr: alone, case: name };
     }
     const first = firstOf(this.#nissy, afterPart(this.#nissy, position, part), next.step, next.side, total);
-    const moves = named[next.side](first.moves);
+    const moves = named(first.moves);
     const dr = { step: next.step, side: next.side, moves, length: first.length, twins: [], lengths: next.lengths };
     return { total, line: bracketed([found, dr].filter((each) => each.moves !== "")), eo: found, dr, case: name };
   }
