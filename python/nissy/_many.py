@@ -295,13 +295,15 @@ def _side_by_side(taking: _Taking, asking: Asking[Value], telling: _Telling, thr
             yield from first()
             taking.rest()
 
-    with ThreadPoolExecutor(threads - 1, "nissy") as pool:
-        try:
-            yield from answers(pool)
-        finally:
-            # those that have begun end, and the others need not
-            for it in asked:
-                it.give_up()
+    pool = ThreadPoolExecutor(threads - 1, "nissy")
+    try:
+        yield from answers(pool)
+    finally:
+        # Those that have begun end, and the others need not. None is waited for: an iterator that is left may be
+        # collected at any time, also while Python begins or ends a thread.
+        for it in asked:
+            it.give_up()
+        pool.shutdown(wait=False)
     if taking.error is not None:
         raise taking.error
     telling.end()

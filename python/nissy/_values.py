@@ -128,7 +128,11 @@ def raising(answers: Iterable[Union[Value, Fault, Cut]]) -> Iterator[Value]:
     them is raised, and ends them."""
     for answer in answers:
         if isinstance(answer, (Fault, Cut)):
-            raise answer
+            try:
+                raise answer
+            finally:
+                # it has this call in its traceback
+                del answer
         yield answer
 
 

@@ -179,6 +179,14 @@ def plain(answer: Any) -> Any:
     return (type(answer), answer.column, answer.text) if isinstance(answer, nissy.LineFault) else answer
 
 
+def are_gone() -> bool:
+    """Whether the threads of calls end, which nobody waits for."""
+    end = time.monotonic() + 20
+    while any(it.name.startswith("nissy") for it in threading.enumerate()) and time.monotonic() < end:
+        time.sleep(0.01)
+    return time.monotonic() < end
+
+
 def many(tally: Tally) -> None:
     """Many lines have the answers of each, in their order, by one thread and by several; other threads go on meanwhile, and none is left."""
     lines: List[Any] = (["F", "R U F", ""] * 3000 + ["R Q", "(R (U))", "\u2019", "R\ud800", b"R\0", "(R\nU", "\n", b"R", bytearray(b"F B")]) * 3
@@ -200,7 +208,7 @@ def many(tally: Tally) -> None:
         turns += 1
     tally.holds("other threads go on", turns >= 20 or time.monotonic() - begun < 0.02)
     counting.join()
-    tally.holds("no thread is left", not any(it.name.startswith("nissy") for it in threading.enumerate()))
+    tally.holds("no thread is left", are_gone())
 
 
 def progress(tally: Tally) -> None:
@@ -239,7 +247,7 @@ def progress(tally: Tally) -> None:
         tally.holds("what it raises", raised(InterruptedError, lambda: list(answers)))
         tally.holds("it ends there", raised(StopIteration, lambda: next(answers)))
         tally.holds("it is a function", raised(TypeError, lambda: call(lines, threads=threads, progress=3)))
-    tally.holds("no thread is left", not any(it.name.startswith("nissy") for it in threading.enumerate()))
+    tally.holds("no thread is left", are_gone())
 
 
 def rooms(tally: Tally) -> None:

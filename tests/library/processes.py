@@ -110,7 +110,7 @@ signal.setitimer(signal.ITIMER_REAL, 0.01)
 print(nissy.solve("eofb", "F"), handled)
 """
 
-# what Ctrl-C raises comes between two pieces of many lines, and leaves no thread
+# what Ctrl-C raises comes between two pieces of many lines, and the threads end then
 INTERRUPTED = """
 import signal, threading, time
 import nissy
@@ -123,7 +123,28 @@ def is_interrupted(threads):
     except KeyboardInterrupt:
         return time.monotonic() - begun < 20
 signal.signal(signal.SIGALRM, signal.default_int_handler)
-print(is_interrupted(1), is_interrupted(3), threading.active_count())
+are_interrupted = [is_interrupted(1), is_interrupted(3)]
+end = time.monotonic() + 20
+while threading.active_count() > 1 and time.monotonic() < end: time.sleep(0.01)
+print(*are_interrupted, threading.active_count())
+"""
+
+# Python collects what is left of an iterator of several threads while it begins another thread
+LEFT = """
+import gc, threading
+import nissy
+left = nissy.count_all("eofb", ["R"] * 100_000, threads=3)
+next(left)
+cycle = [left]
+cycle.append(cycle)
+del left, cycle
+with getattr(threading, "_shutdown_locks_lock", threading.Lock()): gc.collect()
+# a fault that is raised and left keeps none
+found = nissy.raising(nissy.count_all("eofb", ["q"] * 100_000, threads=3))
+try: next(found)
+except nissy.LineFault: pass
+del found
+print(gc.collect())
 """
 
 # lets a process have so many bytes more, and says what a call without memory says
@@ -231,6 +252,7 @@ def processes(tally: Tally) -> None:
     tally.equal("calls of a signal's handler", of_process(SIGNALS), "True True\n")
     tally.equal("a handler's call while tables are built", of_process(SIGNAL_IN_BUILD), "['F', \"F'\"] [['B', \"B'\"]]\n")
     tally.equal("Ctrl-C among many lines", of_process(INTERRUPTED), "True True 1\n")
+    tally.equal("an iterator that is left", of_process(LEFT), "0\n")
     tally.equal("the tables of all steps take some 15 million bytes, once", of_process(MEMORY), "True True\n")
     tally.equal("no memory for tables", of_process(NO_TABLES),
                 "no memory for the tables of dr-eofb; no memory for the tables of dr-eofb; ['F', \"F'\"]\n2\n")
