@@ -120,20 +120,33 @@ function keeping(count) {
   return { pool, workers, sent: () => workers.map((worker) => worker.sent.map(({ request }) => request.line)) };
 }
 
-/** A call on one line goes to the worker that has fewest. */
+/** A call on one line goes to the worker that has fewest, or to the first one that has none. */
 async function tryIdlest() {
   const { pool, workers, sent } = keeping(2);
-  const calls = ["R", "U", "F"].map((line) => pool.invert(line));
+  const calls = ["R", "U", "F", "L", "B"].map((line) => pool.invert(line));
   same("each worker has one", sent(), [["R"], ["U"]]);
   workers[1].answer({ status: 0, out: "U'" });
   await calls[1];
-  const last = pool.invert("D");
-  same("then the one that has none", sent(), [["R"], ["D"]]);
+  same("then its own next one", sent(), [["R"], ["L"]]);
+  workers[1].answer({ status: 0, out: "L'" });
+  await calls[3];
+  same("then what waits for another worker", sent(), [["R"], ["F"]]);
+  workers[1].answer({ status: 0, out: "F'" });
+  await calls[2];
+  same("one after another", sent(), [["R"], ["B"]]);
+  const controller = new AbortController();
+  const late = pool.invert("D", { signal: controller.signal });
+  same("it waits", sent(), [["R"], ["B"]]);
+  workers[1].answer({ status: 0, out: "B'" });
+  await calls[4];
+  same("until one has none", sent(), [["R"], ["D"]]);
+  controller.abort();
+  same("it is given up there", await thrown(() => late), ["AbortError", "This operation was aborted"]);
+  const last = pool.invert("D2");
+  same("by an end of that worker", sent(), [["R"], ["D"], ["D2"]]);
   workers[0].answer({ status: 0, out: "R'" });
-  await calls[0];
-  workers[0].answer({ status: 0, out: "F'" });
-  workers[1].answer({ status: 0, out: "D'" });
-  same("each has its answer", await Promise.all([...calls, last]), ["R'", "U'", "F'", "D'"]);
+  workers[2].answer({ status: 0, out: "D2" });
+  same("each has its answer", await Promise.all([...calls, last]), ["R'", "U'", "F'", "L'", "B'", "D2"]);
 }
 
 /** A promise of the caller's `onProgress` is waited for, and one that rejects ends the call. */

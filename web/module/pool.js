@@ -1,5 +1,5 @@
 // Several workers that share many lines: these go to them in pieces, and the answers come back in the order of the
-// lines. Another call goes to the worker that has least to do.
+// lines. Another call goes to the worker that has least to do, or to the first one that has nothing to do.
 import { BestRows } from "./best-rows.js";
 import { wholeNumber } from "./bytes.js";
 import { Stopped } from "./faults.js";
@@ -131,7 +131,8 @@ export class WorkerPool extends SingleCalls {
    */
   constructor(workers, module, newWorker) {
     super((request, options) => this.#together(options, (signal) => this.#idlest().answer(request, { signal })));
-    this.#queues = Array.from({ length: workers }, () => new WorkerQueue(module, newWorker));
+    const idle = (/** @type {WorkerQueue} */ queue) => this.#takeOver(queue);
+    this.#queues = Array.from({ length: workers }, () => new WorkerQueue(module, newWorker, idle));
   }
 
   /**
@@ -154,6 +155,14 @@ export class WorkerPool extends SingleCalls {
   /** How many workers there are. */
   get size() {
     return this.#queues.length;
+  }
+
+  /**
+   * A worker without requests has one that waits for another, which may take long.
+   * @param {WorkerQueue} idle
+   */
+  #takeOver(idle) {
+    this.#queues.some((queue) => queue !== idle && idle.takeOver(queue));
   }
 
   /** The worker that has the fewest requests, the first of them. */

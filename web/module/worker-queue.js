@@ -34,11 +34,14 @@ import { Signals, reasonOf, signalOf } from "./signals.js";
 
 /**
  * @typedef {{id: number, request: Asked, signal: AbortSignal | undefined, followed: Follow, answered: (reply:
- * any) => void, refused: (reason: unknown) => void}} Call
+ * any) => void, refused: (reason: unknown) => void, queue: WorkerQueue}} Call `queue`: which has it now
  */
 
 /** How many pieces of a call a worker has: it needs not wait for the second one when it ends the first. */
 const MOST_SENT = 2;
+
+/** @param {Asked} request */
+const isPiece = (request) => request.call === "all" && request.isPiece === true;
 
 /**
  * Whether a request is sent while another one runs: both are pieces of a call.
@@ -46,7 +49,7 @@ const MOST_SENT = 2;
  * @param {Call} next
  */
 const followsAtOnce = ({ signal }, next) =>
-  next.request.call === "all" && next.request.isPiece === true && next.signal !== undefined && next.signal === signal;
+  isPiece(next.request) && next.signal !== undefined && next.signal === signal;
 
 /**
  * @param {{name: string, message: string}} error of the worker
@@ -83,15 +86,18 @@ export class WorkerQueue {
   /** @type {Call[]} */ #waiting = [];
   /** @type {Signals<Call>} */ #signals = new Signals((calls, signal) => this.#giveUp(calls, reasonOf(signal)));
   #next = 0;
+  #idle;
 
   /**
    * A worker that is started by the first request.
    * @param {SentModule} module
    * @param {NewWorker} newWorker
+   * @param {(queue: WorkerQueue) => void} [idle] is told when all requests are answered
    */
-  constructor(module, newWorker) {
+  constructor(module, newWorker, idle = () => {}) {
     this.#module = module;
     this.#newWorker = newWorker;
+    this.#idle = idle;
   }
 
   /** How many requests have no answer yet. */
@@ -134,14 +140,37 @@ export class WorkerQueue {
       /** @type {<Value>(settle: (value: Value) => void) => (value: Value) => void} */
       const settled = (settle) => (value) => {
         settle(value);
-        if (signal) this.#signals.remove(signal, call);
+        if (signal) call.queue.#signals.remove(signal, call);
       };
-      const id = this.#next++;
-      const call = { id, request, signal, followed, answered: settled(resolve), refused: settled(reject) };
-      if (signal) this.#signals.add(signal, call);
-      this.#waiting.push(call);
-      this.#sendNext();
+      /** @type {Call} */
+      const call = {
+        id: 0, request, signal, followed, answered: settled(resolve), refused: settled(reject), queue: this,
+      };
+      this.#take(call);
     });
+  }
+
+  /**
+   * Has the first request that waits for another worker, if there is one that isn't a piece.
+   * @param {WorkerQueue} other
+   * @returns {boolean} whether there was
+   */
+  takeOver(other) {
+    const at = other.#waiting.findIndex(({ request }) => !isPiece(request));
+    if (at < 0) return false;
+    const [call] = other.#waiting.splice(at, 1);
+    if (call.signal) other.#signals.remove(call.signal, call);
+    this.#take(call);
+    return true;
+  }
+
+  /** @param {Call} call which nobody has */
+  #take(call) {
+    call.id = this.#next++;
+    call.queue = this;
+    if (call.signal) this.#signals.add(call.signal, call);
+    this.#waiting.push(call);
+    this.#sendNext();
   }
 
   /** Whether the worker may have the next request. */
@@ -153,6 +182,7 @@ export class WorkerQueue {
 
   #sendNext() {
     while (this.#isReady()) this.#send(/** @type {Call} */ (this.#waiting.shift()));
+    if (this.length === 0) this.#idle(this);
   }
 
   /** @param {Call} call */
@@ -169,7 +199,7 @@ export class WorkerQueue {
   /** @returns {Sent} a worker that has the module */
   #started() {
     const isThisOne = () => worker === this.#worker;
-    const took = (/** @type {Answered | Unanswered | Progressed} */ data) => isThisOne() && this.#take(data);
+    const took = (/** @type {Answered | Unanswered | Progressed} */ data) => isThisOne() && this.#hear(data);
     // one that was ended while it loaded says nothing of the next one
     const worker = this.#newWorker(took, (message) => isThisOne() && this.#end(new EngineMissing(message)));
     worker.postMessage({ module: this.#module });
@@ -177,7 +207,7 @@ export class WorkerQueue {
   }
 
   /** @param {Answered | Unanswered | Progressed} data */
-  #take(data) {
+  #hear(data) {
     const call = this.#sent[0];
     if (call?.id !== data.id) return;
     if (hasOwn(data, "progress")) {
