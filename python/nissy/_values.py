@@ -128,11 +128,7 @@ def raising(answers: Iterable[Union[Value, Fault, Cut]]) -> Iterator[Value]:
     them is raised, and ends them."""
     for answer in answers:
         if isinstance(answer, (Fault, Cut)):
-            try:
-                raise answer
-            finally:
-                # it has this call in its traceback
-                del answer
+            raise answer
         yield answer
 
 
