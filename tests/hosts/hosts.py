@@ -91,8 +91,8 @@ class Caller(Host):
 
 
 class Other(Host):
-    """Another program, with what runs it before its name. What wine writes among its error text is left out, and a run of which wine alone
-    says something is made once more: one of its services fails once in some hundred runs on a busy machine."""
+    """Another program, with what runs it before its name. What wine writes among its error text is left out, and a run that fails without a word
+    of the program is made once more, and once again: a service of wine fails once in some hundred runs on a busy machine."""
 
     has_calls = False
 
@@ -100,10 +100,11 @@ class Other(Host):
         self.name, self.command = " ".join(map(os.path.basename, command)), command
 
     def run(self, words: List[str], data: bytes, room: int | None = None) -> Any:
-        for _ in range(2):
+        for _ in range(3):
             done = subprocess.run(self.command + words, input=data, capture_output=True, check=False)
             text = b"".join(line for line in done.stderr.splitlines(keepends=True) if not line.startswith(OF_WINE))
-            if done.returncode == 0 or text or not done.stderr or OF_CRASH in done.stderr:
+            # the program says why it fails
+            if done.returncode == 0 or text or OF_CRASH in done.stderr:
                 break
             print(f"once more, since wine said: {done.stderr!r}")
         return done.stdout, text, done.returncode, False
