@@ -127,7 +127,9 @@ def run_alone(it: Example) -> None:
             os.symlink(TOP / folder, Path(room, folder))
         script = Path(room, f"example{ending}")
         script.write_text(it.command)
-        ran = subprocess.run([program, script], cwd=room, stdout=subprocess.PIPE, stderr=subprocess.STDOUT, check=False, timeout=SECONDS)
+        # node 20 hangs now and then at the end of a script, while it compiles beside it
+        words = [program, "--no-concurrent-recompilation"] if program == "node" else [program]
+        ran = subprocess.run([*words, script], cwd=room, stdout=subprocess.PIPE, stderr=subprocess.STDOUT, check=False, timeout=SECONDS)
         got = ran.stdout.decode(errors="replace")
         if got != it.wanted:
             it.wrong[program] = got
