@@ -4,7 +4,7 @@
 //     node tests/hosts/caller.mjs MODULE
 import { readFileSync } from "node:fs";
 import { createInterface } from "node:readline";
-import { Nissy, NissyFault, NissyWorker, SearchCut, plainLine } from "../../web/module/node.js";
+import { Nissy, NissyFault, NissyWorker, SearchCut, placeOfFault, plainLine, readAttempts } from "../../web/module/node.js";
 
 const ALL = 2n ** 64n - 1n;
 const AXES = ["fb", "rl", "ud"];
@@ -56,6 +56,28 @@ function plain(text) {
   return [line, begins.map((at) => [...text.slice(0, places[at])].length).join(" "), leftOut.join("|")].join("\n");
 }
 
+/** A part of an attempt without blanks around it, and the places of its first and last sign, which a fault there has too. */
+function partIn(text, plain) {
+  const own = plain.line.trim();
+  if (own === "") return "";
+  const first = plain.line.length - plain.line.trimStart().length;
+  const last = first + own.length - [...own].at(-1).length;
+  const placeAt = (at) => {
+    const { at: place, line, column } = placeOfFault({ character: at + 1 }, plain, text);
+    const above = text.split("\n").slice(0, line - 1).join("\n");
+    const told = text.includes("\r") ? [...text.slice(0, place)].length : [...above].length + Number(line > 1) + column - 1;
+    return told === [...text.slice(0, place)].length ? told : "another place";
+  };
+  return `${own}@${placeAt(first)}-${placeAt(last)}`;
+}
+
+/** The attempts of a text, each on a line. */
+const attempts = (text) => readAttempts(text).map(({ name, before, scramble, steps, solution, candidates }) => {
+  const all = (each) => each.map((one) => partIn(text, one)).join("/");
+  const others = candidates.map((each) => `${all(each.steps)}#${each.note}`).join(";");
+  return [name, before, partIn(text, scramble), all(steps), partIn(text, solution), others].join("|");
+}).join("\n");
+
 // each call by an engine, and what is given to it
 const CALLS = {
   facts: async (engine, line) => seen(await engine.facts(lineOf(line))),
@@ -64,6 +86,7 @@ const CALLS = {
     return told.map((it) => [it.text, it.axis, it.layers.join(), it.quarters, Number(it.inverse)].join("/")).join(" ");
   },
   plain_line: async (_, text) => plain(string(bytesOf(text))),
+  read_attempts: async (_, text) => attempts(string(bytesOf(text))),
   form_places: async (engine, line) => {
     const told = await engine.formPlaces(lineOf(line));
     return told.map(({ column, text, forms }) => [column, text, forms.join().replaceAll("-", "_")].join("/")).join(" ");

@@ -1,5 +1,6 @@
 #!/usr/bin/env python3
-"""Texts as solvers write them, read by each host as one line: the rows of tests/calls.tsv, and drawn texts, which all hosts read as Python does.
+"""Texts as solvers write them, read by each host as one line and as attempts: the rows of tests/calls.tsv, and drawn texts, which all hosts read as
+Python does.
 
     tests/hosts/plain.py SEED COUNT HOST..
 
@@ -25,10 +26,14 @@ BLANKS = [" ", " ", " ", ": ", ":", "\n", "\n", "\r\n", "\r", "\t", "\u00a0", "\
 SCRIPTS = [*range(0xa0, 0x530), *range(0x2010, 0x2030), *range(0x3000, 0x3100), *range(0x4e00, 0x4f00), *range(0xac00, 0xad00),
            *range(0xff00, 0xfff0)]
 ALL_NAMES = {"labels", "comments", "line numbers", "the word Scramble", "commas", "signs that aren't seen"}
+# what lines of attempts begin with, and go on with
+HEADS = ["", "", "", "", " ", "1. ", "2) ", "(3)", "#4 ", "5 ", "6.07 ", "E1 ", "E2 ", "Extra 1: ", "Scramble 2:", "scramble: ", "Attempt 3 of 3", "Attempt 4/5 - ",
+         "attempt", "EO: ", "Solution: ", "\u00c9tape finale\u00a0: ", "my solution :", "Inverse: ", "NISS: ", "R2: ", "// "]
+RESTS = ["", "", "", " ", "\r", "R U", "(F2 D\u2019)", "L, B // hello", "// a note", "Hi all", "thanks a lot", "R (U F) \U0001f600", "q", "\u200bD\r", "3 of 3"]
 
 
-def wanted_rows() -> Iterator[List[str]]:
-    """Each row of the table: a text, and what is told of it."""
+def wanted_lines() -> Iterator[List[str]]:
+    """Each row of the table that is a line: a text, and what is told of it."""
     for text, line, places, names in called.rows("plain"):
         ranges = (it.partition("-") for it in places.split())
         each = [str(at) for first, _, last in ranges for at in range(int(first), int(last or first) + 1)]
@@ -41,24 +46,47 @@ def each_sign() -> str:
     return "".join(f"ab{sign}: R\n{sign}a: R\n" for sign in signs)
 
 
-def drawn(seed: int, count: int) -> Iterator[str]:
+def drawn(draw: random.Random, count: int) -> Iterator[str]:
     """Texts of the signs that are read otherwise than others, each in any place."""
-    draw = random.Random(seed)
     for _ in range(count):
         yield "".join(draw.choice(BLANKS) + draw.choice(PARTS) for _ in range(draw.randrange(9))) + draw.choice(BLANKS)
+
+
+def drawn_sheets(draw: random.Random, count: int) -> Iterator[str]:
+    """Texts of several lines, of which each may begin an attempt, a block, or a solution."""
+    for _ in range(count):
+        yield "\n".join(draw.choice(HEADS) + draw.choice(RESTS) for _ in range(draw.randrange(12)))
+
+
+def names_of(tally: Tally, lines: List[str]) -> None:
+    """What is told of lines has each name of what may be left out."""
+    tally.equal("each name is there", {name for it in lines for name in it.rpartition("\n")[2].split("|") if name}, ALL_NAMES)
+
+
+def kinds_of(tally: Tally, sheets: List[str]) -> None:
+    """What is told of attempts has each field, several attempts, a solution of its own, and one without steps."""
+    fields = [line.split("|") for it in sheets for line in it.split("\n")]
+    seen = [any(it[at] not in ("", "0") for it in fields) for at in range(6)]
+    tally.equal("each field is there", seen, 6 * [True])
+    tally.holds("several attempts are", any("\n" in it for it in sheets))
+    tally.holds("a solution that isn't its steps", any("/" not in it[3] and it[3] != it[4] for it in fields))
 
 
 def main() -> None:
     """All rows and texts, by each host."""
     tally, python, (seed, count) = Tally(), Python(), map(int, sys.argv[1:3])
-    rows, texts = list(wanted_rows()), [each_sign(), *drawn(seed, count)]
-    ours = [told(python, "plain_line", text.encode()) for text in texts]
+    draw = random.Random(seed)
+    texts = {"plain_line": [each_sign(), *drawn(draw, count)], "read_attempts": list(drawn_sheets(draw, count))}
+    rows = {"plain_line": list(wanted_lines()), "read_attempts": list(called.rows("attempts"))}
+    ours = {call: [told(python, call, text.encode()) for text in those] for call, those in texts.items()}
     for host in hosts_of(sys.argv[3:]):
-        for text, wanted in [*rows, *zip(texts, ours)]:
-            tally.equal(f"{text!r} in {host.name}", told(host, "plain_line", text.encode()), wanted)
+        for call, those in texts.items():
+            for text, wanted in [*rows[call], *zip(those, ours[call])]:
+                tally.equal(f"{call} of {text!r} in {host.name}", told(host, call, text.encode()), wanted)
         tally.equal(f"{host.name} ends, and has said no more", host.end(), 0)
-    for lines in ([wanted for _, wanted in rows], ours):
-        tally.equal("each name is there", {name for it in lines for name in it.rpartition("\n")[2].split("|") if name}, ALL_NAMES)
+    for call, check in (("plain_line", names_of), ("read_attempts", kinds_of)):
+        check(tally, [wanted for _, wanted in rows[call]])
+        check(tally, ours[call])
     tally.end()
 
 

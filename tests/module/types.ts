@@ -1,7 +1,7 @@
 // A caller in TypeScript, who is told of what is wrong: tests/module.sh has tsc read this beside the types of the module.
 import {
-  isStep, loadNissy, Nissy, NissyFault, NissyPool, NissyWorker, plainLine, readFmc, SearchCut, startOf, stickersOf, VERSION, type Best, type BestRow,
-  type Check, type Count, type EdgePlace, type Facts, type Fmc, type Form, type FormPlace, type PlainLine, type Solution, type Solutions,
+  isStep, loadNissy, Nissy, NissyFault, NissyPool, NissyWorker, placeOfFault, plainLine, readAttempts, SearchCut, startOf, stickersOf, VERSION, type Best, type BestRow,
+  type Check, type Count, type EdgePlace, type Facts, type Attempt, type Form, type FormPlace, type PlainLine, type Solution, type Solutions, type TextPlace,
   type Step, type Token,
 } from "./node.js";
 import { NissyPool as NissyPoolOfBrowsers, NissyWorker as NissyWorkerOfBrowsers } from "./browser.js";
@@ -38,9 +38,10 @@ export async function callsInWorker(bytes: Uint8Array, signal: AbortSignal): Pro
 
 export function read(text: string, places: readonly EdgePlace[]): number {
   const { line, places: at, leftOut }: PlainLine = plainLine(text);
-  const written: Fmc | null = readFmc(text);
+  const written: Attempt[] = readAttempts(text);
+  const place: TextPlace | null = placeOfFault({ character: 1 }, written[0].solution, text);
   const numbers: number[] = stickersOf([...places, "URF"]);
-  return line.length + at.length + leftOut.length + (written?.candidates.length ?? 0) + (written?.others ?? 0) + numbers.length;
+  return line.length + at.length + leftOut.length + written[0].candidates.length + written[0].before + (place?.column ?? 0) + numbers.length;
 }
 
 export function judged(nissy: Nissy): string {

@@ -23,11 +23,12 @@ import {
 import { progressOf } from "./signals.js";
 import { solutionsBy } from "./solutions.js";
 
+export { readAttempts } from "./attempts.js";
 export { EngineMissing, NissyFault, NoWebAssembly, SearchCut, Stopped } from "./faults.js";
 export { CORNER_PLACES, EDGE_PLACES } from "./facts.js";
 export { STEPS, isStep, startOf } from "./steps.js";
 export { stickersOf } from "./stickers.js";
-export { plainLine, readFmc } from "./written.js";
+export { placeOfFault, plainLine } from "./written.js";
 
 /** @typedef {import("./bytes.js").Text} Text */
 /** @typedef {import("./source.js").ModuleSource} ModuleSource */
@@ -55,8 +56,10 @@ export { plainLine, readFmc } from "./written.js";
 /** @typedef {import("./requests.js").Wanted} Wanted */
 /** @typedef {import("./requests.js").Within} Within */
 /** @typedef {import("./steps.js").Step} Step */
-/** @typedef {import("./written.js").Fmc} Fmc */
+/** @typedef {import("./attempts.js").Attempt} Attempt */
+/** @typedef {import("./attempts.js").AttemptCandidate} AttemptCandidate */
 /** @typedef {import("./written.js").PlainLine} PlainLine */
+/** @typedef {import("./written.js").TextPlace} TextPlace */
 
 /** The version of the scripts, and of the module that comes with them. */
 export const VERSION = "2.0.0";

@@ -2,7 +2,6 @@
 // pushes such turns to the end of a line; there they are left out, so that each letter names one face in all that
 // follows.
 import { NissyFault } from "../module/faults.js";
-import { plainLine } from "../module/written.js";
 import { LONGEST_NOTE, MOST_CANDIDATES, MOST_MOVES } from "./address.js";
 import { bracketed } from "./steps.js";
 
@@ -50,11 +49,12 @@ export function readByHand(nissy, { text, side }) {
  * read */
 
 /** The steps of some lines of text, as solvers write them, up to the first that can't be read.
- * @param {Nissy} nissy @param {string[]} texts @returns {{parts: Part[], unread: Unread | null}} */
-function readAllByHand(nissy, texts) {
+ * @param {Nissy} nissy @param {import("../module/written.js").PlainLine[]} steps
+ * @returns {{parts: Part[], unread: Unread | null}} */
+function readAllByHand(nissy, steps) {
   const parts = [];
-  for (const each of texts) {
-    const line = plainLine(each).line.trim();
+  for (const each of steps) {
+    const line = each.line.trim();
     try {
       parts.push(...readByHand(nissy, { text: line, side: "normal" }));
     } catch (fault) {
@@ -66,7 +66,7 @@ function readAllByHand(nissy, texts) {
 }
 
 /** The steps and the candidates of a text as solvers write it, and the first line of it that can't be read, if any.
- * @param {Nissy} nissy @param {import("../module/written.js").Fmc} written
+ * @param {Nissy} nissy @param {import("../module/attempts.js").Attempt} written
  * @returns {{parts: Part[], kept: Candidate[], unread: Unread | null}} */
 export function readWritten(nissy, { steps, candidates }) {
   const { parts, unread } = readAllByHand(nissy, steps);

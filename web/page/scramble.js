@@ -1,13 +1,14 @@
 // The card of the scramble: its field, with what was left out of a text and what is at fault, examples, random
 // scrambles from a seed, and the fold of it if the page is narrow.
 import { Stopped } from "../module/faults.js";
-import { plainLine, readFmc } from "../module/written.js";
+import { readAttempts } from "../module/attempts.js";
+import { plainLine } from "../module/written.js";
 import { LONGEST_SCRAMBLE } from "./address.js";
 import { announce, announceLater, counted, element, part, tell } from "./element.js";
 import { withoutMoving } from "./view.js";
-import { placeOfFault, showFault, wordsOfLeftOut } from "./words.js";
+import { placeIn, showFault, wordsOfLeftOut } from "./words.js";
 
-/** @typedef {{isNew: boolean, fmc: import("../module/written.js").Fmc | null, isStep: boolean}} ScrambleChange a
+/** @typedef {{isNew: boolean, fmc: import("../module/attempts.js").Attempt | null, isStep: boolean}} ScrambleChange a
  * new scramble begins a new line, one that is mended keeps it; `isStep`: whether Back leads to what was before */
 
 const PAUSE = 150;
@@ -18,6 +19,13 @@ const PLAIN_SEED = { line: "", places: [], leftOut: [] };
 
 /** A seed that nobody chose. */
 const freshSeed = () => String(crypto.getRandomValues(new Uint32Array(1))[0]);
+
+/** The first attempt of a text, those beside it, and whether its scramble isn't all that the text has.
+ * @param {string} text */
+function readField(text) {
+  const [first, ...others] = readAttempts(text);
+  return { first, others, isPart: first.scramble.line.trim() !== plainLine(text).line.trim() };
+}
 
 export class ScrambleField {
   #calls;
@@ -88,7 +96,7 @@ export class ScrambleField {
   show(scramble) {
     clearTimeout(this.#timer);
     this.tellLeft(0);
-    if (plainLine(this.#field.value).line !== scramble || readFmc(this.#field.value)) {
+    if (plainLine(this.#field.value).line !== scramble || readField(this.#field.value).isPart) {
       this.#field.value = scramble;
       this.#leftOut = [];
     }
@@ -105,7 +113,7 @@ export class ScrambleField {
     showFault(part("scramble-fault"), this.#field, plain, fault, text);
     // of what is typed not after each sign
     if (fault) announceLater(part("scramble-fault").firstChild.textContent);
-    this.#markPlace(text, placeOfFault(plain, fault, text));
+    this.#markPlace(text, placeIn(plain, fault, text));
     const sentences = [wordsOfLeftOut(this.#leftOut)].filter(Boolean);
     if (read?.isTurned) sentences.push(`Read as ${read.line || "no moves"}: ${TURNS_LEFT_OUT}`);
     else if (read && plain.line.includes("(")) sentences.push("Moves in brackets count as inverse moves.");
@@ -177,23 +185,23 @@ export class ScrambleField {
   /** @param {boolean} isReplaced by a text that was pasted: by another scramble, if it isn't the same again */
   #read(isReplaced) {
     const text = this.#field.value;
-    const read = readFmc(text);
-    // the first of several scrambles may have no steps
-    const fmc = read && read.steps.length + read.candidates.length > 0 ? read : null;
-    const plain = plainLine(read ? read.scramble : text);
+    const { first, others, isPart } = readField(text);
+    const { name, scramble, before } = first;
+    const fmc = first.steps.length + first.candidates.length > 0 ? first : null;
+    const line = isPart ? scramble.line.trim() : scramble.line;
     this.#leftOut = [
-      ...(read?.before ? [`${counted(read.before, "line")} before the scramble`] : []),
-      ...(read?.others ? [counted(read.others, "other scramble")] : []),
-      ...plain.leftOut,
+      ...(before > 0 ? [`${counted(before, "line")} before the scramble`] : []),
+      ...(others.length > 0 ? [counted(others.length, "other scramble")] : name === "" ? [] : [`“${name}”`]),
+      ...scramble.leftOut,
       ...(this.#isCut ? [`what is beyond ${LONGEST_SCRAMBLE.toLocaleString("en")} signs`] : []),
     ];
     this.#isCut = false;
-    if (read) this.#field.value = plain.line.trim();
-    const isNew = this.#isOther(plain.line.trim(), isReplaced) || fmc !== null;
+    if (isPart) this.#field.value = line;
+    const isNew = this.#isOther(line.trim(), isReplaced) || fmc !== null;
     // Back leads to the scramble that was deleted and its lines, also once another one is typed
     const isStep = (isNew || this.#isEmptied) && !this.#isDraft;
     this.#isDraft = this.#isEmptied;
-    this.#changed(read ? plain.line.trim() : plain.line, { isNew, fmc, isStep });
+    this.#changed(line, { isNew, fmc, isStep });
   }
 
   /** Whether a scramble is another one than the last: it was pasted in its place, or typed after it was deleted. The

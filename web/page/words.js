@@ -1,5 +1,6 @@
 // Sentences: why a line can't be read, with a mark at the place in it, why there is no answer, and the title.
 import { EngineMissing, NissyFault } from "../module/faults.js";
+import { placeOfFault } from "../module/written.js";
 import { MOST_CANDIDATES, MOST_MOVES } from "./address.js";
 import { element } from "./element.js";
 import { bracketed, openSteps, stateOf, stepNamed, titleOf } from "./steps.js";
@@ -110,10 +111,8 @@ function marked(text, place) {
 /** Where a fault is in the text that was typed, or null.
  * @param {import("../module/written.js").PlainLine} plain @param {Error | null} fault @param {string} text
  * @returns {number | null} */
-export function placeOfFault({ places }, fault, text) {
-  if (!(fault instanceof NissyFault) || fault.character === null) return null;
-  return places[fault.character - 1] ?? text.length;
-}
+export const placeIn = (plain, fault, text) =>
+  (fault instanceof NissyFault ? placeOfFault(fault, plain, text)?.at ?? null : null);
 
 /** Shows a fault under its field, or takes the last one away.
  * @param {HTMLElement} where @param {HTMLElement} field
@@ -125,6 +124,6 @@ export function showFault(where, field, plain, fault, text) {
   field.setAttribute("aria-invalid", String(fault !== null));
   if (fault === null) return;
   where.append(element("p", {}, fault instanceof NissyFault ? sentenceOf(fault, plain.line) : fault.message));
-  const place = placeOfFault(plain, fault, text);
+  const place = placeIn(plain, fault, text);
   if (place !== null) where.append(marked(text.replace(/[\r\n]/g, " "), place));
 }

@@ -1,0 +1,205 @@
+// Reads what solvers write down of their attempts: scrambles, each with the steps of a solution and candidates beside
+// it. Nothing of it is called at fault here: what is no line of moves is at fault where it is used.
+import { labelOf, plainLine } from "./written.js";
+
+/** @typedef {import("./written.js").PlainLine} PlainLine */
+
+/**
+ * A way that was tried: its steps, and what is said of it on lines of their own.
+ * @typedef {{steps: PlainLine[], note: string}} AttemptCandidate
+ */
+
+/**
+ * An attempt at a scramble, each part with its places in the whole text. `name` is what tells the scramble from others,
+ * such as `2.`; so many lines of prose stand `before` the first one; `steps` are the lines of the solution, each of
+ * which a comment or a label may describe, and `candidates` what stands beside it. `solution` is the block whose label
+ * says so, else the steps in one. What the text hasn't is empty.
+ * @typedef {{name: string, scramble: PlainLine, steps: PlainLine[], solution: PlainLine,
+ * candidates: AttemptCandidate[], before: number}} Attempt
+ */
+
+/** A line of the text, and its place there. @typedef {{from: number, text: string}} Line */
+
+/** What stands before each of several scrambles: a word, or a number as lists and the WCA's sheets have it. */
+const WORD = /^\s*(?:scramble|attempt)\s*(?:#?\d+(?:\s*(?:of|\/)\s*\d+)?(?:\s*[-–.):]|(?=\s|$))|:)/i;
+const NUMBER = /^\s*(?:[#(]?\d+|extra\s*\d+)(?:[.):](?!\d)|(?=\s|$))/i;
+/** The extras of such a sheet: E2 is a move too, but not beside E1, which is none. */
+const EXTRA = /^\s*E1(?=\s|$)/;
+const NUMBER_OR_EXTRA = /^\s*(?:[#(]?\d+|E\d+)(?:[.):](?!\d)|(?=\s|$))/;
+/** Three letters in a row that no moves have. */
+const WRITTEN_WORD = /(?:(?![A-Z])\p{L}){3}/u;
+
+/** @param {string} text @returns {Line[]} */
+function linesOf(text) {
+  let from = 0;
+  return text.split("\n").map((each) => {
+    from += each.length + 1;
+    return { from: from - each.length - 1, text: each };
+  });
+}
+
+/** @param {Line} line */
+const isBlank = ({ text }) => text.trim() === "";
+
+/** @param {string} text @returns {string} */
+const movesOf = (text) => plainLine(text).line.trim();
+
+/** @param {Line} line */
+const isMoves = ({ text }) => movesOf(text) !== "";
+
+/** @param {Line} line @returns {boolean} whether it says something else than moves: it has none, or a word */
+const isProse = ({ text }) => movesOf(text) === "" || WRITTEN_WORD.test(movesOf(text));
+
+/** @param {Line} line @returns {boolean} whether it says what its moves are */
+const isTold = ({ text }) => text.includes("//") || labelOf(text) !== "";
+
+/** @param {Line} line @returns {boolean} whether its label says that the solution follows */
+const isSolution = ({ text }) => /\bsolution\b/i.test(labelOf(text));
+
+/**
+ * Some lines as one.
+ * @param {string} text that they are of
+ * @param {Line[]} lines
+ * @returns {PlainLine}
+ */
+function read(text, lines) {
+  if (lines.length === 0) return { line: "", places: [], leftOut: [] };
+  const [first, last] = [lines[0], lines[lines.length - 1]];
+  const { line, places, leftOut } = plainLine(text.slice(first.from, last.from + last.text.length));
+  return { line, places: places.map((at) => at + first.from), leftOut };
+}
+
+/**
+ * A line without what stands before its scramble.
+ * @param {Line} line
+ * @param {RegExp} head
+ */
+function without(line, head) {
+  const [name] = head.exec(line.text) ?? [""];
+  return { name, rest: { from: line.from + name.length, text: line.text.slice(name.length) } };
+}
+
+/**
+ * The scrambles that a text tells apart by heads, each with the lines up to the next one; the first has those before
+ * it too. Null if there is one without a number, or if they are steps of one scramble: moves without a head stand
+ * before them, or it is said what they are.
+ * @param {Line[]} lines
+ * @param {RegExp} head
+ */
+function headed(lines, head) {
+  const cut = lines.map((line) => without(line, head));
+  const heads = [...lines.keys()].filter((at) =>
+    cut[at].name !== "" && (isBlank(cut[at].rest) || !isProse(cut[at].rest)));
+  const hasMoves = (/** @type {number} */ from, /** @type {number} */ to) =>
+    cut.slice(from, to).some(({ rest }) => !isProse(rest));
+  const areOwn = heads.map((at, place) => hasMoves(at, heads[place + 1]));
+  const own = [...heads.keys()].filter((place) => areOwn[place]);
+  // a head alone, such as that of a page, names the scramble that follows it
+  const names = own.map((place) => cut[heads[place > 0 && !areOwn[place - 1] ? place - 1 : place]].name.trim());
+  const isNumbered = head === WORD && names.some((name) => /\d/.test(name));
+  if (own.length < (isNumbered ? 1 : 2) || hasMoves(0, heads[0])) return null;
+  if (head !== WORD && own.slice(1).some((place) => isTold(cut[heads[place]].rest))) return null;
+  return own.map((place, nth) => {
+    const at = heads[place];
+    const before = nth === 0 ? lines.slice(0, at) : [];
+    return { name: names[nth], lines: [...before, cut[at].rest, ...lines.slice(at + 1, heads[place + 1])] };
+  });
+}
+
+/** @param {Line[]} lines @returns {Line[][]} the lines between blank ones */
+function blocksOf(lines) {
+  const blank = [-1, ...[...lines.keys()].filter((at) => isBlank(lines[at])), lines.length];
+  return blank.slice(1).map((end, place) => lines.slice(blank[place] + 1, end)).filter((block) => block.length > 0);
+}
+
+/**
+ * Blocks after a scramble, of which the first goes on from its line, with the solution's in one of its own, and which
+ * that is; -1 if no label says so.
+ * @param {Line[][]} blocks
+ */
+function withSolution(blocks) {
+  const at = blocks.map((block) => block.some(isSolution)).lastIndexOf(true);
+  if (at < 0) return { blocks, at };
+  const begin = blocks[at].some(isMoves) ? blocks[at].map(isSolution).lastIndexOf(true) : 0;
+  const before = blocks[at].slice(0, begin);
+  const others = before.some(isMoves) ? [before] : [];
+  const own = blocks[at].slice(others.length === 0 ? 0 : begin);
+  // a label alone belongs to what follows it
+  const next = own.some(isMoves) ? at + 1 : at + 2;
+  const solution = [...own, ...blocks.slice(at + 1, next).flat()];
+  return { blocks: [...blocks.slice(0, at), ...others, solution, ...blocks.slice(next)], at: at + others.length };
+}
+
+/** @param {Line[]} block @returns {string} what it says of its moves on lines of their own */
+const noteOf = (block) => block.filter((line) => !isMoves(line))
+  .map(({ text }) => (text.includes("//") ? text.replace(/^[^/]*\/\/\s*/, "") : labelOf(text) || text).trim()).join(" ");
+
+/**
+ * @param {string} text
+ * @param {Line[]} block
+ * @returns {AttemptCandidate}
+ */
+function candidateOf(text, block) {
+  const steps = block.filter(isMoves).map((line) => read(text, [line]));
+  return { steps, note: noteOf(block) || labelOf(block.find(isSolution)?.text ?? "") };
+}
+
+/**
+ * The lines of a scramble, and the blocks of those after it: the first has what follows without a blank line.
+ * @param {Line[][]} blocks
+ */
+function parted([first, ...further]) {
+  const end = first.slice(1).some(isTold) ? 1 : first.length;
+  return { scramble: first.slice(0, end), after: [first.slice(end), ...further] };
+}
+
+/**
+ * What stands after a scramble. The lines that follow it are the steps, else the block that a label says to be the
+ * solution, or the only one.
+ * @param {string} text
+ * @param {Line[][]} after
+ */
+function stepsOf(text, after) {
+  const { blocks, at } = withSolution(after);
+  const listed = blocks.slice(1).filter((block) => block.some(isMoves));
+  const [only = [], ...others] = listed;
+  const solution = (at < 0 ? null : blocks[at]) ?? (others.length === 0 ? only : []);
+  const steps = (blocks[0].some(isMoves) ? blocks[0] : solution).filter(isMoves);
+  return {
+    steps: steps.map((line) => read(text, [line])),
+    solution: read(text, at < 0 ? steps : solution.filter(isMoves)),
+    candidates: listed.map((block) => candidateOf(text, block)),
+  };
+}
+
+/**
+ * An attempt of some lines, which have steps if one of them says what its moves are, or if a blank one stands between
+ * moves.
+ * @param {string} text
+ * @param {{name: string, lines: Line[]}} found
+ * @returns {Attempt}
+ */
+function attemptOf(text, { name, lines }) {
+  const begin = Math.max(lines.findIndex((line) => !isProse(line)), 0);
+  const blocks = blocksOf(lines.slice(begin));
+  const hasSteps = blocks.length > 1 || blocks.flat().slice(1).some(isTold);
+  // of a text without form nothing is left out, so that all else than moves is at fault
+  const isFormed = hasSteps || name !== "";
+  const { scramble, after } = hasSteps ? parted(blocks) : { scramble: isFormed ? blocks.flat() : lines, after: [[]] };
+  const before = isFormed ? lines.slice(0, begin).filter((line) => !isBlank(line)).length : 0;
+  return { name, scramble: read(text, scramble), ...stepsOf(text, after), before };
+}
+
+/**
+ * The attempts of a text as solvers write it, at least one: a scramble, then the steps of its solution, each on a line
+ * with a comment or a label, and blocks of candidates after blank lines; and the same of several numbered scrambles. A
+ * text of another form is one scramble.
+ * @param {string} text
+ * @returns {Attempt[]}
+ */
+export function readAttempts(text) {
+  const lines = linesOf(text);
+  const number = lines.some((line) => EXTRA.test(line.text)) ? NUMBER_OR_EXTRA : NUMBER;
+  const found = headed(lines, WORD) ?? headed(lines, number) ?? [{ name: "", lines }];
+  return found.map((each) => attemptOf(text, each));
+}
