@@ -58,10 +58,15 @@ export async function bounded(nissy: Nissy, worker: NissyWorker, step: string): 
   const counts: Count[] = nissy.countAll("eofb", ["R"], { nodes: 1_000, cut: "value" });
   const told: (Count | NissyFault | RangeError)[] = await worker.countAll("eofb", ["R"], { faults: "value" });
   const all: (Facts | NissyFault | RangeError)[] = nissy.factsAll(["R"], { faults: "value" });
+  // also one chosen as the program runs, and options that were given to the caller
+  const chosen: (Count | NissyFault | RangeError)[] = nissy.countAll("eofb", ["R"], { faults: step === "" ? "value" : "throw" });
+  const given: { readonly limit: number; readonly faults?: "throw" } = { limit: 3 };
+  const limited: Count[] = await worker.countAll("eofb", ["R"], given);
+  const unset: Count[] = nissy.countAll("eofb", ["R"], { faults: undefined });
   const solutions: Solutions = nissy.solve(isStep(step) ? step : "eofb", "R", { nodes: 1_000, cut: "value" });
   // a string that isn't known is judged by the call
   nissy.solve(step, "R");
-  return counts.length + told.length + all.length + (solutions.cut === true ? 1 : 0);
+  return [counts, told, all, chosen, limited, unset].flat().length + (solutions.cut === true ? 1 : 0);
 }
 
 export async function followed(nissy: Nissy, worker: NissyWorker, bytes: Uint8Array, signal: AbortSignal): Promise<string> {
@@ -142,14 +147,36 @@ export function wrong(nissy: Nissy, worker: NissyWorker): void {
   nissy.solve("eofb", "R", { limit: "9" });
   // @ts-expect-error there is no such option
   nissy.count("eofb", "R", { least: 1 });
+  // @ts-expect-error nor of many lines
+  nissy.countAll("eofb", ["R"], { limt: 3 });
+  // @ts-expect-error nor beside an option that there is
+  nissy.solveAll("eofb", ["R"], { faults: "value", limt: 3 });
+  // @ts-expect-error what is seen without a search has no limit
+  nissy.factsAll(["R"], { limit: 3 });
+  // @ts-expect-error faults are told in one of two ways
+  nissy.factsAll(["R"], { faults: "values" });
   // @ts-expect-error a length may be null
   nissy.count("eofb", "R").length.toFixed();
   // @ts-expect-error a promise is no string
   worker.invert("R").length;
+  // @ts-expect-error what workers are asked of many lines has no other options
+  void worker.countAll("eofb", ["R"], { cut: "value", limt: 3 });
+  // @ts-expect-error of each call
+  void worker.solveAll("eofb", ["R"], { limt: 3 });
+  // @ts-expect-error also of facts
+  void worker.factsAll(["R"], { fault: "value" });
+  // @ts-expect-error one worker tells of no progress there
+  void worker.countAll("eofb", ["R"], { onProgress: () => {} });
   // @ts-expect-error an orientation may hold already
   nissy.best("R")[0].eo.moves.trim();
   // @ts-expect-error a pool is told how many workers it has
   void NissyPool.start();
+  // @ts-expect-error nor have those of a pool other options
+  void (async (pool: NissyPool) => pool.countAll("eofb", ["R"], { limt: 3, onProgress: () => {} }));
+  // @ts-expect-error of each call
+  void (async (pool: NissyPool) => pool.solveAll("eofb", ["R"], { faults: "value", limt: 3 }));
+  // @ts-expect-error also of facts
+  void (async (pool: NissyPool) => pool.factsAll(["R"], { limit: 3 }));
   // @ts-expect-error what pools are told to do is a promise too
   void (async (pool: NissyPool) => pool.facts("R").solved);
   // @ts-expect-error nor is there a module beside those of a browser

@@ -48,9 +48,9 @@ export { plainLine, readFmc } from "./written.js";
 /** @typedef {import("./facts.js").Form} Form */
 /** @typedef {import("./replies.js").Solution} Solution */
 /** @typedef {import("./replies.js").Solutions} Solutions */
-/** @typedef {import("./requests.js").Many} Many */
 /** @typedef {import("./tokens.js").FormPlace} FormPlace */
 /** @typedef {import("./tokens.js").Token} Token */
+/** @typedef {import("./requests.js").OnFaults} OnFaults */
 /** @typedef {import("./requests.js").Request} Request */
 /** @typedef {import("./requests.js").Wanted} Wanted */
 /** @typedef {import("./requests.js").Within} Within */
@@ -70,8 +70,13 @@ export const NoWideMemory = NoWebAssembly;
  */
 
 /**
- * @template Value, Options
- * @typedef {import("./replies.js").Told<Value, Options>} Told
+ * @template {OnFaults} [Faults=OnFaults]
+ * @typedef {import("./requests.js").Many<Faults>} Many
+ */
+
+/**
+ * @template Value, Faults
+ * @typedef {import("./replies.js").Told<Value, Faults>} Told
  */
 
 /**
@@ -183,9 +188,9 @@ export class Nissy {
   /**
    * The same of many lines, up to the first fault, which says in which; or with each fault in its place.
    * @template {string} Name
-   * @template {Wanted & Many} [Options={}]
-   * @param {StepName<Name>} step @param {readonly Text[]} lines @param {Options} [options]
-   * @returns {Told<Solutions, Options>[]}
+   * @template {OnFaults} [Faults="throw"]
+   * @param {StepName<Name>} step @param {readonly Text[]} lines @param {Wanted & Many<Faults>} [options]
+   * @returns {Told<Solutions, Faults>[]}
    */
   solveAll(step, lines, options) {
     const request = allRequest(() => solveRequest(step, "", options), lines, options);
@@ -205,9 +210,9 @@ export class Nissy {
   /**
    * The same of many lines, up to the first fault, which says in which; or with each fault in its place.
    * @template {string} Name
-   * @template {Wanted & Many} [Options={}]
-   * @param {StepName<Name>} step @param {readonly Text[]} lines @param {Options} [options]
-   * @returns {Told<Count, Options>[]}
+   * @template {OnFaults} [Faults="throw"]
+   * @param {StepName<Name>} step @param {readonly Text[]} lines @param {Wanted & Many<Faults>} [options]
+   * @returns {Told<Count, Faults>[]}
    */
   countAll(step, lines, options) {
     const request = allRequest(() => countRequest(step, "", options), lines, options);
@@ -226,8 +231,8 @@ export class Nissy {
 
   /**
    * The same of many lines, up to the first fault, which says in which; or with each fault in its place.
-   * @template {Many} [Options={}]
-   * @param {readonly Text[]} lines @param {Options} [options] @returns {Told<Facts, Options>[]}
+   * @template {OnFaults} [Faults="throw"]
+   * @param {readonly Text[]} lines @param {Many<Faults>} [options] @returns {Told<Facts, Faults>[]}
    */
   factsAll(lines, options) {
     const request = allRequest(() => factsRequest(""), lines, options);

@@ -230,9 +230,9 @@ function inLine(error, line) {
 }
 
 /**
- * What is told of a line of many: a value, or in its place what is wrong with the line, if the options say so.
- * @template Value, Options
- * @typedef {Options extends {faults: "value"} ? Value | NissyFault | RangeError : Value} Told
+ * What is told of a line of many: a value, or in its place what is wrong with the line, if the option `faults` says so.
+ * @template Value, Faults
+ * @typedef {Faults extends "value" ? Value | NissyFault | RangeError : Value} Told
  */
 
 /**
