@@ -1,8 +1,8 @@
 // A caller in TypeScript, who is told of what is wrong: tests/module.sh has tsc read this beside the types of the module.
 import {
-  isStep, loadNissy, Nissy, NissyFault, NissyPool, NissyWorker, plainLine, readFmc, SearchCut, startOf, stickersOf, VERSION, type Best, type BestRow,
-  type Check, type Count, type EdgePlace, type Facts, type Fmc, type Form, type FormPlace, type PlainLine, type Solution, type Solutions,
-  type Step, type Token,
+  AXES, isStep, loadNissy, NET, Nissy, NissyFault, NissyPool, NissyWorker, plainLine, readFmc, SearchCut, startOf, stickersOf, VERSION, type Axis,
+  type Best, type BestRow, type Check, type Count, type EdgePlace, type Facts, type Fmc, type Form, type FormPlace, type NetPlace, type PlainLine,
+  type Solution, type Solutions, type Step, type Token,
 } from "./node.js";
 import { NissyPool as NissyPoolOfBrowsers, NissyWorker as NissyWorkerOfBrowsers } from "./browser.js";
 import type { CountReply, LineFault, LineReply, StartFault } from "./replies.js";
@@ -41,6 +41,13 @@ export function read(text: string, places: readonly EdgePlace[]): number {
   const written: Fmc | null = readFmc(text);
   const numbers: number[] = stickersOf([...places, "URF"]);
   return line.length + at.length + leftOut.length + (written?.candidates.length ?? 0) + (written?.others ?? 0) + numbers.length;
+}
+
+export function drawn(nissy: Nissy): string {
+  const [first, ...others]: readonly Axis[] = AXES;
+  const bad: number[] = AXES.map((axis) => nissy.facts("R").badEdges[axis].length);
+  const places: readonly NetPlace[] = NET;
+  return [first, others, bad, places.map(({ row, column }) => 12 * row + column)].join(" ");
 }
 
 export function judged(nissy: Nissy): string {
@@ -143,6 +150,10 @@ export function wrong(nissy: Nissy, worker: NissyWorker): void {
   nissy.best("R", { cut: true });
   // @ts-expect-error faults in the place of counts are told by the type
   nissy.countAll("eofb", ["R"], { faults: "value" })[0].nodes.toFixed();
+  // @ts-expect-error what all callers share is changed by none
+  AXES[0] = "rl";
+  // @ts-expect-error nor is a place of it
+  NET[0].row = 1;
   // @ts-expect-error a limit is a number
   nissy.solve("eofb", "R", { limit: "9" });
   // @ts-expect-error there is no such option

@@ -24,9 +24,9 @@ import { progressOf } from "./signals.js";
 import { solutionsBy } from "./solutions.js";
 
 export { EngineMissing, NissyFault, NoWebAssembly, SearchCut, Stopped } from "./faults.js";
-export { CORNER_PLACES, EDGE_PLACES } from "./facts.js";
+export { AXES, CORNER_PLACES, EDGE_PLACES } from "./facts.js";
 export { STEPS, isStep, startOf } from "./steps.js";
-export { stickersOf } from "./stickers.js";
+export { NET, stickersOf } from "./stickers.js";
 export { plainLine, readFmc } from "./written.js";
 
 /** @typedef {import("./bytes.js").Text} Text */
@@ -55,6 +55,7 @@ export { plainLine, readFmc } from "./written.js";
 /** @typedef {import("./requests.js").Wanted} Wanted */
 /** @typedef {import("./requests.js").Within} Within */
 /** @typedef {import("./steps.js").Step} Step */
+/** @typedef {import("./stickers.js").NetPlace} NetPlace */
 /** @typedef {import("./written.js").Fmc} Fmc */
 /** @typedef {import("./written.js").PlainLine} PlainLine */
 
