@@ -4,10 +4,10 @@ import { TURNS, same, thrown } from "./tally.mjs";
 
 // a call, and the fault that it throws: which line has it, its column and its message
 const FAULTS = [
-  [["check", "R q", "R"], 1, 3, "line 1, column 3: not a move"],
-  [["check", "R", "(R"], 2, 1, "line 2, column 1: bracket not closed"],
-  [["check", "q", "q"], 1, 1, "line 1, column 1: not a move"],
-  [["check", "R", "R\nU"], 2, 2, "line 2, column 2: not a move"],
+  [["check", "R q", "R"], 1, 3, "scramble, column 3: not a move"],
+  [["check", "R", "(R"], 2, 1, "solution, column 1: bracket not closed"],
+  [["check", "q", "q"], 1, 1, "scramble, column 1: not a move"],
+  [["check", "R", "R\nU"], 2, 2, "solution, column 2: not a move"],
   [["facts", "R q"], null, 3, "column 3: not a move"],
   [["factsAll", ["R", "U".repeat(257)]], 2, 257, "line 2, column 257: more than 256 moves"],
 ];
