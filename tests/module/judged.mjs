@@ -50,6 +50,8 @@ export async function tryBounds(nissy) {
   same("that of a count has no solutions", (await caught(() => nissy.count("eofb", "F B", { nodes: 0, cut: "throw" }))).found, null);
   const many = await caught(() => nissy.countAll("eofb", ["", "F B", "F"], { nodes: 30 }));
   same("a cut of many", [many.name, many.line], ["SearchCut", 2]);
+  const mixed = await caught(() => nissy.countAll("eofb", ["", "q", "F B", "F"], { nodes: 30, faults: "value" }));
+  same("a cut behind a fault that is told", [mixed.name, mixed.line], ["SearchCut", 3]);
   const told = await nissy.countAll("eofb", ["", "F B", "F"], { nodes: 30, cut: "value" });
   same("a cut of many, told", told.map((count) => count.cut), [undefined, true, undefined]);
   same("no nodes at all", await nissy.count("eofb", "R U F", { nodes: 0, cut: "value" }), { length: null, solutions: 0, nodes: 0, cut: true });
