@@ -80,7 +80,7 @@ def columns(tally: Tally, pages: list[Page]) -> None:
 def fences(tally: Tally, pages: list[Page]) -> None:
     """A fence names its language, and a file at most: a package's reader sees it as it is."""
     for page in pages:
-        longer = [line for line in page.lines if line.startswith("```") and not re.fullmatch(r"```(\w+( [\w-]+\.js)?)?", line)]
+        longer = [line for line in page.lines if line.startswith("```") and not re.fullmatch(r"```(\w+( [\w.-]+\.m?js)?)?", line)]
         tally.equal(f"{page.name}: its fences that say more", longer, [])
 
 

@@ -10,14 +10,26 @@ import { ended, moduleBytes, same, thrown } from "./tally.mjs";
 
 const nissy = await Nissy.load(moduleBytes);
 
-/** What no call takes, and lines that can't be read. */
-async function tryWrong() {
-  const faults = [["R q", "", "line 1, column 3: not a move"], ["R", "U (", "line 2, column 3: bracket not closed"], ["q", "q", "line 1, column 1: not a move"]];
-  for (const [scramble, soFar, message] of faults) {
-    same(`${scramble} / ${soFar}`, await thrown(() => nissy.best(scramble, { soFar })), ["NissyFault", message]);
-  }
+/** What a call throws, or null. */
+const caught = (call) => Promise.resolve().then(call).then(() => null, (error) => error);
+
+/** Lines that can't be read, by an engine: which of the two has the fault, where, and what the message calls it. */
+async function tryFaults(engine) {
   const many = "R U ".repeat(100);
-  same("too many moves together", await thrown(() => nissy.best(many, { soFar: many })), ["NissyFault", "line 2: more than 256 moves"]);
+  const faults = [
+    ["R q", "", 1, 3, "not a move", "scramble, column 3: not a move"],
+    ["R", "U (", 2, 3, "bracket not closed", "moves so far, column 3: bracket not closed"],
+    ["q", "q", 1, 1, "not a move", "scramble, column 1: not a move"],
+    [many, many, 2, null, "more than 256 moves", "moves so far, more than 256 moves"],
+  ];
+  for (const [scramble, soFar, ...wanted] of faults) {
+    const fault = await caught(() => engine.best(scramble, { soFar }));
+    same(`${scramble} / ${soFar}`, [fault?.name, fault?.line, fault?.column, fault?.text, fault?.message], ["NissyFault", ...wanted]);
+  }
+}
+
+/** What no call takes. */
+async function tryWrong() {
   for (const wrong of [null, 1, {}, ["R"]]) {
     same(`a scramble of another type: ${wrong}`, (await thrown(() => nissy.best(wrong)))[0], "TypeError");
     same(`moves of another type: ${wrong}`, (await thrown(() => nissy.best("R", { soFar: wrong })))[0], "TypeError");
@@ -47,12 +59,10 @@ function tryProgress(scramble) {
   same("and before each search for reductions", ofReductions.slice(0, 2), [[0, null], [0, null]]);
 }
 
-/** What a call throws, or null. */
-const caught = (call) => Promise.resolve().then(call).then(() => null, (error) => error);
-
-/** A cut, and the rows by a worker; bytes are read as text. */
+/** A cut, and the rows and faults by a worker; bytes are read as text. */
 async function tryCuts() {
   const [rows, worker] = [nissy.best("U R F"), await NissyWorker.start(moduleBytes)];
+  await tryFaults(worker);
   const [cut, other] = [await caught(() => nissy.best("U R F", { nodes: 30 })), await caught(() => worker.best("U R F", { nodes: 30 }))];
   same("a cut", [cut instanceof SearchCut, cut.found, cut.line, cut.count.length, cut.count.nodes <= 30], [true, null, null, null, true]);
   same("a cut by a worker", [other instanceof SearchCut, other.message], [true, cut.message]);
@@ -88,6 +98,7 @@ async function tryPoolBounds() {
   pool.end();
 }
 
+await tryFaults(nissy);
 await tryWrong();
 tryProgress(nissy.scramble(20261127, 1, 25));
 await tryCuts();

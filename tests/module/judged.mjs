@@ -4,10 +4,10 @@ import { TURNS, same, thrown } from "./tally.mjs";
 
 // a call, and the fault that it throws: which line has it, its column and its message
 const FAULTS = [
-  [["check", "R q", "R"], 1, 3, "line 1, column 3: not a move"],
-  [["check", "R", "(R"], 2, 1, "line 2, column 1: bracket not closed"],
-  [["check", "q", "q"], 1, 1, "line 1, column 1: not a move"],
-  [["check", "R", "R\nU"], 2, 2, "line 2, column 2: not a move"],
+  [["check", "R q", "R"], 1, 3, "scramble, column 3: not a move"],
+  [["check", "R", "(R"], 2, 1, "solution, column 1: bracket not closed"],
+  [["check", "q", "q"], 1, 1, "scramble, column 1: not a move"],
+  [["check", "R", "R\nU"], 2, 2, "solution, column 2: not a move"],
   [["facts", "R q"], null, 3, "column 3: not a move"],
   [["factsAll", ["R", "U".repeat(257)]], 2, 257, "line 2, column 257: more than 256 moves"],
 ];
@@ -50,6 +50,8 @@ export async function tryBounds(nissy) {
   same("that of a count has no solutions", (await caught(() => nissy.count("eofb", "F B", { nodes: 0, cut: "throw" }))).found, null);
   const many = await caught(() => nissy.countAll("eofb", ["", "F B", "F"], { nodes: 30 }));
   same("a cut of many", [many.name, many.line], ["SearchCut", 2]);
+  const mixed = await caught(() => nissy.countAll("eofb", ["", "q", "F B", "F"], { nodes: 30, faults: "value" }));
+  same("a cut behind a fault that is told", [mixed.name, mixed.line], ["SearchCut", 3]);
   const told = await nissy.countAll("eofb", ["", "F B", "F"], { nodes: 30, cut: "value" });
   same("a cut of many, told", told.map((count) => count.cut), [undefined, true, undefined]);
   same("no nodes at all", await nissy.count("eofb", "R U F", { nodes: 0, cut: "value" }), { length: null, solutions: 0, nodes: 0, cut: true });

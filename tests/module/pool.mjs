@@ -288,7 +288,7 @@ async function tryBest(pool) {
     const known = told.find(([, all]) => all !== null);
     if (pool.size === 1 && slack === 0) same("all is known before the first is done", [known[0], known[1] > 0], [0, true]);
   }
-  same("a fault", await thrown(() => pool.best("R", { soFar: "q" })), ["NissyFault", "line 2, column 1: not a move"]);
+  same("a fault", await thrown(() => pool.best("R", { soFar: "q" })), ["NissyFault", "moves so far, column 1: not a move"]);
   same("the best that are given up", await thrown(() => pool.best(scramble, { slack: 3, signal: AbortSignal.timeout(20) })), ["TimeoutError", "The operation was aborted due to timeout"]);
 }
 

@@ -1,8 +1,8 @@
 // A caller in TypeScript, who is told of what is wrong: tests/module.sh has tsc read this beside the types of the module.
 import {
-  isStep, loadNissy, Nissy, NissyFault, NissyPool, NissyWorker, placeOfFault, plainLine, readAttempts, SearchCut, startOf, stickersOf, VERSION, type Best, type BestRow,
-  type Check, type Count, type EdgePlace, type Facts, type Attempt, type Form, type FormPlace, type PlainLine, type Solution, type Solutions, type TextPlace,
-  type Step, type Token,
+  AXES, isStep, loadNissy, NET, Nissy, NissyFault, NissyPool, NissyWorker, placeOfFault, plainLine, readAttempts, SearchCut, startOf, stickersOf,
+  VERSION, type Attempt, type Axis, type Best, type BestRow, type Check, type Count, type EdgePlace, type Facts, type Form, type FormPlace,
+  type NetPlace, type PlainLine, type Solution, type Solutions, type Step, type TextPlace, type Token,
 } from "./node.js";
 import { NissyPool as NissyPoolOfBrowsers, NissyWorker as NissyWorkerOfBrowsers } from "./browser.js";
 import type { CountReply, LineFault, LineReply, StartFault } from "./replies.js";
@@ -44,6 +44,13 @@ export function read(text: string, places: readonly EdgePlace[]): number {
   return line.length + at.length + leftOut.length + written[0].candidates.length + written[0].before + (place?.column ?? 0) + numbers.length;
 }
 
+export function drawn(nissy: Nissy): string {
+  const [first, ...others]: readonly Axis[] = AXES;
+  const bad: number[] = AXES.map((axis) => nissy.facts("R").badEdges[axis].length);
+  const places: readonly NetPlace[] = NET;
+  return [first, others, bad, places.map(({ row, column }) => 12 * row + column)].join(" ");
+}
+
 export function judged(nissy: Nissy): string {
   const { solved, moves, badEdges, cases, holds }: Facts = nissy.facts("R");
   const places: readonly EdgePlace[] = badEdges.fb;
@@ -59,10 +66,15 @@ export async function bounded(nissy: Nissy, worker: NissyWorker, step: string): 
   const counts: Count[] = nissy.countAll("eofb", ["R"], { nodes: 1_000, cut: "value" });
   const told: (Count | NissyFault | RangeError)[] = await worker.countAll("eofb", ["R"], { faults: "value" });
   const all: (Facts | NissyFault | RangeError)[] = nissy.factsAll(["R"], { faults: "value" });
+  // also one chosen as the program runs, and options that were given to the caller
+  const chosen: (Count | NissyFault | RangeError)[] = nissy.countAll("eofb", ["R"], { faults: step === "" ? "value" : "throw" });
+  const given: { readonly limit: number; readonly faults?: "throw" } = { limit: 3 };
+  const limited: Count[] = await worker.countAll("eofb", ["R"], given);
+  const unset: Count[] = nissy.countAll("eofb", ["R"], { faults: undefined });
   const solutions: Solutions = nissy.solve(isStep(step) ? step : "eofb", "R", { nodes: 1_000, cut: "value" });
   // a string that isn't known is judged by the call
   nissy.solve(step, "R");
-  return counts.length + told.length + all.length + (solutions.cut === true ? 1 : 0);
+  return [counts, told, all, chosen, limited, unset].flat().length + (solutions.cut === true ? 1 : 0);
 }
 
 export async function followed(nissy: Nissy, worker: NissyWorker, bytes: Uint8Array, signal: AbortSignal): Promise<string> {
@@ -139,18 +151,44 @@ export function wrong(nissy: Nissy, worker: NissyWorker): void {
   nissy.best("R", { cut: true });
   // @ts-expect-error faults in the place of counts are told by the type
   nissy.countAll("eofb", ["R"], { faults: "value" })[0].nodes.toFixed();
+  // @ts-expect-error what all callers share is changed by none
+  AXES[0] = "rl";
+  // @ts-expect-error nor is a place of it
+  NET[0].row = 1;
   // @ts-expect-error a limit is a number
   nissy.solve("eofb", "R", { limit: "9" });
   // @ts-expect-error there is no such option
   nissy.count("eofb", "R", { least: 1 });
+  // @ts-expect-error nor of many lines
+  nissy.countAll("eofb", ["R"], { limt: 3 });
+  // @ts-expect-error nor beside an option that there is
+  nissy.solveAll("eofb", ["R"], { faults: "value", limt: 3 });
+  // @ts-expect-error what is seen without a search has no limit
+  nissy.factsAll(["R"], { limit: 3 });
+  // @ts-expect-error faults are told in one of two ways
+  nissy.factsAll(["R"], { faults: "values" });
   // @ts-expect-error a length may be null
   nissy.count("eofb", "R").length.toFixed();
   // @ts-expect-error a promise is no string
   worker.invert("R").length;
+  // @ts-expect-error what workers are asked of many lines has no other options
+  void worker.countAll("eofb", ["R"], { cut: "value", limt: 3 });
+  // @ts-expect-error of each call
+  void worker.solveAll("eofb", ["R"], { limt: 3 });
+  // @ts-expect-error also of facts
+  void worker.factsAll(["R"], { fault: "value" });
+  // @ts-expect-error one worker tells of no progress there
+  void worker.countAll("eofb", ["R"], { onProgress: () => {} });
   // @ts-expect-error an orientation may hold already
   nissy.best("R")[0].eo.moves.trim();
   // @ts-expect-error a pool is told how many workers it has
   void NissyPool.start();
+  // @ts-expect-error nor have those of a pool other options
+  void (async (pool: NissyPool) => pool.countAll("eofb", ["R"], { limt: 3, onProgress: () => {} }));
+  // @ts-expect-error of each call
+  void (async (pool: NissyPool) => pool.solveAll("eofb", ["R"], { faults: "value", limt: 3 }));
+  // @ts-expect-error also of facts
+  void (async (pool: NissyPool) => pool.factsAll(["R"], { limit: 3 }));
   // @ts-expect-error what pools are told to do is a promise too
   void (async (pool: NissyPool) => pool.facts("R").solved);
   // @ts-expect-error nor is there a module beside those of a browser

@@ -30,10 +30,10 @@ def page_of(package: Path) -> str:
     return (package / "README.md").read_text(encoding="utf-8")
 
 
-def by_page(package: Path) -> tuple[dict[str, str], str]:
-    """Returns the scripts that the package's page names, and the command that bundles them."""
+def by_page(package: Path) -> tuple[dict[str, str], list[list[str]]]:
+    """Returns the scripts that the package's page names, and the words of each command that bundles them."""
     scripts = dict(re.findall(r"^```javascript (\S+)\n(.*?)^```$", page_of(package), re.M | re.S))
-    return scripts, re.findall(r"^    (esbuild .*)$", page_of(package), re.M)[0]
+    return scripts, [shlex.split(line) for line in re.findall(r"^    ((?:esbuild|rollup) .*)$", page_of(package), re.M)]
 
 
 def site(folder: Path, script: str) -> None:
@@ -41,22 +41,30 @@ def site(folder: Path, script: str) -> None:
     (folder / "index.html").write_text(f'<!doctype html><meta charset="utf-8"><title>nissy</title><script type="module" src="{script}"></script>\n')
 
 
-def bundle(tally: Tally, package: Path, user: Path) -> dict[str, Path]:
-    """Bundles the page's scripts in a folder by each bundler that is here, and returns the folder of each bundle."""
-    scripts, command = by_page(package)
-    tally.equal("the scripts of the package's page", sorted(scripts), ["engine.js", "page.js"])
+def with_scripts(package: Path, folder: Path, scripts: dict[str, str]) -> Path:
+    """Makes a folder with scripts by their names, which take the package from its node_modules."""
+    folder.mkdir()
+    (folder / "node_modules").symlink_to(package.parent)
     for name, text in scripts.items():
-        (user / name).write_text(text)
-    shutil.copy(OF_TESTS / "rollup.config.mjs", user)
+        (folder / name).write_text(text)
+    return folder
+
+
+def bundle(tally: Tally, package: Path, user: Path) -> dict[str, Path]:
+    """Bundles the page's scripts by each bundler that is here, each in a folder of its own, and returns the folder of each bundle."""
+    scripts, commands = by_page(package)
+    tally.equal("the scripts of the package's page", sorted(scripts), ["engine.js", "page.js", "rollup.config.mjs"])
+    tally.equal("the bundlers that it has a command of", [words[0] for words in commands], ["esbuild", "rollup"])
     made = {}
-    for tool, words, folder in (("esbuild", shlex.split(command), "site"), ("rollup", ["rollup", "-c", "rollup.config.mjs"], "by-rollup")):
-        if not shutil.which(tool):
-            print(f"skipped: a bundle by {tool}, which isn't installed")
+    for words in commands:
+        if not shutil.which(words[0]):
+            print(f"skipped: a bundle by {words[0]}, which isn't installed")
             continue
-        ran = subprocess.run(words, cwd=user, capture_output=True, text=True, check=False)
-        tally.holds(f"{tool} bundles what the page says: {ran.stderr[-400:]}", ran.returncode == 0)
-        made[f"by {tool}"] = user / folder
-        site(user / folder, "page.js")
+        folder = with_scripts(package, user / f"by-{words[0]}", scripts)
+        ran = subprocess.run(words, cwd=folder, capture_output=True, text=True, check=False)
+        tally.holds(f"{words[0]} bundles what the page says: {ran.stderr[-400:]}", ran.returncode == 0)
+        made[f"by {words[0]}"] = folder / "site"
+        site(folder / "site", "page.js")
     return made
 
 
@@ -75,20 +83,15 @@ def bundle_without(tally: Tally, package: Path, user: Path) -> list[Path]:
 
 def plain(package: Path, user: Path) -> Path:
     """Makes the folder of the page without a bundler, as the package's page has it."""
-    folder = user / "plain"
-    folder.mkdir()
-    (folder / "node_modules").symlink_to(package.parent)
-    (folder / "index.html").write_text("<!doctype html><title>nissy</title>\n" + re.findall(r"^```html\n(.*?)^```$", page_of(package), re.M | re.S)[0])
-    return folder
+    html = "<!doctype html><title>nissy</title>\n" + re.findall(r"^```html\n(.*?)^```$", page_of(package), re.M | re.S)[0]
+    return with_scripts(package, user / "plain", {"index.html": html})
 
 
 def with_script(package: Path, user: Path, name: str) -> Path:
     """Makes the folder of a page with a script of these tests, which may take the package from its node_modules."""
-    folder = user / name
-    folder.mkdir()
-    (folder / "node_modules").symlink_to(package.parent)
-    shutil.copy(OF_TESTS / f"{name}.js", folder)
-    site(folder, f"{name}.js")
+    script = f"{name}.js"
+    folder = with_scripts(package, user / name, {script: (OF_TESTS / script).read_text(encoding="utf-8")})
+    site(folder, script)
     return folder
 
 

@@ -1,5 +1,6 @@
 // The steps that lead to a domino reduction: an orientation of the edges on an axis, and after it a reduction on one of
 // the other two.
+import { AXES } from "./facts.js";
 
 /** @typedef {import("./facts.js").Axis} Axis */
 /** @typedef {import("./steps.js").Step} Step */
@@ -8,11 +9,15 @@
  * keeps
  */
 
-/** @type {readonly Axis[]} */
-export const AXES = ["fb", "rl", "ud"];
-
 /** The two faces of each axis. */
 export const FACES_OF = { fb: "FB", rl: "RL", ud: "UD" };
+const PAIRS = AXES.map((axis) => FACES_OF[axis]);
+
+/**
+ * The two faces of the axis that a face is on, the empty text if it is none.
+ * @param {string} face
+ */
+export const facesOnAxisOf = (face) => PAIRS.find((faces) => faces.includes(face)) ?? "";
 
 /** @type {readonly StepOnAxis[]} */
 export const ORIENTATIONS = [

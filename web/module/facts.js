@@ -3,17 +3,20 @@
 import { frozen } from "./natives.js";
 import { STEPS } from "./steps.js";
 
+/** The axes of the faces F and B, of R and L, and of U and D, in the module's order. */
+export const AXES = frozen(/** @type {const} */ (["fb", "rl", "ud"]));
+
 /** The places of the edges and of the corners: place i is bit i of the module's masks. */
-export const EDGE_PLACES = /** @type {const} */ ([
+export const EDGE_PLACES = frozen(/** @type {const} */ ([
   "UR", "UF", "UL", "UB", "DR", "DF", "DL", "DB", "FR", "FL", "BL", "BR",
-]);
-export const CORNER_PLACES = /** @type {const} */ (["URF", "UFL", "ULB", "UBR", "DFR", "DLF", "DBL", "DRB"]);
+]));
+export const CORNER_PLACES = frozen(/** @type {const} */ (["URF", "UFL", "ULB", "UBR", "DFR", "DLF", "DBL", "DRB"]));
 
 /** What forms of moves there are that the WCA's notation hasn't: form i is bit i of the module's mask. */
 export const FORMS = /** @type {const} */ (["slices", "lower-case", "brackets", "apostrophe", "half-prime"]);
 
 /** @typedef {import("./steps.js").Step} Step */
-/** @typedef {"fb" | "rl" | "ud"} Axis of the faces F and B, of R and L, or of U and D */
+/** @typedef {typeof AXES[number]} Axis */
 /** @typedef {typeof EDGE_PLACES[number]} EdgePlace */
 /** @typedef {typeof CORNER_PLACES[number]} CornerPlace */
 

@@ -10,17 +10,27 @@
 
 /** @typedef {FaultPlace & {text: string}} FaultParts a fault as a plain value */
 
+/**
+ * What is said before a fault: of which line it is, by its number unless the line has a name, and at which column.
+ * @param {number | null} line
+ * @param {number | null} column
+ * @param {string} name
+ */
+function placeInWords(line, column, name) {
+  const behind = column === null ? "" : `column ${column}: `;
+  if (name !== "") return `${name}, ${behind}`;
+  return line === null ? behind : `line ${line}${behind === "" ? ": " : ", "}${behind}`;
+}
+
 /** A line at fault, in the program's words, or a cube at which a step can't begin. */
 export class NissyFault extends Error {
   /**
    * @param {string} text what is wrong
    * @param {Partial<FaultPlace>} place null is what isn't given
+   * @param {string} [name] of the line in the message, such as `scramble`, if it isn't its number
    */
-  constructor(text, { column = null, character = null, step = null, start = null, line = null }) {
-    const places = [];
-    if (line !== null) places.push(`line ${line}`);
-    if (column !== null) places.push(`column ${column}`);
-    super(places.length === 0 ? text : `${places.join(", ")}: ${text}`);
+  constructor(text, { column = null, character = null, step = null, start = null, line = null }, name = "") {
+    super(placeInWords(line, column, name) + text);
     this.name = "NissyFault";
     this.text = text;
     this.column = column;
@@ -33,9 +43,10 @@ export class NissyFault extends Error {
   /**
    * The same in a line of many.
    * @param {number} line from 1
+   * @param {string} [name] what the line is called, if not by its number
    */
-  inLine(line) {
-    return new NissyFault(this.text, { ...this.#place(), line });
+  inLine(line, name) {
+    return new NissyFault(this.text, { ...this.#place(), line }, name);
   }
 
   /**

@@ -1,7 +1,7 @@
 // Moves that merge: a step's first turns may turn the faces that were turned last on its side, and then count less.
 // Which beginnings of a step merge is told here; whether a shortest one begins so is asked of the engine, without a
 // list of them all.
-import { AXES, FACES_OF, stepNamed } from "./best-steps.js";
+import { FACES_OF, facesOnAxisOf, stepNamed } from "./best-steps.js";
 import { joined } from "./sides.js";
 
 /**
@@ -41,8 +41,7 @@ const quartersOf = (turn) => 1 + POWERS.indexOf(turn.slice(1));
  */
 function lastOfAxis(made) {
   const [before, last] = [made[made.length - 2], made[made.length - 1]];
-  const faces = AXES.map((axis) => FACES_OF[axis]).find((each) => each.includes(last[0]));
-  return before !== undefined && faces?.includes(before[0]) ? [before, last] : [last];
+  return before !== undefined && facesOnAxisOf(last[0]).includes(before[0]) ? [before, last] : [last];
 }
 
 /**

@@ -49,7 +49,7 @@ export const bufferOf = reading(ofMemories, "buffer");
 /** @type {(memory: WebAssembly.Memory, pages: number) => number} */
 export const growMemory = asFunction(ofMemories?.grow);
 
-/** @type {<Value>(array: Value[]) => readonly Value[]} */
+/** @type {<Value>(value: Value) => Readonly<Value>} */
 export const frozen = Object.freeze;
 
 export const ofArrays = Array.prototype;

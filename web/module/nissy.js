@@ -25,9 +25,9 @@ import { solutionsBy } from "./solutions.js";
 
 export { readAttempts } from "./attempts.js";
 export { EngineMissing, NissyFault, NoWebAssembly, SearchCut, Stopped } from "./faults.js";
-export { CORNER_PLACES, EDGE_PLACES } from "./facts.js";
+export { AXES, CORNER_PLACES, EDGE_PLACES } from "./facts.js";
 export { STEPS, isStep, startOf } from "./steps.js";
-export { stickersOf } from "./stickers.js";
+export { NET, stickersOf } from "./stickers.js";
 export { placeOfFault, plainLine } from "./written.js";
 
 /** @typedef {import("./bytes.js").Text} Text */
@@ -49,15 +49,16 @@ export { placeOfFault, plainLine } from "./written.js";
 /** @typedef {import("./facts.js").Form} Form */
 /** @typedef {import("./replies.js").Solution} Solution */
 /** @typedef {import("./replies.js").Solutions} Solutions */
-/** @typedef {import("./requests.js").Many} Many */
 /** @typedef {import("./tokens.js").FormPlace} FormPlace */
 /** @typedef {import("./tokens.js").Token} Token */
+/** @typedef {import("./requests.js").OnFaults} OnFaults */
 /** @typedef {import("./requests.js").Request} Request */
 /** @typedef {import("./requests.js").Wanted} Wanted */
 /** @typedef {import("./requests.js").Within} Within */
 /** @typedef {import("./steps.js").Step} Step */
 /** @typedef {import("./attempts.js").Attempt} Attempt */
 /** @typedef {import("./attempts.js").AttemptCandidate} AttemptCandidate */
+/** @typedef {import("./stickers.js").NetPlace} NetPlace */
 /** @typedef {import("./written.js").PlainLine} PlainLine */
 /** @typedef {import("./written.js").TextPlace} TextPlace */
 
@@ -73,8 +74,13 @@ export const NoWideMemory = NoWebAssembly;
  */
 
 /**
- * @template Value, Options
- * @typedef {import("./replies.js").Told<Value, Options>} Told
+ * @template {OnFaults} [Faults=OnFaults]
+ * @typedef {import("./requests.js").Many<Faults>} Many
+ */
+
+/**
+ * @template Value, Faults
+ * @typedef {import("./replies.js").Told<Value, Faults>} Told
  */
 
 /**
@@ -186,9 +192,9 @@ export class Nissy {
   /**
    * The same of many lines, up to the first fault, which says in which; or with each fault in its place.
    * @template {string} Name
-   * @template {Wanted & Many} [Options={}]
-   * @param {StepName<Name>} step @param {readonly Text[]} lines @param {Options} [options]
-   * @returns {Told<Solutions, Options>[]}
+   * @template {OnFaults} [Faults="throw"]
+   * @param {StepName<Name>} step @param {readonly Text[]} lines @param {Wanted & Many<Faults>} [options]
+   * @returns {Told<Solutions, Faults>[]}
    */
   solveAll(step, lines, options) {
     const request = allRequest(() => solveRequest(step, "", options), lines, options);
@@ -208,9 +214,9 @@ export class Nissy {
   /**
    * The same of many lines, up to the first fault, which says in which; or with each fault in its place.
    * @template {string} Name
-   * @template {Wanted & Many} [Options={}]
-   * @param {StepName<Name>} step @param {readonly Text[]} lines @param {Options} [options]
-   * @returns {Told<Count, Options>[]}
+   * @template {OnFaults} [Faults="throw"]
+   * @param {StepName<Name>} step @param {readonly Text[]} lines @param {Wanted & Many<Faults>} [options]
+   * @returns {Told<Count, Faults>[]}
    */
   countAll(step, lines, options) {
     const request = allRequest(() => countRequest(step, "", options), lines, options);
@@ -229,8 +235,8 @@ export class Nissy {
 
   /**
    * The same of many lines, up to the first fault, which says in which; or with each fault in its place.
-   * @template {Many} [Options={}]
-   * @param {readonly Text[]} lines @param {Options} [options] @returns {Told<Facts, Options>[]}
+   * @template {OnFaults} [Faults="throw"]
+   * @param {readonly Text[]} lines @param {Many<Faults>} [options] @returns {Told<Facts, Faults>[]}
    */
   factsAll(lines, options) {
     const request = allRequest(() => factsRequest(""), lines, options);

@@ -22,7 +22,7 @@ import { WorkerQueue } from "./worker-queue.js";
 /** @typedef {import("./requests.js").Asked} Asked */
 /** @typedef {import("./requests.js").BestRequest} BestRequest */
 /** @typedef {import("./requests.js").BestWanted} BestWanted */
-/** @typedef {import("./requests.js").Many} Many */
+/** @typedef {import("./requests.js").OnFaults} OnFaults */
 /** @typedef {import("./requests.js").Wanted} Wanted */
 /** @typedef {import("./signals.js").Followed} Followed */
 /** @typedef {import("./signals.js").Stoppable} Stoppable */
@@ -37,8 +37,13 @@ import { WorkerQueue } from "./worker-queue.js";
  */
 
 /**
- * @template Value, Options
- * @typedef {import("./replies.js").Told<Value, Options>} Told
+ * @template {OnFaults} [Faults=OnFaults]
+ * @typedef {import("./requests.js").Many<Faults>} Many
+ */
+
+/**
+ * @template Value, Faults
+ * @typedef {import("./replies.js").Told<Value, Faults>} Told
  */
 
 /** The most workers of a pool. */
@@ -172,9 +177,10 @@ export class WorkerPool extends SingleCalls {
 
   /**
    * @template {string} Name
-   * @template {Wanted & Many & Followed & Stoppable} [Options={}]
-   * @param {StepName<Name>} step @param {readonly Text[]} lines @param {Options & Followed} [options]
-   * @returns {Promise<Told<Solutions, Options>[]>}
+   * @template {OnFaults} [Faults="throw"]
+   * @param {StepName<Name>} step @param {readonly Text[]} lines
+   * @param {Wanted & Many<Faults> & Followed & Stoppable} [options]
+   * @returns {Promise<Told<Solutions, Faults>[]>}
    */
   async solveAll(step, lines, options) {
     const request = allRequest(() => solveRequest(step, "", options), lines, options);
@@ -183,9 +189,10 @@ export class WorkerPool extends SingleCalls {
 
   /**
    * @template {string} Name
-   * @template {Wanted & Many & Followed & Stoppable} [Options={}]
-   * @param {StepName<Name>} step @param {readonly Text[]} lines @param {Options & Followed} [options]
-   * @returns {Promise<Told<Count, Options>[]>}
+   * @template {OnFaults} [Faults="throw"]
+   * @param {StepName<Name>} step @param {readonly Text[]} lines
+   * @param {Wanted & Many<Faults> & Followed & Stoppable} [options]
+   * @returns {Promise<Told<Count, Faults>[]>}
    */
   async countAll(step, lines, options) {
     const request = allRequest(() => countRequest(step, "", options), lines, options);
@@ -193,8 +200,9 @@ export class WorkerPool extends SingleCalls {
   }
 
   /**
-   * @template {Many & Followed & Stoppable} [Options={}]
-   * @param {readonly Text[]} lines @param {Options & Followed} [options] @returns {Promise<Told<Facts, Options>[]>}
+   * @template {OnFaults} [Faults="throw"]
+   * @param {readonly Text[]} lines @param {Many<Faults> & Followed & Stoppable} [options]
+   * @returns {Promise<Told<Facts, Faults>[]>}
    */
   async factsAll(lines, options) {
     const request = allRequest(() => factsRequest(""), lines, options);

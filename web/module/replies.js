@@ -68,6 +68,10 @@ import { formPlacesOf, tokensOf } from "./tokens.js";
 /** @typedef {Answer | LineReply | CountReply | SolveReply | FactsReply | CheckReply} OneReply */
 /** @typedef {OneReply | OneReply[] | import("./best.js").BestReply} Reply */
 
+/** What the lines are called of calls that take two. */
+const OF_CHECK = ["scramble", "solution"];
+const OF_BEST = ["scramble", "moves so far"];
+
 const BRACKET = "(".charCodeAt(0);
 const ZERO = "0".charCodeAt(0);
 
@@ -195,12 +199,12 @@ export const factsIn = (reply) => factsFrom(withValue(reply).numbers, 0);
 /** @param {CheckReply} reply @returns {Check} */
 export function checkIn(reply) {
   if (reply.status === STATUS.done) return checkOf(reply);
-  throw inLine(errorIn(reply), reply.line);
+  throw inLine(errorIn(reply), reply.line, OF_CHECK[reply.line - 1]);
 }
 
 /** @param {import("./best.js").BestReply} reply @param {{cut: Telling}} asked @returns {import("./best.js").Best} */
 export function bestIn(reply, { cut }) {
-  if ("fault" in reply) throw new NissyFault(reply.fault.text, reply.fault);
+  if ("fault" in reply) throw new NissyFault(reply.fault.text, reply.fault, OF_BEST[Number(reply.fault.line) - 1]);
   /** @type {import("./best.js").Best} */
   const best = reply.rows.map(({ shown }) => shown);
   if (!reply.isCut) return best;
@@ -223,16 +227,18 @@ export function endsAll({ each, faults }, reply) {
  * What is wrong, with the number of the line in which it is.
  * @param {unknown} error
  * @param {number} line
+ * @param {string} [name] what a fault calls the line, if not by its number
  */
-function inLine(error, line) {
-  if (error instanceof NissyFault || error instanceof SearchCut) return error.inLine(line);
+function inLine(error, line, name) {
+  if (error instanceof NissyFault) return error.inLine(line, name);
+  if (error instanceof SearchCut) return error.inLine(line);
   return error instanceof RangeError ? new RangeError(`line ${line}: ${error.message}`) : error;
 }
 
 /**
- * What is told of a line of many: a value, or in its place what is wrong with the line, if the options say so.
- * @template Value, Options
- * @typedef {Options extends {faults: "value"} ? Value | NissyFault | RangeError : Value} Told
+ * What is told of a line of many: a value, or in its place what is wrong with the line, if the option `faults` says so.
+ * @template Value, Faults
+ * @typedef {Faults extends "value" ? Value | NissyFault | RangeError : Value} Told
  */
 
 /**

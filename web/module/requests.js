@@ -42,10 +42,13 @@ import { hasOwn } from "./natives.js";
 
 /** @typedef {Wanted} Within what `Wanted` was called for counts while they had fewer options */
 
+/** @typedef {Telling | undefined} OnFaults what becomes of the faults of many lines: undefined has the first thrown */
+
 /**
  * What is asked of many lines; `faults` says whether the first fault is thrown, as it is if it isn't given, or each in
  * the place of the line's answer.
- * @typedef {{faults?: Telling}} Many
+ * @template {OnFaults} [Faults=OnFaults]
+ * @typedef {{faults?: Faults}} Many
  */
 
 /**

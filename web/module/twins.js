@@ -1,6 +1,6 @@
 // Twins: solutions of one step that differ in the direction of their last quarter turns alone. The same holds after
 // each, and all have one case. And solutions in which the step was reached before their last move.
-import { AXES, FACES_OF, lastAxisOf, stepNamed } from "./best-steps.js";
+import { FACES_OF, facesOnAxisOf, lastAxisOf, stepNamed } from "./best-steps.js";
 import { joined } from "./sides.js";
 
 /** @typedef {import("./replies.js").Solution} Solution */
@@ -91,8 +91,7 @@ export function mergeTwins(solutions, step, before = () => "") {
  * @param {string} one
  * @param {string} other
  */
-export const areOfOneAxis = (one, other) =>
-  AXES.some((axis) => FACES_OF[axis].includes(one) && FACES_OF[axis].includes(other));
+export const areOfOneAxis = (one, other) => facesOnAxisOf(one).includes(other);
 
 /**
  * The beginnings of a line that have fewer moves, but at least so many; of two turns of opposite faces, which may

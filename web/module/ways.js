@@ -1,6 +1,6 @@
 // Ways from a cube to a step: the cube on both sides with the moves that were made there, the least length of the step,
 // and all moves with it, once those of each side are merged.
-import { AXES, FACES_OF, stepNamed } from "./best-steps.js";
+import { FACES_OF, facesOnAxisOf, stepNamed } from "./best-steps.js";
 import { hasMore, mergersOf, movesIn } from "./merging.js";
 import { textIn } from "./natives.js";
 import { SIDES, joined, movesOn, otherSide } from "./sides.js";
@@ -276,7 +276,7 @@ export const totalWith = (nissy, { made }, { side, moves }) =>
  */
 export function totalsWith(nissy, position, side, solutions) {
   const last = position.made[side].at(-1) ?? "";
-  const faces = AXES.map((axis) => FACES_OF[axis]).find((each) => each.includes(last[0])) ?? "";
+  const faces = facesOnAxisOf(last[0]);
   // one that begins on another axis merges with nothing
   return solutions.map(({ moves, length }) =>
     (faces.includes(moves[0]) ? totalWith(nissy, position, { side, moves }) : countOf(position) + length));

@@ -12,7 +12,7 @@ import { WorkerQueue } from "./worker-queue.js";
 /** @typedef {import("./facts.js").Facts} Facts */
 /** @typedef {import("./replies.js").Solutions} Solutions */
 /** @typedef {import("./requests.js").BestWanted} BestWanted */
-/** @typedef {import("./requests.js").Many} Many */
+/** @typedef {import("./requests.js").OnFaults} OnFaults */
 /** @typedef {import("./requests.js").Wanted} Wanted */
 /** @typedef {import("./signals.js").Followed} Followed */
 /** @typedef {import("./signals.js").Stoppable} Stoppable */
@@ -27,8 +27,13 @@ import { WorkerQueue } from "./worker-queue.js";
  */
 
 /**
- * @template Value, Options
- * @typedef {import("./replies.js").Told<Value, Options>} Told
+ * @template {OnFaults} [Faults=OnFaults]
+ * @typedef {import("./requests.js").Many<Faults>} Many
+ */
+
+/**
+ * @template Value, Faults
+ * @typedef {import("./replies.js").Told<Value, Faults>} Told
  */
 
 /**
@@ -64,9 +69,9 @@ export class WorkerCalls extends SingleCalls {
 
   /**
    * @template {string} Name
-   * @template {Wanted & Many & Stoppable} [Options={}]
-   * @param {StepName<Name>} step @param {readonly Text[]} lines @param {Options} [options]
-   * @returns {Promise<Told<Solutions, Options>[]>}
+   * @template {OnFaults} [Faults="throw"]
+   * @param {StepName<Name>} step @param {readonly Text[]} lines @param {Wanted & Many<Faults> & Stoppable} [options]
+   * @returns {Promise<Told<Solutions, Faults>[]>}
    */
   async solveAll(step, lines, options) {
     const request = allRequest(() => solveRequest(step, "", options), lines, options);
@@ -76,9 +81,9 @@ export class WorkerCalls extends SingleCalls {
 
   /**
    * @template {string} Name
-   * @template {Wanted & Many & Stoppable} [Options={}]
-   * @param {StepName<Name>} step @param {readonly Text[]} lines @param {Options} [options]
-   * @returns {Promise<Told<Count, Options>[]>}
+   * @template {OnFaults} [Faults="throw"]
+   * @param {StepName<Name>} step @param {readonly Text[]} lines @param {Wanted & Many<Faults> & Stoppable} [options]
+   * @returns {Promise<Told<Count, Faults>[]>}
    */
   async countAll(step, lines, options) {
     const request = allRequest(() => countRequest(step, "", options), lines, options);
@@ -87,8 +92,9 @@ export class WorkerCalls extends SingleCalls {
   }
 
   /**
-   * @template {Many & Stoppable} [Options={}]
-   * @param {readonly Text[]} lines @param {Options} [options] @returns {Promise<Told<Facts, Options>[]>}
+   * @template {OnFaults} [Faults="throw"]
+   * @param {readonly Text[]} lines @param {Many<Faults> & Stoppable} [options]
+   * @returns {Promise<Told<Facts, Faults>[]>}
    */
   async factsAll(lines, options) {
     const request = allRequest(() => factsRequest(""), lines, options);

@@ -1,5 +1,5 @@
 // The card of the cube: the nets of both sides, the pieces marked on them, how they are held, and moves played on them.
-import { AXES } from "../module/best-steps.js";
+import { AXES } from "../module/facts.js";
 import { stickersOf } from "../module/stickers.js";
 import { announce, element, part, tell } from "./element.js";
 import { PLACES, emptyNet, showCube, stickerOf, turnedView } from "./net.js";

@@ -1,6 +1,6 @@
 // The rows of a list, by the engine at hand: a step's solutions, twins as one, each with the cases after it; or a step
 // split over both sides, a few moves on one and the rest on the other, the fewest moves in all first.
-import { FACES_OF, stepNamed } from "../module/best-steps.js";
+import { facesOnAxisOf, stepNamed } from "../module/best-steps.js";
 import { turnsOfFace } from "../module/merging.js";
 import { mayBegin, mergeTwins, reachedBy, withoutEarlier } from "../module/twins.js";
 import { afterPart, countOf, totalsWith } from "../module/ways.js";
@@ -28,8 +28,8 @@ const MOST_OF_ALL = 20_000;
  * @param {string | undefined} last @param {string} turn */
 function mayFollow(last, turn) {
   if (last === undefined) return true;
-  const axis = Object.values(FACES_OF).find((faces) => faces.includes(last[0]));
-  return !axis.includes(turn[0]) || axis.indexOf(last[0]) < axis.indexOf(turn[0]);
+  const faces = facesOnAxisOf(last[0]);
+  return !faces.includes(turn[0]) || faces.indexOf(last[0]) < faces.indexOf(turn[0]);
 }
 
 /** @param {string} step its name @param {number} count @returns {string[][]} its beginnings with so many moves */

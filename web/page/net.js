@@ -1,15 +1,12 @@
-// Draws a cube as a net: U above, then L, F, R and B, and D below, as SVG. Each sticker has its colour and its letter,
-// and if pieces are marked a ring and a dot, or a grey. The view may be turned by y and x, which changes no letter.
+// Draws a cube as a net, as SVG. Each sticker has its colour and its letter, and if pieces are marked a ring and a dot,
+// or a grey. The view may be turned by y and x, which changes no letter.
+import { NET } from "../module/stickers.js";
 
 const SVG = "http://www.w3.org/2000/svg";
 const PITCH = 10;
 const GAP = 2;
-
-/** The faces in the order of the engine's letters, with their place in the net. */
-const FACES = [
-  { name: "U", column: 1, row: 0 }, { name: "R", column: 2, row: 1 }, { name: "F", column: 1, row: 1 },
-  { name: "D", column: 1, row: 2 }, { name: "L", column: 0, row: 1 }, { name: "B", column: 3, row: 1 },
-];
+/** The faces in the order of the engine's letters. */
+const FACES = "URFDLB";
 
 /** @param {string} name @param {Record<string, string | number>} attributes */
 function shape(name, attributes) {
@@ -18,9 +15,15 @@ function shape(name, attributes) {
   return made;
 }
 
-function stickerAt(x, y) {
+/** How far a row or column of the net is from its first one, with a gap between faces.
+ * @param {number} number */
+const distanceOf = (number) => number * PITCH + Math.floor(number / 3) * GAP;
+
+/** @param {import("../module/stickers.js").NetPlace} place */
+function stickerAt({ row, column }) {
+  const moved = `translate(${distanceOf(column)} ${distanceOf(row)})`;
   // the label of the net has all letters, by faces
-  const group = shape("g", { class: "sticker", transform: `translate(${x} ${y})`, "aria-hidden": "true" });
+  const group = shape("g", { class: "sticker", transform: moved, "aria-hidden": "true" });
   group.append(shape("rect", { x: 0.6, y: 0.6, width: PITCH - 1.2, height: PITCH - 1.2, rx: 1.4 }));
   group.append(shape("text", { x: PITCH / 2, y: PITCH / 2 + 2, "text-anchor": "middle" }));
   group.append(shape("circle", { class: "dot", cx: PITCH - 2.4, cy: 2.4, r: 1.3 }));
@@ -29,13 +32,8 @@ function stickerAt(x, y) {
 
 /** An empty net, with its 54 stickers in the order of the engine's letters. */
 export function emptyNet() {
-  const side = 3 * PITCH + GAP;
-  const net = shape("svg", { viewBox: `-1 -1 ${4 * side} ${3 * side}`, role: "img", class: "net" });
-  for (const { column, row } of FACES) {
-    for (let place = 0; place < 9; place++) {
-      net.append(stickerAt(column * side + (place % 3) * PITCH, row * side + Math.floor(place / 3) * PITCH));
-    }
-  }
+  const net = shape("svg", { viewBox: `-1 -1 ${distanceOf(12)} ${distanceOf(9)}`, role: "img", class: "net" });
+  net.append(...NET.map(stickerAt));
   return net;
 }
 
@@ -45,7 +43,7 @@ export const stickerOf = (net, target) => [...net.querySelectorAll(".sticker")].
 
 /** @param {string} letters @returns the letters in words: each face with its three rows */
 function inWords(letters) {
-  return FACES.map(({ name }, face) => {
+  return [...FACES].map((name, face) => {
     const rows = [0, 3, 6].map((row) => [...letters.slice(9 * face + row, 9 * face + row + 3)].join(" "));
     return `face ${name}: ${rows.join(", ")}`;
   }).join("; ");
@@ -74,7 +72,7 @@ export const PLACES = Array.from({ length: 54 }, (_, place) => place);
 /** Where the sticker of a place is, in space: U is up, R is right, F is towards the eye.
  * @param {number} place @returns {number[]} */
 function pointOf(place) {
-  const [row, column] = [Math.floor((place % 9) / 3), place % 3];
+  const [row, column] = [NET[place].row % 3, NET[place].column % 3];
   const points = [
     [column - 1, 2, row - 1], [2, 1 - row, 1 - column], [column - 1, 1 - row, 2],
     [column - 1, -2, 1 - row], [-2, 1 - row, column - 1], [1 - column, 1 - row, -2],
