@@ -50,15 +50,18 @@ struct continuation {
     std::string dr_case;           // that of the reduction before its moves, such as "4c4e"
 };
 
-// How `best` searches: `slack` and `most` as it says, and how many positions its searches look at together at most.
+// How `best` searches: `slack` and `most` as it says, and how many positions its searches look at together at most. What is called between
+// searches ends the call by what it throws.
 struct best_search {
     std::int64_t slack = 0;
     std::uint64_t most = 20, nodes = NISSY_ALL;
-    // called between searches with how many orientations are done, and of how many, 0 until that is known; what it throws ends the call
+    // with how many orientations are done, and of how many, 0 until that is known
     nissy::progress progress = {};
+    // whether to end: if it returns true, the call ends as one that is cut
+    std::function<bool()> stop = {};
 };
 
-// What `find_best` returns. If its searches ended at their bound, the rows are the best of what was tried until then: each is a row of the whole
+// What `find_best` returns. If its searches were cut, the rows are the best of what was tried until then: each is a row of the whole
 // list, in its order, and others may be missing, better ones too.
 struct best_found {
     std::vector<continuation> rows;
@@ -335,7 +338,7 @@ inline std::vector<continuation> rows_by(searches &by, std::string_view scramble
     try {
         find_rows(by, start_of(scramble, so_far), which, rows);
     } catch (const cut &) {
-        // it may be one of the caller's progress
+        // it may be one of what the caller has called
         if (!by.are_cut()) throw;
     } catch (const fault &found) {
         // each was read by itself, so they are too long together
@@ -354,9 +357,9 @@ inline std::vector<continuation> rows_by(searches &by, std::string_view scramble
 //
 // Moves of `so_far` in brackets are made on the inverse side. All moves count, those so far too, once they are merged on each side. The order
 // is by these, by the moves of the first step, and by the pieces of the case. `most` is how many are returned. Each unit of slack makes this
-// many times as long and as large; a call whose searches would look at more than `nodes` positions together throws a cut.
+// many times as long and as large; a call whose searches would look at more than `nodes` positions together, or that is stopped, throws a cut.
 inline std::vector<continuation> best(std::string_view scramble, std::string_view so_far, const best_search &which) {
-    continuing::searches by(which.nodes, which.progress);
+    continuing::searches by(which.nodes, which.progress, which.stop);
     std::vector<continuation> rows = continuing::rows_by(by, scramble, so_far, which);
     if (by.are_cut()) throw cut(by.looked());
     return rows;
@@ -364,7 +367,7 @@ inline std::vector<continuation> best(std::string_view scramble, std::string_vie
 
 // The same with what is said of it; one that is cut has the best of what was tried.
 inline best_found find_best(std::string_view scramble, std::string_view so_far = {}, const best_search &which = {}) {
-    continuing::searches by(which.nodes, which.progress);
+    continuing::searches by(which.nodes, which.progress, which.stop);
     std::vector<continuation> rows = continuing::rows_by(by, scramble, so_far, which);
     return {std::move(rows), by.are_cut()};
 }

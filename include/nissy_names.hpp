@@ -5,6 +5,7 @@
 
 #include "nissy.hpp"
 #include "nissy_forms.h"
+#include "nissy_net.hpp"
 
 namespace nissy {
 
@@ -28,14 +29,14 @@ std::vector<std::string> chosen(const std::bitset<Size> &bits, const std::array<
 
 } // namespace detail
 
-// The places of edges, such as "UF", in the order of nissy.h.
+// The places of edges, such as "UF", in the order of EDGE_PLACES.
 inline std::vector<std::string> edge_names(const std::bitset<12> &places) {
-    return detail::chosen<12>(places, {"UR", "UF", "UL", "UB", "DR", "DF", "DL", "DB", "FR", "FL", "BL", "BR"});
+    return detail::chosen(places, EDGE_PLACES);
 }
 
-// The places of corners, such as "URF", in the order of nissy.h.
+// The places of corners, such as "URF", in the order of CORNER_PLACES.
 inline std::vector<std::string> corner_names(const std::bitset<8> &places) {
-    return detail::chosen<8>(places, {"URF", "UFL", "ULB", "UBR", "DFR", "DLF", "DBL", "DRB"});
+    return detail::chosen(places, CORNER_PLACES);
 }
 
 // The forms of a verdict, as the library for Python names them.

@@ -116,13 +116,14 @@ inline start start_of(std::string_view scramble, std::string_view so_far) {
     return {{{line, invert(line)}, {normal, invert(before)}}, names};
 }
 
-// The searches of a call: how many positions they may look at together, and who is told how far the call is.
+// The searches of a call: how many positions they may look at together, who is told how far the call is, and who is asked before each whether
+// it is to end.
 class searches {
 public:
-    searches(std::uint64_t nodes, const progress &told) : nodes_(nodes), told_(told) {}
+    searches(std::uint64_t nodes, const progress &told, const std::function<bool()> &stop) : nodes_(nodes), told_(told), stop_(stop) {}
 
     // Whether they may be cut.
-    bool are_bounded() const { return nodes_ != NISSY_ALL; }
+    bool are_bounded() const { return nodes_ != NISSY_ALL || stop_; }
     // Whether they are, and at how many positions they looked.
     bool are_cut() const { return are_cut_; }
     std::uint64_t looked() const { return looked_; }
@@ -156,17 +157,26 @@ public:
     }
 
 private:
-    std::uint64_t left() const { return nodes_ == NISSY_ALL ? NISSY_ALL : nodes_ - looked_; }
+    // At how many positions the next search may look.
+    std::uint64_t left() {
+        if (stop_ && stop_()) end();
+        return nodes_ == NISSY_ALL ? NISSY_ALL : nodes_ - looked_;
+    }
 
     void spend(const count &last) {
         looked_ += last.nodes;
-        are_cut_ = last.is_cut;
-        if (are_cut_) throw cut(looked_);
+        if (last.is_cut) end();
+    }
+
+    [[noreturn]] void end() {
+        are_cut_ = true;
+        throw cut(looked_);
     }
 
     std::uint64_t nodes_, looked_ = 0;
     bool are_cut_ = false;
     const progress &told_;
+    const std::function<bool()> &stop_;
     std::size_t done_ = 0, all_ = 0;
 };
 

@@ -23,25 +23,26 @@ names, else the one that was installed or built with this package, else the syst
 """
 from ._best import best
 from ._continuations import Continuation, Continuations, Lengths, Orientation, Reduction, Side as Side
-from ._facts import Axis as Axis, Case, Check, Facts, Pieces, check, facts, facts_all
+from ._facts import Case, Check, Facts, Pieces, check, facts, facts_all
 from ._given import Step as Step, Text as Text
 from ._library import DONE, FAULT, MOST_INPUT, STOPPED, USAGE
 from ._lines import cleanup, facelets, invert, scramble, steps, unniss, version
 from ._places import start_of
 from ._runs import run, scrambles
 from ._searches import Tables, count, count_all, near, solutions, solve, solve_all
+from ._stickers import AXES, CORNER_PLACES, EDGE_PLACES, NET, Axis as Axis, stickers_of
 from ._tokens import FormPlace, Token, form_places, tokens
 from ._values import Answer, Count, Cut, Fault, LineFault, Solution, Solutions, StartFault, raising
 from ._written import PlainLine, plain_line
 
 __all__ = [
-    "DONE", "FAULT", "MOST_INPUT", "STOPPED", "USAGE",
+    "AXES", "CORNER_PLACES", "DONE", "EDGE_PLACES", "FAULT", "MOST_INPUT", "NET", "STOPPED", "USAGE",
     "Answer", "Case", "Check", "Continuation", "Continuations", "Count", "Cut", "Facts", "Fault", "FormPlace",
     "Lengths", "LineFault", "Orientation", "Pieces", "PlainLine", "Reduction", "Solution", "Solutions", "StartFault",
     "Tables", "Token",
     "best", "check", "cleanup", "count", "count_all", "facelets", "facts", "facts_all", "form_places", "invert",
     "near", "plain_line", "raising", "run", "scramble", "scrambles", "solutions", "solve", "solve_all", "start_of",
-    "steps", "tokens", "unniss",
+    "steps", "stickers_of", "tokens", "unniss",
 ]
 
 __version__ = version()

@@ -5,11 +5,12 @@ from __future__ import annotations
 from typing import Dict, Iterable, Iterator, List, NamedTuple, Optional, Tuple
 
 from ._continuations import Continuation, Continuations, Lengths, Orientation, Reduction, Side
-from ._facts import Axis, Case, check, facts, facts_all
-from ._given import Progress, Step, Text, bytes_of, number_of, progress_of
+from ._facts import Case, checked, facts, facts_all
+from ._given import Progress, Step, Stop, Text, bytes_of, function_of, number_of
 from ._lines import MOST_WORD
+from ._stickers import Axis
 from ._twins import all_twins, grouped, last_turns, longer_among, shorter_among
-from ._values import Cut, Fault, LineFault, Solution, raising
+from ._values import Cut, Fault, LineFault, Solution, named, raising
 from ._ways import NEVER, NORMAL, SIDES, Cube, LeastUntilNow, Searches, Start, Way
 from ._ways import best_way, bounds_of, read, sought_on, totals, turns_of
 
@@ -20,6 +21,8 @@ _REDUCTIONS: Dict[Step, Dict[Step, Axis]] = {
     "eorl": {"drud-eorl": "ud", "drfb-eorl": "fb"},
     "eoud": {"drrl-eoud": "rl", "drfb-eoud": "fb"}}
 _MOST_SLACK = 20
+# what a fault calls the line behind the scramble
+_OTHER = "moves so far"
 # so many groups of twins are tried at first, and at most, before their rows are known
 _FIRST_BATCH, _BATCH = 1, 256
 
@@ -294,7 +297,7 @@ def _reduced(searches: Searches, start: Start, held: Iterable[Step], slack: int,
 
 
 def best(scramble: Text, so_far: Text = "", *, slack: int = 0, most: Optional[int] = 20, nodes: Optional[int] = None,
-         partial: bool = False, progress: Optional[Progress] = None) -> Continuations:
+         partial: bool = False, progress: Optional[Progress] = None, stop: Optional[Stop] = None) -> Continuations:
     """What may follow a scramble and the moves so far, the best first, up to a domino reduction: each orientation on
     three axes and both sides, up to `slack` moves longer than the shortest of its axis and side, and after it the
     reduction on each of two axes with the fewest moves in all, on the better side. An orientation that goes on after it
@@ -310,7 +313,9 @@ def best(scramble: Text, so_far: Text = "", *, slack: int = 0, most: Optional[in
     Cut is raised, or with `partial` the best rows of what was tried until then are returned, whose `cut` is
     true. Each is a row of the whole list, in its order, and others may be missing, better ones too.
     `progress` is called between searches with how many orientations are done, and of how many, None until
-    that is known; what it raises ends the call.
+    that is known. `stop` is asked before each search whether to end, such as the `is_set` of an Event: if it
+    returns true, the call ends as one that is cut. With a slack of 2 some tenths of a second may pass until it
+    is asked again, with 3 ten seconds. What either raises ends the call.
 
     Raises LineFault with `line` 1 for the scramble and 2 for the moves so far, Fault if both have too
     many moves together, and Cut."""
@@ -318,19 +323,20 @@ def best(scramble: Text, so_far: Text = "", *, slack: int = 0, most: Optional[in
     longer = number_of(slack, "the slack", _MOST_SLACK)
     count = MOST_WORD if most is None else number_of(most, "most", MOST_WORD)
     looks = None if nodes is None else number_of(nodes, "nodes", MOST_WORD)
-    searches, found = Searches(looks, progress_of(progress)), Continuations()
-    check(*given)
+    asked = function_of(progress, "the progress"), function_of(stop, "the stop")
+    searches, found = Searches(looks, *asked), Continuations()
+    checked(given, _OTHER)
     try:
         for rows in _continuations(searches, read(given[0].decode(), given[1].decode()), longer, count):
             found = Continuations(rows)
     except Cut:
-        # it may be one of the caller's progress
+        # it may be one of what the caller has called
         if not (partial and searches.are_cut):
             raise
         found.cut = True
     except LineFault as fault:
         # each was read by itself, so they are too long together
-        raise Fault(fault.text, 2) from None
+        raise named(Fault(fault.text, 2), _OTHER) from None
     return found
 
 

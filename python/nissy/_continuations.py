@@ -1,8 +1,8 @@
 """How a line goes on to a domino reduction. Types stand here as they are and not as texts, for those who ask a
 class of the package for them."""
 import sys
-from dataclasses import dataclass
-from typing import List, Optional, Tuple
+from dataclasses import asdict, dataclass
+from typing import Any, Dict, List, Optional, Tuple
 
 from ._facts import Case
 from ._given import Step
@@ -70,5 +70,9 @@ class Continuations(List[Continuation]):
     """The continuations of a line, the best first, as a list."""
 
     cut: bool = False
-    """Whether the searches ended at their bound: then these are the best of what was tried until then. Each is a row of
-    the whole list, in its order, and others may be missing, better ones too."""
+    """Whether the searches ended at their bound, or were stopped: then these are the best of what was tried until then.
+    Each is a row of the whole list, in its order, and others may be missing, better ones too."""
+
+    def as_dict(self) -> Dict[str, Any]:
+        """The list as `rows`, each by `dataclasses.asdict`, and `cut`, as json.dumps takes it."""
+        return {"rows": [asdict(row) for row in self], "cut": self.cut}

@@ -2,30 +2,20 @@
 from __future__ import annotations
 
 import struct
-import sys
 from functools import lru_cache
 from itertools import starmap
-from typing import Any, Callable, Dict, FrozenSet, Iterable, Iterator, NamedTuple, Optional, Tuple, TypeVar, Union
+from typing import Any, Callable, Dict, Iterable, Iterator, NamedTuple, Optional, Tuple, TypeVar, Union
 
 from . import _library, _rooms
 from ._given import Progress, Step, Text, bytes_of
 from ._library import DONE, FACTS_ANSWER
 from ._lines import fault_of, steps
 from ._many import Asking, Piece, in_pieces
-from ._values import Fault
+from ._stickers import AXES, CORNER_PLACES, EDGE_PLACES, Axis
+from ._values import Fault, named
 
-if sys.version_info >= (3, 8):
-    from typing import Literal
-
-    Axis = Literal["fb", "rl", "ud"]
-else:
-    Axis = str
-
-# the places of edges and of corners, and the forms, by the bits of the library's masks
-_EDGES = ("UR", "UF", "UL", "UB", "DR", "DF", "DL", "DB", "FR", "FL", "BL", "BR")
-_CORNERS = ("URF", "UFL", "ULB", "UBR", "DFR", "DLF", "DBL", "DRB")
+# the forms by the bits of the library's masks
 _FORMS = ("slices", "lower_case", "brackets", "apostrophe", "half_prime")
-_AXES: Tuple[Axis, ...] = ("fb", "rl", "ud")
 # where the numbers of the axes begin in the struct, and how many each has
 _FIRST, _EACH = 6, 6
 _EACH_ANSWER = struct.Struct(f"{FACTS_ANSWER.size}s")
@@ -51,8 +41,7 @@ class Pieces(int):
 
     @property
     def places(self) -> Tuple[str, ...]:
-        """The names of the places, edges in the order UR UF UL UB DR DF DL DB FR FL BL BR, corners in that of
-        URF UFL ULB UBR DFR DLF DBL DRB."""
+        """The names of the places, in the order of EDGE_PLACES or CORNER_PLACES."""
         return self._places
 
     def __reduce__(self) -> Tuple[Any, ...]:
@@ -105,8 +94,8 @@ class Facts:
         return self._numbers()[5]
 
     @property
-    def holds(self) -> FrozenSet[Step]:
-        """The steps that the cube has reached."""
+    def holds(self) -> Tuple[Step, ...]:
+        """The steps that the cube has reached, in the order of `steps`."""
         return _steps_of(self._numbers()[6])
 
     @property
@@ -130,10 +119,17 @@ class Facts:
         the wrong side of the slice."""
         return self._by_axis(lambda numbers: _case(numbers[4], numbers[5]))
 
+    def as_dict(self) -> Dict[str, Any]:
+        """All of it by the same names, as json.dumps takes it: of bad pieces there are lists of the places."""
+        pieces = {"bad_edges": self.bad_edges, "bad_corners": self.bad_corners, "misplaced_edges": self.misplaced_edges}
+        places = {name: {axis: list(it.places) for axis, it in by_axis.items()} for name, by_axis in pieces.items()}
+        return {"solved": self.solved, "moves": self.moves, "clean_moves": self.clean_moves, "holds": list(self.holds),
+                "case": {axis: str(case) for axis, case in self.case.items()}, **places}
+
     def _by_axis(self, of_axis: Callable[[Tuple[int, ...]], Value]) -> Dict[Axis, Value]:
         """Returns what each axis's numbers stand for."""
         numbers = self._numbers()[_FIRST + 1:]
-        return {axis: of_axis(numbers[_EACH * at:_EACH * (at + 1)]) for at, axis in enumerate(_AXES)}
+        return {axis: of_axis(numbers[_EACH * at:_EACH * (at + 1)]) for at, axis in enumerate(AXES)}
 
     def __eq__(self, other: object) -> bool:
         return isinstance(other, Facts) and self._numbers() == other._numbers()
@@ -168,13 +164,13 @@ class Check(NamedTuple):
 @lru_cache(maxsize=None)
 def _edges(mask: int) -> Pieces:
     """Returns the edges of a mask."""
-    return Pieces(_chosen(mask, _EDGES))
+    return Pieces(_chosen(mask, EDGE_PLACES))
 
 
 @lru_cache(maxsize=None)
 def _corners(mask: int) -> Pieces:
     """Returns the corners of a mask."""
-    return Pieces(_chosen(mask, _CORNERS))
+    return Pieces(_chosen(mask, CORNER_PLACES))
 
 
 @lru_cache(maxsize=None)
@@ -184,9 +180,9 @@ def _case(corners: int, edges: int) -> Case:
 
 
 @lru_cache(maxsize=None)
-def _steps_of(mask: int) -> FrozenSet[Step]:
+def _steps_of(mask: int) -> Tuple[Step, ...]:
     """Returns the steps of a mask."""
-    return frozenset(_chosen(mask, steps()))
+    return _chosen(mask, steps())
 
 
 def facts(line: Text) -> Facts:
@@ -234,8 +230,13 @@ def facts_all(lines: Iterable[Text], threads: int = 1,
 def check(scramble: Text, solution: Text) -> Check:
     """Whether a solution solves a scramble, how many moves it has, and which forms that the WCA's notation hasn't. Both
     may have brackets. Raises LineFault, with `line` 1 for the scramble and 2 for the solution."""
-    given = bytes_of(scramble, "the scramble"), bytes_of(solution, "the solution")
+    return checked((bytes_of(scramble, "the scramble"), bytes_of(solution, "the solution")), "solution")
+
+
+def checked(given: Tuple[bytes, bytes], other: str) -> Check:
+    """Returns what `check` tells of a scramble and another line, which faults call by this name. Raises LineFault."""
     answer = _library.nissy_check(given[0], len(given[0]), given[1], len(given[1]))
     if answer.status:
-        raise fault_of(answer.status, answer.fault, answer.column, given[answer.line - 1], answer.line)
+        fault = fault_of(answer.status, answer.fault, answer.column, given[answer.line - 1], answer.line)
+        raise named(fault, "scramble" if answer.line == 1 else other)
     return Check(answer.solved == 1, answer.moves, answer.clean_moves, _chosen(answer.forms, _FORMS))

@@ -3,7 +3,7 @@ from __future__ import annotations
 
 import operator
 import sys
-from typing import Callable, Iterable, Iterator, Optional, Union
+from typing import Any, Callable, Iterable, Iterator, Optional, TypeVar, Union
 
 # the names of the steps, for tools that read types and no library: what holds at run time is what the library says
 if sys.version_info >= (3, 8):
@@ -22,6 +22,10 @@ Text = Union[str, bytes, bytearray, memoryview]
 _TEXTS = (str, bytes, bytearray, memoryview)
 Progress = Callable[[int, Optional[int]], object]
 """Is told how many are done, and of how many, or None until that is known."""
+Stop = Callable[[], bool]
+"""Returns whether to end."""
+Each = TypeVar("Each")
+Called = TypeVar("Called", bound=Callable[..., Any])
 
 
 def _kind(value: object) -> str:
@@ -74,7 +78,7 @@ def number_of(value: int, what: str, most: int, least: int = 0) -> int:
     return value
 
 
-def each_of(texts: Iterable[Text], what: str) -> Iterator[Text]:
+def each_of(texts: Iterable[Each], what: str) -> Iterator[Each]:
     """Returns several texts one by one. One text isn't several, though it has letters."""
     given: object = texts
     if not isinstance(given, _TEXTS):
@@ -85,8 +89,8 @@ def each_of(texts: Iterable[Text], what: str) -> Iterator[Text]:
     raise TypeError(f"{what} are a list or another iterable, not {_kind(given)}")
 
 
-def progress_of(progress: Optional[Progress]) -> Optional[Progress]:
-    """Returns what is told of the progress, if it can be."""
-    if progress is not None and not callable(progress):
-        raise TypeError(f"the progress is a function or None, not {_kind(progress)}")
-    return progress
+def function_of(function: Optional[Called], what: str) -> Optional[Called]:
+    """Returns what is called on the way, if it can be."""
+    if function is not None and not callable(function):
+        raise TypeError(f"{what} is a function or None, not {_kind(function)}")
+    return function

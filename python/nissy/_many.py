@@ -7,7 +7,7 @@ from itertools import islice
 from time import perf_counter, sleep
 from typing import Any, Callable, Deque, Generic, Iterable, Iterator, List, NamedTuple, Optional, Tuple, TypeVar
 
-from ._given import Progress, Text, bytes_of, each_of, number_of, progress_of
+from ._given import Progress, Text, bytes_of, each_of, function_of, number_of
 
 Value = TypeVar("Value")
 
@@ -60,7 +60,7 @@ class _Telling:
     """Tells how many lines are done, and of how many."""
 
     def __init__(self, lines: Iterable[Text], progress: Optional[Progress]) -> None:
-        self._progress, self._done, self._all = progress_of(progress), 0, _count_of(lines)
+        self._progress, self._done, self._all = function_of(progress, "the progress"), 0, _count_of(lines)
         self._told: Optional[int] = None
         self._next = 0.0
 

@@ -1,9 +1,10 @@
 """What the calls return and raise. Types stand here as they are and not as texts, for those who ask a
 class of the package for them."""
 from dataclasses import dataclass
-from typing import Any, Iterable, Iterator, List, NamedTuple, Optional, Tuple, TypeVar, Union
+from typing import Any, Dict, Iterable, Iterator, List, NamedTuple, Optional, Tuple, TypeVar, Union
 
 Value = TypeVar("Value")
+AnyFault = TypeVar("AnyFault", bound="Fault")
 
 
 @dataclass(frozen=True)
@@ -38,6 +39,10 @@ class Solutions(List[Solution]):
     cut: bool = False
     """Whether the search ended at its bound: then the list is a beginning of that of all."""
 
+    def as_dict(self) -> Dict[str, Any]:
+        """The list as `solutions`, and what is said of it, by the same names, as json.dumps takes it."""
+        return {"solutions": list(map(str, self)), "more": self.more, "nodes": self.nodes, "cut": self.cut}
+
 
 class Count(NamedTuple):
     """How many solutions there are. A number that is 2^64 - 1 stands for all numbers above it too."""
@@ -60,13 +65,20 @@ class Fault(ValueError):
     """What is wrong with a line: `text`. If it is one of many lines, `line` is its number, from 1. A LineFault or a
     StartFault; neither, if the line has too many bytes."""
 
+    _name: str = ""
+    """What the line is called, if the call has two: its text begins with that in place of a number."""
+
     def __init__(self, text: str, line: Optional[int] = None) -> None:
         super().__init__(text)
         self.text = text
         self.line = line
 
     def __str__(self) -> str:
-        return f"{_place(self.line, ': ')}{self.text}"
+        return f"{self._of_line(': ')}{self.text}"
+
+    def _of_line(self, then: str) -> str:
+        """Returns the words for its line, if there are others."""
+        return f"{self._name}, " if self._name else _place(self.line, then)
 
     def __reduce__(self) -> Tuple[Any, ...]:
         """What a copy is made of, as for another process: an exception is made again of its message, if nothing else is
@@ -84,7 +96,7 @@ class LineFault(Fault):
         self.character = column if character is None else character
 
     def __str__(self) -> str:
-        return f"{_place(self.line, ', ')}column {self.column}: {self.text}"
+        return f"{self._of_line(', ')}column {self.column}: {self.text}"
 
     def __reduce__(self) -> Tuple[Any, ...]:
         """What a copy is made of, as of a Fault."""
@@ -130,6 +142,12 @@ def raising(answers: Iterable[Union[Value, Fault, Cut]]) -> Iterator[Value]:
         if isinstance(answer, (Fault, Cut)):
             raise answer
         yield answer
+
+
+def named(fault: AnyFault, name: str) -> AnyFault:
+    """Returns the fault of a call on two lines, whose text begins with the name of the one that has it."""
+    fault._name = name
+    return fault
 
 
 def _place(line: Optional[int], then: str) -> str:

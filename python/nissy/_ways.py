@@ -7,7 +7,7 @@ from heapq import heappush, heappushpop
 from typing import Callable, Dict, Iterable, Iterator, List, NamedTuple, Optional, Sequence, Tuple
 
 from ._facts import facts
-from ._given import Progress, Step
+from ._given import Progress, Step, Stop
 from ._lines import cleanup, invert, unniss
 from ._searches import MOST_TURNS, Tables, count_all, solve
 from ._twins import FACES
@@ -27,20 +27,20 @@ class Wanted(NamedTuple):
 
 
 class Searches:
-    """The searches of a call: how many positions they may look at together, any number if it is None, and who
-    is told how far the call is."""
+    """The searches of a call: how many positions they may look at together, any number if it is None, who is told how
+    far the call is, and who is asked before each whether it is to end."""
 
-    __slots__ = ("_looked", "_nodes", "_told", "_done", "_all", "are_cut")
+    __slots__ = ("_looked", "_nodes", "_told", "_stop", "_done", "_all", "are_cut")
 
-    def __init__(self, nodes: Optional[int], told: Optional[Progress]) -> None:
-        self._nodes, self._told = nodes, told
+    def __init__(self, nodes: Optional[int], told: Optional[Progress], stop: Optional[Stop]) -> None:
+        self._nodes, self._told, self._stop = nodes, told, stop
         self._looked = self._done = 0
         self._all: Optional[int] = None
         self.are_cut = False
 
     def are_bounded(self) -> bool:
         """Returns whether they may be cut."""
-        return self._nodes is not None
+        return self._nodes is not None or self._stop is not None
 
     def begin_last(self, count: int) -> None:
         """Tells how many there are, of which so many aren't done."""
@@ -56,10 +56,11 @@ class Searches:
     def solve(self, step: Step, line: str, slack: int = 0) -> Solutions:
         """Returns a step's solutions."""
         self.go_on(0)
+        left = self._left()
         try:
-            found = solve(step, line, slack=slack, nodes=self._left())
+            found = solve(step, line, slack=slack, nodes=left)
         except Cut as cut:
-            raise self._cut(cut.count) from None
+            raise self._cut(cut.count.nodes) from None
         self._looked += found.nodes
         return found
 
@@ -76,9 +77,9 @@ class Searches:
         return found
 
     def _first_counts(self, step: Step, limit: int, lines: List[str]) -> Iterator[Count]:
-        """Returns the counts of lines up to their first solutions. With a bound each is asked for by itself, since the
+        """Returns the counts of lines up to their first solutions. If they may be cut, each is asked for by itself: the
         next one may look at what it leaves."""
-        if self._nodes is None:
+        if not self.are_bounded():
             return raising(count_all(step, lines, limit, most=1))
         return map(self._first_of(Tables(step), limit), lines)
 
@@ -87,20 +88,22 @@ class Searches:
         def count_first(line: str) -> Count:
             count = tables.count(line, limit, most=1, nodes=self._left(), partial=True)
             if count.cut:
-                raise self._cut(count)
+                raise self._cut(count.nodes)
             self._looked += count.nodes
             return count
 
         return count_first
 
     def _left(self) -> Optional[int]:
-        """Returns at how many positions the next search may look."""
+        """Returns at how many positions the next search may look. Raises Cut if there is to be none."""
+        if self._stop is not None and self._stop():
+            raise self._cut(0)
         return None if self._nodes is None else self._nodes - self._looked
 
-    def _cut(self, last: Count) -> Cut:
-        """Returns the cut of them all, after the last one was cut."""
+    def _cut(self, last: int) -> Cut:
+        """Returns the cut of them all, after the last one looked at so many positions."""
         self.are_cut = True
-        return Cut(Count(None, 0, self._looked + last.nodes, True))
+        return Cut(Count(None, 0, self._looked + last, True))
 
 
 class Cube(NamedTuple):

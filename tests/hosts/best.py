@@ -1,6 +1,6 @@
 #!/usr/bin/env python3
 """Drawn questions to `best`, by each host beside Python, whose rows counted.py counts; that each is answered so by the least bound on nodes, and
-is cut by one less; and what is told of one that is cut.
+is cut by one less; and what is told of one that is cut, or that is stopped.
 
     tests/hosts/best.py SEED COUNT HOST..
 
@@ -21,6 +21,8 @@ CUT = fault_of(0, 0, "cut")
 ALL = 2**64 - 1
 # the bound with which a search for the least one begins, and one that no question here needs
 FIRST_BOUND, MOST_BOUND = 100, 10**9
+# more searches than any question here makes
+NO_STOP = 10**9
 
 
 def answers(host: Host, questions: List[Question]) -> List[str]:
@@ -82,6 +84,26 @@ def cut_rows(tally: Tally, host: Host, python: Host, seed: int) -> None:
             tally.equal("they are those of Python", [it.splitlines() for it in answers(python, asked)], got)
 
 
+def stopped(tally: Tally, host: Host, python: Host, seed: int) -> None:
+    """What is told of a question that is stopped at some search: the same as of one that is cut there, and if it is asked more often no worse rows.
+    C++ asks as often as Python."""
+    draw = Drawing(seed + 2)
+    scramble = draw.scramble()
+    for question in (Question("R U", "", 1), Question(scramble), Question(scramble, draw.orientation(scramble), 1, 3), Question("R F U", "", 1)):
+        whole = answers(python, [question._replace(most=ALL)])[0].splitlines()
+        asked = [question._replace(asks=asks, partial=1) for asks in (0, 1, 2, 9, 80, 500, NO_STOP)]
+        got = [it.splitlines() for it in answers(host, asked)]
+        tally.equal(f"{question}: one that may go on is whole in {host.name}", got[-1], whole[:question.most])
+        tally.equal("nothing is there before the first search", got[0], ["cut"])
+        cut = [rows[:-1] for rows in got if rows[-1:] == ["cut"]]
+        at = [places(rows, whole) for rows in cut]
+        tally.holds("its rows are those of the whole list, each once", all(it == sorted(set(it)) and it[-1:] < [len(whole)] for it in at))
+        tally.holds("more searches have no worse ones", all(len(one) <= len(other) and all(map(ge, one, other)) for one, other in zip(at, at[1:])))
+        tally.holds("some are cut, and have rows", len(cut) > 2 and at[-1])
+        tally.equal("it is cut if that isn't wanted", answers(host, [it._replace(partial=0) for it in asked[:3]]), [CUT] * 3)
+        tally.equal("they are those of Python", [it.splitlines() for it in answers(python, asked)], got)
+
+
 def main() -> None:
     """All questions, by each host."""
     tally, python, (seed, count) = Tally(), Python(), map(int, sys.argv[1:3])
@@ -92,6 +114,8 @@ def main() -> None:
             tally.equal(f"{question} in {host.name}", theirs, ours)
         bounds(tally, host, python, seed)
         cut_rows(tally, host, python, seed)
+        if host.name != "JavaScript":
+            stopped(tally, host, python, seed)
         tally.equal(f"{host.name} ends, and has said no more", host.end(), 0)
     tally.holds("some have rows, some have none, and some are cut", sum(";" in it for it in wanted) > count / 2 and "" in wanted and CUT in wanted)
     tally.end()

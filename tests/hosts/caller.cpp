@@ -140,7 +140,9 @@ std::string continued(std::istream &asked) {
     std::string scramble, so_far, text;
     nissy::best_search which;
     bool partial = false;
-    asked >> scramble >> so_far >> which.slack >> which.most >> which.nodes >> partial;
+    std::uint64_t asks = 0;
+    asked >> scramble >> so_far >> which.slack >> which.most >> which.nodes >> partial >> asks;
+    if (asks != NISSY_ALL) which.stop = [&asks] { return asks-- == 0; };
     const exact first(scramble), other(so_far);
     const nissy::best_found found = partial ? nissy::find_best(first.view(), other.view(), which)
                                             : nissy::best_found{nissy::best(first.view(), other.view(), which), false};
@@ -151,16 +153,36 @@ std::string continued(std::istream &asked) {
     return found.is_cut ? text + "cut\n" : text;
 }
 
+// The names of axes, edges and corners, and where each letter is in the net.
+std::string net() {
+    const auto all = [](const auto &texts) { return joined({texts.begin(), texts.end()}); };
+    std::string text = all(nissy::AXES) + "\n" + all(nissy::EDGE_PLACES) + "\n" + all(nissy::CORNER_PLACES);
+    for (const auto &[row, column] : nissy::NET) text += "\n" + std::to_string(row) + "," + std::to_string(column);
+    return text;
+}
+
+// The stickers of the places that a text names.
+std::string stickers_of(std::string_view text) {
+    std::istringstream all{std::string(text)};
+    std::vector<std::string> places;
+    for (std::string name; std::getline(all, name, ',');) places.push_back(name);
+    std::string numbers;
+    for (const std::size_t sticker : nissy::stickers_of(places)) numbers += (numbers.empty() ? "" : " ") + std::to_string(sticker);
+    return numbers;
+}
+
 std::string called(const std::string &call, std::istream &asked) {
     if (call == "solve" || call == "count") return searched(call, asked);
     if (call == "scrambles") return drawn(asked);
     if (call == "best") return continued(asked);
     if (call == "steps") return lines(nissy::steps());
+    if (call == "net") return net();
     std::string hex, other;
     asked >> hex >> other;
     const exact line(hex);
     if (call == "check") return checked(line.view(), exact(other).view());
     if (call == "facts") return seen(line.view());
+    if (call == "stickers") return stickers_of(line.view());
     if (call == "tokens") return moves_of(line.view());
     if (call == "plain_line") return plain_of(line.view());
     if (call == "form_places") return forms_of(line.view());

@@ -132,7 +132,7 @@ def facts(seen: nissy.Facts) -> str:
     if any(seen.case[axis] != f"{corners}c{misplaced}e" for axis, (_, corners, misplaced) in zip(AXES, each)):
         return f"another case: {seen.case}"
     places = ["/".join(",".join(it.places) for it in pieces) for pieces in each]
-    return " ".join([f"{seen.solved:d} {seen.moves} {seen.clean_moves}", ",".join(step for step in nissy.steps() if step in seen.holds), *places])
+    return " ".join([f"{seen.solved:d} {seen.moves} {seen.clean_moves}", ",".join(seen.holds), *places])
 
 
 def tokens(told: List[nissy.Token]) -> str:
@@ -164,6 +164,18 @@ def form_places(places: List[nissy.FormPlace]) -> str:
 def plain_line(it: nissy.PlainLine) -> str:
     """A text as one line, the places of its signs, and what is left out."""
     return f"{it.line}\n{' '.join(map(str, it.places))}\n{'|'.join(it.left_out)}"
+
+
+def net() -> str:
+    """The names of axes, edges and corners, and where each letter is in the net."""
+    names = [",".join(names) for names in (nissy.AXES, nissy.EDGE_PLACES, nissy.CORNER_PLACES)]
+    return "\n".join([*names, *(f"{row},{column}" for row, column in nissy.NET)])
+
+
+def stopping(asks: int) -> Callable[[], bool]:
+    """What ends a call when it has been asked so often."""
+    left = iter(range(asks))
+    return lambda: next(left, None) is None
 
 
 class Python(Host):
@@ -198,9 +210,14 @@ class Python(Host):
             return lines([nissy.scramble(*given[:3]), *nissy.scrambles(*given)])
         if call == "steps":
             return lines(nissy.steps())
+        if call == "net":
+            return net()
+        if call == "stickers":
+            return " ".join(map(str, nissy.stickers_of(name for name in given[0].decode().split(",") if name)))
         if call == "best":
-            scramble, so_far, slack, most, nodes, partial = given
-            found = nissy.best(self.line(scramble), self.line(so_far), slack=slack, most=most, nodes=nodes, partial=partial == 1)
+            scramble, so_far, slack, most, nodes, partial, asks = given
+            found = nissy.best(self.line(scramble), self.line(so_far), slack=slack, most=most, nodes=nodes, partial=partial == 1,
+                               stop=None if asks == ALL else stopping(asks))
             return lines([*map(row, found), *(["cut"] if found.cut else [])])
         written: Any = {"facts": facts, "tokens": tokens, "form_places": form_places, "check": checked, "plain_line": plain_line}.get(call, str)
         return str(written(getattr(nissy, call)(*map(self.line, given))))

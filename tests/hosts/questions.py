@@ -21,6 +21,8 @@ class Question(NamedTuple):
     nodes: int = 2**64 - 1
     # 1 if what was found until a cut is wanted
     partial: int = 0
+    # how often it is asked whether to end before it is to
+    asks: int = 2**64 - 1
 
     def as_line(self) -> str:
         """It as the callers in other languages read it."""

@@ -61,7 +61,7 @@ def names(tally: Tally) -> None:
               "solve", "solve_all", "near", "count", "count_all", "scramble", "scrambles", "steps", "Tables", "Solution", "Count",
               "StartFault", "Fault", "Cut", "Solutions", "raising", "facts", "facts_all", "check", "Facts", "Check", "Case", "Pieces",
               "tokens", "Token", "solutions", "best", "Continuation", "Continuations", "Orientation", "Reduction", "Lengths", "form_places", "FormPlace",
-              "start_of", "plain_line", "PlainLine"}
+              "start_of", "plain_line", "PlainLine", "AXES", "EDGE_PLACES", "CORNER_PLACES", "NET", "stickers_of"}
     tally.equal("what an import of all brings", set(brought), wanted)
     public = [getattr(nissy, name) for name in nissy.__all__ if callable(getattr(nissy, name))]
     tally.holds("each function and each class says what it does", len(public) > 10 and all(it.__doc__ for it in public))
@@ -133,7 +133,45 @@ def copies(tally: Tally) -> None:
     tally.equal("a count and a check as JSON", json.dumps([nissy.count("eofb", "R U F"), nissy.check("R", "M")]),
                 '[[1, 2, 20, false], [false, 2, 2, ["slices"]]]')
     tally.equal("a row as JSON", list(json.loads(json.dumps(dataclasses.asdict(row)))), ["total", "line", "eo", "dr", "case"])
+    dicts(tally)
     tally.equal("a row as a string", str(row), f"{row.line} ({row.total})")
+
+
+def dicts(tally: Tally) -> None:
+    """What is told of a cube or of a list as a dict, which goes to JSON and comes back as it is."""
+    # R flips four edges on its own axis alone; it twists four corners, and takes two edges out of each slice beside it and two others in
+    edges, corners = ["UR", "DR", "FR", "BR"], ["URF", "UBR", "DFR", "DRB"]
+    wanted = {"solved": False, "moves": 1, "clean_moves": 1, "holds": ["eofb", "eoud", "drrl-eofb", "drrl-eoud", "eo", "dr-eofb", "dr-eoud"],
+              "case": {"fb": "4c4e", "rl": "0c0e", "ud": "4c4e"}, "bad_edges": {"fb": [], "rl": edges, "ud": []},
+              "bad_corners": {"fb": corners, "rl": [], "ud": corners}, "misplaced_edges": {"fb": edges, "rl": [], "ud": edges}}
+    seen = nissy.facts("R").as_dict()
+    tally.equal("facts", (seen, json.loads(json.dumps(seen))), (wanted, wanted))
+    tally.equal("its texts are plain", {type(it) for it in [*seen["case"].values(), *seen["holds"]]}, {str})
+    some = nissy.solve("eofb", "R U F", slack=1, most=2)
+    tally.equal("solutions", json.loads(json.dumps(some.as_dict())), {"solutions": ["F", "F'"], "more": True, "nodes": some.nodes, "cut": False})
+    cut = nissy.best("U R F", nodes=0, partial=True)
+    tally.equal("rows that are cut", json.loads(json.dumps(cut.as_dict())), {"rows": [], "cut": True})
+    rows = nissy.best("U R F", most=2)
+    told = json.loads(json.dumps(rows.as_dict()))
+    tally.equal("rows", ([it["line"] for it in told["rows"]], told["cut"]), (["F' R", "F (U)"], False))
+    tally.equal("each is that of asdict", rows.as_dict()["rows"], list(map(dataclasses.asdict, rows)))
+
+
+def stickers(tally: Tally) -> None:
+    """Where the stickers of places are, by what bad pieces show on a cube. Names begin with the sticker that is there if a piece is good: of edges
+    on the axis fb, of corners on ud. Where the letters are in space, tests/hosts tries."""
+    for moves in ("", *(face + turn for face in "UDRLFB" for turn in ("", "2", "'")), "R U F2 L' B D"):
+        letters, seen = nissy.facelets(moves), nissy.facts(moves)
+        shown = {place: "".join(letters[at] for at in nissy.stickers_of([place])) for place in nissy.EDGE_PLACES + nissy.CORNER_PLACES}
+        flipped = tuple(place for place in nissy.EDGE_PLACES if shown[place] not in nissy.EDGE_PLACES)
+        tally.equal(f"the edges after {moves}", flipped, seen.bad_edges["fb"].places)
+        tally.holds("each is an edge the other way round", {shown[place][::-1] for place in flipped} <= set(nissy.EDGE_PLACES))
+        twisted = tuple(place for place in nissy.CORNER_PLACES if shown[place][0] not in "UD")
+        tally.equal("its corners", twisted, seen.bad_corners["ud"].places)
+    tally.equal("several", nissy.stickers_of(iter(("UF", "URF"))), [*nissy.stickers_of(["UF"]), *nissy.stickers_of(("URF",))])
+    for name in ("FU", "uf", "", "U", "RUF", "UF "):
+        tally.equal(f"no place {name!r}", str(raised(ValueError, lambda: nissy.stickers_of([name]))), f"no place is called {name}")
+    tally.equal("a name alone", str(raised(TypeError, lambda: nissy.stickers_of("UF"))), "the places are a list or another iterable, not str")
 
 
 def ended(count: int, last: Any, taken: Optional[List[str]] = None) -> Iterator[Any]:
@@ -298,4 +336,4 @@ def large_output(tally: Tally) -> None:
 
 if __name__ == "__main__":
     further = [large_output] if "large" in sys.argv[1:] else []
-    tried(runs, names, classes, liars, copies, iterables, many, progress, rooms, *further)
+    tried(runs, names, classes, liars, copies, stickers, iterables, many, progress, rooms, *further)

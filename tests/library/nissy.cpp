@@ -17,6 +17,7 @@
 
 namespace {
 
+using namespace std::string_view_literals;
 using call = std::function<void()>;
 using names = std::vector<std::string>;
 
@@ -233,6 +234,54 @@ void progress_is_told() {
     for (const char *line : {"U R F L D", "R U"}) throw_each<std::domain_error>(line, {[&] { nissy::best(line, "", which); }});
 }
 
+// A search that is stopped ends as one that is cut. What it found until then, tests/hosts tries.
+void best_is_stopped() {
+    const auto whole = nissy::best("U R F");
+    long asked = 0, left = 0;
+    nissy::best_search which;
+    which.stop = [&] { return ++asked < 0; };
+    holds(nissy::best("U R F", "", which).size() == whole.size() && asked > 1, "it is asked, and goes on", "U R F");
+    left = asked / 2;
+    which.stop = [&] { return left-- == 0; };
+    const nissy::best_found some = nissy::find_best("U R F", "", which);
+    holds(some.is_cut && !some.rows.empty() && some.rows.size() < whole.size(), "the rows after half of the searches", "U R F");
+    which.stop = [] { return true; };
+    throw_each<nissy::cut>("U R F", {[&] { nissy::best("U R F", "", which); }});
+    holds(nissy::find_best("U R F", "", which).rows.empty() && nissy::best("U R F", "F' R", which).empty(), "none before a search", "U R F");
+    which.stop = []() -> bool { throw std::domain_error("enough"); };
+    throw_each<std::domain_error>("U R F", {[&] { nissy::find_best("U R F", "", which); }, [&] { nissy::best("U R F", "", which); }});
+    // a cut of the caller's own ends the call
+    which.stop = [] { return nissy::tables("eofb").solve("F B", {20, 0, NISSY_ALL, 0}).empty(); };
+    throw_each<nissy::cut>("U R F", {[&] { nissy::find_best("U R F", "", which); }});
+}
+
+std::string shown_at(const std::string &letters, const std::string &place) {
+    std::string shown;
+    for (const std::size_t sticker : nissy::stickers_of({place})) shown += letters[sticker];
+    return shown;
+}
+
+// Where the stickers of places are, by what bad pieces show on a cube. Names begin with the sticker that is there if a piece is good: of edges on the
+// axis fb, of corners on ud. Where the letters are in space, tests/hosts tries.
+void stickers_are_found() {
+    const names edges(nissy::EDGE_PLACES.begin(), nissy::EDGE_PLACES.end()), corners(nissy::CORNER_PLACES.begin(), nissy::CORNER_PLACES.end());
+    for (const char *line : {"", "U", "D2", "R", "L'", "F", "B", "F2", "R U F2 L' B D"}) {
+        const std::string letters = nissy::facelets(line);
+        const nissy::line_facts seen = nissy::facts(line);
+        names flipped, twisted;
+        for (const std::string &place : edges)
+            if (std::find(edges.begin(), edges.end(), shown_at(letters, place)) == edges.end()) flipped.push_back(place);
+        for (const std::string &place : corners)
+            if (std::string_view("UD").find(shown_at(letters, place)[0]) == std::string_view::npos) twisted.push_back(place);
+        holds(flipped == nissy::edge_names(seen.fb().bad_edge_places), "the edges that show the other sticker", line);
+        holds(twisted == nissy::corner_names(seen.ud().bad_corner_places), "the corners that show another one", line);
+    }
+    holds(nissy::AXES[NISSY_FB] == "fb"sv && nissy::AXES[NISSY_RL] == "rl"sv && nissy::AXES[NISSY_UD] == "ud"sv, "the axes", "their names");
+    holds(nissy::stickers_of({}).empty() && nissy::stickers_of({"UF", "URF"}).size() == 5, "several", "UF URF");
+    for (const char *name : {"FU", "uf", "", "U", "RUF", "UF "}) throw_each<std::invalid_argument>(name, {[=] { nissy::stickers_of({name}); }});
+    static_assert(nissy::NET[0] == nissy::net_place{0, 3} && nissy::NET[53] != nissy::net_place{0, 3}, "places are compared by a compiler too");
+}
+
 // Each allocation of the library refused in turn is an exception, with all memory given back, until none is refused.
 void refuses_each(const call &asked, const char *of, long least) {
     long refusals = 0;
@@ -317,7 +366,8 @@ int main() {
     threads_agree();
     for (const search_row &row : SEARCHES) solves(nissy::tables(row.step), row);
     for (const auto trial : {lines_are_read, faults_are_thrown, columns_are_counted, text_is_read, misuse_is_thrown, many_lines_are_answered,
-                             searches_are_cut, progress_is_told, refused_memory_is_thrown, many_are_whole, objects_are_values})
+                             searches_are_cut, progress_is_told, best_is_stopped, stickers_are_found, refused_memory_is_thrown, many_are_whole,
+                             objects_are_values})
         trial();
     holds(nissy::version() == nissy_version() && nissy_version() == NISSY_VERSION_NUMBER, "the library's", "version");
     return ended();

@@ -99,7 +99,7 @@ def lines(tally: Tally) -> None:
     for line, solved, count, clean, steps, *masks in shared.rows("facts"):
         seen = nissy.facts(line)
         tally.equal(f"facts of {line!r}", (seen.solved, seen.moves, seen.clean_moves), (solved == "1", int(count), int(clean)))
-        tally.equal("the steps that hold", seen.holds, {step for at, step in enumerate(STEPS) if int(steps) >> at & 1})
+        tally.equal("the steps that hold", seen.holds, tuple(step for at, step in enumerate(STEPS) if int(steps) >> at & 1))
         for axis, of_axis in zip(AXES, masks):
             wanted = [tuple(name for at, name in enumerate(names) if int(mask) >> at & 1)
                       for mask, names in zip(of_axis.split(), (EDGES, CORNERS, EDGES))]
@@ -169,10 +169,13 @@ def faults(tally: Tally) -> None:
             tally.holds("it ends there", raised(StopIteration, lambda: next(answers)))
     says(tally, nissy.LineFault, "column 3: not a move", lambda: nissy.near("eo", "R Q", 3, 1))
     says(tally, nissy.LineFault, "line 2, column 3: not a move", lambda: list(nissy.raising(nissy.count_all("eo", ["", "R Q"]))))
-    says(tally, nissy.Fault, "line 2: more than 256 moves", lambda: nissy.best("R U " * 100, "F R " * 50))
+    for pair, other in zip(ON_TWO, ("solution", "moves so far")):
+        says(tally, nissy.LineFault, "scramble, column 3: not a move", lambda: pair("R Q", "U"))
+        says(tally, nissy.LineFault, f"{other}, column 1: bracket not closed", lambda: pair("R", "(U"))
+        says(tally, nissy.Fault, f"{other}, {TOO_LONG}", lambda: pair("", BEYOND))
+    says(tally, nissy.Fault, "moves so far, more than 256 moves", lambda: nissy.best("R U " * 100, "F R " * 50))
     for call in (untyped.invert, ON_A_LINE["solve"], untyped.facts):
         says(tally, nissy.Fault, TOO_LONG, lambda: call(BEYOND))
-    says(tally, nissy.Fault, "line 2: " + TOO_LONG, lambda: nissy.check("", BEYOND))
     for many, one in ON_MANY:
         before, fault, _ = many(["F", BEYOND, "R"])
         tally.equal("a line that is too long", (before, type(fault), str(fault)), (one("F"), nissy.Fault, "line 2: " + TOO_LONG))
@@ -335,6 +338,7 @@ def best(tally: Tally) -> None:
     tally.equal("bytes and wide turns", nissy.best(b"U R F x", bytearray(b"")), nissy.best("U R F x"))
     for name, value, kind in (("most", -1, ValueError), ("most", 1.5, TypeError), ("slack", None, TypeError), ("progress", 1, TypeError)):
         tally.holds(f"{name} {value}", raised(kind, lambda: untyped.best("R", **{name: value})))
+    says(tally, TypeError, "the stop is a function or None, not bool", lambda: untyped.best("R", stop=True))
 
 
 def cut_best(tally: Tally) -> None:
@@ -348,6 +352,21 @@ def cut_best(tally: Tally) -> None:
 
     tally.equal("a cut of the progress", raised(nissy.Cut, lambda: nissy.best("U R F", nodes=100, partial=True, progress=own)).count.nodes, 0)
     tally.holds("a fault is no cut", raised(nissy.LineFault, lambda: nissy.best("U R Q", nodes=0, partial=True)))
+
+
+def stopped_best(tally: Tally) -> None:
+    """A `best` that is stopped ends as one that is cut. What it found until then, tests/hosts tries."""
+    asked, whole = itertools.count(), nissy.best("U R F")
+    tally.equal("never", nissy.best("U R F", stop=lambda: next(asked) < 0), whole)
+    half = iter(range(next(asked) // 2))
+    at_once = raised(nissy.Cut, lambda: nissy.best("U R F", stop=lambda: True))
+    tally.equal("at once", (at_once.count, at_once.solutions), (nissy.Count(None, 0, 0, True), []))
+    some = nissy.best("U R F", partial=True, stop=lambda: next(half, None) is None)
+    tally.holds("after half of the searches", some.cut and 0 < len(some) < len(whole))
+    tally.equal("if a reduction is reached there is no search", nissy.best("U R F", "F' R", stop=lambda: True), [])
+    tally.holds("what it raises", raised(ZeroDivisionError, lambda: nissy.best("U R F", partial=True, stop=lambda: bool(1 // 0))))
+    own: Callable[[], bool] = lambda: nissy.count("eofb", "F", nodes=7).cut
+    tally.holds("a cut of its own", raised(nissy.Cut, lambda: nissy.best("U R F", partial=True, stop=own)))
 
 
 def saved(tally: Tally) -> None:
@@ -372,7 +391,7 @@ def saved(tally: Tally) -> None:
 def main() -> None:
     """All of it."""
     tally = Tally()
-    for part in (searches, lines, without_lines, faults, written, starts, wrong_types, numbers, bounds, best, cut_best, saved):
+    for part in (searches, lines, without_lines, faults, written, starts, wrong_types, numbers, bounds, best, cut_best, stopped_best, saved):
         part(tally)
     tally.end()
 
