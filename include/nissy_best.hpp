@@ -57,7 +57,8 @@ struct best_search {
     std::uint64_t most = 20, nodes = NISSY_ALL;
     // with how many orientations are done, and of how many, 0 until that is known
     nissy::progress progress = {};
-    // whether to end: if it returns true, the call ends as one that is cut
+    // whether to end: if it returns true, the call ends as one that is cut. With a slack of 2 a second may pass until it is asked again, with 3
+    // ten and more
     std::function<bool()> stop = {};
 };
 

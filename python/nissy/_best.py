@@ -314,8 +314,8 @@ def best(scramble: Text, so_far: Text = "", *, slack: int = 0, most: Optional[in
     true. Each is a row of the whole list, in its order, and others may be missing, better ones too.
     `progress` is called between searches with how many orientations are done, and of how many, None until
     that is known. `stop` is asked before each search whether to end, such as the `is_set` of an Event: if it
-    returns true, the call ends as one that is cut. With a slack of 2 some tenths of a second may pass until it
-    is asked again, with 3 ten seconds. What either raises ends the call.
+    returns true, the call ends as one that is cut. With a slack of 2 a second may pass until it is asked
+    again, with 3 ten and more. What either raises ends the call.
 
     Raises LineFault with `line` 1 for the scramble and 2 for the moves so far, Fault if both have too
     many moves together, and Cut."""
