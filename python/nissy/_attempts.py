@@ -45,7 +45,7 @@ class Attempt(NamedTuple):
     candidates: Tuple[AttemptCandidate, ...]
     """What stands beside the steps in blocks of its own."""
     before: int
-    """So many lines of prose stand before the first attempt."""
+    """How many lines of prose stand before the scramble."""
 
 
 class _Line:

@@ -36,7 +36,7 @@ RESTS = ["", "", "", " ", "\r", "R U", "(F2 D\u2019)", "L, B // hello", "// a no
 # long texts, with the numbers of their attempts, and of all steps and candidates of these
 LONG = {"\r" * 1_000_000: "1 0 0", "1.\n" * 100_000: "1 0 0", "R U // x\n" * 50_000: "1 49999 0", "Inverse:\r" * 50_000: "1 0 0",
         "1. R\n" * 20_000: "20000 0 0", "R U\n\n" * 20_000: "1 0 19999", "Solution: R\n\n" * 20_000: "1 1 19999"}
-SOON = 20
+SOON = 60
 
 
 def wanted_lines() -> Iterator[List[str]]:
