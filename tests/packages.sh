@@ -148,7 +148,7 @@ else
     says_all='import nissy; print(nissy.invert("R U"), nissy.__version__, nissy.count("eofb", "R U F").solutions, nissy.run(["steps"]).status)'
     holds "its module finds the library that was compiled" test "$(in_venv -c "$says_all")" = "U' R' $version 2 0"
     library=$(find "$room/venv" -name libnissy.so.2)
-    for trial in module values; do add env NISSY_LIBRARY="$library" python3 "$top/tests/library/$trial.py"; done
+    for trial in module values written; do add env NISSY_LIBRARY="$library" python3 "$top/tests/library/$trial.py"; done
     holds "it is taken away" pip uninstall -q -y nissy
     mkdir "$room/none"
     for tool in bash env sh; do ln -s "$(command -v $tool)" "$room/none"; done

@@ -21,6 +21,7 @@ answer, and ends nothing. The first search of a step builds its tables, which st
 call lets go of Python's lock, so calls of several threads run side by side. The library is the file that NISSY_LIBRARY
 names, else the one that was installed or built with this package, else the system's.
 """
+from ._attempts import Attempt, AttemptCandidate, read_attempts
 from ._best import best
 from ._continuations import Continuation, Continuations, Lengths, Orientation, Reduction, Side as Side
 from ._facts import Case, Check, Facts, Pieces, check, facts, facts_all
@@ -33,16 +34,16 @@ from ._searches import Tables, count, count_all, near, solutions, solve, solve_a
 from ._stickers import AXES, CORNER_PLACES, EDGE_PLACES, NET, Axis as Axis, stickers_of
 from ._tokens import FormPlace, Token, form_places, tokens
 from ._values import Answer, Count, Cut, Fault, LineFault, Solution, Solutions, StartFault, raising
-from ._written import PlainLine, plain_line
+from ._written import PlainLine, TextPlace, place_of_fault, plain_line
 
 __all__ = [
     "AXES", "CORNER_PLACES", "DONE", "EDGE_PLACES", "FAULT", "MOST_INPUT", "NET", "STOPPED", "USAGE",
-    "Answer", "Case", "Check", "Continuation", "Continuations", "Count", "Cut", "Facts", "Fault", "FormPlace",
-    "Lengths", "LineFault", "Orientation", "Pieces", "PlainLine", "Reduction", "Solution", "Solutions", "StartFault",
-    "Tables", "Token",
-    "best", "check", "cleanup", "count", "count_all", "facelets", "facts", "facts_all", "form_places", "invert",
-    "near", "plain_line", "raising", "run", "scramble", "scrambles", "solutions", "solve", "solve_all", "start_of",
-    "steps", "stickers_of", "tokens", "unniss",
+    "Answer", "Attempt", "AttemptCandidate", "Case", "Check", "Continuation", "Continuations", "Count", "Cut", "Facts",
+    "Fault", "FormPlace", "Lengths", "LineFault", "Orientation", "Pieces", "PlainLine", "Reduction", "Solution",
+    "Solutions", "StartFault", "Tables", "TextPlace", "Token",
+    "best", "check", "cleanup", "count", "count_all", "facelets", "facts", "facts_all", "form_places", "invert", "near",
+    "place_of_fault", "plain_line", "raising", "read_attempts", "run", "scramble", "scrambles", "solutions", "solve",
+    "solve_all", "start_of", "steps", "stickers_of", "tokens", "unniss",
 ]
 
 __version__ = version()
@@ -50,8 +51,9 @@ del version
 
 # what others see of these, as in a traceback or in what was pickled, is named by the package
 for _public in (
-    Answer, Case, Check, Continuation, Continuations, Count, Cut, Facts, Fault, FormPlace, Lengths, LineFault,
-    Orientation, Pieces, PlainLine, Reduction, Solution, Solutions, StartFault, Tables, Token,
+    Answer, Attempt, AttemptCandidate, Case, Check, Continuation, Continuations, Count, Cut, Facts, Fault, FormPlace,
+    Lengths, LineFault, Orientation, Pieces, PlainLine, Reduction, Solution, Solutions, StartFault, Tables, TextPlace,
+    Token,
 ):
     _public.__module__ = __name__
 del _public

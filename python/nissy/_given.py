@@ -28,7 +28,7 @@ Each = TypeVar("Each")
 Called = TypeVar("Called", bound=Callable[..., Any])
 
 
-def _kind(value: object) -> str:
+def kind_of(value: object) -> str:
     """Returns what a value of the wrong type is called."""
     return "None" if value is None else type(value).__name__
 
@@ -47,7 +47,7 @@ def bytes_of(text: Text, what: str) -> bytes:
     try:
         view = memoryview(text)
     except TypeError:
-        raise TypeError(f"{what} is a str or bytes, not {_kind(text)}") from None
+        raise TypeError(f"{what} is a str or bytes, not {kind_of(text)}") from None
     # before Python 3.10 an empty array of ctypes has items of no bytes
     if view.itemsize > 1:
         raise TypeError(f"{what} is a str or bytes, not items of {view.itemsize} bytes each")
@@ -72,7 +72,7 @@ def number_of(value: int, what: str, most: int, least: int = 0) -> int:
             # before Python 3.10 an index may be of a class made of int, with comparisons of its own
             value = int.__add__(operator.index(value), 0)
         except TypeError:
-            raise TypeError(f"{what} is an int, not {_kind(value)}") from None
+            raise TypeError(f"{what} is an int, not {kind_of(value)}") from None
     if not least <= value <= most:
         raise ValueError(f"{what} is a number from {least} to {most:,}")
     return value
@@ -86,11 +86,11 @@ def each_of(texts: Iterable[Each], what: str) -> Iterator[Each]:
             return iter(texts)
         except TypeError:
             pass
-    raise TypeError(f"{what} are a list or another iterable, not {_kind(given)}")
+    raise TypeError(f"{what} are a list or another iterable, not {kind_of(given)}")
 
 
 def function_of(function: Optional[Called], what: str) -> Optional[Called]:
     """Returns what is called on the way, if it can be."""
     if function is not None and not callable(function):
-        raise TypeError(f"{what} is a function or None, not {_kind(function)}")
+        raise TypeError(f"{what} is a function or None, not {kind_of(function)}")
     return function

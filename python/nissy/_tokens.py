@@ -1,6 +1,4 @@
 """The moves of a line one by one, for those who draw or count them, and those that the WCA's notation hasn't."""
-from __future__ import annotations
-
 import re
 import sys
 from typing import Dict, List, NamedTuple, Tuple

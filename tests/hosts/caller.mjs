@@ -78,6 +78,12 @@ const attempts = (text) => readAttempts(text).map(({ name, before, scramble, ste
   return [name, before, partIn(text, scramble), all(steps), partIn(text, solution), others].join("|");
 }).join("\n");
 
+/** How many attempts a text has, and how many steps and candidates all of them. */
+function attemptCounts(text) {
+  const found = readAttempts(text);
+  return [found.length, found.flatMap((it) => it.steps).length, found.flatMap((it) => it.candidates).length].join(" ");
+}
+
 // each call by an engine, and what is given to it
 const CALLS = {
   facts: async (engine, line) => seen(await engine.facts(lineOf(line))),
@@ -87,6 +93,7 @@ const CALLS = {
   },
   plain_line: async (_, text) => plain(string(bytesOf(text))),
   read_attempts: async (_, text) => attempts(string(bytesOf(text))),
+  attempt_counts: async (_, text) => attemptCounts(string(bytesOf(text))),
   form_places: async (engine, line) => {
     const told = await engine.formPlaces(lineOf(line));
     return told.map(({ column, text, forms }) => [column, text, forms.join().replaceAll("-", "_")].join("/")).join(" ");

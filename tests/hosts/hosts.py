@@ -9,6 +9,7 @@ from __future__ import annotations
 import array
 import ctypes
 import os
+import re
 import subprocess
 import sys
 from typing import Any, Callable, Iterable, List, Union
@@ -178,6 +179,40 @@ def stopping(asks: int) -> Callable[[], bool]:
     return lambda: next(left, None) is None
 
 
+def part_in(text: str, plain: nissy.PlainLine, form: Any) -> str:
+    """A part of an attempt without blanks around it, and the places of its first and last sign, which a fault there has too."""
+    own = plain.line.strip(" ")
+    first = plain.line.find(own)
+
+    def place_at(at: int) -> int | str:
+        place = nissy.place_of_fault(nissy.LineFault(9, "of bytes", character=at + 1), plain, form)
+        assert place is not None
+        above = re.split("\r\n?|\n", text[:place.at])
+        is_there = text.startswith(above[-1], place.at - place.column + 1) and (place.line, place.column) == (len(above), len(above[-1]) + 1)
+        return place.at if is_there and place.at == plain.places[at] else "another place"
+
+    return own and f"{own}@{place_at(first)}-{place_at(first + len(own) - 1)}"
+
+
+def attempts(text: str, form: Any) -> str:
+    """The attempts of a text, each on a line."""
+    def all_of(steps: Iterable[nissy.PlainLine]) -> str:
+        return "/".join(part_in(text, it, form) for it in steps)
+
+    def told_of(it: nissy.Attempt) -> str:
+        others = ";".join(f"{all_of(each.steps)}#{each.note}" for each in it.candidates)
+        parts = part_in(text, it.scramble, form), all_of(it.steps), part_in(text, it.solution, form)
+        return "|".join([it.name, str(it.before), *parts, others])
+
+    return "\n".join(map(told_of, nissy.read_attempts(form)))
+
+
+def attempt_counts(form: Any) -> str:
+    """How many attempts a text has, and how many steps and candidates all of them."""
+    found = nissy.read_attempts(form)
+    return f"{len(found)} {sum(len(it.steps) for it in found)} {sum(len(it.candidates) for it in found)}"
+
+
 class Python(Host):
     """The package, with a line in one form after another, and searches by one call after another."""
 
@@ -219,6 +254,10 @@ class Python(Host):
             found = nissy.best(self.line(scramble), self.line(so_far), slack=slack, most=most, nodes=nodes, partial=partial == 1,
                                stop=None if asks == ALL else stopping(asks))
             return lines([*map(row, found), *(["cut"] if found.cut else [])])
+        if call == "read_attempts":
+            return attempts(given[0].decode(), self.line(given[0]))
+        if call == "attempt_counts":
+            return attempt_counts(self.line(given[0]))
         written: Any = {"facts": facts, "tokens": tokens, "form_places": form_places, "check": checked, "plain_line": plain_line}.get(call, str)
         return str(written(getattr(nissy, call)(*map(self.line, given))))
 

@@ -10,26 +10,33 @@ from __future__ import annotations
 
 import random
 import sys
+import time
 import unicodedata
 from typing import Iterator, List
 
-from hosts import Python, hosts_of, told  # isort: skip
+from hosts import Host, Python, hosts_of, told  # isort: skip
 
 import called
 from tally import Tally
 
 # of the letters that C++ knows from other signs
-PARTS = """R U2 F' L\u2019 B\u2032 ( ) ` ' \u02bc EO DR Final finale R\u00e9duction re\u0301 \u042d\u041e \u89e3 \U00010400 F2L EO\u00b2 \u00bd A Scramble
-    SCRAMBLE scramble 1. 23) 4 . // / , ; _ - \u2192 \U0001f600 \u200b \u2060 \ufeff""".split()
+PARTS = """R U2 F' L\u2019 B\u2032 ( ) ` ' \u02bc EO DR Final finale R\u00e9duction re\u0301 \u042d\u041e \u89e3 \U00010400 F2L EO\u00b2 \u00bd A
+    Inverse NISS premoves R2w Scramble SCRAMBLE scramble 1. 23) 4 . // / , ; _ - \u2192 \U0001f600 \u200b \u2060 \ufeff""".split()
 BLANKS = [" ", " ", " ", ": ", ":", "\n", "\n", "\r\n", "\r", "\t", "\u00a0", "\u2009", "\u2028", "\u3000", "\u0085", "", "", "\n\n", " : "]
 # Latin, Greek, Cyrillic, the punctuation of all, Japanese and Korean, and the middle of Chinese, which C++ reads by a table of its own
 SCRIPTS = [*range(0xa0, 0x530), *range(0x2010, 0x2030), *range(0x3000, 0x3100), *range(0x4e00, 0x4f00), *range(0xac00, 0xad00),
            *range(0xff00, 0xfff0)]
 ALL_NAMES = {"labels", "comments", "line numbers", "the word Scramble", "commas", "signs that aren't seen"}
 # what lines of attempts begin with, and go on with
-HEADS = ["", "", "", "", " ", "1. ", "2) ", "(3)", "#4 ", "5 ", "6.07 ", "E1 ", "E2 ", "Extra 1: ", "Scramble 2:", "scramble: ", "Attempt 3 of 3", "Attempt 4/5 - ",
-         "attempt", "EO: ", "Solution: ", "\u00c9tape finale\u00a0: ", "my solution :", "Inverse: ", "NISS: ", "R2: ", "// "]
-RESTS = ["", "", "", " ", "\r", "R U", "(F2 D\u2019)", "L, B // hello", "// a note", "Hi all", "thanks a lot", "R (U F) \U0001f600", "q", "\u200bD\r", "3 of 3"]
+HEADS = ["", "", "", "", " ", "1. ", "2) ", "(3)", "#4 ", "5 ", "6.07 ", "E1 ", "E2 ", "Extra 1: ", "Scramble 2:", "scramble: ", "Attempt 3 of 3",
+         "Attempt 4/5 - ", "attempt", "EO: ", "Solution: ", "\u00c9tape finale\u00a0: ", "my solution :", "R\u00e9solution: ", "Inverse: ", "NISS: ",
+         "R2: ", "// ", "\u2028", "a\u00b2b "]
+RESTS = ["", "", "", " ", "\r", "R U", "(F2 D\u2019)", "L, B // hello", "// a note", "Hi all", "thanks a lot", "R (U F) \U0001f600", "q", "\u200bD\r",
+         "3 of 3", "F\rEO: D", "\rInverse: R\r(U)", "R\u2028Switch: (U // F)", "a/b // c", " //\u3000d\ufeff", "\x1c", "2 3. U"]
+# long texts, with the numbers of their attempts, and of all steps and candidates of these
+LONG = {"\r" * 1_000_000: "1 0 0", "1.\n" * 100_000: "1 0 0", "R U // x\n" * 50_000: "1 49999 0", "Inverse:\r" * 50_000: "1 0 0",
+        "1. R\n" * 20_000: "20000 0 0", "R U\n\n" * 20_000: "1 0 19999", "Solution: R\n\n" * 20_000: "1 1 19999"}
+SOON = 60
 
 
 def wanted_lines() -> Iterator[List[str]]:
@@ -72,6 +79,14 @@ def kinds_of(tally: Tally, sheets: List[str]) -> None:
     tally.holds("a solution that isn't its steps", any("/" not in it[3] and it[3] != it[4] for it in fields))
 
 
+def times_of(tally: Tally, host: Host) -> None:
+    """A host reads long texts in a time by their length: by its square they would take minutes."""
+    for text, wanted in LONG.items():
+        begun = time.monotonic()
+        tally.equal(f"attempt_counts of {text[:12]!r} and so on in {host.name}", told(host, "attempt_counts", text.encode()), wanted)
+        tally.holds(f"{text[:12]!r} and so on soon in {host.name}", time.monotonic() - begun < SOON)
+
+
 def main() -> None:
     """All rows and texts, by each host."""
     tally, python, (seed, count) = Tally(), Python(), map(int, sys.argv[1:3])
@@ -83,6 +98,7 @@ def main() -> None:
         for call, those in texts.items():
             for text, wanted in [*rows[call], *zip(those, ours[call])]:
                 tally.equal(f"{call} of {text!r} in {host.name}", told(host, call, text.encode()), wanted)
+        times_of(tally, host)
         tally.equal(f"{host.name} ends, and has said no more", host.end(), 0)
     for call, check in (("plain_line", names_of), ("read_attempts", kinds_of)):
         check(tally, [wanted for _, wanted in rows[call]])

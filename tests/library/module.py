@@ -17,7 +17,7 @@ import threading
 import time
 import typing
 from pathlib import Path
-from typing import Any, Iterator, List, Optional, Union, get_type_hints
+from typing import Any, Iterator, List, Optional, Tuple, Union, get_type_hints
 
 TOP = Path(__file__).resolve().parents[2]
 sys.path[:0] = [str(TOP / "python"), str(TOP / "tests")]
@@ -61,7 +61,8 @@ def names(tally: Tally) -> None:
               "solve", "solve_all", "near", "count", "count_all", "scramble", "scrambles", "steps", "Tables", "Solution", "Count",
               "StartFault", "Fault", "Cut", "Solutions", "raising", "facts", "facts_all", "check", "Facts", "Check", "Case", "Pieces",
               "tokens", "Token", "solutions", "best", "Continuation", "Continuations", "Orientation", "Reduction", "Lengths", "form_places", "FormPlace",
-              "start_of", "plain_line", "PlainLine", "AXES", "EDGE_PLACES", "CORNER_PLACES", "NET", "stickers_of"}
+              "start_of", "plain_line", "PlainLine", "AXES", "EDGE_PLACES", "CORNER_PLACES", "NET", "stickers_of",
+              "read_attempts", "Attempt", "AttemptCandidate", "place_of_fault", "TextPlace"}
     tally.equal("what an import of all brings", set(brought), wanted)
     public = [getattr(nissy, name) for name in nissy.__all__ if callable(getattr(nissy, name))]
     tally.holds("each function and each class says what it does", len(public) > 10 and all(it.__doc__ for it in public))
@@ -75,6 +76,12 @@ def classes(tally: Tally) -> None:
         (nissy.Count, {"length": Optional[int], "solutions": int, "nodes": int, "cut": bool}),
         (nissy.Answer, {"status": int, "out": bytes, "err": bytes, "full": bool}),
         (nissy.Continuation, {"total": int, "line": str, "eo": Optional[nissy.Orientation], "dr": nissy.Reduction, "case": nissy.Case}),
+        (nissy.PlainLine, {"line": str, "places": Tuple[int, ...], "left_out": Tuple[str, ...]}),
+        (nissy.TextPlace, {"at": int, "line": int, "column": int}),
+        (nissy.AttemptCandidate, {"steps": Tuple[nissy.PlainLine, ...], "note": str}),
+        (nissy.Attempt, {"name": str, "scramble": nissy.PlainLine, "steps": Tuple[nissy.PlainLine, ...], "solution": nissy.PlainLine,
+                         "candidates": Tuple[nissy.AttemptCandidate, ...], "before": int}),
+        (nissy.FormPlace, {"text": str, "forms": Tuple[str, ...], "column": int, "character": int}),
         (nissy.solve_all, {"return": Iterator[Union[nissy.Solutions, nissy.Fault, nissy.Cut]]}), (nissy.run, {"return": nissy.Answer})]
     for of, wanted in hints:
         got = get_type_hints(of)

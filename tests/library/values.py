@@ -3,13 +3,12 @@
 
     tests/library/values.py
 
-The library is that of NISSY_LIBRARY. Forms of values, copies, rooms and threads are tried by module.py, drawn lines and the rows of `best` by
-tests/hosts. The last line is `N passed, M failed`, and the status is 1 where M isn't 0.
+The library is that of NISSY_LIBRARY. Forms of values, copies, rooms and threads are tried by module.py, text as solvers write it by written.py,
+drawn lines and the rows of `best` by tests/hosts. The last line is `N passed, M failed`, and the status is 1 where M isn't 0.
 """
 import array
 import ctypes
 import itertools
-import pickle
 import sys
 import time
 from pathlib import Path
@@ -182,33 +181,6 @@ def faults(tally: Tally) -> None:
     tally.holds("faults are ValueErrors", all(issubclass(it, ValueError) for it in (nissy.Fault, nissy.LineFault, nissy.StartFault)))
 
 
-def written(tally: Tally) -> None:
-    """Text as a line, whose fault is found in the text; what is left out, tests/hosts tries."""
-    text = "EO: R\u2019, U\u0301 q // to try"
-    plain = nissy.plain_line(text)
-    tally.equal("a text as a line", plain, (" R'  U\u0301 q ", (3, 4, 5, 6, 7, 8, 9, 10, 11, 12), ("labels", "comments", "commas")))
-    fault = raised(nissy.LineFault, lambda: nissy.invert(plain.line))
-    tally.equal("where its fault stands", text[plain.places[fault.character - 1]], "\u0301")
-    tally.equal("it can be pickled", pickle.loads(pickle.dumps(plain)), plain)
-
-    class Loud(str):
-        def __str__(self) -> str:
-            return "R"
-
-    others: List[Any] = [text.encode(), bytearray(text.encode()), memoryview(text.encode()), Loud(text)]
-    for same in others:
-        tally.equal(f"the same as {type(same).__name__}", nissy.plain_line(same), plain)
-    # bytes that are no text, and halves of pairs, stay for the other calls to refuse
-    tally.equal("a byte", nissy.plain_line(b"R, \xff"), ("R  \udcff", (0, 1, 2, 3), ("commas",)))
-    tally.equal("a half", nissy.plain_line("R \ud800"), ("R \ud800", (0, 1, 2), ()))
-    for line, column in (("R  \udcff", 4), ("R \ud800", 3)):
-        tally.equal("which they do", raised(nissy.LineFault, lambda: nissy.invert(line)).column, column)
-    begun = time.monotonic()
-    for long in ("\r" * 1_000_000, "R" * 1_000_000, "ab " * 300_000, "9" * 1_000_000, "\u2028 " * 500_000):
-        nissy.plain_line(long)
-    tally.holds("long texts are read soon", time.monotonic() - begun < 20)
-
-
 def starts(tally: Tally) -> None:
     """Steps that may not start."""
     for step, start in STEPS.items():
@@ -233,7 +205,6 @@ def wrong_types(tally: Tally) -> None:
             says(tally, TypeError, f"line 2: the line is a str or bytes, not {named}", lambda: list(many(["R", value])))
         says(tally, TypeError, f"the input is a str or bytes, not {named}", lambda: untyped.run(["invert"], value))
         says(tally, TypeError, f"a word is a str or bytes, not {named}", lambda: untyped.run(["invert", value]))
-        says(tally, TypeError, f"the text is a str or bytes, not {named}", lambda: untyped.plain_line(value))
         tally.holds("nor of two", all(raised(TypeError, lambda: pair(*given)) for pair in ON_TWO for given in ((value, "R"), ("R", value))))
     says(tally, TypeError, "the line so far is a str or bytes, not int", lambda: untyped.best("R", 3))
     for value, named in (("R", "str"), (b"R", "bytes"), (bytearray(b"R"), "bytearray"), (memoryview(b"R"), "memoryview"), (3, "int"),
@@ -391,7 +362,7 @@ def saved(tally: Tally) -> None:
 def main() -> None:
     """All of it."""
     tally = Tally()
-    for part in (searches, lines, without_lines, faults, written, starts, wrong_types, numbers, bounds, best, cut_best, stopped_best, saved):
+    for part in (searches, lines, without_lines, faults, starts, wrong_types, numbers, bounds, best, cut_best, stopped_best, saved):
         part(tally)
     tally.end()
 

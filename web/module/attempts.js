@@ -18,7 +18,10 @@ import { labelOf, plainLine } from "./written.js";
  * candidates: AttemptCandidate[], before: number}} Attempt
  */
 
-/** A line of the text, and its place there. @typedef {{from: number, text: string}} Line */
+/**
+ * A line of the text, and its place there.
+ * @typedef {{from: number, text: string}} Line
+ */
 
 /** What stands before each of several scrambles: a word, or a number as lists and the WCA's sheets have it. */
 const WORD = /^\s*(?:scramble|attempt)\s*(?:#?\d+(?:\s*(?:of|\/)\s*\d+)?(?:\s*[-–.):]|(?=\s|$))|:)/i;
@@ -54,7 +57,7 @@ const isProse = ({ text }) => movesOf(text) === "" || WRITTEN_WORD.test(movesOf(
 const isTold = ({ text }) => text.includes("//") || labelOf(text) !== "";
 
 /** @param {Line} line @returns {boolean} whether its label says that the solution follows */
-const isSolution = ({ text }) => /\bsolution\b/i.test(labelOf(text));
+const isSolution = ({ text }) => labelOf(text).split(" ").some((word) => /^solution$/i.test(word));
 
 /**
  * Some lines as one.

@@ -26,7 +26,8 @@ const LABEL = /^[^\S\n]*(\p{L}[\p{L}\p{N}]+(?: \p{L}+){0,2}[^\S\n]*:(?=\s|$))?/g
 const OTHER_SIDE = /^(?:inverse|inv|niss|premoves?|switch)$/i;
 /** What may be a move, so that a colon after it is at fault. */
 const MOVE = /^[a-z]w?2?$/i;
-const HAS_BRACKET = /^(?:[^\n/]|\/(?!\/))*\(/;
+/** Looked for on the label's own line alone, before a comment. */
+const HAS_BRACKET = /^(?:(?!\/\/).)*?\(/;
 
 /** What is left out as a whole, and what it is called; the last name counts. */
 const LEFT_OUT = [

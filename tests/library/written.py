@@ -1,0 +1,118 @@
+#!/usr/bin/env python3
+"""The calls of the Python package that read text as solvers write it: forms of the text, copies, places of faults, and values of a wrong type.
+
+    tests/library/written.py
+
+What is read of a text is tried by tests/hosts. The last line is `N passed, M failed`, and the status is 1 where M isn't 0.
+"""
+import array
+import pickle
+import sys
+import time
+from pathlib import Path
+from typing import Any, Callable, List
+
+TOP = Path(__file__).resolve().parents[2]
+sys.path[:0] = [str(TOP / "python"), str(TOP / "tests")]
+
+import nissy
+from tally import Tally, raised, tried
+
+# the package as one calls it who looks at no types
+untyped: Any = nissy
+MARKED = "EO: R\u2019, U\u0301 q // to try"
+SHEET = "Hello\n1. R U\r\nEO: F // \U0001f600 D q\r\n\nSolution:\rF U\u2019 q\n// a try\n2. D"
+NOTHING = nissy.PlainLine("", (), ())
+
+
+class Loud(str):
+    """A string that says something else of itself."""
+
+    def __str__(self) -> str:
+        return "R"
+
+
+def forms_of(text: str) -> List[Any]:
+    """A text as each thing that may be one."""
+    return [text, text.encode(), bytearray(text.encode()), memoryview(text.encode()), Loud(text)]
+
+
+def line(tally: Tally) -> None:
+    """A text as a line."""
+    plain = nissy.PlainLine(" R'  U\u0301 q ", (3, 4, 5, 6, 7, 8, 9, 10, 11, 12), ("labels", "comments", "commas"))
+    for text in forms_of(MARKED):
+        tally.equal(f"a text as {type(text).__name__}", nissy.plain_line(text), plain)
+    fault = raised(nissy.LineFault, lambda: nissy.invert(plain.line))
+    tally.equal("where its fault stands", nissy.place_of_fault(fault, plain, MARKED), (9, 1, 10))
+    tally.equal("it can be pickled", pickle.loads(pickle.dumps(plain)), plain)
+    # bytes that are no text, and halves of pairs, stay for the other calls to refuse
+    tally.equal("a byte", nissy.plain_line(b"R, \xff"), ("R  \udcff", (0, 1, 2, 3), ("commas",)))
+    tally.equal("a half", nissy.plain_line("R \ud800"), ("R \ud800", (0, 1, 2), ()))
+    for faulty, column in (("R  \udcff", 4), ("R \ud800", 3)):
+        tally.equal("which they do", raised(nissy.LineFault, lambda: nissy.invert(faulty)).column, column)
+
+
+def attempts(tally: Tally) -> None:
+    """A text as attempts, by hand: the first has a step, a solution with a note, and prose before it."""
+    step = nissy.PlainLine(" F ", (17, 18, 19), ("labels", "comments"))
+    solution = nissy.PlainLine(" F U' q", (40, 41, 42, 43, 44, 45, 46), ("labels",))
+    second = nissy.Attempt("2.", nissy.PlainLine(" D", (59, 60), ()), (), NOTHING, (), 0)
+    wanted = [nissy.Attempt("1.", nissy.PlainLine(" R U ", (8, 9, 10, 11, 12), ()), (step,), solution,
+                            (nissy.AttemptCandidate((solution,), "a try"),), 1), second]
+    for text in forms_of(SHEET):
+        tally.equal(f"attempts of {type(text).__name__}", nissy.read_attempts(text), wanted)
+    tally.equal("they can be pickled", pickle.loads(pickle.dumps(wanted)), wanted)
+    tally.holds("they can be keys", {it: it.name for it in wanted}[second] == "2.")
+    odds: List[Any] = [b"1. R \xff\n2. \xff", "1. R \udcff\n2. \udcff"]
+    for odd in odds:
+        tally.equal("a byte that is no text", [it.scramble.line for it in nissy.read_attempts(odd)], [" R \udcff", " \udcff"])
+
+
+def places(tally: Tally) -> None:
+    """Where a fault of a part stands in the whole text."""
+    first, _ = nissy.read_attempts(SHEET)
+    fault = raised(nissy.LineFault, lambda: nissy.check(first.scramble.line, first.solution.line))
+    for text in forms_of(SHEET):
+        tally.equal(f"in {type(text).__name__}", nissy.place_of_fault(fault, first.solution, text), nissy.TextPlace(46, 6, 6))
+    place = nissy.place_of_fault(fault, first.solution, SHEET)
+    tally.equal("it can be pickled", pickle.loads(pickle.dumps(place)), place)
+    text = "R\nU\r\nF\r\r\U0001f600 q"
+    plain = nissy.plain_line(text)
+    wanted = [(0, 1, 1), (1, 1, 2), (2, 2, 1), (3, 2, 2), (5, 3, 1), (6, 3, 2), (7, 4, 1), (8, 5, 1), (9, 5, 2), (10, 5, 3)]
+    for at, line_at, column in wanted:
+        where = nissy.place_of_fault(nissy.LineFault(99, "", character=at + 1), plain, text)
+        tally.equal(f"the line and column of {at}", where, (at, line_at, column))
+    of_none = nissy.LineFault(9, "not there")
+    ends = [nissy.place_of_fault(of_none, nissy.plain_line(it), it) for it in ("R // U", "// R")]
+    tally.equal("what isn't there is at the end of the line", ends, [(2, 1, 3), (0, 1, 1)])
+    for other in (nissy.StartFault("dr-eofb", "eofb", "eofb does not hold"), nissy.Fault("more than 256 moves", 2)):
+        tally.equal(f"{type(other).__name__} has no place", nissy.place_of_fault(other, plain, text), None)
+
+
+def wrong_types(tally: Tally) -> None:
+    """Values of a type that a call doesn't take, told in words of the caller's."""
+    wide = array.array("H", [82, 0x155])
+    fault, plain = nissy.LineFault(1, "not a move"), nissy.plain_line("q")
+    calls: List[Callable[[Any], object]] = [untyped.plain_line, untyped.read_attempts, lambda it: untyped.place_of_fault(fault, plain, it)]
+    kinds: List[Any] = [(None, "None"), (3, "int"), (["R"], "list"), (wide, "items of 2 bytes each"), (memoryview(wide), "items of 2 bytes each")]
+    for value, named in kinds:
+        for call in calls:
+            tally.equal("a text", str(raised(TypeError, lambda: call(value))), f"the text is a str or bytes, not {named}")
+    for value, named in ((None, "None"), (3, "int"), (nissy.Cut(nissy.Count(None, 0, 0, True)), "Cut"), (ValueError("q"), "ValueError")):
+        tally.equal("a fault", str(raised(TypeError, lambda: untyped.place_of_fault(value, plain, "q"))), f"the fault is a Fault, not {named}")
+    lines: List[Any] = [(None, "None"), ("q", "str"), (tuple(plain), "tuple"), (nissy.read_attempts("q")[0], "Attempt")]
+    for value, named in lines:
+        told = str(raised(TypeError, lambda: untyped.place_of_fault(fault, value, "q")))
+        tally.equal("a line", told, f"the plain line is a PlainLine, not {named}")
+
+
+def times(tally: Tally) -> None:
+    """Long texts are read in a time by their length."""
+    begun = time.monotonic()
+    for long in ("\r" * 1_000_000, "R" * 1_000_000, "ab " * 300_000, "9" * 1_000_000, "\u2028 " * 500_000):
+        nissy.plain_line(long)
+    tally.holds("soon", time.monotonic() - begun < 20)
+
+
+if __name__ == "__main__":
+    tried(line, attempts, places, wrong_types, times)
