@@ -14,6 +14,7 @@
 #include <algorithm>
 #include <array>
 #include <cstddef>
+#include <optional>
 #include <string>
 #include <string_view>
 #include <vector>
@@ -23,8 +24,19 @@ namespace nissy {
 // A text as one line.
 struct plain {
     std::string line;
-    std::vector<std::size_t> places;   // the place in the text of each byte of the line, from 0: a fault stands at places[fault.column() - 1]
+    std::vector<std::size_t> places;   // the place in the text of each byte of the line, from 0; place_of_fault has that of a fault
     std::vector<std::string> left_out; // what the line hasn't, by the names of detail::LEFT_OUT
+};
+
+// Where a fault stands in a text.
+struct text_place {
+    std::size_t at;           // in bytes from 0
+    std::size_t line, column; // its line, and the character there as nissy.hpp counts it, from 1; a line ends by a line feed, a return, or both
+
+    friend bool operator==(const text_place &one, const text_place &other) {
+        return one.at == other.at && one.line == other.line && one.column == other.column;
+    }
+    friend bool operator!=(const text_place &one, const text_place &other) { return !(one == other); }
 };
 
 namespace detail {
@@ -58,6 +70,9 @@ inline constexpr std::array<const char *, 7> LEFT_OUT = {"", "labels", "comments
                                                          "signs that aren't seen"};
 enum omitted : unsigned char { NOTHING, LABEL, COMMENT, LINE_NUMBER, SCRAMBLE, COMMA, UNSEEN_SIGN };
 
+// Words of a label by which moves without brackets would belong to the inverse: no line says so without them.
+inline constexpr std::array<std::string_view, 6> OTHER_SIDE = {"inverse", "inv", "niss", "premove", "premoves", "switch"};
+
 template <std::size_t Size> bool is_in(const std::array<sign_range, Size> &ranges, char32_t code) {
     return std::any_of(ranges.begin(), ranges.end(), [code](const sign_range &it) { return it.first <= code && code <= it.last; });
 }
@@ -88,8 +103,16 @@ inline written_sign sign_at(std::string_view text, std::size_t at) {
 
 inline bool is_blank(char32_t code) { return is_in(BLANKS, code); }
 inline bool is_number(char32_t code) { return is_in(NUMBERS, code); }
+inline bool is_digit(char32_t code) { return code >= '0' && code <= '9'; }
+inline bool is_capital(char32_t code) { return code >= 'A' && code <= 'Z'; }
 inline bool is_letter(char32_t code) {
-    return code < 0x80 ? (code >= 'A' && code <= 'Z') || (code >= 'a' && code <= 'z') : !is_in(NO_LETTERS, code);
+    return code < 0x80 ? is_capital(code) || (code >= 'a' && code <= 'z') : !is_in(NO_LETTERS, code);
+}
+// Whether a text is this word, of the letters a to z, also in capitals.
+inline bool is_word(std::string_view text, std::string_view word) {
+    // the bit by which capitals differ from other letters
+    const auto is_alike = [](char letter, char wanted) { return (letter | 0x20) == wanted; };
+    return std::equal(text.begin(), text.end(), word.begin(), word.end(), is_alike);
 }
 
 // Where the signs end that begin there and are such.
@@ -99,6 +122,44 @@ template <typename Which> std::size_t behind(std::string_view text, std::size_t 
 }
 inline std::size_t behind_blanks(std::string_view text, std::size_t at) {
     return behind(text, at, [](char32_t code) { return is_blank(code) && code != '\n'; });
+}
+// Behind this word, or that place itself if another one stands there.
+inline std::size_t behind_word(std::string_view text, std::size_t at, std::string_view word) {
+    return at <= text.size() && is_word(text.substr(at, word.size()), word) ? at + word.size() : at;
+}
+
+inline bool ends_line(char32_t code) { return code == '\n' || code == '\r' || code == 0x2028 || code == 0x2029; }
+inline bool begins_line(std::string_view text, std::size_t at) {
+    const std::string_view last = text.substr(at < 3 ? 0 : at - 3, std::min<std::size_t>(at, 3));
+    return at == 0 || last.back() == '\n' || last.back() == '\r' || last == "\xe2\x80\xa8" || last == "\xe2\x80\xa9";
+}
+
+// Whether words may be a move, so that a colon after them is at fault.
+inline bool is_like_move(std::string_view words) {
+    if (words.size() > 1 && words.back() == '2') words.remove_suffix(1);
+    if (words.size() > 1 && is_word(words.substr(words.size() - 1), "w")) words.remove_suffix(1);
+    return words.size() == 1 && is_letter(sign_at(words, 0).code);
+}
+
+// Whether one of some words is this one.
+inline bool has_word(std::string_view words, std::string_view word) {
+    const std::size_t end = std::min(words.find(' '), words.size());
+    return is_word(words.substr(0, end), word) || (end < words.size() && has_word(words.substr(end + 1), word));
+}
+inline bool has_other_side(std::string_view words) {
+    return std::any_of(OTHER_SIDE.begin(), OTHER_SIDE.end(), [words](std::string_view word) { return has_word(words, word); });
+}
+
+// Whether a bracket stands before the end of the line, and of what stands before its comment.
+inline bool has_bracket(std::string_view text) {
+    const std::string_view line = text.substr(0, behind(text, 0, [](char32_t code) { return !ends_line(code); }));
+    return line.substr(0, line.find("//")).find('(') != std::string_view::npos;
+}
+
+// Whether words before a colon are a label: not if they are a move, or if the moves behind them belong to the inverse and don't say so
+// themselves.
+inline bool is_label(std::string_view words, std::string_view after) {
+    return !is_like_move(words) && (!has_other_side(words) || has_bracket(after));
 }
 
 // Each of the next three says where a form ends that begins there, or that place itself if none does.
@@ -111,25 +172,38 @@ inline std::size_t behind_label(std::string_view text, std::size_t begin) {
     if (first.size == 0 || !is_letter(first.code) || at == second) return begin;
     for (int further = 0; further < 2 && sign_at(text, at).code == ' ' && is_letter(sign_at(text, at + 1).code); further++)
         at = behind(text, at + 1, is_letter);
+    const std::string_view words = text.substr(begin, at - begin);
     at = behind_blanks(text, at);
-    const bool is_label = sign_at(text, at).code == ':' && (at + 1 == text.size() || is_blank(sign_at(text, at + 1).code));
-    return is_label ? at + 1 : begin;
+    const bool has_colon = sign_at(text, at).code == ':' && (at + 1 == text.size() || is_blank(sign_at(text, at + 1).code));
+    return has_colon && is_label(words, text.substr(at + 1)) ? at + 1 : begin;
 }
 
 inline std::size_t behind_line_number(std::string_view text, std::size_t begin) {
-    const std::size_t at = behind(text, begin, [](char32_t code) { return code >= '0' && code <= '9'; });
+    const std::size_t at = behind(text, begin, is_digit);
     const char32_t code = sign_at(text, at).code;
     return at > begin && (code == '.' || code == ')') ? at + 1 : begin;
 }
 
 inline std::size_t behind_scramble(std::string_view text, std::size_t begin) {
-    constexpr std::string_view WORD = "scramble";
-    const std::string_view found = text.substr(begin, WORD.size());
-    // the bit by which capitals differ from other letters
-    const auto is_alike = [](char letter, char wanted) { return (letter | 0x20) == wanted; };
-    const bool is_there = std::equal(found.begin(), found.end(), WORD.begin(), WORD.end(), is_alike);
-    const std::size_t at = behind_blanks(text, begin + WORD.size());
-    return is_there && sign_at(text, at).code == ':' ? at + 1 : begin;
+    const std::size_t end = behind_word(text, begin, "scramble"), at = behind_blanks(text, end);
+    return end > begin && sign_at(text, at).code == ':' ? at + 1 : begin;
+}
+
+// A form at the beginning of a line, and the blanks before it, which may end lines. It is empty if there is none.
+struct found_form {
+    std::size_t blanks, begin, end;
+};
+
+// The next form from there on.
+template <typename Form> found_form next_form(std::string_view text, std::size_t from, Form form) {
+    std::size_t at = from;
+    while (at < text.size()) {
+        const bool is_begin = begins_line(text, at);
+        const std::size_t begin = is_begin ? behind_blanks(text, at) : at, end = is_begin ? form(text, begin) : begin;
+        if (end > begin) return {at, begin, end};
+        at = begin > at ? begin : at + sign_at(text, at).size;
+    }
+    return {at, at, at};
 }
 
 // Adds a name unless it is there already, or is none.
@@ -164,15 +238,8 @@ private:
         }
     }
 
-    // A form at the beginning of a line, behind its blanks, which may end lines.
     template <typename Form> void mark_lines(Form form, omitted name) {
-        bool is_begin = true;
-        for (std::size_t at = 0, next; at < text_.size(); at = next) {
-            const std::size_t begin = is_begin ? behind_blanks(text_, at) : at, end = is_begin ? form(text_, begin) : begin;
-            if (end > begin) mark(at, end, name);
-            next = end > at ? end : at + sign_at(text_, at).size;
-            is_begin = ends_line(next);
-        }
+        for (found_form it = next_form(text_, 0, form); it.end > it.begin; it = next_form(text_, it.end, form)) mark(it.blanks, it.end, name);
     }
 
     void mark_comments() {
@@ -180,12 +247,6 @@ private:
             next = std::min(text_.find('\n', at), text_.size());
             mark(at, next, COMMENT);
         }
-    }
-
-    // Whether a line ends before a place: by a line feed, a return, U+2028 or U+2029.
-    bool ends_line(std::size_t at) const {
-        const std::string_view last = text_.substr(at < 3 ? 0 : at - 3, std::min<std::size_t>(at, 3));
-        return at > 0 && (last.back() == '\n' || last.back() == '\r' || last == "\xe2\x80\xa8" || last == "\xe2\x80\xa9");
     }
 
     std::string_view text_;
@@ -202,6 +263,28 @@ inline read_sign read_as(char32_t code) {
     if (is_in(UNSEEN, code)) return {"", UNSEEN_SIGN};
     if (code == ',' || code == ';') return {" ", COMMA};
     return {is_in(APOSTROPHES, code) ? "'" : is_blank(code) ? " " : ""};
+}
+
+// The place of a byte of a line in its text; behind the last sign if the line hasn't so many.
+inline std::size_t place_in(const plain &line, std::size_t at, std::string_view text) {
+    if (at < line.places.size()) return line.places[at];
+    return line.places.empty() ? 0 : line.places.back() + sign_at(text, line.places.back()).size;
+}
+
+// How many lines end in a text. A line feed behind a return ends none of its own.
+inline std::size_t line_ends(std::string_view text) {
+    std::size_t ends = 0;
+    for (std::size_t at = 0; at < text.size(); at++) ends += text[at] == '\r' || (text[at] == '\n' && (at == 0 || text[at - 1] != '\r'));
+    return ends;
+}
+
+inline text_place place_at(std::string_view text, std::size_t at) {
+    const std::string_view before = text.substr(0, at);
+    const std::size_t last = before.find_last_of("\r\n");
+    const std::string_view line = last == std::string_view::npos ? before : before.substr(last + 1);
+    const auto begins_sign = [](char byte) { return (static_cast<unsigned char>(byte) & 0xc0) != 0x80; };
+    const auto signs = std::count_if(line.begin(), line.end(), begins_sign);
+    return {at, line_ends(before) + 1, static_cast<std::size_t>(signs) + 1};
 }
 
 inline void put(plain &made, std::string_view bytes, std::size_t place) {
@@ -225,6 +308,14 @@ inline plain plain_line(std::string_view text) {
         detail::put(made, as.empty() && name == detail::NOTHING ? text.substr(at, size) : as, at);
     }
     return made;
+}
+
+// Where a fault of a plain line stands in the text that it is of; nothing if the fault has no place. A fault is a nissy::fault, or another that
+// has its column() in bytes from 1, or 0, as each answer of count_all: so nobody needs nissy.hpp here.
+template <typename Fault> std::optional<text_place> place_of_fault(const Fault &fault, const plain &line, std::string_view text) {
+    const std::size_t column = fault.column();
+    if (column == 0) return std::nullopt;
+    return detail::place_at(text, detail::place_in(line, column - 1, text));
 }
 
 } // namespace nissy

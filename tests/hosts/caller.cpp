@@ -1,8 +1,8 @@
 /* Makes the calls of the headers for C++ that standard input asks for, one on each line, and answers each on a line, as hosts.py says. */
+#include "nissy_attempts.hpp"
 #include "nissy_best.hpp"
 #include "nissy_names.hpp"
 #include "nissy_tokens.hpp"
-#include "nissy_written.hpp"
 
 #include <iostream>
 #include <memory>
@@ -66,9 +66,9 @@ std::string drawn(std::istream &asked) {
     return nissy::scramble(state, stream, length) + "\n" + lines(nissy::scrambles(state, stream, length, count));
 }
 
-std::string joined(const std::vector<std::string> &texts) {
+std::string joined(const std::vector<std::string> &texts, const char *parted = ",") {
     std::string text;
-    for (const std::string &each : texts) text += (text.empty() ? "" : ",") + each;
+    for (std::size_t at = 0; at < texts.size(); at++) text += (at == 0 ? "" : parted) + texts[at];
     return text;
 }
 
@@ -119,14 +119,62 @@ std::string forms_of(std::string_view line) {
 // A text as one line, the places of its signs in characters, and what is left out.
 std::string plain_of(std::string_view text) {
     const nissy::plain it = nissy::plain_line(text);
-    std::string places, left_out;
+    std::string places;
     for (std::size_t at = 0; at < it.line.size(); at++) {
         const bool goes_on = (static_cast<unsigned char>(it.line[at]) & 0xc0) == 0x80;
         if (goes_on && it.places[at] != it.places[at - 1] + 1) return "another place";
         if (!goes_on) places += (places.empty() ? "" : " ") + std::to_string(nissy::character(text, it.places[at] + 1) - 1);
     }
-    for (const std::string &name : it.left_out) left_out += (left_out.empty() ? "" : "|") + name;
-    return it.places.size() == it.line.size() ? it.line + "\n" + places + "\n" + left_out : "other places";
+    return it.places.size() == it.line.size() ? it.line + "\n" + places + "\n" + joined(it.left_out, "|") : "other places";
+}
+
+// The place of a byte of a part in its text, in characters from 0, by the line and column of a fault there; a line ends as for read_attempts.
+std::string place_in(std::string_view text, const nissy::plain &part, std::size_t at) {
+    const nissy::text_place it = nissy::place_of_fault(nissy::fault(NISSY_NOT_A_MOVE, at + 1, ""), part, text).value();
+    const std::size_t wanted = nissy::character(text, it.at + 1) - 1;
+    std::size_t begin = 0;
+    for (std::size_t line = 1; line < it.line; line++) begin = text.find('\n', begin) + 1;
+    const bool has_returns = text.find('\r') != std::string_view::npos;
+    return has_returns || nissy::character(text, begin + 1) + it.column - 2 == wanted ? std::to_string(wanted) : "another place";
+}
+
+// A part of an attempt without blanks around it, and the places of its first and last sign.
+std::string part_in(std::string_view text, const nissy::plain &part) {
+    const std::size_t first = part.line.find_first_not_of(' ');
+    if (first == std::string::npos) return "";
+    std::size_t last = part.line.find_last_not_of(' ');
+    const std::string own = part.line.substr(first, last + 1 - first);
+    while ((static_cast<unsigned char>(part.line[last]) & 0xc0) == 0x80) last--;
+    return own + "@" + place_in(text, part, first) + "-" + place_in(text, part, last);
+}
+
+std::string parts_in(std::string_view text, const std::vector<nissy::plain> &parts) {
+    std::vector<std::string> said;
+    for (const nissy::plain &each : parts) said.push_back(part_in(text, each));
+    return joined(said, "/");
+}
+
+// The attempts of a text, each on a line.
+std::string attempts_of(std::string_view text) {
+    std::vector<std::string> said;
+    for (const nissy::attempt &it : nissy::read_attempts(text)) {
+        std::vector<std::string> others;
+        for (const nissy::attempt_candidate &each : it.candidates) others.push_back(parts_in(text, each.steps) + "#" + each.note);
+        said.push_back(joined({it.name, std::to_string(it.before), part_in(text, it.scramble), parts_in(text, it.steps), part_in(text, it.solution),
+                               joined(others, ";")}, "|"));
+    }
+    return joined(said, "\n");
+}
+
+// How many attempts a text has, and their steps and candidates.
+std::string counts_of(std::string_view text) {
+    const std::vector<nissy::attempt> attempts = nissy::read_attempts(text);
+    std::size_t steps = 0, candidates = 0;
+    for (const nissy::attempt &it : attempts) {
+        steps += it.steps.size();
+        candidates += it.candidates.size();
+    }
+    return std::to_string(attempts.size()) + " " + std::to_string(steps) + " " + std::to_string(candidates);
 }
 
 // What an orientation and a reduction have in common.
@@ -185,6 +233,8 @@ std::string called(const std::string &call, std::istream &asked) {
     if (call == "stickers") return stickers_of(line.view());
     if (call == "tokens") return moves_of(line.view());
     if (call == "plain_line") return plain_of(line.view());
+    if (call == "read_attempts") return attempts_of(line.view());
+    if (call == "attempt_counts") return counts_of(line.view());
     if (call == "form_places") return forms_of(line.view());
     if (call == "invert") return nissy::invert(line.view());
     if (call == "unniss") return nissy::unniss(line.view());
