@@ -46,7 +46,8 @@ def chooses(tally: Tally, browser: Browser) -> None:
             ("script", "history.back()", {}), ("comes", "scramble=", "F' L2 U", second), ("act", nth(3), {"scramble=": "B2 R D"}),
             ("act", nth(1), {}), ("comes", "kept", 1, first))
         browser.walk(tally, f"{width}: another scramble, and back", ("act", "#random", {NAMES: SHEET_NAMES, PRESSED: []}),
-            ("script", "history.back()", {}), ("comes", "bracketed", "D", first),
+            ("script", "history.back()", {}), ("comes", "bracketed", "D", first), ("fill", "scramble", "", {PRESSED: SHEET_NAMES[:1]}),
+            ("fill", "scramble", " ", {}), ("act", nth(1), {}), ("comes", "scramble=", "R U F", first),
             ("script", PASTE, "U2 F", {"attempts?": False, "scramble-read": "", "scramble-fault": ""}))
     fits = "return document.documentElement.scrollWidth"
     browser.walk(tally, "names", ("open", {}), ("script", PASTE, f"Scramble {'1' * 300}: R\nScramble: U\nScramble 3: F\n", {}),

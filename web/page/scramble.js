@@ -206,7 +206,7 @@ export class ScrambleField {
     const isNew = this.#isOther(spaced(scramble), isReplaced, fmc !== null);
     // one that is mended stays beside the others of its text
     if (attempts.length > 1 || isNew || this.#at < 0) this.#offer(attempts, at);
-    else if (line !== "") this.#attempts[this.#at].scramble = scramble;
+    else if (line.trim() !== "") this.#attempts[this.#at].scramble = scramble;
     const others = this.#attempts.length - 1;
     this.#leftOut = [
       ...(before > 0 ? [`${counted(before, "line")} before the scramble`] : []),
