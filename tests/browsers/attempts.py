@@ -43,9 +43,10 @@ def chooses(tally: Tally, browser: Browser) -> None:
             ("act", nth(3), {"#scramble-fault p": ["“q” is no move."], "#scramble-marks mark": ["q"], PRESSED: SHEET_NAMES[2:]}))
         # what is mended stays beside the others
         browser.walk(tally, f"{width}: mended", ("fill", "scramble", "B2 R D", {"scramble-read": LEFT.format(""), PRESSED: SHEET_NAMES[2:]}),
-            ("script", "history.back()", {}), ("comes", "scramble=", "F' L2 U", second), ("act", nth(3), {"scramble=": "B2 R D"}),
+            ("script", "history.back()", {}), ("comes", "scramble=", "F' L2 U", second | {"scramble-read": LEFT.format("")}),
+            ("act", nth(3), {"scramble=": "B2 R D"}),
             ("act", nth(1), {}), ("comes", "kept", 1, first))
-        browser.walk(tally, f"{width}: another scramble, and back", ("act", "#random", {NAMES: SHEET_NAMES, PRESSED: []}),
+        browser.walk(tally, f"{width}: another scramble, and back", ("act", "#random", {NAMES: SHEET_NAMES, PRESSED: [], "scramble-read": ""}),
             ("script", "history.back()", {}), ("comes", "bracketed", "D", first), ("fill", "scramble", "", {PRESSED: SHEET_NAMES[:1]}),
             ("fill", "scramble", " ", {}), ("act", nth(1), {}), ("comes", "scramble=", "R U F", first),
             ("script", PASTE, "U2 F", {"attempts?": False, "scramble-read": "", "scramble-fault": ""}))

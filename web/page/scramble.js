@@ -32,9 +32,10 @@ export class ScrambleField {
   #timer = 0;
   #draws = 0;
   #leftOut = [];
-  /** @type {Attempt[]} those of the text that was read last; and which of them is shown, -1 for none */
+  /** @type {Attempt[]} those of the last text; which of them is shown, or -1; and what is said of the others then */
   #attempts = [];
   #at = -1;
+  #others = [];
   #isRead = false;
   /** the scramble that was read last, and whether what is pasted, or typed, takes the place of all of it */
   #last = "";
@@ -97,7 +98,7 @@ export class ScrambleField {
     this.#mark(this.#attempts.findIndex((each) => spaced(each.scramble) === spaced({ line: scramble })));
     if (plainLine(this.#field.value).line !== scramble) {
       this.#field.value = scramble;
-      this.#leftOut = [];
+      this.#leftOut = this.#others;
     }
     this.#last = scramble || this.#last;
     this.#isEmptied = false;
@@ -207,10 +208,9 @@ export class ScrambleField {
     // one that is mended stays beside the others of its text
     if (attempts.length > 1 || isNew || this.#at < 0) this.#offer(attempts, at);
     else if (line.trim() !== "") this.#attempts[this.#at].scramble = scramble;
-    const others = this.#attempts.length - 1;
     this.#leftOut = [
       ...(before > 0 ? [`${counted(before, "line")} before the scramble`] : []),
-      ...(others > 0 ? [counted(others, "other scramble")] : name === "" ? [] : [`“${name}”`]),
+      ...(name !== "" && this.#attempts.length === 1 ? [`“${name}”`] : this.#others),
       ...scramble.leftOut,
       ...(this.#isCut ? [`what is beyond ${LONGEST_SCRAMBLE.toLocaleString("en")} signs`] : []),
     ];
@@ -235,6 +235,7 @@ export class ScrambleField {
   /** @param {number} at which of the attempts is shown, -1 for none */
   #mark(at) {
     this.#at = at;
+    this.#others = at >= 0 && this.#attempts.length > 1 ? [counted(this.#attempts.length - 1, "other scramble")] : [];
     [...part("attempts").children].forEach((each, place) => each.setAttribute("aria-pressed", String(place === at)));
   }
 
