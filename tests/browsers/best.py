@@ -214,6 +214,18 @@ def after_orientation(tally: Tally, browser: Browser) -> None:
     browser.walk(tally, "the first finishes, and then there is no best", ("act", "#best-body .take", {"finished": said, "best?": False}))
 
 
+def says_no_reduction(tally: Tally, browser: Browser) -> None:
+    """A row says the first reduction only if that has moves: F' U leaves R U2, and then DR R/L needs none."""
+    browser.go("#scramble=R_U_F")
+    browser.wait_best()
+    rows = browser.script("""return all('#best-body tr')
+        .map((row) => ['.take', '.first', '.number'].map((each) => row.querySelector(each).textContent))""")
+    said = [first for moves, first, count in rows if moves == "F' U" and count == "0×1"]
+    tally.equal("nothing is said without moves", said, [""])
+    words = [first for _, first, count in rows if not count.startswith("0")]
+    tally.holds(f"else moves are said: {words}", words and all(re.fullmatch(r"then \(?[UDRLFB].*", each) for each in words))
+
+
 def stopped(tally: Tally, browser: Browser) -> None:
     """A stop in mid-search, while the page stays at hand."""
     browser.open(address_of(LONGER))

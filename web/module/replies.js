@@ -139,15 +139,15 @@ export const tokensIn = ({ line }) => tokensOf(typeof line === "string" ? line :
 export const formPlacesIn = ({ line }) => formPlacesOf(typeof line === "string" ? line : textIn(line));
 
 /** @param {string} text @returns {string[]} its lines, each of which a line feed ends */
-const linesOf = (text) => text.split("\n").slice(0, -1);
+const endedLines = (text) => text.split("\n").slice(0, -1);
 
 /** @param {LineReply} reply @returns {string[]} */
-export const linesIn = (reply) => linesOf(lineIn(reply));
+export const linesIn = (reply) => endedLines(lineIn(reply));
 
 /** @param {Answer} answer of a run that has no fault, but may have been refused memory @returns {string[]} */
 export function outputLinesIn({ status, out, err }) {
   if (status !== STATUS.done) throw new RangeError(textIn(err).trim());
-  return linesOf(textIn(out));
+  return endedLines(textIn(out));
 }
 
 /**

@@ -32,6 +32,14 @@ function withStar(candidates, parts, next) {
   return { kept: isKept ? [...others, { parts, note: "", next }] : others, isKept };
 }
 
+/** What is kept once others join, and why not all of them do, or "".
+ * @param {Candidate[]} candidates @param {Candidate[]} others */
+export function withOthers(candidates, others) {
+  // of a line that is there twice the first place counts, and the last note
+  const all = new Map([...candidates, ...others, ...candidates].map((each) => [nameOfCandidate(each), each]));
+  return { kept: [...all.values()].slice(0, MOST_CANDIDATES), why: all.size > MOST_CANDIDATES ? MOST_ARE_KEPT : "" };
+}
+
 /** How far a candidate has come: 2 with a reduction, also one that is still to be made, 1 with an orientation.
  * @param {KeptWalk} walk */
 function stageOf({ reached, next }) {
@@ -167,8 +175,7 @@ export class KeptCandidates {
 
   /** Keeps a line, or takes it away if it is kept.
    * @param {import("./address.js").State} state @param {HTMLElement} pressed under which is said why it isn't kept
-   * @param {Part[]} parts
-   * @param {string} [next] the reduction that it is kept with */
+   * @param {Part[]} parts @param {string} [next] the reduction that it is kept with */
   star(state, pressed, parts, next = "") {
     const { kept, isKept } = withStar(state.kept, parts, next);
     if (kept.length > MOST_CANDIDATES) return tellAt(pressed, MOST_ARE_KEPT);

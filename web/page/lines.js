@@ -2,7 +2,7 @@
 // pushes such turns to the end of a line; there they are left out, so that each letter names one face in all that
 // follows.
 import { NissyFault } from "../module/faults.js";
-import { LONGEST_NOTE, MOST_CANDIDATES, MOST_MOVES } from "./address.js";
+import { LONGEST_NOTE, MOST_MOVES } from "./address.js";
 import { bracketed } from "./steps.js";
 
 /** @typedef {import("../module/nissy.js").Nissy} Nissy */
@@ -70,8 +70,7 @@ function readAllByHand(nissy, steps) {
  * @returns {{parts: Part[], kept: Candidate[], unread: Unread | null}} */
 export function readWritten(nissy, { steps, candidates }) {
   const { parts, unread } = readAllByHand(nissy, steps);
-  const first = candidates.slice(0, MOST_CANDIDATES);
-  const read = first.map((each) => ({ note: each.note, ...readAllByHand(nissy, each.steps) }));
+  const read = candidates.map((each) => ({ note: each.note, ...readAllByHand(nissy, each.steps) }));
   // an address has no candidate without moves
   const kept = read.filter((each) => each.parts.length > 0);
   return {

@@ -8,7 +8,7 @@ import { copy } from "./copying.js";
 import { Cube } from "./cube.js";
 import { announce, announceLater, part, setBusy, spoken, tell } from "./element.js";
 import { NextFocus } from "./focus.js";
-import { KeptCandidates } from "./kept.js";
+import { KeptCandidates, withOthers } from "./kept.js";
 import { LineSoFar } from "./line.js";
 import { Seen, WayBack, dropAddress, keepPlace, placeIn, writeState } from "./places.js";
 import { refreshRows } from "./rows.js";
@@ -176,10 +176,11 @@ export class Page {
     if (!fmc) return;
     const turn = this.#turn;
     try {
-      const { unread, ...read } = await this.#byHand.ask("readWritten", fmc);
+      const { unread, parts, kept: others } = await this.#byHand.ask("readWritten", fmc);
       if (turn !== this.#turn) return;
-      this.#change(read, { isStep: false, left });
-      tell(part("alert"), whyUnread(unread));
+      const { kept, why } = withOthers(this.#state.kept, others);
+      this.#change({ ...(parts.length > 0 && { parts }), kept }, { isStep: !isNew, left });
+      tell(part("alert"), whyUnread(unread) || why);
     } catch (fault) {
       if (turn === this.#turn && !(fault instanceof Stopped)) tell(part("alert"), unanswered(fault));
     }
@@ -374,10 +375,9 @@ export class Page {
   /** @param {import("./finder.js").Row} row of the best, which is taken; the list of its reduction opens */
   #goOn({ part: taken, next, key }) {
     if (!next) return this.#take([taken], key);
-    const { parts } = this.#state;
     this.#seen.add(this.#state, [taken], key, next.step);
     const list = { step: next.step, side: next.side, slack: 0, isAll: false };
-    this.#change({ parts: [...parts, taken], side: next.side, list }, { focusNext: "list" });
+    this.#change({ parts: [...this.#state.parts, taken], side: next.side, list }, { focusNext: "list" });
   }
 
   /** @param {Error} fault why there is no answer */

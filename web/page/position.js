@@ -122,11 +122,13 @@ export function examine(nissy, typed, tell) {
   for (const steps of inGroups(openSteps(reached.at(-1)))) tell(steps.map((step) => offerOf(nissy, step, now)));
 }
 
-/** The first reduction with which there are as many moves in all, null if there is none.
+/** The first reduction with which there are as many moves in all, null if there is none, or if it has no moves.
  * @param {Nissy} nissy @param {Position} position @param {import("../module/steps.js").Step} step @param {Side} side
  * @param {number} total @returns {Part | null} */
-const firstOn = (nissy, position, step, side, total) =>
-  (Number.isFinite(total) ? { side, moves: firstOf(nissy, position, step, side, total).moves } : null);
+function firstOn(nissy, position, step, side, total) {
+  const moves = Number.isFinite(total) ? firstOf(nissy, position, step, side, total).moves : "";
+  return moves === "" ? null : { side, moves };
+}
 
 /** @typedef {{state: string, case: string, lengths: (number | null)[], total: number, side: Side, first: Part | null}}
  * Next `lengths`: on each side; `total`: in all, on the side where it is least; `first`: the first with that, if any */

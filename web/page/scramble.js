@@ -1,31 +1,27 @@
-// The card of the scramble: its field, with what was left out of a text and what is at fault, examples, random
-// scrambles from a seed, and the fold of it if the page is narrow.
+// The card of the scramble: its field, with what was left out of a text and what is at fault, the other scrambles of
+// the text, examples, random scrambles from a seed, and the fold of it if the page is narrow.
 import { Stopped } from "../module/faults.js";
 import { readAttempts } from "../module/attempts.js";
 import { plainLine } from "../module/written.js";
 import { LONGEST_SCRAMBLE } from "./address.js";
-import { announce, announceLater, counted, element, part, tell } from "./element.js";
+import { announce, announceLater, button, counted, element, part, tell } from "./element.js";
 import { withoutMoving } from "./view.js";
-import { placeIn, showFault, wordsOfLeftOut } from "./words.js";
+import { showFault, wordsOfLeftOut } from "./words.js";
 
-/** @typedef {{isNew: boolean, fmc: import("../module/attempts.js").Attempt | null, isStep: boolean}} ScrambleChange a
- * new scramble begins a new line, one that is mended keeps it; `isStep`: whether Back leads to what was before */
+/** @typedef {import("../module/attempts.js").Attempt} Attempt */
+/** @typedef {{isNew: boolean, fmc: Attempt | null, isStep: boolean}} ScrambleChange a new scramble begins a new line,
+ * one that is mended keeps it; `isStep`: whether Back leads to what was before */
 
 const PAUSE = 150;
 const SEEDS = "A seed is a whole number from 0 to 18,446,744,073,709,551,615.";
 const TURNS_LEFT_OUT = "the turns of the whole cube are left out, so U stays the face that was U.";
 const NARROW = "(max-width: 59.99rem)";
-const PLAIN_SEED = { line: "", places: [], leftOut: [] };
 
 /** A seed that nobody chose. */
 const freshSeed = () => String(crypto.getRandomValues(new Uint32Array(1))[0]);
 
-/** The first attempt of a text, those beside it, and whether its scramble isn't all that the text has.
- * @param {string} text */
-function readField(text) {
-  const [first, ...others] = readAttempts(text);
-  return { first, others, isPart: first.scramble.line.trim() !== plainLine(text).line.trim() };
-}
+/** @param {{line: string}} plain @returns it with single blanks, by which two scrambles are compared */
+const spaced = ({ line }) => line.trim().replace(/ +/g, " ");
 
 export class ScrambleField {
   #calls;
@@ -36,6 +32,10 @@ export class ScrambleField {
   #timer = 0;
   #draws = 0;
   #leftOut = [];
+  /** @type {Attempt[]} those of the last text; which of them is shown, or -1; and what is said of the others then */
+  #attempts = [];
+  #at = -1;
+  #others = [];
   #isRead = false;
   /** the scramble that was read last, and whether what is pasted, or typed, takes the place of all of it */
   #last = "";
@@ -48,8 +48,7 @@ export class ScrambleField {
   /** how many kept lines a way leads back to */
   left = 0;
 
-  /** @param {import("./calls.js").Calls} calls
-   * @param {(scramble: string, change: ScrambleChange) => void} changed */
+  /** @param {import("./calls.js").Calls} calls @param {(scramble: string, change: ScrambleChange) => void} changed */
   constructor(calls, changed) {
     this.#calls = calls;
     this.#changed = changed;
@@ -96,9 +95,10 @@ export class ScrambleField {
   show(scramble) {
     clearTimeout(this.#timer);
     this.tellLeft(0);
-    if (plainLine(this.#field.value).line !== scramble || readField(this.#field.value).isPart) {
+    this.#mark(this.#attempts.findIndex((each) => spaced(each.scramble) === spaced({ line: scramble })));
+    if (plainLine(this.#field.value).line !== scramble) {
       this.#field.value = scramble;
-      this.#leftOut = [];
+      this.#leftOut = this.#others;
     }
     this.#last = scramble || this.#last;
     this.#isEmptied = false;
@@ -110,10 +110,9 @@ export class ScrambleField {
   judge(fault, read) {
     const text = this.#field.value;
     const plain = plainLine(text);
-    showFault(part("scramble-fault"), this.#field, plain, fault, text);
+    this.#markPlace(text, showFault(part("scramble-fault"), this.#field, plain, fault, text));
     // of what is typed not after each sign
     if (fault) announceLater(part("scramble-fault").firstChild.textContent);
-    this.#markPlace(text, placeIn(plain, fault, text));
     const sentences = [wordsOfLeftOut(this.#leftOut)].filter(Boolean);
     if (read?.isTurned) sentences.push(`Read as ${read.line || "no moves"}: ${TURNS_LEFT_OUT}`);
     else if (read && plain.line.includes("(")) sentences.push("Moves in brackets count as inverse moves.");
@@ -122,8 +121,8 @@ export class ScrambleField {
     if (words !== part("scramble-read").textContent) tell(part("scramble-read"), words);
     part("scramble-folded").textContent = text;
     this.#isRead = read !== null && read.line !== "";
-    const isTyped = document.activeElement === this.#field;
-    if (!isTyped || !this.#isRead) this.#fold(this.#isRead);
+    const isUsed = [this.#field, ...part("attempts").children].includes(document.activeElement);
+    if (!isUsed || !this.#isRead) this.#fold(this.#isRead);
   }
 
   /** Says how many kept lines a new scramble leaves, beside a way back to them; nothing of none.
@@ -184,41 +183,77 @@ export class ScrambleField {
 
   /** @param {boolean} isReplaced by a text that was pasted: by another scramble, if it isn't the same again */
   #read(isReplaced) {
-    const text = this.#field.value;
-    const { first, others, isPart } = readField(text);
-    const { name, scramble, before } = first;
-    const fmc = first.steps.length + first.candidates.length > 0 ? first : null;
-    const line = isPart ? scramble.line.trim() : scramble.line;
+    const plain = plainLine(this.#field.value);
+    const attempts = readAttempts(this.#field.value);
+    this.#take(attempts, 0, { isReplaced, isPart: spaced(attempts[0].scramble) !== spaced(plain) });
+  }
+
+  /** Reads an attempt of the text, as if it alone had been pasted.
+   * @param {number} at its place */
+  #choose(at) {
+    clearTimeout(this.#timer);
+    // not every browser puts the focus on what is pressed
+    part("attempts").children[at].focus({ preventScroll: true });
+    withoutMoving(part("attempts"), () => this.#take(this.#attempts, at, { isReplaced: true, isPart: true }));
+  }
+
+  /** @param {Attempt[]} attempts of a text @param {number} at which of them is taken
+   * @param {{isReplaced: boolean, isPart: boolean}} how `isPart`: whether its scramble isn't all that the field has */
+  #take(attempts, at, { isReplaced, isPart }) {
+    const { name, scramble, steps, candidates, before } = attempts[at];
+    const line = isPart ? spaced(scramble) : scramble.line;
+    if (isPart) this.#field.value = line;
+    const fmc = steps.length + candidates.length > 0 ? attempts[at] : null;
+    const isNew = this.#isOther(spaced(scramble), isReplaced, fmc !== null);
+    // one that is mended stays beside the others of its text
+    if (attempts.length > 1 || isNew || this.#at < 0) this.#offer(attempts, at);
+    else if (line.trim() !== "") this.#attempts[this.#at].scramble = scramble;
     this.#leftOut = [
       ...(before > 0 ? [`${counted(before, "line")} before the scramble`] : []),
-      ...(others.length > 0 ? [counted(others.length, "other scramble")] : name === "" ? [] : [`“${name}”`]),
+      ...(name !== "" && this.#attempts.length === 1 ? [`“${name}”`] : this.#others),
       ...scramble.leftOut,
       ...(this.#isCut ? [`what is beyond ${LONGEST_SCRAMBLE.toLocaleString("en")} signs`] : []),
     ];
-    this.#isCut = false;
-    if (isPart) this.#field.value = line;
-    const isNew = this.#isOther(line.trim(), isReplaced) || fmc !== null;
     // Back leads to the scramble that was deleted and its lines, also once another one is typed
     const isStep = (isNew || this.#isEmptied) && !this.#isDraft;
     this.#isDraft = this.#isEmptied;
     this.#changed(line, { isNew, fmc, isStep });
   }
 
-  /** Whether a scramble is another one than the last: it was pasted in its place, or typed after it was deleted. The
-   * beginning of the same one may be typed again.
-   * @param {string} line @param {boolean} isPasted in its place */
-  #isOther(line, isPasted) {
-    const last = this.#last.trim();
+  /** Offers the attempts of a text, if there are several.
+   * @param {Attempt[]} attempts @param {number} at which of them is taken */
+  #offer(attempts, at) {
+    const row = part("attempts");
+    const buttonOf = ({ name }, place) =>
+      button(/\d/.test(name) ? name : String(place + 1), { class: "quiet", click: () => this.#choose(place) });
+    if (attempts !== this.#attempts) row.replaceChildren(...attempts.map(buttonOf));
+    row.hidden = attempts.length === 1;
+    this.#attempts = attempts;
+    this.#mark(at);
+  }
+
+  /** @param {number} at which of the attempts is shown, -1 for none */
+  #mark(at) {
+    this.#at = at;
+    this.#others = at >= 0 && this.#attempts.length > 1 ? [counted(this.#attempts.length - 1, "other scramble")] : [];
+    [...part("attempts").children].forEach((each, place) => each.setAttribute("aria-pressed", String(place === at)));
+  }
+
+  /** Whether a scramble is another one than the last: it was pasted in its place, or typed after it was deleted, or it
+   * has steps. The beginning of the same one may be typed again.
+   * @param {string} line @param {boolean} isPasted in its place @param {boolean} hasSteps */
+  #isOther(line, isPasted, hasSteps) {
+    const last = spaced({ line: this.#last });
     if (line === "") {
       this.#isEmptied = last !== "";
       return false;
     }
-    const isAgain = this.#isEmptied && !isPasted && last.startsWith(line);
-    const isOther = last !== "" && last !== line && (isPasted || this.#isEmptied) && !isAgain;
+    const isAgain = this.#isEmptied && !isPasted && !hasSteps && last.startsWith(line);
+    const isReplaced = last !== "" && (isPasted || this.#isEmptied) && !isAgain;
     if (isAgain && last !== line) return false;
     this.#isEmptied = false;
     this.#last = line;
-    return isOther;
+    return last !== line && (isReplaced || hasSteps);
   }
 
   #put(scramble) {
@@ -231,7 +266,7 @@ export class ScrambleField {
     this.#seed.value = seed;
     // of several that are asked for at once the last one counts, whose seed is shown
     const draw = ++this.#draws;
-    const show = (fault) => showFault(part("seed-fault"), this.#seed, PLAIN_SEED, fault, seed);
+    const show = (fault) => showFault(part("seed-fault"), this.#seed, plainLine(seed), fault, seed);
     try {
       const scramble = await this.#calls.ask("scrambleOf", { seed });
       if (draw !== this.#draws) return;

@@ -33,7 +33,7 @@ const signsOf = ({ moves, begin }, side) =>
 
 /** What is said of a list.
  * @param {import("./lists.js").Rows} rows @param {number} matching how many are left @param {number} shown */
-function noteOf({ entries, all, left, whole }, matching, shown) {
+function noteOfList({ entries, all, left, whole }, matching, shown) {
   if (all === 0) return "No solution within 20 moves.";
   const sentences = [`${whole ? "" : "More than "}${counted(all, "solution")}.`];
   const earlier = all - left;
@@ -275,7 +275,7 @@ export class SolutionList {
     const count = this.#shown - room;
     this.#filters.show(this.#matching.length === 0 && this.#rows.entries.length > 0);
     part("solutions-more").hidden = count === this.#matching.length;
-    tell(part("solutions-note"), noteOf(this.#rows, this.#matching.length, count));
+    tell(part("solutions-note"), noteOfList(this.#rows, this.#matching.length, count));
   }
 
   /** Shows more of a group.

@@ -11,7 +11,7 @@ import { SIDES, caseOfStep, inGroups, isReduced, openSteps, stateOf, statesOf, t
 /** The least length, what that makes in all, if moves were made before, and how many solutions there are, or how many
  * of them make that, with a word that is said and not shown.
  * @param {import("./position.js").Counted} count @param {number} made moves before it @returns {string[]} */
-function wordsOf({ length, total, solutions, best }, made) {
+function wordsOfRow({ length, total, solutions, best }, made) {
   if (length === null) return ["–", "", "none within 20 moves", ""];
   const [some, all] = [best, solutions].map((each) => each.toLocaleString("en"));
   const words = best < solutions ? [`${some} of ${all}`, " solutions"] : [counted(solutions, "solution"), ""];
@@ -190,7 +190,7 @@ export class StepTable {
 
   #cell({ step, ...counts }, side, { least, made, list }) {
     const count = counts[side];
-    const [length, all, solutions, word] = wordsOf(count, made);
+    const [length, all, solutions, word] = wordsOfRow(count, made);
     const name = `${step.name}.${side}`;
     const isLeast = least !== null && count.length === least;
     const shortest = isLeast ? ", shortest" : "";

@@ -108,22 +108,16 @@ function marked(text, place) {
   return element("pre", { "aria-hidden": "true", tabindex: -1 }, line, `\n${" ".repeat([...before].length)}^`);
 }
 
-/** Where a fault is in the text that was typed, or null.
- * @param {import("../module/written.js").PlainLine} plain @param {Error | null} fault @param {string} text
- * @returns {number | null} */
-export const placeIn = (plain, fault, text) =>
-  (fault instanceof NissyFault ? placeOfFault(fault, plain, text)?.at ?? null : null);
-
-/** Shows a fault under its field, or takes the last one away.
- * @param {HTMLElement} where @param {HTMLElement} field
- * @param {import("../module/written.js").PlainLine} plain what the engine read
- * @param {Error | null} fault @param {string} text what was typed */
+/** Shows a fault under its field, or takes the last one away; returns where it is in the text, or null.
+ * @param {HTMLElement} where @param {HTMLElement} field @param {import("../module/written.js").PlainLine} plain what
+ * the engine read @param {Error | null} fault @param {string} text what was typed @returns {number | null} */
 export function showFault(where, field, plain, fault, text) {
   where.hidden = fault === null;
   where.replaceChildren();
   field.setAttribute("aria-invalid", String(fault !== null));
-  if (fault === null) return;
+  if (fault === null) return null;
   where.append(element("p", {}, fault instanceof NissyFault ? sentenceOf(fault, plain.line) : fault.message));
-  const place = placeIn(plain, fault, text);
+  const place = fault instanceof NissyFault ? placeOfFault(fault, plain, text)?.at ?? null : null;
   if (place !== null) where.append(marked(text.replace(/[\r\n]/g, " "), place));
+  return place;
 }
