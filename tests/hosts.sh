@@ -16,12 +16,11 @@ export NISSY_LIBRARY=$folder/libnissy.so.2
 if missing python3 || [ ! -e "$NISSY_LIBRARY" ]; then skips_all "there is no python3 here, or no library that make lib built"; fi
 typed tests/hosts/*.py
 # -O0 behind -O1, as in library.sh
-others=() in_cpp=() sanitized=(-O0 "-fsanitize=address,undefined" -fno-sanitize-recover=all)
+others=() sanitized=(-O0 "-fsanitize=address,undefined" -fno-sanitize-recover=all)
 compiled() { g++ -std=c++17 -O1 -Wall -Wextra -Wpedantic -Werror -Iinclude "$@" -o "$room/caller" tests/hosts/caller.cpp "$folder/libnissy.a"; }
 if missing g++; then skips "C++, since there is no g++"; else
     holds "caller.cpp compiles" eval 'compiled "${sanitized[@]}" || compiled'
-    in_cpp=("c++=$room/caller")
-    others+=("${in_cpp[@]}")
+    others+=("c++=$room/caller")
 fi
 if missing node || [ ! -e "$folder/nissy.wasm" ]; then skips "JavaScript, since there is no node, or no module that make page built"; else
     others+=("js=$folder/nissy.wasm")
@@ -29,7 +28,7 @@ fi
 part python3 tests/hosts/drawn.py "$program" 1 0.12 python "${others[@]}"
 part python3 tests/hosts/best.py 1 24 "${others[@]}"
 part python3 tests/hosts/plain.py 1 2000 python "${others[@]}"
-part python3 tests/hosts/net.py python "${in_cpp[@]}"
+part python3 tests/hosts/net.py python "${others[@]}"
 part python3 tests/hosts/counted.py "$program" 1 10
 parts_end
 ended

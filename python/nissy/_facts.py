@@ -1,6 +1,5 @@
-"""What is seen of a cube without a search, and whether a solution solves a scramble."""
-from __future__ import annotations
-
+"""What is seen of a cube without a search, and whether a solution solves a scramble. Types stand here as they are and
+not as texts, for those who ask a class of the package for them."""
 import struct
 from functools import lru_cache
 from itertools import starmap
@@ -31,7 +30,7 @@ def _chosen(mask: int, names: Iterable[Named]) -> Tuple[Named, ...]:
 class Pieces(int):
     """How many pieces are bad, as an int, and as `places` where they stand, such as ("UF", "DB")."""
 
-    def __new__(cls, places: Iterable[str] = ()) -> Pieces:
+    def __new__(cls, places: Iterable[str] = ()) -> "Pieces":
         listed = tuple(places)
         made = super().__new__(cls, len(listed))
         made._places = listed

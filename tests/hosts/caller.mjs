@@ -4,10 +4,12 @@
 //     node tests/hosts/caller.mjs MODULE
 import { readFileSync } from "node:fs";
 import { createInterface } from "node:readline";
-import { Nissy, NissyFault, NissyWorker, SearchCut, placeOfFault, plainLine, readAttempts } from "../../web/module/node.js";
+import {
+  AXES, CORNER_PLACES, EDGE_PLACES, NET, Nissy, NissyFault, NissyWorker, SearchCut, placeOfFault, plainLine, readAttempts,
+  stickersOf,
+} from "../../web/module/node.js";
 
 const ALL = 2n ** 64n - 1n;
-const AXES = ["fb", "rl", "ud"];
 const decoder = new TextDecoder("utf-8", { fatal: true, ignoreBOM: true });
 const bytesOf = (text) => new Uint8Array(Buffer.from(text.slice(1), "hex"));
 const toHex = (text) => `=${Buffer.from(text).toString("hex")}`;
@@ -113,6 +115,8 @@ const CALLS = {
     return lines([await engine.scramble(...given), ...(await engine.scrambles(...given, Number(count)))]);
   },
   steps: async (engine) => lines(await engine.steps()),
+  net: async () => [...[AXES, EDGE_PLACES, CORNER_PLACES].map((names) => names.join()), ...NET.map(({ row, column }) => `${row},${column}`)].join("\n"),
+  stickers: async (_, names) => stickersOf(string(bytesOf(names)).split(",").filter(Boolean)).join(" "),
   best: async (engine, scramble, soFar, slack, most, nodes, partial) => {
     const wanted = { soFar: lineOf(soFar), slack: Number(slack), most: numberOf(most) ?? Infinity, nodes: numberOf(nodes) };
     const rows = await engine.best(lineOf(scramble), { ...wanted, cut: partial === "1" ? "value" : "throw" });

@@ -1,0 +1,83 @@
+/* Text as solvers write it in C++: as a line, with the places of faults in it, and as attempts. */
+#ifndef WRITTEN_HPP
+#define WRITTEN_HPP
+
+#include "nissy.hpp"
+#include "nissy_attempts.hpp"
+
+#include "trial.h"
+
+namespace {
+
+using names = std::vector<std::string>;
+
+// A text as a line, whose fault is found in the text. What is left out, the rows of tests/calls.tsv say, which tests/hosts tries.
+void text_is_read() {
+    static constexpr std::string_view TEXT = "EO: R\xe2\x80\x99, U\xff q // to try";
+    const auto [line, places, left_out] = nissy::plain_line(TEXT);
+    holds(line == " R'  U\xff q " && left_out == names{"labels", "comments", "commas"}, "its line", "EO: R’, U\\xff q");
+    holds(places == std::vector<std::size_t>{3, 4, 5, 8, 9, 10, 11, 12, 13, 14}, "its places", "EO: R’, U\\xff q");
+    try {
+        nissy::invert(line);
+        holds(0, "it has a fault", "EO: R’, U\\xff q");
+    } catch (const nissy::fault &thrown) {
+        holds(places[thrown.column() - 1] == 11, "where it stands in the text", "EO: R’, U\\xff q");
+    }
+    // what begins a sign and has too few bytes, or more than it needs, is no blank and no letter
+    for (const char *text : {"\xc2", "\xe2\x80", "\xc0\xa0", "\xe0\x82\xa0", "\xf0\x80\x82\xa0", "\xed\xa0\x80", "\xf4\x90\x80\x80", "\x80"})
+        holds(nissy::plain_line(std::string("EO") + text + ": R").line == std::string("EO") + text + ": R", "bytes that aren't UTF-8", text);
+    holds(nissy::plain_line({}).line.empty() && nissy::plain_line(std::string_view("//", 1)).line == "/", "nothing behind its end", "/");
+}
+
+// Where a fault stands in a text: by signs of one byte, two, three and four, by lines that end in each way, and beside what is left out.
+void places_are_found() {
+    static constexpr std::string_view TEXT = "EO: \xc3\xa9 R\xe2\x80\x99\r\n\xf0\x9f\x98\x80 U,\rq\nF\xe2\x80\x99";
+    const nissy::plain plain = nissy::plain_line(TEXT);
+    struct row {
+        std::size_t column; // in the line
+        nissy::text_place place;
+    };
+    static constexpr row ROWS[] = {{1, {3, 1, 4}}, {2, {4, 1, 5}}, {5, {7, 1, 7}}, {6, {8, 1, 8}}, {9, {13, 2, 1}}, {14, {18, 2, 3}},
+                                   {17, {21, 3, 1}}, {19, {23, 4, 1}}, {20, {24, 4, 2}}, {21, {27, 4, 3}}, {99, {27, 4, 3}}};
+    for (const auto &[column, place] : ROWS) {
+        const nissy::fault fault(NISSY_NOT_A_MOVE, column, "");
+        holds(nissy::place_of_fault(fault, plain, TEXT) == place, "its place in the text", fault.what());
+    }
+    const nissy::fault first(NISSY_NOT_A_MOVE, 1, "");
+    holds(nissy::place_of_fault(first, nissy::plain_line({}), {}) == nissy::text_place{0, 1, 1}, "the beginning", "no text");
+    const nissy::tables tables("dr-eofb");
+    const auto counts = tables.count_all(plain.line + "\nF");
+    holds(nissy::place_of_fault(counts[0], plain, TEXT) == nissy::text_place{4, 1, 5}, "that of one of many lines", "EO: é");
+    holds(!nissy::place_of_fault(counts[1], plain, TEXT), "eofb does not hold, which has no place", "F");
+}
+
+// The attempts of a text, with places in bytes of the whole text. How they are read, the rows of tests/calls.tsv say.
+void attempts_are_read() {
+    static constexpr std::string_view TEXT = "Hello\n1. R\xe2\x80\x99 U\nF // EO\n\n// short\nB q\n\n2) D\n";
+    const std::vector<nissy::attempt> attempts = nissy::read_attempts(TEXT);
+    const auto &[name, scramble, steps, solution, candidates, before] = attempts.at(0);
+    const auto is = [](const nissy::plain &part, const char *line, const std::vector<std::size_t> &places, const names &left_out) {
+        holds(part.line == line && part.places == places && part.left_out == left_out, "a part of an attempt", line);
+    };
+    is(scramble, " R' U", {8, 9, 10, 13, 14}, {});
+    is(steps.at(0), "F ", {16, 17}, {"comments"});
+    is(solution, "F ", {16, 17}, {"comments"});
+    is(candidates.at(0).steps.at(0), "B q", {34, 35, 36}, {});
+    holds(name == "1." && before == 1 && steps.size() == 1 && candidates.size() == 1 && candidates[0].note == "short", "the first one", "1.");
+    is(attempts.at(1).scramble, " D", {41, 42}, {});
+    holds(attempts.size() == 2 && attempts[1].name == "2)" && attempts[1].steps.empty() && attempts[1].before == 0, "the other one", "2)");
+    try {
+        nissy::check(scramble.line, candidates[0].steps[0].line);
+        holds(0, "it has a fault", "B q");
+    } catch (const nissy::fault &thrown) {
+        holds(thrown.line() == 2 && nissy::place_of_fault(thrown, candidates[0].steps[0], TEXT) == nissy::text_place{36, 6, 3}, "its place", "B q");
+    }
+    const std::vector<nissy::attempt> broken = nissy::read_attempts("R \xff\n\nU");
+    is(broken.at(0).scramble, "R \xff", {0, 1, 2}, {});
+    is(broken.at(0).steps.at(0), "U", {5}, {});
+    holds(nissy::read_attempts({}).size() == 1 && nissy::read_attempts({})[0].scramble.line.empty(), "one that is empty", "no text");
+}
+
+} // namespace
+
+#endif
