@@ -76,6 +76,7 @@ def classes(tally: Tally) -> None:
         (nissy.Count, {"length": Optional[int], "solutions": int, "nodes": int, "cut": bool}),
         (nissy.Answer, {"status": int, "out": bytes, "err": bytes, "full": bool}),
         (nissy.Continuation, {"total": int, "line": str, "eo": Optional[nissy.Orientation], "dr": nissy.Reduction, "case": nissy.Case}),
+        (nissy.Check, {"solved": bool, "moves": int, "clean_moves": int, "forms": Tuple[str, ...]}),
         (nissy.PlainLine, {"line": str, "places": Tuple[int, ...], "left_out": Tuple[str, ...]}),
         (nissy.TextPlace, {"at": int, "line": int, "column": int}),
         (nissy.AttemptCandidate, {"steps": Tuple[nissy.PlainLine, ...], "note": str}),
