@@ -18,7 +18,7 @@ ghost use Rattle.niss_embed.specs.declared.answer.Status.TheVariants.{Done, NoRo
 mod after;
 
 use crate::answer::Status;
-use crate::line_texts::feed_line;
+use crate::line_texts::read_by;
 use crate::memory::put;
 use crate::search_answer::SearchAnswer;
 pub use after::solve_after;
@@ -161,14 +161,8 @@ fn begin<A: Allocator>(tables: &Tables<A>, line: &[u8]) -> Result<Position, Line
         (λ fault. start_cube tables.now (read_line line.now) ≡ Err fault) }
 {
     let mut reader = LineReader::new();
-    feed_line(&mut reader, line);
-    if let Err(fault) = reader.end() {
-        return Err(LineFault::Unread(fault));
-    }
-    match start_position(tables, reader.moves()) {
-        Some(position) => Ok(position),
-        None => Err(LineFault::NoStart(tables.step())),
-    }
+    let moves = read_by(&mut reader, line).map_err(LineFault::Unread)?;
+    start_position(tables, moves).ok_or(LineFault::NoStart(tables.step()))
 }
 
 /// Searches as `search_within` of `niss_search`, with as many looks as a number of 64 bits says; the greatest one, which no

@@ -12,7 +12,7 @@ ghost use Rattle.niss_embed.specs.SolveAfter.{looks_to_shortest};
 
 use super::{Bounds, CountedSolutions, SolutionLines, Wanted, begin, capped, status_of, was_cut};
 use crate::answer::Status;
-use crate::line_texts::feed_line;
+use crate::line_texts::read_by;
 use crate::search_answer::SearchAnswer;
 use niss_moves::{Faces, LineReader, Niss, Token, Turn};
 use niss_search::laws::{after_is_rest, first_is_least, zero_is_no_turn};
@@ -48,11 +48,7 @@ fn turns_of_text(text: &[u8]) -> Option<Faces>
         return None;
     }
     let mut reader = LineReader::new();
-    feed_line(&mut reader, text);
-    match reader.end() {
-        Ok(()) => turns_of_line(reader.moves()),
-        Err(_) => None,
-    }
+    turns_of_line(read_by(&mut reader, text).ok()?)
 }
 
 /// A search was cut before it knew the least length.
