@@ -1,12 +1,9 @@
 //! What is told of lines without a search: by what solvers choose among them, and whether a solution solves a scramble.
-ghost use Rattle.std.specs.Prelude.{◌≡◌, ◌≤◌, length, MatchResult, Ok, Err};
+ghost use Rattle.std.specs.Prelude.{◌≡◌, ◌≤◌, Ok, Err};
 ghost use Rattle.std.specs.List.{list_any};
-ghost use Rattle.niss_moves.specs.Line.{Moves};
-ghost use Rattle.niss_moves.specs.Reader.{read_line};
 ghost use Rattle.niss_moves.specs.Solving.{move_count, clean_count};
 ghost use Rattle.niss_cube.specs.Map.{map_of};
 ghost use Rattle.niss_shell.specs.Output.{home};
-ghost use Rattle.niss_shell.specs.Words.{most_bytes};
 ghost use Rattle.niss_embed.specs.LineFacts.{axis_facts, facts_of, facts_of_cube, check_of, checked, forms_of, flag};
 ghost use Rattle.niss_embed.specs.LineFacts.{is_slice_letter, is_small_letter, is_bracket, is_apostrophe};
 ghost use Rattle.niss_embed.specs.LineFacts.{begins_with_apostrophe, has_half_prime};
