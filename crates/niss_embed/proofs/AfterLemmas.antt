@@ -199,13 +199,10 @@ another_move line i d inside other turns h =
     ∙ get_or-map token.Face turns i no_turn (token.Face no_turn) within)
 
 -- The solutions after a sequence, up to the last length of the list, and the looks for them.
-module _ (law : SolutionsAreSequences) (step : Step) (w : Wanted) (p : List Turn) (e : Place → Place) (least : Option ℕ) (n slack last : ℕ)
-    (n_is : n ≡ w.limit) (slack_is : slack ≡ w.slack) (least_is : least ≡ least_length_of step e n) (last_is : last ≡ last_length least n slack) where
-  pub least_known : least ≡ least_length_of step e w.limit
-  least_known = least_is ∙ ap (least_length_of step e) n_is
-
+module _ (law : SolutionsAreSequences) (step : Step) (w : Wanted) (p : List Turn) (e : Place → Place) (least : Option ℕ) (last : ℕ)
+    (least_is : least ≡ least_length_of step e w.limit) (last_is : last ≡ last_length least w.limit w.slack) where
   last_known : last ≡ last_length (least_length_of step e w.limit) w.limit w.slack
-  last_known = last_is ∙ (λ i. last_length (least_known i) (n_is i) (slack_is i))
+  last_known = last_is ∙ ap (λ l. last_length l w.limit w.slack) least_is
 
   pub after_is : sequences_after step e last p ≡ found_after step w p e
   after_is = ap (λ l. sequences_after step e l p) last_known ∙ sym (ap (filter (comes_after p)) (law.listed step e w.limit w.slack))

@@ -21,6 +21,7 @@ use Rattle.niss_embed.specs.Memory.{Memory, Puts}
 use Rattle.niss_embed.specs.LineCalls.{status_number, fault_number}
 use Rattle.niss_embed.specs.declared.answer.Status.{Status}
 use Rattle.niss_embed.specs.declared.answer.Status.TheVariants.{Done, Fault, Usage, Stopped, NoRoom, Cut}
+use Rattle.niss_embed.specs.declared.line_search.Bounds.{Bounds}
 use Rattle.niss_embed.specs.declared.line_search.Wanted.{Wanted}
 use Rattle.niss_embed.specs.declared.search_answer.SearchAnswer.{SearchAnswer}
 
@@ -136,6 +137,10 @@ unsolved status fault column = record {
 -- what is asked of a search, by its numbers
 abbrev pub wanted : (limit slack most most_nodes : ℕ) → Wanted
 wanted limit slack most most_nodes = record { limit = limit; slack = slack; most = most; most_nodes = most_nodes }
+
+-- the same of the bounds that a search is given
+abbrev pub wanted_in : Bounds → Wanted
+wanted_in bounds = wanted bounds.limit bounds.slack bounds.most bounds.most_nodes
 
 -- all solutions that a search finds from a cube, and how many looks it makes for them
 abbrev pub all_found : Step → Wanted → (Place → Place) → List (List Turn)

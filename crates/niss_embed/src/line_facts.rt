@@ -1,19 +1,16 @@
 //! What is told of lines without a search: by what solvers choose among them, and whether a solution solves a scramble.
-ghost use Rattle.std.specs.Prelude.{◌≡◌, ◌≤◌, length, MatchResult, Ok, Err};
+ghost use Rattle.std.specs.Prelude.{◌≡◌, ◌≤◌, Ok, Err};
 ghost use Rattle.std.specs.List.{list_any};
-ghost use Rattle.niss_moves.specs.Line.{Moves};
-ghost use Rattle.niss_moves.specs.Reader.{read_line};
 ghost use Rattle.niss_moves.specs.Solving.{move_count, clean_count};
 ghost use Rattle.niss_cube.specs.Map.{map_of};
 ghost use Rattle.niss_shell.specs.Output.{home};
-ghost use Rattle.niss_shell.specs.Words.{most_bytes};
 ghost use Rattle.niss_embed.specs.LineFacts.{axis_facts, facts_of, facts_of_cube, check_of, checked, forms_of, flag};
 ghost use Rattle.niss_embed.specs.LineFacts.{is_slice_letter, is_small_letter, is_bracket, is_apostrophe};
 ghost use Rattle.niss_embed.specs.LineFacts.{begins_with_apostrophe, has_half_prime};
 
 use crate::answer::Status;
 use crate::fact_answers::{AxisFacts, CheckAnswer, FactsAnswer};
-use crate::line_texts::feed_line;
+use crate::line_texts::read_by;
 use niss_cube::laws::{bad_places_see_places, home_sees_places, reached_steps_see_places};
 use niss_cube::{Axis, Coordinate, Cube, Step};
 use niss_moves::{LineReader, Niss};
@@ -87,9 +84,8 @@ pub fn facts_of_line(line: &[u8]) -> FactsAnswer
         return FactsAnswer::too_long();
     }
     let mut reader = LineReader::new();
-    feed_line(&mut reader, line);
-    match reader.end() {
-        Ok(()) => facts_of_moves(reader.moves()),
+    match read_by(&mut reader, line) {
+        Ok(moves) => facts_of_moves(moves),
         Err(fault) => FactsAnswer::unread(fault),
     }
 }
@@ -208,14 +204,13 @@ pub fn check_line(scramble: &[u8], solution: &[u8]) -> CheckAnswer
         return CheckAnswer::too_long(2);
     }
     let mut first = LineReader::new();
-    feed_line(&mut first, scramble);
-    if let Err(fault) = first.end() {
-        return CheckAnswer::unread(1, fault);
-    }
     let mut second = LineReader::new();
-    feed_line(&mut second, solution);
-    if let Err(fault) = second.end() {
-        return CheckAnswer::unread(2, fault);
+    match (
+        read_by(&mut first, scramble),
+        read_by(&mut second, solution),
+    ) {
+        (Ok(first), Ok(second)) => check_moves(first, second, forms_of(solution)),
+        (Err(fault), _) => CheckAnswer::unread(1, fault),
+        (_, Err(fault)) => CheckAnswer::unread(2, fault),
     }
-    check_moves(first.moves(), second.moves(), forms_of(solution))
 }

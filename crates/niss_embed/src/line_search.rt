@@ -12,13 +12,13 @@ ghost use Rattle.niss_shell.specs.Words.{most_bytes, most_limit};
 ghost use Rattle.niss_embed.specs.Memory.{memory};
 ghost use Rattle.niss_embed.specs.LineCalls.{status_number};
 ghost use Rattle.niss_embed.specs.LineSearch.{most_of_line, lines_state, Takes, Refuses, capped, SolvesCube, is_cut};
-ghost use Rattle.niss_embed.specs.LineSearch.{SolvesLine, CountsCube, CountsLine, count_state, Counts, CountsNoMore};
+ghost use Rattle.niss_embed.specs.LineSearch.{SolvesLine, CountsCube, CountsLine, count_state, Counts, CountsNoMore, wanted_in};
 ghost use Rattle.niss_embed.specs.declared.answer.Status.TheVariants.{Done, NoRoom, Cut};
 
 mod after;
 
 use crate::answer::Status;
-use crate::line_texts::feed_line;
+use crate::line_texts::read_by;
 use crate::memory::put;
 use crate::search_answer::SearchAnswer;
 pub use after::solve_after;
@@ -43,22 +43,26 @@ pub struct Wanted {
     pub most_nodes: u64,
 }
 
-/// How far a search goes.
+/// How far a search goes: what is wanted, if its limit and its slack are 20 or fewer.
 #[derive(Clone, Copy)]
 struct Bounds {
     limit: Limit,
     slack: Limit,
+    most: u64,
+    most_nodes: u64,
 }
 
 impl Bounds {
-    /// The bounds of these two numbers, if both are 20 or fewer.
-    fn new(limit: u8, slack: u8) -> Option<Bounds>
-        ensures { MatchOption result ((most_limit < limit) ⊎ (most_limit < slack))
-            (λ bounds. (bounds.limit ≡ limit) × (bounds.slack ≡ slack) × (limit ≤ most_limit) × (slack ≤ most_limit)) }
+    /// The bounds of what is asked for, if there is such a search.
+    fn new(asked: Wanted) -> Option<Bounds>
+        ensures { MatchOption result ((most_limit < asked.limit) ⊎ (most_limit < asked.slack))
+            (λ bounds. (wanted_in bounds ≡ asked) × (asked.limit ≤ most_limit) × (asked.slack ≤ most_limit)) }
     {
         Some(Bounds {
-            limit: Limit::new(limit)?,
-            slack: Limit::new(slack)?,
+            limit: Limit::new(asked.limit)?,
+            slack: Limit::new(asked.slack)?,
+            most: asked.most,
+            most_nodes: asked.most_nodes,
         })
     }
 }
@@ -161,25 +165,18 @@ fn begin<A: Allocator>(tables: &Tables<A>, line: &[u8]) -> Result<Position, Line
         (λ fault. start_cube tables.now (read_line line.now) ≡ Err fault) }
 {
     let mut reader = LineReader::new();
-    feed_line(&mut reader, line);
-    if let Err(fault) = reader.end() {
-        return Err(LineFault::Unread(fault));
-    }
-    match start_position(tables, reader.moves()) {
-        Some(position) => Ok(position),
-        None => Err(LineFault::NoStart(tables.step())),
-    }
+    let moves = read_by(&mut reader, line).map_err(LineFault::Unread)?;
+    start_position(tables, moves).ok_or(LineFault::NoStart(tables.step()))
 }
 
-/// Searches as `search_within` of `niss_search`, with as many looks as a number of 64 bits says; the greatest one, which no
-/// search reaches in a lifetime, costs nothing.
+/// Searches as `search_within` of `niss_search`, within bounds; the greatest number of looks, which no search reaches in a
+/// lifetime, costs nothing.
 fn search_at_most<K: Sink, A: Allocator>(
     tables: &Tables<A>,
     position: &Position,
     bounds: Bounds,
     looks: &mut Meter,
     sink: &mut K,
-    most_nodes: u64,
 ) -> Result<Outcome, Stopped<K::Fault>>
     requires position { IsPosition tables.now position.now }
     requires meter { looks.old ≡ 0 }
@@ -191,7 +188,7 @@ fn search_at_most<K: Sink, A: Allocator>(
         (is_cut_in stop) sink.old (near_solutions_of tables.now e bounds.limit bounds.slack) sink.new) }
     ensures cut { (e : Place → Place) → HasPosition tables.now e position.now
         → IfErr result (λ stop. is_cut_in stop ≡ true
-        → most_nodes < near_looks_of tables.now e bounds.limit bounds.slack) }
+        → bounds.most_nodes < near_looks_of tables.now e bounds.limit bounds.slack) }
     ensures found { (e : Place → Place) (made : ℕ) → HasPosition tables.now e position.now → looks.new ≡ looks.old + made
         → IfErr result (λ stop. is_cut_in stop ≡ true → WentThrough (at_limit K.took bounds.limit)
         sink.old (found_within_of tables.now e bounds.limit bounds.slack made) sink.new) }
@@ -204,18 +201,18 @@ fn search_at_most<K: Sink, A: Allocator>(
         → OnOk result (looks.new ≡ near_looks_of tables.now e bounds.limit bounds.slack) }
     ensures looks_at_most { (e : Place → Place) → HasPosition tables.now e position.now
         → looks.new ≤ near_looks_of tables.now e bounds.limit bounds.slack }
-    ensures within { capped looks.new ≤ most_nodes }
-    ensures spent { HasSpent is_cut_in most_nodes tables.now (capped looks.new) result }
+    ensures within { capped looks.new ≤ bounds.most_nodes }
+    ensures spent { HasSpent is_cut_in bounds.most_nodes tables.now (capped looks.new) result }
 {
     let mut path = TurnPath::new(bounds.limit);
-    if most_nodes == u64::MAX {
+    if bounds.most_nodes == u64::MAX {
         let found = search(tables, position, bounds.slack, &mut path, looks, sink);
         return match found {
             Ok(outcome) => Ok(outcome),
             Err(fault) => Err(Stopped::Refused(fault)),
         };
     }
-    let most = u128::from(most_nodes);
+    let most = u128::from(bounds.most_nodes);
     search_within(tables, position, bounds.slack, &mut path, looks, sink, most)
 }
 
@@ -245,27 +242,17 @@ fn solve_position<A: Allocator>(
     tables: &Tables<A>,
     position: &Position,
     bounds: Bounds,
-    wanted: Wanted,
     out: &mut [u8],
 ) -> SearchAnswer
-    requires position { IsPosition tables.now position.now }
-    requires limit { bounds.limit ≡ wanted.limit }
-    requires slack { bounds.slack ≡ wanted.slack }
+    requires { IsPosition tables.now position.now }
     ensures { (e : Place → Place) → HasPosition tables.now e position.now →
-        SolvesCube tables.now wanted e (memory out.old out.new) result }
+        SolvesCube tables.now (wanted_in bounds) e (memory out.old out.new) result }
 {
     // so the first solution tells the least length, also if the search is stopped
     first_is_least();
     let mut looks = Meter::new();
-    let mut lines = SolutionLines::new(out, wanted.most);
-    let found = search_at_most(
-        tables,
-        position,
-        bounds,
-        &mut looks,
-        &mut lines,
-        wanted.most_nodes,
-    );
+    let mut lines = SolutionLines::new(out, bounds.most);
+    let found = search_at_most(tables, position, bounds, &mut looks, &mut lines);
     SearchAnswer {
         status: status_of(was_cut(&found), lines.too_small),
         fault: 0,
@@ -290,14 +277,14 @@ pub fn solve_line<A: Allocator>(
 ) -> SearchAnswer
     ensures { SolvesLine tables.now wanted line.now (memory out.old out.new) result }
 {
-    let Some(bounds) = Bounds::new(wanted.limit, wanted.slack) else {
+    let Some(bounds) = Bounds::new(wanted) else {
         return SearchAnswer::misused();
     };
     if line.len() > MOST_BYTES {
         return SearchAnswer::too_long();
     }
     match begin(tables, line) {
-        Ok(position) => solve_position(tables, &position, bounds, wanted, out),
+        Ok(position) => solve_position(tables, &position, bounds, out),
         Err(fault) => SearchAnswer::faulty(fault),
     }
 }
@@ -351,25 +338,15 @@ fn count_position<A: Allocator>(
     tables: &Tables<A>,
     position: &Position,
     bounds: Bounds,
-    wanted: Wanted,
 ) -> SearchAnswer
-    requires position { IsPosition tables.now position.now }
-    requires limit { bounds.limit ≡ wanted.limit }
-    requires slack { bounds.slack ≡ wanted.slack }
+    requires { IsPosition tables.now position.now }
     ensures { (e : Place → Place) → HasPosition tables.now e position.now →
-        CountsCube tables.now wanted e result }
+        CountsCube tables.now (wanted_in bounds) e result }
 {
     first_is_least();
     let mut looks = Meter::new();
-    let mut counted = CountedSolutions::new(wanted.most);
-    let found = search_at_most(
-        tables,
-        position,
-        bounds,
-        &mut looks,
-        &mut counted,
-        wanted.most_nodes,
-    );
+    let mut counted = CountedSolutions::new(bounds.most);
+    let found = search_at_most(tables, position, bounds, &mut looks, &mut counted);
     SearchAnswer {
         status: status_of(was_cut(&found), false),
         fault: 0,
@@ -386,14 +363,14 @@ fn count_position<A: Allocator>(
 pub fn count_line<A: Allocator>(tables: &Tables<A>, line: &[u8], wanted: Wanted) -> SearchAnswer
     ensures { CountsLine tables.now wanted line.now result }
 {
-    let Some(bounds) = Bounds::new(wanted.limit, wanted.slack) else {
+    let Some(bounds) = Bounds::new(wanted) else {
         return SearchAnswer::misused();
     };
     if line.len() > MOST_BYTES {
         return SearchAnswer::too_long();
     }
     match begin(tables, line) {
-        Ok(position) => count_position(tables, &position, bounds, wanted),
+        Ok(position) => count_position(tables, &position, bounds),
         Err(fault) => SearchAnswer::faulty(fault),
     }
 }

@@ -1,8 +1,8 @@
 //! Short texts for a caller's buffer: what is written of one line without a search, a scramble, and what things are
 //! called.
-ghost use Rattle.std.specs.Prelude.{◌≡◌, ◌≢◌, ◌+◌, ◌<◌, ◌≤◌, List, ℕ, [], ◌++◌, length, take};
+ghost use Rattle.std.specs.Prelude.{◌≡◌, ◌≢◌, ◌≤◌, Ok, Err, IfOk, IfErr, [], length};
 ghost use Rattle.std.specs.Option.{option_copied};
-ghost use Rattle.niss_moves.specs.Reader.{IsFed};
+ghost use Rattle.niss_moves.specs.Reader.{IsFed, read_line};
 ghost use Rattle.niss_shell.specs.Output.{line_text};
 ghost use Rattle.niss_shell.specs.Words.{most_bytes};
 ghost use Rattle.niss_embed.specs.LineCalls.{status_number, Does, Rewrites, outcome_of_text, outcome_of_scramble};
@@ -16,13 +16,19 @@ use niss_shell::{MOST_BYTES, Rewriting, rewrite, set_scramble, set_steps, step_n
 /// The most turns of a scramble.
 const MOST_TURNS: u32 = 256;
 
-/// Feeds a whole line to a new reader.
-pub(crate) fn feed_line(reader: &mut LineReader, line: &[u8])
+/// The moves of a line by a new reader, or its fault. The reader is lent, since it is too large to be handed on by value
+/// on a small stack.
+pub(crate) fn read_by<'a>(reader: &'a mut LineReader, line: &[u8]) -> Result<&'a Niss, ReadFault>
     requires new { IsFed reader.old [] }
     requires room { length line.now ≤ most_bytes }
-    ensures { IsFed reader.new line.now }
+    ensures moves { IfOk result (λ moves. read_line line.now ≡ Ok moves.now) }
+    ensures fault { IfErr result (λ fault. read_line line.now ≡ Err fault) }
 {
     reader.feed_all(line);
+    match reader.end() {
+        Ok(()) => Ok(reader.moves()),
+        Err(fault) => Err(fault),
+    }
 }
 
 /// Writes the text of a line's moves, without the line feed.
@@ -45,9 +51,8 @@ pub fn rewrite_line(rewriting: Rewriting, line: &[u8], out: &mut [u8]) -> LineAn
         return LineAnswer::too_long();
     }
     let mut reader = LineReader::new();
-    feed_line(&mut reader, line);
-    match reader.end() {
-        Ok(()) => put_rewritten(rewriting, reader.moves(), out),
+    match read_by(&mut reader, line) {
+        Ok(moves) => put_rewritten(rewriting, moves, out),
         Err(fault) => LineAnswer::unread(fault),
     }
 }

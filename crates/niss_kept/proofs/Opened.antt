@@ -1,5 +1,5 @@
 -- What a kept pointer owns can be had twice, so a `&` to it is opened. Assumes `Logic`.
-use Rattle.std.proofs.Common.{◌≡◌, ℕ, Bool, true, false, List, [], ◌∷◌, refl, sym}
+use Rattle.std.proofs.Common.{ℕ, Bool, true, false, List, [], ◌∷◌, refl, sym}
 use seplogic.Ra.Ura.{Ura}
 use mir.Val.{Val}
 use base.Logic.{ent, sep}
@@ -30,9 +30,6 @@ B = kept.the_row
 abbrev vals : B.Denot → List Val
 vals d = list_val d.at ∷ []
 
-tells : (d : B.Denot) (vs : List Val) → Is B d vs → vs ≡ vals d
-tells d vs s = (list_told d.at vs s.0).0
-
 module _ {M : Type 1} {𝓤 : Ura M} (𝓛 : Logic 𝓤) where
   pub kept_twice : (y : Bool) (p : Ptr) (x : TheStep) → ent 𝓤 (sem 𝓛 (kept_owns y p x)) (sep 𝓤 (sem 𝓛 (kept_owns y p x)) (sem 𝓛 (kept_owns y p x)))
   kept_twice true p x =
@@ -49,16 +46,15 @@ module _ {M : Type 1} {𝓤 : Ura M} (𝓛 : Logic 𝓤) where
     twice = λ d vs.
         qed 𝓛 (‵ (B.own_val d vs) ∷ []) ∵ fsplit ! $ pure_l ! (list_own d.at vs) (λ s.
         use1 𝓛 (‵ (kept_owns d.full d.at d.step) ⊛ ‵ (kept_owns d.full d.at d.step)) (kept_twice d.full d.at d.step) $ split ! $
-        use0 𝓛 (‵ (list_own d.at (list_val d.at ∷ []))) (list_made 𝓛 d.at tt) $ rewrite ! 0 (λ (us : List Val). ‵ (list_own d.at us)) (sym (list_told d.at vs s).0) refl $ fjoin ! $
+        use0 𝓛 (‵ (list_own d.at (vals d))) (list_made 𝓛 d.at tt) $ rewrite ! 0 (λ (us : List Val). ‵ (list_own d.at us)) (sym (list_told d.at vs s).0) refl $ fjoin ! $
         move ! (1 ∷ []) $
-        use0 𝓛 (‵ (list_own d.at (list_val d.at ∷ []))) (list_made 𝓛 d.at tt) $ rewrite ! 0 (λ (us : List Val). ‵ (list_own d.at us)) (sym (list_told d.at vs s).0) refl $ fjoin ! $ done !);
+        use0 𝓛 (‵ (list_own d.at (vals d))) (list_made 𝓛 d.at tt) $ rewrite ! 0 (λ (us : List Val). ‵ (list_own d.at us)) (sym (list_told d.at vs s).0) refl $ fjoin ! $ done !);
   }
 
   cuts : (d : B.Denot) (b o : ℕ) → Cuts 𝓛 (λ q. part_at B q d b o)
-  cuts d b o = record {
-    cut = λ q q₁ q₂ m. (share_laws 𝓛 B (Is B) (shows 𝓛 B) vals tells kept_copy).cut q q₁ q₂ m d b o;
-    join = λ q q₁ q₂ m. (share_laws 𝓛 B (Is B) (shows 𝓛 B) vals tells kept_copy).join q q₁ q₂ m d b o;
-  }
+  cuts d b o =
+      let shared = share_laws 𝓛 B (Is B) (shows 𝓛 B) vals (λ x vs s. (list_told x.at vs s.0).0) kept_copy in
+      record { cut = λ q q₁ q₂ m. shared.cut q q₁ q₂ m d b o; join = λ q q₁ q₂ m. shared.join q q₁ q₂ m d b o }
 
   pub kept_opens : Opens 𝓛 B
   kept_opens d b o = (

@@ -1,5 +1,5 @@
 -- What a kept pointer owns can be had twice, so a `&` to it is opened. Assumes `Logic`.
-use Rattle.std.proofs.Common.{◌≡◌, ℕ, Bool, true, false, List, [], ◌∷◌, refl, sym}
+use Rattle.std.proofs.Common.{ℕ, Bool, true, false, List, [], ◌∷◌, refl, sym}
 use seplogic.Ra.Ura.{Ura}
 use mir.Val.{Val}
 use base.Logic.{ent, sep}
@@ -28,9 +28,6 @@ B = kept.the_row
 abbrev vals : B.Denot → List Val
 vals d = list_val d.at ∷ []
 
-tells : (d : B.Denot) (vs : List Val) → Is B d vs → vs ≡ vals d
-tells d vs s = (list_told d.at vs s.0).0
-
 module _ {M : Type 1} {𝓤 : Ura M} (𝓛 : Logic 𝓤) where
   pub kept_twice : (y : Bool) (p : Ptr) (x : TheStep) → ent 𝓤 (sem 𝓛 (kept_owns y p x)) (sep 𝓤 (sem 𝓛 (kept_owns y p x)) (sem 𝓛 (kept_owns y p x)))
   kept_twice true p x =
@@ -54,10 +51,9 @@ module _ {M : Type 1} {𝓤 : Ura M} (𝓛 : Logic 𝓤) where
   }
 
   cuts : (d : B.Denot) (b o : ℕ) → Cuts 𝓛 (λ q. part_at B q d b o)
-  cuts d b o = record {
-    cut = λ q q₁ q₂ m. (share_laws 𝓛 B (Is B) (shows 𝓛 B) vals tells kept_copy).cut q q₁ q₂ m d b o;
-    join = λ q q₁ q₂ m. (share_laws 𝓛 B (Is B) (shows 𝓛 B) vals tells kept_copy).join q q₁ q₂ m d b o;
-  }
+  cuts d b o =
+      let shared = share_laws 𝓛 B (Is B) (shows 𝓛 B) vals (λ x vs s. (list_told x.at vs s.0).0) kept_copy in
+      record { cut = λ q q₁ q₂ m. shared.cut q q₁ q₂ m d b o; join = λ q q₁ q₂ m. shared.join q q₁ q₂ m d b o }
 
   pub kept_opens : Opens 𝓛 B
   kept_opens d b o = (

@@ -1,18 +1,18 @@
 //! A search that goes on after a solution, so that a caller goes through a long list in pieces.
-ghost use Rattle.std.specs.Prelude.{◌≡◌, ◌≢◌, ◌≤◌, ◌<◌, ◌+◌, ℕ, List, IfOk, OnOk, OnErr, MatchOption, length};
+ghost use Rattle.std.specs.Prelude.{◌≡◌, ◌≢◌, ◌≤◌, ◌<◌, ◌+◌, List, IfOk, OnOk, OnErr, MatchOption, length};
 ghost use Rattle.niss_moves.specs.Places.{Place};
 ghost use Rattle.niss_cube.specs.Steps.{turns_of};
 ghost use Rattle.niss_search.specs.Cubes.{IsPosition, HasPosition, least_length_of, near_looks_of};
 ghost use Rattle.niss_search.specs.Solutions.{last_length};
 ghost use Rattle.niss_shell.specs.Names.{Turn};
-ghost use Rattle.niss_shell.specs.Words.{most_limit};
+ghost use Rattle.niss_embed.specs.LineSearch.{wanted_in};
 ghost use Rattle.niss_embed.specs.Memory.{memory};
 ghost use Rattle.niss_embed.specs.SolveAfter.{line_of_turns, Spells, SolvesCubeAfter, SolvesAfter, cut_before};
 ghost use Rattle.niss_embed.specs.SolveAfter.{looks_to_shortest};
 
 use super::{Bounds, CountedSolutions, SolutionLines, Wanted, begin, capped, status_of, was_cut};
 use crate::answer::Status;
-use crate::line_texts::feed_line;
+use crate::line_texts::read_by;
 use crate::search_answer::SearchAnswer;
 use niss_moves::{Faces, LineReader, Niss, Token, Turn};
 use niss_search::laws::{after_is_rest, first_is_least, zero_is_no_turn};
@@ -48,11 +48,7 @@ fn turns_of_text(text: &[u8]) -> Option<Faces>
         return None;
     }
     let mut reader = LineReader::new();
-    feed_line(&mut reader, text);
-    match reader.end() {
-        Ok(()) => turns_of_line(reader.moves()),
-        Err(_) => None,
-    }
+    turns_of_line(read_by(&mut reader, text).ok()?)
 }
 
 /// A search was cut before it knew the least length.
@@ -133,14 +129,11 @@ fn solve_cube_after<A: Allocator>(
     position: &Position,
     after: &[Turn],
     bounds: Bounds,
-    wanted: Wanted,
     out: &mut [u8],
 ) -> SearchAnswer
-    requires position { IsPosition tables.now position.now }
-    requires limit { bounds.limit ≡ wanted.limit }
-    requires slack { bounds.slack ≡ wanted.slack }
+    requires { IsPosition tables.now position.now }
     ensures { (e : Place → Place) → HasPosition tables.now e position.now →
-        SolvesCubeAfter tables.now wanted after.now e (memory out.old out.new) result }
+        SolvesCubeAfter tables.now (wanted_in bounds) after.now e (memory out.old out.new) result }
 {
     // so the solutions up to the last length are those that are asked for
     after_is_rest();
@@ -150,14 +143,14 @@ fn solve_cube_after<A: Allocator>(
         position,
         bounds.limit,
         &mut looks,
-        wanted.most_nodes,
+        bounds.most_nodes,
     );
     let Ok(least) = found else {
         return cut_at(&looks);
     };
-    let mut lines = SolutionLines::new(out, wanted.most);
+    let left = u128::from(bounds.most_nodes) - looks.count();
+    let mut lines = SolutionLines::new(out, bounds.most);
     let mut path = TurnPath::new(last_limit(least, bounds));
-    let left = u128::from(wanted.most_nodes) - looks.count();
     let handed = search_after(
         tables, position, after, &mut path, &mut looks, &mut lines, left,
     );
@@ -186,7 +179,7 @@ pub fn solve_after<A: Allocator>(
 ) -> SearchAnswer
     ensures { SolvesAfter tables.now wanted line.now after.now (memory out.old out.new) result }
 {
-    let Some(bounds) = Bounds::new(wanted.limit, wanted.slack) else {
+    let Some(bounds) = Bounds::new(wanted) else {
         return SearchAnswer::misused();
     };
     let Some(turns) = turns_of_text(after) else {
@@ -196,7 +189,7 @@ pub fn solve_after<A: Allocator>(
         return SearchAnswer::too_long();
     }
     match begin(tables, line) {
-        Ok(position) => solve_cube_after(tables, &position, turns.as_slice(), bounds, wanted, out),
+        Ok(position) => solve_cube_after(tables, &position, turns.as_slice(), bounds, out),
         Err(fault) => SearchAnswer::faulty(fault),
     }
 }

@@ -7,20 +7,19 @@ use Rattle.niss_search.specs.Delivery.{Path, WentThrough, EndedIn}
 use Rattle.niss_search.specs.After.{deepening_looks_of}
 use Rattle.niss_search.specs.Solutions.{last_length}
 use Rattle.niss_embed.specs.Memory.{memory}
-use Rattle.niss_embed.specs.LineSearch.{lines_state, capped, is_cut}
+use Rattle.niss_embed.specs.LineSearch.{lines_state, capped, is_cut, wanted_in}
 use Rattle.niss_embed.specs.SolveAfter.{found_after, looks_for_after, looks_to_shortest, searched_after, SolvesCubeAfter}
-use Rattle.niss_embed.specs.declared.line_search.Wanted.{Wanted}
 use Rattle.niss_embed.specs.declared.search_answer.SearchAnswer.{SearchAnswer}
 use Rattle.niss_embed.proofs.SolveLemmas.{Lines, told_of}
 use Rattle.niss_embed.proofs.WrittenLemmas.{TakesPath, RefusesPath}
-use Rattle.niss_embed.proofs.AfterLemmas.{after_is, looks_are, search_is, least_known, over_both, capped_spent, capped_whole}
+use Rattle.niss_embed.proofs.AfterLemmas.{after_is, looks_are, search_is, over_both, capped_spent, capped_whole}
 use Rattle.niss_embed.proofs.AfterLemmas.{same_memory_after, solves_cube_after}
 use Rattle.niss_embed.proofs.line_search.after.solve_cube_after.Goals as goal
 
 pub returns : goal.returns
 returns g c = λ e at.
     let step = c.args.tables.now in
-    let w : Wanted = c.args.wanted in
+    let w = wanted_in c.args.bounds in
     let p = c.args.after.now in
     let a = c.new-lines.result in
     let new = c.new-lines.ensures in
@@ -29,28 +28,24 @@ returns g c = λ e at.
     let by = c.search_after-handed.ensures in
     let law = c.after_is_rest.ensures.sequences in
     let least = c.in-Ok.least in
-    let n = c.args.bounds.limit in
-    let slack = c.args.bounds.slack in
     let last = c.new-path.result.limit in
-    let n_is = c.requires.limit in
-    let slack_is = c.requires.slack in
-    let least_is : least ≡ least_length_of step e n = c.in-Ok.ensures.least e at in
-    let last_is : last ≡ last_length least n slack = ap (λ (q : Path). q.limit) c.new-path.ensures ∙ c.last_limit.ensures in
-    let same = after_is law step w p e least n slack last n_is slack_is least_is last_is in
-    let looks_same = looks_are law step w p e least n slack last n_is slack_is least_is last_is in
+    let least_is : least ≡ least_length_of step e w.limit = c.in-Ok.ensures.least e at in
+    let last_is : last ≡ last_length least w.limit w.slack = ap (λ (q : Path). q.limit) c.new-path.ensures ∙ c.last_limit.ensures in
+    let same = after_is law step w p e least last least_is last_is in
+    let looks_same = looks_are law step w p e least last least_is last_is in
     let ok : OnOk found (WentThrough TakesPath a (found_after step w p e) b) =
     subst (λ ps. OnOk found (WentThrough TakesPath a ps b)) same (by.ok e at) in
     let err : IfErr found (λ stop. EndedIn TakesPath RefusesPath (is_cut_in stop) a (found_after step w p e) b) =
     subst (λ ps. IfErr found (λ stop. EndedIn TakesPath RefusesPath (is_cut_in stop) a ps b)) same (by.err e at) in
     let before = c.least_length-found.new.looks in
     let looks = c.search_after-handed.new.meter in
-    let first : before ≤ near_looks_of step e w.limit 0 = subst (λ k. before ≤ near_looks_of step e k 0) n_is (c.in-Ok.ensures.looks_at_most e at) in
+    let first : before ≤ near_looks_of step e w.limit 0 = c.in-Ok.ensures.looks_at_most e at in
     let all = deepening_looks_of step e last in
     let at_most : looks ≤ looks_for_after step w e = omega (arith, by.looks_at_most e at, looks_same, first) in
     let within : capped looks ≤ w.most_nodes = omega (arith, by.within, c.in-Ok.ensures.within, c.from.ensures, c.count.ensures) in
     let few : looks ≤ w.most_nodes = omega (arith, by.within, c.in-Ok.ensures.within, c.from.ensures, c.count.ensures) in
-    let search = search_is law step w p e least n slack last n_is slack_is least_is last_is c.args.position.now at.here in
-    let shortest : before ≡ looks_to_shortest step e w.limit = c.in-Ok.ensures.looked e at ∙ ap (looks_to_shortest step e) n_is in
+    let search = search_is law step w p e least last least_is last_is c.args.position.now at.here in
+    let shortest : before ≡ looks_to_shortest step e w.limit = c.in-Ok.ensures.looked e at in
     let looked : OnOk found (looks ≡ looks_to_shortest step e w.limit + (searched_after step w p e).looks) =
     subst (λ k. OnOk found (looks ≡ k + (searched_after step w p e).looks)) shortest
     (subst (λ (q : Part). OnOk found (looks ≡ before + q.looks)) search by.looks) in
@@ -70,7 +65,7 @@ returns g c = λ e at.
       reference_now = b.bytes.ghost_name;
       written = b.written;
       solutions = b.solutions;
-      most = w.most;
+      most = c.args.bounds.most;
       most_now = b.most;
       first = b.first;
       too_small = b.too_small;
@@ -102,5 +97,5 @@ returns g c = λ e at.
     (solves_cube_after step w p e a b found ok err l least looks refl
     (λ i. lines_state (new.unchanged i) a.bytes.ghost_name (new.empty i) (new.none i) (new.most i) (new.first i) (new.works i))
     (λ i. lines_state b.bytes.now b.bytes.ghost_name b.written b.solutions b.most b.first b.too_small)
-    (least_known law step w p e least n slack last n_is slack_is least_is last_is) at_most within cut spent
+    least_is at_most within cut spent
     (capped_whole looks w.most_nodes few (omega arith)) looked reached))
