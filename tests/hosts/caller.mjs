@@ -5,7 +5,7 @@
 import { readFileSync } from "node:fs";
 import { createInterface } from "node:readline";
 import {
-  AXES, CORNER_PLACES, EDGE_PLACES, NET, Nissy, NissyFault, NissyWorker, SearchCut, placeOfFault, plainLine, readAttempts,
+  AXES, CORNER_PLACES, EDGE_PLACES, NET, Nissy, NissyFault, NissyWorker, SearchCut, placeOf, plainLine, readAttempts,
   stickersOf,
 } from "../../web/module/node.js";
 
@@ -60,12 +60,13 @@ function plain(text) {
 
 /** A part of an attempt without blanks around it, and the places of its first and last sign, which a fault there has too. */
 function partIn(text, plain) {
+  if (plain === null) return "none";
   const own = plain.line.trim();
   if (own === "") return "";
   const first = plain.line.length - plain.line.trimStart().length;
   const last = first + own.length - [...own].at(-1).length;
   const placeAt = (at) => {
-    const { at: place, line, column } = placeOfFault({ character: at + 1 }, plain, text);
+    const { at: place, line, column } = placeOf({ character: at + 1 }, plain, text);
     const above = text.split("\n").slice(0, line - 1).join("\n");
     const told = text.includes("\r") ? [...text.slice(0, place)].length : [...above].length + Number(line > 1) + column - 1;
     return told === [...text.slice(0, place)].length ? told : "another place";
@@ -76,7 +77,7 @@ function partIn(text, plain) {
 /** The attempts of a text, each on a line. */
 const attempts = (text) => readAttempts(text).map(({ name, before, scramble, steps, solution, candidates }) => {
   const all = (each) => each.map((one) => partIn(text, one)).join("/");
-  const others = candidates.map((each) => `${all(each.steps)}#${each.note}`).join(";");
+  const others = candidates.map((each) => `${all(each.steps)}=${partIn(text, each.solution)}#${each.note}`).join(";");
   return [name, before, partIn(text, scramble), all(steps), partIn(text, solution), others].join("|");
 }).join("\n");
 

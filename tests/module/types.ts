@@ -1,6 +1,6 @@
 // A caller in TypeScript, who is told of what is wrong: tests/module.sh has tsc read this beside the types of the module.
 import {
-  AXES, isStep, loadNissy, NET, Nissy, NissyFault, NissyPool, NissyWorker, placeOfFault, plainLine, readAttempts, SearchCut, startOf, stickersOf,
+  AXES, isStep, loadNissy, NET, Nissy, NissyFault, NissyPool, NissyWorker, placeOf, plainLine, readAttempts, SearchCut, startOf, stickersOf,
   VERSION, type Attempt, type Axis, type Best, type BestRow, type Check, type Count, type EdgePlace, type Facts, type Form, type FormPlace,
   type NetPlace, type PlainLine, type Solution, type Solutions, type Step, type TextPlace, type Token,
 } from "./node.js";
@@ -39,7 +39,7 @@ export async function callsInWorker(bytes: Uint8Array, signal: AbortSignal): Pro
 export function read(text: string, places: readonly EdgePlace[]): number {
   const { line, places: at, leftOut }: PlainLine = plainLine(text);
   const written: Attempt[] = readAttempts(text);
-  const place: TextPlace | null = placeOfFault({ character: 1 }, written[0].solution, text);
+  const place: TextPlace | null = placeOf({ character: 1 }, written[0].solution, text);
   const numbers: number[] = stickersOf([...places, "URF"]);
   return line.length + at.length + leftOut.length + written[0].candidates.length + written[0].before + (place?.column ?? 0) + numbers.length;
 }

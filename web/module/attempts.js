@@ -5,16 +5,16 @@ import { labelOf, plainLine } from "./written.js";
 /** @typedef {import("./written.js").PlainLine} PlainLine */
 
 /**
- * A way that was tried: its steps, and what is said of it on lines of their own.
- * @typedef {{steps: PlainLine[], note: string}} AttemptCandidate
+ * A way that was tried: its steps, these in one, and what is said of it on lines of their own.
+ * @typedef {{steps: PlainLine[], solution: PlainLine, note: string}} AttemptCandidate
  */
 
 /**
  * An attempt at a scramble, each part with its places in the whole text. `name` is what tells the scramble from others,
- * such as `2.`; so many lines of prose stand `before` the first one; `steps` are the lines of the solution, each of
- * which a comment or a label may describe, and `candidates` what stands beside it. `solution` is the block whose label
- * says so, else the steps in one. What the text hasn't is empty.
- * @typedef {{name: string, scramble: PlainLine, steps: PlainLine[], solution: PlainLine,
+ * such as `2.`, or empty; so many lines of prose stand `before` the first one; `steps` are the lines of the solution,
+ * each of which a comment or a label may describe, and `candidates` the blocks after a blank line. `solution` is the
+ * block whose label says so, else the steps in one, and null if it can't be told, or if there is none.
+ * @typedef {{name: string, scramble: PlainLine, steps: PlainLine[], solution: PlainLine | null,
  * candidates: AttemptCandidate[], before: number}} Attempt
  */
 
@@ -24,13 +24,18 @@ import { labelOf, plainLine } from "./written.js";
  */
 
 /** What stands before each of several scrambles: a word, or a number as lists and the WCA's sheets have it. */
-const WORD = /^\s*(?:scramble|attempt)\s*(?:#?\d+(?:\s*(?:of|\/)\s*\d+)?(?:\s*[-–.):]|(?=\s|$))|:)/i;
+const WORD = /^\s*(?:\d+[.)]\s*)?(?:scramble|attempt)\s*(?:#?\d+(?:\s*(?:of|\/)\s*\d+)?(?:\s*[-–.):]|(?=\s|$))|:)/i;
 const NUMBER = /^\s*(?:[#(]?\d+|extra\s*\d+)(?:[.):](?!\d)|(?=\s|$))/i;
+/** Both, beside each other: a word has to have a number then. */
+const NUMBERED = new RegExp(`${WORD.source.replace("|:)", ")")}|${NUMBER.source}`, "i");
 /** The extras of such a sheet: E2 is a move too, but not beside E1, which is none. */
 const EXTRA = /^\s*E1(?=\s|$)/;
 const NUMBER_OR_EXTRA = /^\s*(?:[#(]?\d+|E\d+)(?:[.):](?!\d)|(?=\s|$))/;
-/** Three letters in a row that no moves have. */
+/** Three letters in a row that no moves have: a sentence has such a word, and no moves by themselves. */
 const WRITTEN_WORD = /(?:(?![A-Z])\p{L}){3}/u;
+const WRITTEN_MOVES = /(?:^|[\s()])(?:(?:[UDRLFBMES]w?|[udrlfbxyz](?![a-z]))[2'\u2019]*)+(?=[\s()]|$)/;
+/** What the WCA's scrambles begin and end with: such a line has all of one. */
+const WHOLE_SCRAMBLE = /^R['\u2019]\s*U['\u2019]\s*F(?![w2'\u2019]).*R['\u2019]\s*U['\u2019]\s*F$/;
 
 /** @param {string} text @returns {Line[]} */
 function linesOf(text) {
@@ -47,17 +52,32 @@ const isBlank = ({ text }) => text.trim() === "";
 /** @param {string} text @returns {string} */
 const movesOf = (text) => plainLine(text).line.trim();
 
-/** @param {Line} line */
-const isMoves = ({ text }) => movesOf(text) !== "";
+/** @param {Line} line @returns {boolean} whether it has letters, and isn't a sentence: what it has is to be read */
+function isMoves({ text }) {
+  const moves = movesOf(text);
+  return /\p{L}/u.test(moves) && (!WRITTEN_WORD.test(moves) || WRITTEN_MOVES.test(moves));
+}
 
-/** @param {Line} line @returns {boolean} whether it says something else than moves: it has none, or a word */
-const isProse = ({ text }) => movesOf(text) === "" || WRITTEN_WORD.test(movesOf(text));
+/** @param {Line} line @returns {boolean} */
+const isProse = (line) => !isMoves(line);
 
 /** @param {Line} line @returns {boolean} whether it says what its moves are */
 const isTold = ({ text }) => text.includes("//") || labelOf(text) !== "";
 
+/** @param {Line} line @returns {boolean} whether it has all of a scramble */
+const isWhole = ({ text }) => WHOLE_SCRAMBLE.test(movesOf(text));
+
+/** @param {Line} line @param {RegExp} word @returns {boolean} whether its label has such a word */
+const isLabelled = ({ text }, word) => labelOf(text).split(" ").some((each) => word.test(each));
+
 /** @param {Line} line @returns {boolean} whether its label says that the solution follows */
-const isSolution = ({ text }) => labelOf(text).split(" ").some((word) => /^solution$/i.test(word));
+const isSolution = (line) => isLabelled(line, /^solution$/i);
+
+/** What solvers call the steps of a solution. */
+const STEP = /(?:^|\P{L})(?:eo|dr|htr|fr|finish|skeleton|slice)(?!\p{L})/iu;
+
+/** @param {Line} line @returns {boolean} whether its label or its comment says that it is a step */
+const isStep = ({ text }) => STEP.test(labelOf(text)) || STEP.test(/\/\/.*/.exec(text)?.[0] ?? "");
 
 /**
  * Some lines as one.
@@ -85,7 +105,7 @@ function without(line, head) {
 /**
  * The scrambles that a text tells apart by heads, each with the lines up to the next one; the first has those before
  * it too. Null if there is one without a number, or if they are steps of one scramble: moves without a head stand
- * before them, or it is said what they are.
+ * before them, or it is said of one that it is a step.
  * @param {Line[]} lines
  * @param {RegExp} head
  */
@@ -99,9 +119,9 @@ function headed(lines, head) {
   const own = [...heads.keys()].filter((place) => areOwn[place]);
   // a head alone, such as that of a page, names the scramble that follows it
   const names = own.map((place) => cut[heads[place > 0 && !areOwn[place - 1] ? place - 1 : place]].name.trim());
-  const isNumbered = head === WORD && names.some((name) => /\d/.test(name));
+  const isNumbered = names.some((name) => /\d/.test(name) && (head === WORD || /[#:]/.test(name)));
   if (own.length < (isNumbered ? 1 : 2) || hasMoves(0, heads[0])) return null;
-  if (head !== WORD && own.slice(1).some((place) => isTold(cut[heads[place]].rest))) return null;
+  if (head !== WORD && own.slice(1).some((place) => isStep(cut[heads[place]].rest))) return null;
   return own.map((place, nth) => {
     const at = heads[place];
     const before = nth === 0 ? lines.slice(0, at) : [];
@@ -117,12 +137,15 @@ function blocksOf(lines) {
 
 /**
  * Blocks after a scramble, of which the first goes on from its line, with the solution's in one of its own, and which
- * that is; -1 if no label says so.
+ * that is; -1 if no label says so, or if several do of which the last isn't the final one.
  * @param {Line[][]} blocks
  */
 function withSolution(blocks) {
+  const told = blocks.flat().filter(isSolution);
+  if (told.length === 0 || (told.length > 1 && !isLabelled(told[told.length - 1], /^final$/i))) {
+    return { blocks, at: -1, isOpen: told.length > 0 };
+  }
   const at = blocks.map((block) => block.some(isSolution)).lastIndexOf(true);
-  if (at < 0) return { blocks, at };
   const begin = blocks[at].some(isMoves) ? blocks[at].map(isSolution).lastIndexOf(true) : 0;
   const before = blocks[at].slice(0, begin);
   const others = before.some(isMoves) ? [before] : [];
@@ -130,12 +153,13 @@ function withSolution(blocks) {
   // a label alone belongs to what follows it
   const next = own.some(isMoves) ? at + 1 : at + 2;
   const solution = [...own, ...blocks.slice(at + 1, next).flat()];
-  return { blocks: [...blocks.slice(0, at), ...others, solution, ...blocks.slice(next)], at: at + others.length };
+  const parts = [...blocks.slice(0, at), ...others, solution, ...blocks.slice(next)];
+  return { blocks: parts, at: at + others.length, isOpen: false };
 }
 
 /** @param {Line[]} block @returns {string} what it says of its moves on lines of their own */
-const noteOf = (block) => block.filter((line) => !isMoves(line))
-  .map(({ text }) => (text.includes("//") ? text.replace(/^[^/]*\/\/\s*/, "") : labelOf(text) || text).trim()).join(" ");
+const noteOf = (block) => block.filter(isProse).map(({ text }) =>
+  (text.includes("//") ? text.replace(/^.*?\/\/\s*/, "") : labelOf(text) || text).trim()).join(" ");
 
 /**
  * @param {string} text
@@ -143,8 +167,9 @@ const noteOf = (block) => block.filter((line) => !isMoves(line))
  * @returns {AttemptCandidate}
  */
 function candidateOf(text, block) {
-  const steps = block.filter(isMoves).map((line) => read(text, [line]));
-  return { steps, note: noteOf(block) || labelOf(block.find(isSolution)?.text ?? "") };
+  const moves = block.filter(isMoves);
+  const note = noteOf(block) || labelOf(block.find(isSolution)?.text ?? "");
+  return { steps: moves.map((line) => read(text, [line])), solution: read(text, moves), note };
 }
 
 /**
@@ -152,7 +177,7 @@ function candidateOf(text, block) {
  * @param {Line[][]} blocks
  */
 function parted([first, ...further]) {
-  const end = first.slice(1).some(isTold) ? 1 : first.length;
+  const end = first.slice(1).some(isTold) || isWhole(first[0]) ? 1 : first.length;
   return { scramble: first.slice(0, end), after: [first.slice(end), ...further] };
 }
 
@@ -163,21 +188,22 @@ function parted([first, ...further]) {
  * @param {Line[][]} after
  */
 function stepsOf(text, after) {
-  const { blocks, at } = withSolution(after);
+  const { blocks, at, isOpen } = withSolution(after);
   const listed = blocks.slice(1).filter((block) => block.some(isMoves));
   const [only = [], ...others] = listed;
   const solution = (at < 0 ? null : blocks[at]) ?? (others.length === 0 ? only : []);
   const steps = (blocks[0].some(isMoves) ? blocks[0] : solution).filter(isMoves);
+  const moves = at < 0 ? steps : solution.filter(isMoves);
   return {
     steps: steps.map((line) => read(text, [line])),
-    solution: read(text, at < 0 ? steps : solution.filter(isMoves)),
+    solution: moves.length === 0 || isOpen ? null : read(text, moves),
     candidates: listed.map((block) => candidateOf(text, block)),
   };
 }
 
 /**
- * An attempt of some lines, which have steps if one of them says what its moves are, or if a blank one stands between
- * moves.
+ * An attempt of some lines, which have steps if one of them says what its moves are, if a blank one stands between
+ * moves, or if the first one has all of a scramble.
  * @param {string} text
  * @param {{name: string, lines: Line[]}} found
  * @returns {Attempt}
@@ -185,10 +211,11 @@ function stepsOf(text, after) {
 function attemptOf(text, { name, lines }) {
   const begin = Math.max(lines.findIndex((line) => !isProse(line)), 0);
   const blocks = blocksOf(lines.slice(begin));
-  const hasSteps = blocks.length > 1 || blocks.flat().slice(1).some(isTold);
+  const all = blocks.flat();
+  const hasSteps = blocks.length > 1 || all.slice(1).some(isTold) || (all.length > 1 && isWhole(all[0]));
   // of a text without form nothing is left out, so that all else than moves is at fault
   const isFormed = hasSteps || name !== "";
-  const { scramble, after } = hasSteps ? parted(blocks) : { scramble: isFormed ? blocks.flat() : lines, after: [[]] };
+  const { scramble, after } = hasSteps ? parted(blocks) : { scramble: isFormed ? all : lines, after: [[]] };
   const before = isFormed ? lines.slice(0, begin).filter((line) => !isBlank(line)).length : 0;
   return { name, scramble: read(text, scramble), ...stepsOf(text, after), before };
 }
@@ -203,6 +230,6 @@ function attemptOf(text, { name, lines }) {
 export function readAttempts(text) {
   const lines = linesOf(text);
   const number = lines.some((line) => EXTRA.test(line.text)) ? NUMBER_OR_EXTRA : NUMBER;
-  const found = headed(lines, WORD) ?? headed(lines, number) ?? [{ name: "", lines }];
+  const found = headed(lines, WORD) ?? headed(lines, number) ?? headed(lines, NUMBERED) ?? [{ name: "", lines }];
   return found.map((each) => attemptOf(text, each));
 }

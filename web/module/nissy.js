@@ -28,7 +28,7 @@ export { EngineMissing, NissyFault, NoWebAssembly, SearchCut, Stopped } from "./
 export { AXES, CORNER_PLACES, EDGE_PLACES } from "./facts.js";
 export { STEPS, isStep, startOf } from "./steps.js";
 export { NET, stickersOf } from "./stickers.js";
-export { placeOfFault, plainLine } from "./written.js";
+export { placeOf, plainLine } from "./written.js";
 
 /** @typedef {import("./bytes.js").Text} Text */
 /** @typedef {import("./source.js").ModuleSource} ModuleSource */

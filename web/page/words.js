@@ -1,6 +1,6 @@
 // Sentences: why a line can't be read, with a mark at the place in it, why there is no answer, and the title.
 import { EngineMissing, NissyFault } from "../module/faults.js";
-import { placeOfFault } from "../module/written.js";
+import { placeOf } from "../module/written.js";
 import { MOST_CANDIDATES, MOST_MOVES } from "./address.js";
 import { element } from "./element.js";
 import { bracketed, openSteps, stateOf, stepNamed, titleOf } from "./steps.js";
@@ -117,7 +117,7 @@ export function showFault(where, field, plain, fault, text) {
   field.setAttribute("aria-invalid", String(fault !== null));
   if (fault === null) return null;
   where.append(element("p", {}, fault instanceof NissyFault ? sentenceOf(fault, plain.line) : fault.message));
-  const place = fault instanceof NissyFault ? placeOfFault(fault, plain, text)?.at ?? null : null;
+  const place = fault instanceof NissyFault ? placeOf(fault, plain, text)?.at ?? null : null;
   if (place !== null) where.append(marked(text.replace(/[\r\n]/g, " "), place));
   return place;
 }
