@@ -77,7 +77,7 @@ const isSolution = (line) => isLabelled(line, /^solution$/i);
 const STEP = /(?:^|\P{L})(?:eo|dr|htr|fr|finish|skeleton|slice)(?!\p{L})/iu;
 
 /** @param {Line} line @returns {boolean} whether its label or its comment says that it is a step */
-const isStep = ({ text }) => STEP.test(labelOf(text)) || STEP.test(/\/\/.*/.exec(text)?.[0] ?? "");
+const namesStep = ({ text }) => STEP.test(labelOf(text)) || STEP.test(/\/\/.*/.exec(text)?.[0] ?? "");
 
 /**
  * Some lines as one.
@@ -121,7 +121,7 @@ function headed(lines, head) {
   const names = own.map((place) => cut[heads[place > 0 && !areOwn[place - 1] ? place - 1 : place]].name.trim());
   const isNumbered = names.some((name) => /\d/.test(name) && (head === WORD || /[#:]/.test(name)));
   if (own.length < (isNumbered ? 1 : 2) || hasMoves(0, heads[0])) return null;
-  if (head !== WORD && own.slice(1).some((place) => isStep(cut[heads[place]].rest))) return null;
+  if (head !== WORD && own.slice(1).some((place) => namesStep(cut[heads[place]].rest))) return null;
   return own.map((place, nth) => {
     const at = heads[place];
     const before = nth === 0 ? lines.slice(0, at) : [];
