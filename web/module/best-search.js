@@ -111,7 +111,7 @@ const caseOf = ({ badCorners, misplacedEdges, cases }, { axis }) => (
  * The place of a step among all.
  * @param {Step} step
  */
-const placeOf = (step) => STEPS.indexOf(step);
+const rankPlaceOf = (step) => STEPS.indexOf(step);
 
 /**
  * Orientations that are twins, what they are known by, and what is there after each.
@@ -169,7 +169,7 @@ function rowOf(lengths, shorter, { group: { orientation: { name }, key }, twins,
     },
     ...caseOf(facts, reduction),
     others: twins.filter((twin) => twin.part !== part).map((twin) => lastTurnsOf(twin.part.moves, name)),
-    place: [placeOf(name), ...place, placeOf(reduction.name)],
+    place: [rankPlaceOf(name), ...place, rankPlaceOf(reduction.name)],
     key: `${key}.${reduction.name}`,
   };
 }
@@ -300,7 +300,7 @@ function rowOfReduction(nissy, position, { reduction: { name, axis, needs }, kno
     next: null,
     ...known,
     others: group.filter((each) => each !== best).map((each) => lastTurnsOf(each.moves, name)),
-    place: [placeOf(/** @type {Step} */ (needs)), placeOf(name), ...group[0].place],
+    place: [rankPlaceOf(/** @type {Step} */ (needs)), rankPlaceOf(name), ...group[0].place],
     key: `${side}.${moves}.${axis}`,
   };
 }
