@@ -9,7 +9,7 @@ NAMES, PRESSED, KEPT = "#attempts button", "#attempts [aria-pressed=true]", "#ke
 NOTES = "return all('#kept-list .note-field').map((each) => each.value)"
 # texts of one attempt: the scramble, the line so far, what is kept, and what is said to be left out
 ONE: tuple[tuple[str, str, str, list[str], str], ...] = (("R U F\n\nD L\n", "R U F", "D L", ["D L"], ""),
-    ("Scramble 1: R U F", "R U F", "", [], "Left out: “Scramble 1:”."),
+    ("Scramble 1: R U F", "Scramble 1: R U F", "", [], "Left out: “Scramble 1:”."),
     ("R U F\nD // EO\n\nSolution:\nD L2 B\n", "R U F", "D", ["D L2 B"], ""),
     ("Inverse: (R U)", "Inverse: (R U)", "", [], "Left out: labels. Moves in brackets count as inverse moves."))
 SHEET = "Hello!\nScramble 1 of 3\nR U F\nD // EO\n\nL2\n// a note\n\nScramble 2 of 3\nF' L2, U\nScramble 3 of 3\nB2 R q\n"
