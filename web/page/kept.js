@@ -175,7 +175,8 @@ export class KeptCandidates {
 
   /** Keeps a line, or takes it away if it is kept.
    * @param {import("./address.js").State} state @param {HTMLElement} pressed under which is said why it isn't kept
-   * @param {Part[]} parts @param {string} [next] the reduction that it is kept with */
+   * @param {Part[]} parts
+   * @param {string} [next] the reduction that it is kept with */
   star(state, pressed, parts, next = "") {
     const { kept, isKept } = withStar(state.kept, parts, next);
     if (kept.length > MOST_CANDIDATES) return tellAt(pressed, MOST_ARE_KEPT);
