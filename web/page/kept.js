@@ -152,10 +152,10 @@ export class KeptCandidates {
    * @param {Candidate[]} candidates */
   show(candidates) {
     if (candidates === this.#candidates) return;
-    const names = this.#names();
+    const [before, after] = [this.#candidates, candidates].map((all) => all.map(nameOf).join("\n"));
     this.#candidates = candidates;
     // rows stay where they are, since the press that ends a note may be on a button of one
-    if (names === this.#names()) {
+    if (before === after) {
       for (const [at, { note }] of candidates.entries()) {
         if (this.#notes[at].value !== note) this.#notes[at].value = note;
       }
@@ -203,10 +203,6 @@ export class KeptCandidates {
     part("kept").parentElement.classList.toggle("none-kept", this.#candidates.length === 0 && count === 0);
     // what is hidden can't keep the focus
     if (isFocused && count === 0) part("kept-heading").focus({ preventScroll: true });
-  }
-
-  #names() {
-    return this.#candidates.map(nameOf).join("\n");
   }
 
   /** Shows what the engine says of the candidates after a scramble, unless it is shown already.

@@ -70,8 +70,7 @@ function ownSolutions(nissy, { step, side, slack, isAll }, now) {
 }
 
 /** Tells of solutions all moves with each, if moves were made before, and puts those with the fewest first.
- * @param {Nissy} nissy @param {Entry[]} solutions @param {Position} position
- * @param {List} list */
+ * @param {Nissy} nissy @param {Entry[]} solutions @param {Position} position @param {List} list */
 function withTotals(nissy, solutions, position, { side, split = 0 }) {
   if (countOf(position) === 0 || solutions.length > MOST_WITH_CASES) return solutions;
   const beginnings = [...new Set(solutions.map(({ begin }) => begin))];

@@ -22,8 +22,7 @@ export const stateOf = (step) => `${step.needs === null ? "EO" : "DR"} ${axisNam
 
 /** What may be reached by a reduction where some orientations hold.
  * @param {string[]} orientations by the names of their steps */
-export const reducedAfter = (orientations) =>
-  [...new Set(orientations.flatMap(reductionsAfter).map(stateOf))];
+export const reducedAfter = (orientations) => [...new Set(orientations.flatMap(reductionsAfter).map(stateOf))];
 
 /** @param {OfferedStep} step @returns what a step is called on the page */
 export const titleOf = (step) =>
