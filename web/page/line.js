@@ -190,8 +190,7 @@ export class LineSoFar {
     const act = (word, click) => button(word, { class: "quiet", "aria-label": `${word} ${spoken(text)}`, click });
     const { moves, reaches, lost, count } = this.#words[index];
     return element("li", {},
-      element("span", { class: "step" },
-        moves, reaches, lost, element("span", { class: "note" }, count)),
+      element("span", { class: "step" }, moves, reaches, lost, element("span", { class: "note" }, count)),
       element("span", { class: "acts" },
         act("Edit", () => this.#edit(index)), act("Remove", () => this.#replace(index, [], 1))));
   }

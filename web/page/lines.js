@@ -84,11 +84,7 @@ export function readWritten(nissy, { steps, candidates }) {
  * @param {Nissy} nissy @param {Part[]} parts @returns {Part[]} */
 function readSteps(nissy, parts) {
   nissy.unniss(bracketed(parts));
-  const turnsOf = (moves) => {
-    const line = nissy.unniss(moves);
-    return FACE_TURNS.test(line) ? line : withoutTurns(nissy.cleanup(moves));
-  };
-  return parts.map(({ side, moves }) => ({ side, moves: turnsOf(moves) })).filter(({ moves }) => moves !== "");
+  return parts.flatMap(({ side, moves }) => readByHand(nissy, { text: moves, side }));
 }
 
 /** A candidate of an address, read as its steps are; one that can't be read stays, and is said to be so.

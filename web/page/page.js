@@ -15,9 +15,7 @@ import { ScrambleField } from "./scramble.js";
 import { SolutionList } from "./solutions.js";
 import { ORIENTATIONS, bracketed, isReduced, reductionOf, stateOf, stepNamed } from "./steps.js";
 import { StepTable, cubeWithOffers } from "./table.js";
-import {
-  awaitAnswer, isBare, keepInView, listenToKeys, setUsable, showBeginning, showStart, star,
-} from "./view.js";
+import { awaitAnswer, isBare, keepInView, listenToKeys, setUsable, showBeginning, showStart, star } from "./view.js";
 import { typedLine } from "./typed.js";
 import { tellFailed } from "./watch.js";
 import { titleOfPage, unanswered, whyNotListed, whyUnread } from "./words.js";

@@ -48,7 +48,8 @@ export class ScrambleField {
   /** how many kept lines a way leads back to */
   left = 0;
 
-  /** @param {import("./calls.js").Calls} calls @param {(scramble: string, change: ScrambleChange) => void} changed */
+  /** @param {import("./calls.js").Calls} calls
+   * @param {(scramble: string, change: ScrambleChange) => void} changed */
   constructor(calls, changed) {
     this.#calls = calls;
     this.#changed = changed;

@@ -109,8 +109,9 @@ function marked(text, place) {
 }
 
 /** Shows a fault under its field, or takes the last one away; returns where it is in the text, or null.
- * @param {HTMLElement} where @param {HTMLElement} field @param {import("../module/written.js").PlainLine} plain what
- * the engine read @param {Error | null} fault @param {string} text what was typed @returns {number | null} */
+ * @param {HTMLElement} where @param {HTMLElement} field
+ * @param {import("../module/written.js").PlainLine} plain what the engine read
+ * @param {Error | null} fault @param {string} text what was typed @returns {number | null} */
 export function showFault(where, field, plain, fault, text) {
   where.hidden = fault === null;
   where.replaceChildren();
