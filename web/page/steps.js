@@ -30,9 +30,8 @@ export const titleOf = (step) =>
 
 /** The steps that may start where others are reached, and aren't reached themselves.
  * @param {string[]} reached */
-export const openSteps = (reached) =>
-  [...ORIENTATIONS, ...REDUCTIONS]
-    .filter(({ name, needs }) => !reached.includes(name) && (needs === null || reached.includes(needs)));
+export const openSteps = (reached) => [...ORIENTATIONS, ...REDUCTIONS]
+  .filter(({ name, needs }) => !reached.includes(name) && (needs === null || reached.includes(needs)));
 
 /** Steps in groups: orientations, and then reductions, if there are any.
  * @param {OfferedStep[]} steps */

@@ -60,8 +60,8 @@ function wordAt(line, place) {
 /** A move that ends as no move does, such as `R1` or `F-1`, if it stands at a place: all of it, and its letters.
  * @param {string} line @param {number} place that can't be read @returns {{word: string, letters: string} | null} */
 function oddMove(line, place) {
-  const begin = /([UDRLFB]w?|[MESudrlfbxyz])['2]?$/.exec(line.slice(0, place));
-  const isOdd = /^(?:[-+*^'0-9]|i(?!\p{L}))/u.test(line.slice(place));
+  const begin = /([UDRLFB]w?|[MESudrlfbxyz])['\u20192]?$/.exec(line.slice(0, place));
+  const isOdd = /^(?:[-+*^'\u20190-9]|i(?!\p{L}))/u.test(line.slice(place));
   return begin && isOdd ? { word: begin[0] + wordAt(line, place), letters: begin[1] } : null;
 }
 
