@@ -229,6 +229,7 @@ std::string called(const std::string &call, std::istream &asked) {
     asked >> hex >> other;
     const exact line(hex);
     if (call == "check") return checked(line.view(), exact(other).view());
+    if (call == "line_after") return nissy::line_after(line.view(), exact(other).view());
     if (call == "facts") return seen(line.view());
     if (call == "stickers") return stickers_of(line.view());
     if (call == "tokens") return moves_of(line.view());

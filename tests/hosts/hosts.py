@@ -268,7 +268,7 @@ class Python(Host):
         except nissy.Cut:
             raise Fault(0, 0, "cut") from None
         except nissy.Fault as fault:
-            on_two = call in ("check", "best")
+            on_two = call in ("check", "best", "line_after")
             raise Fault(fault.line or 0 if on_two else 0, getattr(fault, "column", 0), fault.text) from None
 
     def run(self, words: List[str], data: bytes, room: int | None = None) -> Any:
