@@ -34,7 +34,7 @@ from ._searches import Tables, count, count_all, near, solutions, solve, solve_a
 from ._stickers import AXES, CORNER_PLACES, EDGE_PLACES, NET, Axis as Axis, stickers_of
 from ._tokens import FormPlace, Token, form_places, tokens
 from ._values import Answer, Count, Cut, Fault, LineFault, Solution, Solutions, StartFault, raising
-from ._written import PlainLine, TextPlace, place_of_fault, plain_line
+from ._written import PlainLine, TextPlace, place_of, plain_line
 
 __all__ = [
     "AXES", "CORNER_PLACES", "DONE", "EDGE_PLACES", "FAULT", "MOST_INPUT", "NET", "STOPPED", "USAGE",
@@ -42,7 +42,7 @@ __all__ = [
     "Fault", "FormPlace", "Lengths", "LineFault", "Orientation", "Pieces", "PlainLine", "Reduction", "Solution",
     "Solutions", "StartFault", "Tables", "TextPlace", "Token",
     "best", "check", "cleanup", "count", "count_all", "facelets", "facts", "facts_all", "form_places", "invert",
-    "line_after", "near", "place_of_fault", "plain_line", "raising", "read_attempts", "run", "scramble", "scrambles",
+    "line_after", "near", "place_of", "plain_line", "raising", "read_attempts", "run", "scramble", "scrambles",
     "solutions", "solve", "solve_all", "start_of", "steps", "stickers_of", "tokens", "unniss",
 ]
 

@@ -62,7 +62,7 @@ def names(tally: Tally) -> None:
               "StartFault", "Fault", "Cut", "Solutions", "raising", "facts", "facts_all", "check", "Facts", "Check", "Case", "Pieces",
               "tokens", "Token", "solutions", "best", "Continuation", "Continuations", "Orientation", "Reduction", "Lengths", "form_places", "FormPlace",
               "start_of", "plain_line", "PlainLine", "AXES", "EDGE_PLACES", "CORNER_PLACES", "NET", "stickers_of",
-              "read_attempts", "Attempt", "AttemptCandidate", "place_of_fault", "TextPlace", "line_after"}
+              "read_attempts", "Attempt", "AttemptCandidate", "place_of", "TextPlace", "line_after"}
     tally.equal("what an import of all brings", set(brought), wanted)
     public = [getattr(nissy, name) for name in nissy.__all__ if callable(getattr(nissy, name))]
     tally.holds("each function and each class says what it does", len(public) > 10 and all(it.__doc__ for it in public))
@@ -79,9 +79,9 @@ def classes(tally: Tally) -> None:
         (nissy.Check, {"solved": bool, "moves": int, "clean_moves": int, "forms": Tuple[str, ...]}),
         (nissy.PlainLine, {"line": str, "places": Tuple[int, ...], "left_out": Tuple[str, ...]}),
         (nissy.TextPlace, {"at": int, "line": int, "column": int}),
-        (nissy.AttemptCandidate, {"steps": Tuple[nissy.PlainLine, ...], "note": str}),
-        (nissy.Attempt, {"name": str, "scramble": nissy.PlainLine, "steps": Tuple[nissy.PlainLine, ...], "solution": nissy.PlainLine,
-                         "candidates": Tuple[nissy.AttemptCandidate, ...], "before": int}),
+        (nissy.AttemptCandidate, {"steps": Tuple[nissy.PlainLine, ...], "solution": nissy.PlainLine, "note": str}),
+        (nissy.Attempt, {"name": str, "scramble": nissy.PlainLine, "steps": Tuple[nissy.PlainLine, ...],
+                         "solution": Optional[nissy.PlainLine], "candidates": Tuple[nissy.AttemptCandidate, ...], "before": int}),
         (nissy.FormPlace, {"text": str, "forms": Tuple[str, ...], "column": int, "character": int}),
         (nissy.solve_all, {"return": Iterator[Union[nissy.Solutions, nissy.Fault, nissy.Cut]]}), (nissy.run, {"return": nissy.Answer})]
     for of, wanted in hints:
