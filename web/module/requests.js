@@ -37,7 +37,8 @@ import { hasOwn } from "./natives.js";
  * search ends, after all if it isn't given; `nodes`, at how many positions it looks at most, at as many as there are if
  * it isn't given. A search that would look at more is cut: `cut` says whether `SearchCut` is thrown, as it is if it
  * isn't given, or what was found until then returned.
- * @typedef {{limit?: number, slack?: number, most?: number, nodes?: number, cut?: Telling}} Wanted
+ * @typedef {{limit?: number | undefined, slack?: number | undefined, most?: number | undefined,
+ * nodes?: number | undefined, cut?: Telling | undefined}} Wanted
  */
 
 /** @typedef {Wanted} Within what `Wanted` was called for counts while they had fewer options */
@@ -60,7 +61,8 @@ import { hasOwn } from "./natives.js";
  * as many as there are if it isn't given. In a pool each axis is searched up to this bound. If they would look at more,
  * they are cut: `cut` says whether `SearchCut` is thrown, as it is if it isn't given, or the best of what was tried
  * until then returned.
- * @typedef {{soFar?: Text, slack?: number, most?: number, nodes?: number, cut?: Telling}} BestWanted
+ * @typedef {{soFar?: Text | undefined, slack?: number | undefined, most?: number | undefined,
+ * nodes?: number | undefined, cut?: Telling | undefined}} BestWanted
  */
 
 /** The most turns of a search. */
