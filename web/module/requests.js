@@ -1,6 +1,8 @@
 // What is asked of the engine, in plain values that a worker can be sent, each checked if it comes from a caller.
 import { ORIENTATIONS } from "./best-steps.js";
-import { bytesOf, eachOf, joinedWords, stringOf, takenLine, wholeNumber, wideNumber } from "./bytes.js";
+import {
+  bytesOf, eachOf, joinedWords, readableLine, stringOf, takenLine, wholeNumber, wideNumber,
+} from "./bytes.js";
 import { hasOwn } from "./natives.js";
 
 /** @typedef {import("./bytes.js").Text} Text */
@@ -24,8 +26,9 @@ import { hasOwn } from "./natives.js";
 /** @typedef {CountRequest | SolveRequest | FactsRequest} OfEach what many lines may be asked */
 /** @typedef {RunRequest | LineRequest | OfEach | CheckRequest | ScrambleRequest | StepsRequest} OneRequest */
 /**
- * @typedef {{call: "all", each: OfEach, lines: Text[], faults: Telling, isPiece?: boolean}} AllRequest what is asked
- * of each line, whose own line is none; `isPiece`: the lines are some of a call's, so a worker tells how long it took
+ * @typedef {{call: "all", each: OfEach, lines: (Text | null)[], faults: Telling, isPiece?: boolean}} AllRequest what is
+ * asked of each line, whose own line is none, or null for one of too many bytes; `isPiece`: the lines are some of a
+ * call's, so a worker tells how long it took
  */
 /** @typedef {OneRequest | AllRequest} Request what an engine is asked */
 /** @typedef {Request | BestRequest} Asked what a worker is asked */
@@ -187,12 +190,10 @@ export const bestRequest = (scramble, options = {}) => ({
  */
 export function allRequest(each, lines, options = {}) {
   if (!Array.isArray(lines)) throw new TypeError("the lines are no array");
-  return {
-    call: "all",
-    each: each(),
-    faults: toldBy(options, "faults"),
-    lines: eachOf(lines, (line, index) => takenLine(line, `line ${index + 1}`)),
-  };
+  const asked = each();
+  const faults = toldBy(options, "faults");
+  const take = faults === "value" ? readableLine : takenLine;
+  return { call: "all", each: asked, faults, lines: eachOf(lines, (line, index) => take(line, `line ${index + 1}`)) };
 }
 
 /** @param {unknown} state @param {unknown} stream @param {unknown} length @returns {ScrambleRequest} */
