@@ -219,13 +219,14 @@ std::string net() {
     return text;
 }
 
-// The stickers of the places that a text names.
-std::string stickers_of(std::string_view text) {
+// The stickers of the places that a text names, on an unturned cube, or on that of some letters.
+std::string stickers_of(std::string_view text, std::string_view letters) {
     std::istringstream all{std::string(text)};
     std::vector<std::string> places;
     for (std::string name; std::getline(all, name, ',');) places.push_back(name);
     std::string numbers;
-    for (const std::size_t sticker : nissy::stickers_of(places)) numbers += (numbers.empty() ? "" : " ") + std::to_string(sticker);
+    for (const std::size_t sticker : letters.empty() ? nissy::stickers_of(places) : nissy::stickers_of(places, letters))
+        numbers += (numbers.empty() ? "" : " ") + std::to_string(sticker);
     return numbers;
 }
 
@@ -241,7 +242,7 @@ std::string called(const std::string &call, std::istream &asked) {
     if (call == "check") return checked(line.view(), exact(other).view());
     if (call == "line_after") return nissy::line_after(line.view(), exact(other).view());
     if (call == "facts") return seen(line.view());
-    if (call == "stickers") return stickers_of(line.view());
+    if (call == "stickers") return stickers_of(line.view(), exact(other).view());
     if (call == "tokens") return moves_of(line.view());
     if (call == "plain_line") return plain_of(line.view());
     if (call == "read_attempts") return attempts_of(line.view());
