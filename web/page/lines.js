@@ -45,8 +45,7 @@ export function readByHand(nissy, { text, side }) {
   return runs.map((run) => ({ side: run.side, moves: nissy.unniss(run.moves) })).filter(({ moves }) => moves !== "");
 }
 
-/** @typedef {{line: string, fault: import("../module/faults.js").FaultParts}} Unread a line, and why it can't be
- * read */
+/** @typedef {{line: string, fault: import("../module/faults.js").FaultParts}} Unread a line, and why it isn't read */
 
 /** The steps of some lines of text, as solvers write them, up to the first that can't be read.
  * @param {Nissy} nissy @param {import("../module/written.js").PlainLine[]} steps

@@ -5,7 +5,7 @@ import { readAttempts } from "../module/attempts.js";
 import { plainLine } from "../module/written.js";
 import { LONGEST_SCRAMBLE } from "./address.js";
 import { announce, announceLater, button, counted, element, part, tell } from "./element.js";
-import { withoutMoving } from "./view.js";
+import { areBeside, withoutMoving } from "./view.js";
 import { showFault, wordsOfLeftOut } from "./words.js";
 
 /** @typedef {import("../module/attempts.js").Attempt} Attempt */
@@ -15,13 +15,13 @@ import { showFault, wordsOfLeftOut } from "./words.js";
 const PAUSE = 150;
 const SEEDS = "A seed is a whole number from 0 to 18,446,744,073,709,551,615.";
 const TURNS_LEFT_OUT = "the turns of the whole cube are left out, so U stays the face that was U.";
-const NARROW = "(max-width: 59.99rem)";
 
 /** A seed that nobody chose. */
 const freshSeed = () => String(crypto.getRandomValues(new Uint32Array(1))[0]);
 
 /** @param {{line: string}} plain @returns {string} it with the apostrophe that one types */
 const asTyped = ({ line }) => line.replace(/\u2019/g, "'");
+
 /** @param {{line: string}} plain @returns it with single blanks, by which two scrambles are compared */
 const spaced = (plain) => asTyped(plain).trim().replace(/ +/g, " ");
 
@@ -160,7 +160,7 @@ export class ScrambleField {
     const focused = document.activeElement;
     part("scramble-card").classList.toggle("folded", isFolded);
     const isWithin = part("scramble-open").contains(focused);
-    if (isFolded && matchMedia(NARROW).matches && isWithin) part("scramble-edit").focus({ preventScroll: true });
+    if (isFolded && !areBeside() && isWithin) part("scramble-edit").focus({ preventScroll: true });
   }
 
   /** Marks a place in the field, by a text behind it.

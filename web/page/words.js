@@ -53,7 +53,7 @@ const visible = (text) => text.replace(/\s/g, " ").replace(/[\p{Cc}\p{Cf}]/gu, "
 
 /** @param {string} line @param {number} place @returns the word that stands at a place, up to a blank or a bracket */
 function wordAt(line, place) {
-  const word = [.../^[^\s()]*/.exec(line.slice(place))[0]];
+  const word = [.../^[^\s()]*/.exec(line.slice(place))[0].replace(/\u2019/g, "'")];
   return visible(word.slice(0, LONGEST_WORD).join("")) + (word.length > LONGEST_WORD ? "…" : "");
 }
 
