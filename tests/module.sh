@@ -23,7 +23,7 @@ else
     cp tests/module/types.ts "$room/types"
     # tsc says so too if a call that the caller marks as wrong is none
     holds "a caller in TypeScript has these types, and is told of what is wrong" \
-        tsc --strict --noEmit --target es2022 --module es2022 --moduleResolution node --lib "es2022,dom" "$room/types/types.ts"
+        tsc --strict --exactOptionalPropertyTypes --noEmit --target es2022 --module es2022 --moduleResolution node --lib "es2022,dom" "$room/types/types.ts"
 fi
 parts_end
 ended

@@ -118,7 +118,10 @@ const CALLS = {
   },
   steps: async (engine) => lines(await engine.steps()),
   net: async () => [...[AXES, EDGE_PLACES, CORNER_PLACES].map((names) => names.join()), ...NET.map(({ row, column }) => `${row},${column}`)].join("\n"),
-  stickers: async (_, names) => stickersOf(string(bytesOf(names)).split(",").filter(Boolean)).join(" "),
+  stickers: async (_, names, ...letters) => {
+    const places = string(bytesOf(names)).split(",").filter(Boolean);
+    return stickersOf(places, ...letters.map((each) => string(bytesOf(each)))).join(" ");
+  },
   best: async (engine, scramble, soFar, slack, most, nodes, partial) => {
     const wanted = { soFar: lineOf(soFar), slack: Number(slack), most: numberOf(most) ?? Infinity, nodes: numberOf(nodes) };
     const rows = await engine.best(lineOf(scramble), { ...wanted, cut: partial === "1" ? "value" : "throw" });

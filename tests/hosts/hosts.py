@@ -248,7 +248,8 @@ class Python(Host):
         if call == "net":
             return net()
         if call == "stickers":
-            return " ".join(map(str, nissy.stickers_of(name for name in given[0].decode().split(",") if name)))
+            names, *letters = (it.decode() for it in given)
+            return " ".join(map(str, nissy.stickers_of((name for name in names.split(",") if name), *letters)))
         if call == "best":
             scramble, so_far, slack, most, nodes, partial, asks = given
             found = nissy.best(self.line(scramble), self.line(so_far), slack=slack, most=most, nodes=nodes, partial=partial == 1,

@@ -1,6 +1,6 @@
 #!/usr/bin/env python3
-"""Where the stickers of a cube are, by each host beside the geometry of the independent model: the letters of each place, and the net, which must
-fold to a cube.
+"""Where the stickers of a cube are, by each host beside the geometry of the independent model: the letters of each place, also of a cube
+that is turned, and the net, which must fold to a cube.
 
     tests/hosts/net.py HOST..
 
@@ -14,7 +14,7 @@ from itertools import combinations
 from hosts import Host, hosts_of, told  # isort: skip
 
 from bad_pieces import CORNERS, EDGES, STICKERS
-from cube import DIRECTION_OF_FACE, FACELETS, NUMBER_OF_PLACE, PLACES
+from cube import DIRECTION_OF_FACE, FACELETS, NUMBER_OF_PLACE, PLACES, ROTATION_BY_CENTRES, Move, effect_of, facelet_text
 from tally import Tally
 
 Square = tuple[int, int]
@@ -39,6 +39,31 @@ def stickers(tally: Tally, host: Host) -> None:
     tally.equal(f"those of none in {host.name}", told(host, "stickers", b""), "")
 
 
+# slices with and without face turns, and wide turns, after each of which the whole cube is turned in each of the 24 ways
+TURNED: list[list[Move]] = [
+    [], [("M", 1)], [("E", 3), ("S", 2)], [("R", 1), ("U", 1), ("F", 1)], [("R", 1), ("M", 1), ("D", 3), ("E", 1), ("B", 2)], [("Rw", 1), ("F", 1)]]
+
+
+def turned_stickers(moves: list[Move]) -> tuple[str, dict[str, str]]:
+    """The letters of a cube after moves, and the numbers of the stickers of each place between the faces that its centres name."""
+    effect = effect_of(moves)
+    looks = {face: PLACES[effect[NUMBER_OF_PLACE[centre, centre]]][1] for face, centre in DIRECTION_OF_FACE.items()}
+
+    def numbers(name: str) -> str:
+        x, y, z = (sum(parts) for parts in zip(*(looks[face] for face in name)))
+        return " ".join(str(FACELETS.index(NUMBER_OF_PLACE[(x, y, z), looks[face]])) for face in name)
+
+    return facelet_text(effect), {name: numbers(name) for name in EDGES + CORNERS}
+
+
+def stickers_of_turned(tally: Tally, host: Host) -> None:
+    """The letters of the places of cubes that are held in any way, and have turned slices."""
+    for moves in (first + rotation for first in TURNED for rotation in ROTATION_BY_CENTRES.values()):
+        letters, of_each = turned_stickers(moves)
+        seen = told(host, "stickers", ",".join(of_each).encode(), letters.encode())
+        tally.equal(f"the stickers after {moves} in {host.name}", seen, " ".join(of_each.values()))
+
+
 def folds(tally: Tally, host: Host, net: list[Square]) -> None:
     """Neighbours of the net are neighbours of one face, or stickers of one piece, and each face is where it belongs."""
     tally.equal(f"the squares in {host.name}", (len(net), len(set(net))), (54, 54))
@@ -61,6 +86,7 @@ def main() -> None:
         squares = [tuple(map(int, square.split(","))) for square in net]
         folds(tally, host, [(row, column) for row, column in squares])
         stickers(tally, host)
+        stickers_of_turned(tally, host)
         tally.equal(f"{host.name} ends, and has said no more", host.end(), 0)
     tally.end()
 

@@ -17,7 +17,7 @@ import threading
 import time
 import typing
 from pathlib import Path
-from typing import Any, Iterator, List, Optional, Tuple, Union, get_type_hints
+from typing import Any, Dict, Iterator, List, Optional, Tuple, Union, get_type_hints
 
 TOP = Path(__file__).resolve().parents[2]
 sys.path[:0] = [str(TOP / "python"), str(TOP / "tests")]
@@ -203,6 +203,24 @@ def stickers(tally: Tally) -> None:
     for name in ("FU", "uf", "", "U", "RUF", "UF "):
         tally.equal(f"no place {name!r}", str(raised(ValueError, lambda: nissy.stickers_of([name]))), f"no place is called {name}")
     tally.equal("a name alone", str(raised(TypeError, lambda: nissy.stickers_of("UF"))), "the places are a list or another iterable, not str")
+    letters = nissy.facelets("R U F")
+    for rotation in ("x", "y2", "z' y"):
+        # facts name places by the centres, so that they show the same letters however the cube is held
+        held, bad = nissy.facelets(f"R U F {rotation}"), nissy.facts(f"R U F {rotation}").bad_edges["fb"].places
+        shown_held = "".join(held[at] for at in nissy.stickers_of(bad, held))
+        tally.equal(f"held by {rotation}", shown_held, "".join(letters[at] for at in nissy.stickers_of(bad)))
+    for what, wrong in no_letters(nissy.facelets("")).items():
+        said = str(raised(ValueError, lambda: nissy.stickers_of([], wrong)))
+        tally.equal(f"no letters of a cube: {what}", said, "these are not the 54 letters of a cube")
+
+
+def no_letters(letters: str) -> Dict[str, str]:
+    """What the letters of no cube are, which has its centres at 4, 13, and so on."""
+    def with_centres(centres: str) -> str:
+        return "".join(centres[at // 9] if at % 9 == 4 else letter for at, letter in enumerate(letters))
+
+    return {"none": "", "one less": letters[1:], "one more": letters + "B", "another letter": "u" + letters[1:], "a line feed": letters[1:] + "\n",
+            "a centre twice": with_centres("URFULB"), "a mirror's": with_centres("ULFDRB"), "U beside D": with_centres("UDFRLB")}
 
 
 def ended(count: int, last: Any, taken: Optional[List[str]] = None) -> Iterator[Any]:

@@ -251,6 +251,32 @@ std::string shown_at(const std::string &letters, const std::string &place) {
     return shown;
 }
 
+// The letters of an unturned cube with other centres.
+std::string with_centres(std::string_view centres) {
+    std::string letters = nissy::facelets("");
+    for (std::size_t face = 0; face < centres.size(); face++) letters[9 * face + 4] = centres[face];
+    return letters;
+}
+
+// Facts name places by the centres, so that they show the same letters however the cube is held; and what is no cube.
+void stickers_of_held_are_found() {
+    const names places = nissy::edge_names(nissy::facts("R U F").fb().bad_edge_places);
+    const std::string letters = nissy::facelets("R U F");
+    for (const char *rotation : {"x", "y2", "z' y"}) {
+        const std::string held = nissy::facelets(std::string("R U F ") + rotation);
+        std::string shown;
+        for (const std::size_t sticker : nissy::stickers_of(places, held)) shown += held[sticker];
+        std::string wanted;
+        for (const std::string &place : places) wanted += shown_at(letters, place);
+        holds(shown == wanted && !shown.empty(), "the same letters", rotation);
+    }
+    const std::string solved = nissy::facelets("");
+    // none, one less or more, another letter, a centre twice, a mirror's, and U beside D
+    for (const std::string &wrong : {std::string(), solved.substr(1), solved + "B", "u" + solved.substr(1), with_centres("URFULB"),
+                                     with_centres("ULFDRB"), with_centres("UDFRLB")})
+        throw_each<std::invalid_argument>(wrong.c_str(), {[=] { nissy::stickers_of({}, wrong); }});
+}
+
 // Where the stickers of places are, by what bad pieces show on a cube. Names begin with the sticker that is there if a piece is good: of edges on the
 // axis fb, of corners on ud. Where the letters are in space, tests/hosts tries.
 void stickers_are_found() {
@@ -269,6 +295,7 @@ void stickers_are_found() {
     holds(nissy::AXES[NISSY_FB] == "fb"sv && nissy::AXES[NISSY_RL] == "rl"sv && nissy::AXES[NISSY_UD] == "ud"sv, "the axes", "their names");
     holds(nissy::stickers_of({}).empty() && nissy::stickers_of({"UF", "URF"}).size() == 5, "several", "UF URF");
     for (const char *name : {"FU", "uf", "", "U", "RUF", "UF "}) throw_each<std::invalid_argument>(name, {[=] { nissy::stickers_of({name}); }});
+    stickers_of_held_are_found();
     static_assert(nissy::NET[0] == nissy::net_place{0, 3} && nissy::NET[53] != nissy::net_place{0, 3}, "places are compared by a compiler too");
 }
 
@@ -355,9 +382,9 @@ int main() {
     // first, so that each step is built while others ask for it
     threads_agree();
     for (const search_row &row : SEARCHES) solves(nissy::tables(row.step), row);
-    for (const auto trial : {lines_are_read, faults_are_thrown, columns_are_counted, text_is_read, places_are_found, attempts_are_read,
-                             misuse_is_thrown, many_lines_are_answered, searches_are_cut, progress_is_told, best_is_stopped, stickers_are_found,
-                             refused_memory_is_thrown, many_are_whole, objects_are_values})
+    for (const auto trial : {lines_are_read, faults_are_thrown, columns_are_counted, text_is_read, places_are_found, forms_are_found,
+                             attempts_are_read, misuse_is_thrown, many_lines_are_answered, searches_are_cut, progress_is_told, best_is_stopped,
+                             stickers_are_found, refused_memory_is_thrown, many_are_whole, objects_are_values})
         trial();
     holds(nissy::version() == nissy_version() && nissy_version() == NISSY_VERSION_NUMBER, "the library's", "version");
     return ended();

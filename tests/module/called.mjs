@@ -115,6 +115,27 @@ const MANY = [
   [["run", [, "R"]], "TypeError", "word 1 is neither a string nor a Uint8Array"],
 ];
 
+/** A line of too many bytes among others, of which each has its answer, by `Nissy` or by what has the same calls as promises. */
+export async function tryTooLong(nissy) {
+  const faults = "value";
+  const lines = ["F", "R q", BEYOND, new Uint8Array(16_777_217), "R"];
+  const wanted = [null, "column 3: not a move", ...[3, 4].map((line) => `line ${line}: the line has more bytes than the engine reads`), null];
+  const told = {
+    solutions: await nissy.solveAll("eofb", lines, { faults }),
+    counts: await nissy.countAll("eofb", lines, { faults }),
+    "counts of searches that may be cut": await nissy.countAll("eofb", lines, { faults, nodes: 1_000 }),
+    facts: await nissy.factsAll(lines, { faults }),
+  };
+  for (const [what, each] of Object.entries(told)) {
+    const said = each.map((one) => (one instanceof Error ? one.message.replace(/^line 2, /, "") : null));
+    same(`${what} beside lines of too many bytes`, said, wanted);
+    same(`${what}: what stands in their places`, each.slice(1, 4).map(({ name }) => name), ["NissyFault", "RangeError", "RangeError"]);
+  }
+  same("what is told before and behind them", [told.solutions[0], told.solutions[4]], [F_OR_ITS_INVERSE, [{ moves: "", length: 0 }]]);
+  same("also of counts", [0, 4].map((at) => told.counts[at].length), [1, 0]);
+  same("and of facts", [0, 4].map((at) => told.facts[at].moves), [1, 1]);
+}
+
 /** Calls of many lines that are refused, by `Nissy` or by what has the same calls as promises. */
 export async function tryMany(nissy) {
   for (const [[call, ...given], ...wanted] of MANY) same(`${call}: ${wanted[1]}`, await thrown(() => nissy[call](...given)), wanted);

@@ -136,6 +136,18 @@ const pieces = [...EDGE_PLACES, ...CORNER_PLACES];
 same("the stickers of pieces", pieces.map((name) => stickersOf([name]).map((place) => letters[place]).join("")), pieces);
 same("no place is that of two", new Set(stickersOf(pieces)).size, 48);
 same("those of no piece", await thrown(() => stickersOf(["UQ"])), ["RangeError", "no place is called UQ"]);
+const shownAt = (shown, stickers) => stickers.map((sticker) => shown[sticker]).join("");
+for (const rotation of ["x", "y2", "z' y"]) {
+  // facts name places by the centres, so that they show the same letters however the cube is held
+  const [bad, held] = [nissy.facts(`R U F ${rotation}`).badEdges.fb, nissy.facelets(`R U F ${rotation}`)];
+  same(`held by ${rotation}`, shownAt(held, stickersOf(bad, held)), shownAt(nissy.facelets("R U F"), stickersOf(bad)));
+}
+const withCentres = (centres) => [...letters].map((letter, at) => (at % 9 === 4 ? centres[(at - 4) / 9] : letter)).join("");
+for (const [what, wrong] of [
+  ["none", ""], ["null", null], ["one less", letters.slice(1)], ["one more", `${letters}B`], ["another letter", `u${letters.slice(1)}`],
+  ["a line feed", `${letters.slice(1)}\n`], ["a centre twice", withCentres("URFULB")], ["a mirror's", withCentres("ULFDRB")],
+  ["U beside D", withCentres("UDFRLB")],
+]) same(`no letters of a cube: ${what}`, await thrown(() => stickersOf([], wrong)), ["RangeError", "these are not the 54 letters of a cube"]);
 for (const scramble of [20261127, 20261128, 20261129].map((seed) => nissy.scramble(seed, 1, 25))) {
   const turned = [{ side: "normal", moves: "R U2 D" }, { side: "inverse", moves: "F B2" }];
   for (const parts of [[], turned, [{ side: "normal", moves: "R R" }, { side: "inverse", moves: "L' D" }]]) tryRows(scramble, parts);

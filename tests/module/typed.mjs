@@ -3,7 +3,7 @@ import { runInContext } from "node:vm";
 import { readFileSync } from "node:fs";
 import { Nissy, VERSION } from "../../web/module/nissy.js";
 import { tryTraps } from "./broken_off.mjs";
-import { F_OR_ITS_INVERSE, tryEach, tryMany, tryOptions, tryReadOptions, tryRows, tryWrongValues } from "./called.mjs";
+import { F_OR_ITS_INVERSE, tryEach, tryMany, tryOptions, tryReadOptions, tryRows, tryTooLong, tryWrongValues } from "./called.mjs";
 import { tryBounds, tryChecks, tryMixed } from "./judged.mjs";
 import { elsewhere } from "./values.mjs";
 import { ended, loaded, moduleBytes, same, text, thrown } from "./tally.mjs";
@@ -52,6 +52,7 @@ async function tryBeyond(nissy, memory) {
       same(`${call} of a line of more bytes`, refused, ["RangeError", "the line has more bytes than the engine reads"]);
     }
   }
+  await tryTooLong(nissy);
   same("they take no memory of the module", memory.buffer.byteLength, size);
   same("a call after these", nissy.solve("eofb", "F"), F_OR_ITS_INVERSE);
 }

@@ -39,8 +39,9 @@ export async function callsInWorker(bytes: Uint8Array, signal: AbortSignal): Pro
 export function read(text: string, places: readonly EdgePlace[]): number {
   const { line, places: at, leftOut }: PlainLine = plainLine(text);
   const written: Attempt[] = readAttempts(text);
-  const place: TextPlace | null = placeOf({ character: 1 }, written[0].solution, text);
-  const numbers: number[] = stickersOf([...places, "URF"]);
+  const solution: PlainLine | null = written[0].solution;
+  const place: TextPlace | null = placeOf({ character: 1 }, solution ?? written[0].scramble, text);
+  const numbers: number[] = [...stickersOf([...places, "URF"]), ...stickersOf(places, text)];
   return line.length + at.length + leftOut.length + written[0].candidates.length + written[0].before + (place?.column ?? 0) + numbers.length;
 }
 
@@ -58,8 +59,9 @@ export function judged(nissy: Nissy): string {
   const { cleanMoves, forms }: Check = nissy.check("R", "R'");
   const names: readonly Form[] = forms;
   const where: FormPlace[] = nissy.formPlaces("M");
+  const inText: TextPlace | null = placeOf(where[0], plainLine("M"), "M");
   const [start, further]: (Step | null)[] = [startOf("dr-eofb"), startOf(steps[0])];
-  return [solved, moves, cleanMoves, places, cases.ud, steps, names, where[0].forms, where[0].column, start, further].join(" ");
+  return [solved, moves, cleanMoves, places, cases.ud, steps, names, where[0].forms, where[0].column, inText?.line, start, further].join(" ");
 }
 
 export async function bounded(nissy: Nissy, worker: NissyWorker, step: string): Promise<number> {
@@ -106,6 +108,19 @@ export async function oneByOne(nissy: Nissy, worker: NissyWorker, signal: AbortS
   return "";
 }
 
+// an option that is undefined isn't given, also by tsc's exactOptionalPropertyTypes
+export async function leftOpen(nissy: Nissy, worker: NissyWorker, pool: NissyPool, open?: number, signal?: AbortSignal): Promise<string> {
+  const within: { limit: number | undefined; slack: number | undefined; most: number | undefined } = { limit: open, slack: open, most: open };
+  const bounds: { nodes: number | undefined; cut: undefined } = { nodes: open, cut: undefined };
+  const onProgress: ((done: number, all: number | null) => void) | undefined = undefined;
+  const counts: Count[] = await pool.countAll("eofb", ["R"], { ...within, ...bounds, faults: undefined, signal, onProgress });
+  const solutions: Solutions = nissy.solve("eofb", "R", { ...within, ...bounds });
+  const best: Best = await pool.best("R", { soFar: undefined, slack: open, most: open, ...bounds, signal, onProgress });
+  for await (const { moves } of worker.solutions("eofb", "R", { limit: open, slack: open, signal })) if (moves) break;
+  const { status } = await worker.run(["steps"], "", { room: open, signal });
+  return [counts, solutions, best, status, stickersOf([], undefined)].flat().join(" ");
+}
+
 export function cutAfter(error: unknown): number | null {
   return error instanceof SearchCut ? error.count.nodes : null;
 }
@@ -144,6 +159,8 @@ export function wrong(nissy: Nissy, worker: NissyWorker): void {
   nissy.solve("eofx", "R");
   // @ts-expect-error also where it is asked what has to hold before it
   startOf("eofx");
+  // @ts-expect-error an attempt may have no solution
+  readAttempts("R U F")[0].solution.line.trim();
   // @ts-expect-error nothing may have to hold
   startOf("dr-eofb").trim();
   // @ts-expect-error a cut is told in one of two ways

@@ -221,7 +221,7 @@ function* foundOf(nissy, { slack, most, nodes, axes, ...given }) {
  * @param {unknown} error
  * @returns {FaultParts}
  */
-function faultIn(error) {
+function faultOfBoth(error) {
   if (!(error instanceof NissyFault)) throw error;
   // if none of the lines is named, each was read by itself, so they have too many moves together
   return (error.line === null ? new NissyFault(error.text, { line: 2 }) : error).parts();
@@ -237,7 +237,7 @@ export function lineAfterTold(nissy, request) {
   try {
     return { line: startAfter(nissy, request).position.lines.normal };
   } catch (error) {
-    return { fault: faultIn(error) };
+    return { fault: faultOfBoth(error) };
   }
 }
 
@@ -260,7 +260,7 @@ function* toldAtEach(nissy, request) {
       yield { progress: last.progress, told: { rows: last.rows, isCut: true } };
       return;
     }
-    yield { progress: last.progress, told: { fault: faultIn(error) } };
+    yield { progress: last.progress, told: { fault: faultOfBoth(error) } };
   }
 }
 

@@ -37,20 +37,30 @@ export function bytesOf(text, what) {
 }
 
 /**
- * A line as it is handed on: a short string, or bytes of which nobody else has any. One of too many bytes is refused
- * here, since the module's memory keeps the size that it once had.
+ * A line as it is handed on: a short string, or bytes of which nobody else has any. One of too many bytes is null: the
+ * module isn't given it, since its memory keeps the size that it once had.
+ * @param {unknown} line
+ * @param {string} what it is, for the error
+ * @returns {Text | null}
+ */
+export function readableLine(line, what) {
+  const isString = typeof line === "string";
+  if (isString && line.length <= SHORT) return line;
+  // a unit of a string takes a byte at least
+  const bytes = isString && line.length > MOST_INPUT ? null : bytesOf(line, what);
+  return bytes === null || lengthOf(bytes) > MOST_INPUT ? null : bytes;
+}
+
+/**
+ * The same, but one of too many bytes is refused.
  * @param {unknown} line
  * @param {string} what it is, for the error
  * @returns {Text}
  */
 export function takenLine(line, what) {
-  const isString = typeof line === "string";
-  if (isString && line.length <= SHORT) return line;
-  // a unit of a string takes a byte at least
-  const bytes = isString && line.length > MOST_INPUT ? null : bytesOf(line, what);
-  const isLong = bytes === null || lengthOf(bytes) > MOST_INPUT;
-  if (isLong) throw new RangeError(`${what} has more bytes than the engine reads`);
-  return bytes;
+  const taken = readableLine(line, what);
+  if (taken === null) throw new RangeError(`${what} has more bytes than the engine reads`);
+  return taken;
 }
 
 /**

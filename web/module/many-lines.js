@@ -4,7 +4,7 @@ import { bound, counted, refusal, seen, solved } from "./line-calls.js";
 import { aligned, roomFor } from "./memory.js";
 import { wide } from "./natives.js";
 import { countAt, factsAt, headAt } from "./read-answers.js";
-import { endsAll, hasValue } from "./replies.js";
+import { STATUS, endsAll, hasValue } from "./replies.js";
 
 /** @typedef {import("./bytes.js").Text} Text */
 /** @typedef {import("./instance.js").Exports} Exports */
@@ -25,20 +25,25 @@ const LINE_FEED = 10;
 /** @param {Text} line */
 const hasLineFeed = (line) => (typeof line === "string" ? line.includes("\n") : line.includes(LINE_FEED));
 
+/** @type {OneReply} to a line of too many bytes */
+const TOO_LONG = { status: STATUS.stopped };
+
 /**
- * Where the piece ends that begins with this line: it has a line, and none with a line feed, which would be two to the
- * module.
- * @param {Text[]} lines
+ * The piece that begins with this line: it has none of too many bytes, and none with a line feed, which would be two to
+ * the module.
+ * @param {(Text | null)[]} lines
  * @param {number} begin
  */
-function endOfPiece(lines, begin) {
+function pieceFrom(lines, begin) {
   const most = Math.min(lines.length, begin + MOST_LINES);
   let end = begin;
-  for (let bytes = 0; end < most && !hasLineFeed(lines[end]); end += 1) {
-    bytes += roomFor(lines[end]) + 1;
+  for (let bytes = 0; end < most; end += 1) {
+    const line = lines[end];
+    if (line === null || hasLineFeed(line)) break;
+    bytes += roomFor(line) + 1;
     if (end > begin && bytes > MOST_OF_TEXT) break;
   }
-  return end;
+  return /** @type {Text[]} */ (lines.slice(begin, end));
 }
 
 /**
@@ -163,9 +168,11 @@ function questionOf(instance, { each, faults }) {
  * @returns {OneReply[]}
  */
 function answerNext(instance, { each, lines }, question, begin) {
-  const end = question === null ? begin : endOfPiece(lines, begin);
-  if (question === null || end === begin) return [answerLine(instance, { ...each, line: lines[begin] })];
-  return answerPiece(instance, question, lines.slice(begin, end), each.call === "facts" ? "" : each.step);
+  const piece = question === null ? [] : pieceFrom(lines, begin);
+  const line = lines[begin];
+  if (line === null) return [TOO_LONG];
+  if (question === null || piece.length === 0) return [answerLine(instance, { ...each, line })];
+  return answerPiece(instance, question, piece, each.call === "facts" ? "" : each.step);
 }
 
 /**

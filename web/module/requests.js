@@ -1,6 +1,8 @@
 // What is asked of the engine, in plain values that a worker can be sent, each checked if it comes from a caller.
 import { ORIENTATIONS } from "./best-steps.js";
-import { bytesOf, eachOf, joinedWords, stringOf, takenLine, wholeNumber, wideNumber } from "./bytes.js";
+import {
+  bytesOf, eachOf, joinedWords, readableLine, stringOf, takenLine, wholeNumber, wideNumber,
+} from "./bytes.js";
 import { hasOwn } from "./natives.js";
 
 /** @typedef {import("./bytes.js").Text} Text */
@@ -25,8 +27,9 @@ import { hasOwn } from "./natives.js";
 /** @typedef {CountRequest | SolveRequest | FactsRequest} OfEach what many lines may be asked */
 /** @typedef {RunRequest | LineRequest | OfEach | CheckRequest | ScrambleRequest | StepsRequest} OneRequest */
 /**
- * @typedef {{call: "all", each: OfEach, lines: Text[], faults: Telling, isPiece?: boolean}} AllRequest what is asked
- * of each line, whose own line is none; `isPiece`: the lines are some of a call's, so a worker tells how long it took
+ * @typedef {{call: "all", each: OfEach, lines: (Text | null)[], faults: Telling, isPiece?: boolean}} AllRequest what is
+ * asked of each line, whose own line is none, or null for one of too many bytes; `isPiece`: the lines are some of a
+ * call's, so a worker tells how long it took
  */
 /** @typedef {OneRequest | AllRequest} Request what an engine is asked */
 /** @typedef {Request | BestRequest | LineAfterRequest} Asked what a worker is asked */
@@ -38,7 +41,8 @@ import { hasOwn } from "./natives.js";
  * search ends, after all if it isn't given; `nodes`, at how many positions it looks at most, at as many as there are if
  * it isn't given. A search that would look at more is cut: `cut` says whether `SearchCut` is thrown, as it is if it
  * isn't given, or what was found until then returned.
- * @typedef {{limit?: number, slack?: number, most?: number, nodes?: number, cut?: Telling}} Wanted
+ * @typedef {{limit?: number | undefined, slack?: number | undefined, most?: number | undefined,
+ * nodes?: number | undefined, cut?: Telling | undefined}} Wanted
  */
 
 /** @typedef {Wanted} Within what `Wanted` was called for counts while they had fewer options */
@@ -61,7 +65,8 @@ import { hasOwn } from "./natives.js";
  * as many as there are if it isn't given. In a pool each axis is searched up to this bound. If they would look at more,
  * they are cut: `cut` says whether `SearchCut` is thrown, as it is if it isn't given, or the best of what was tried
  * until then returned.
- * @typedef {{soFar?: Text, slack?: number, most?: number, nodes?: number, cut?: Telling}} BestWanted
+ * @typedef {{soFar?: Text | undefined, slack?: number | undefined, most?: number | undefined,
+ * nodes?: number | undefined, cut?: Telling | undefined}} BestWanted
  */
 
 /** The most turns of a search. */
@@ -196,12 +201,10 @@ export const bestRequest = (scramble, options = {}) => ({
  */
 export function allRequest(each, lines, options = {}) {
   if (!Array.isArray(lines)) throw new TypeError("the lines are no array");
-  return {
-    call: "all",
-    each: each(),
-    faults: toldBy(options, "faults"),
-    lines: eachOf(lines, (line, index) => takenLine(line, `line ${index + 1}`)),
-  };
+  const asked = each();
+  const faults = toldBy(options, "faults");
+  const take = faults === "value" ? readableLine : takenLine;
+  return { call: "all", each: asked, faults, lines: eachOf(lines, (line, index) => take(line, `line ${index + 1}`)) };
 }
 
 /** @param {unknown} state @param {unknown} stream @param {unknown} length @returns {ScrambleRequest} */

@@ -86,7 +86,7 @@ function pieceReply(engine, request) {
  * @param {import("./best.js").TellProgress} tell
  * @returns {Reply}
  */
-function replyOf(engine, request, tell) {
+function replyTo(engine, request, tell) {
   if (request.call === "best") return bestReply(engine, request, tell);
   return request.call === "lineAfter" ? lineAfterTold(new Nissy(engine), request) : engine.answer(request);
 }
@@ -103,7 +103,7 @@ export function serve(port) {
       return;
     }
     const tell = (/** @type {import("./best.js").BestProgress} */ progress) => port.postMessage({ id, progress });
-    const reply = replyOf(engine, request, tell);
+    const reply = replyTo(engine, request, tell);
     port.postMessage({ id, reply }, buffersOf(reply));
   });
 }

@@ -5,13 +5,13 @@ import { optionOf } from "./requests.js";
 
 /**
  * What gives a call up: it rejects with the signal's reason.
- * @typedef {{signal?: AbortSignal}} Stoppable
+ * @typedef {{signal?: AbortSignal | undefined}} Stoppable
  */
 
 /**
  * What is told how far a call is: how much is done, and of how much, null until that is known. What it throws ends the
  * call; of a worker so does a promise that it returns and that rejects.
- * @typedef {{onProgress?: (done: number, all: number | null) => unknown}} Followed
+ * @typedef {{onProgress?: ((done: number, all: number | null) => unknown) | undefined}} Followed
  */
 
 /** @typedef {{done: number, all: number | null}} Progress */

@@ -149,7 +149,7 @@ export class SingleCalls {
   }
 
   /**
-   * @param {readonly Text[]} words @param {Text} [input] @param {Stoppable & {room?: number}} [options]
+   * @param {readonly Text[]} words @param {Text} [input] @param {Stoppable & {room?: number | undefined}} [options]
    * @returns {Promise<Answer>}
    */
   async run(words, input, options = {}) {

@@ -28,20 +28,52 @@ const STICKERS_OF_CORNERS = [
   [29, 26, 15], [27, 44, 24], [33, 53, 42], [35, 17, 51],
 ];
 
-/** @type {Map<string, number[]>} */
-const STICKERS = new Map([
+/** @type {[string, number[]][]} */
+const STICKERS = [
   ...EDGE_PLACES.map((name, at) => /** @type {[string, number[]]} */ ([name, STICKERS_OF_EDGES[at]])),
   ...CORNER_PLACES.map((name, at) => /** @type {[string, number[]]} */ ([name, STICKERS_OF_CORNERS[at]])),
-]);
+];
+
+const NAMES_OF_PLACES = new Set(STICKERS.map(([name]) => name));
+
+/** The same by each name that begins with another face and goes on around the piece as its own name does. */
+const STICKERS_BY_NAME = new Map(STICKERS.flatMap(([name, stickers]) => [...name].map((_, begin) => {
+  const from = stickers.slice(begin).concat(stickers.slice(0, begin));
+  return /** @type {[string, number[]]} */ ([name.slice(begin) + name.slice(0, begin), from]);
+})));
+
+/** The faces in the order of `facelets`, and the numbers of their centres there. */
+const FACE_LETTERS = "URFDLB";
+const CENTRES_OF_FACES = [4, 13, 22, 31, 40, 49];
+
+/**
+ * What a place of a turned cube is called by the faces of an unturned one.
+ * @param {string} name
+ * @param {string} centres
+ */
+const unturnedName = (name, centres) => name.replace(/./gs, (face) => FACE_LETTERS[centres.indexOf(face)] ?? "?");
+
+/** @param {string} letters @returns {string} the centres, which are on the faces as those of a cube */
+function centresOf(letters) {
+  const centres = /^[URFDLB]{54}$/.test(letters) ? CENTRES_OF_FACES.map((at) => letters[at]).join("") : "";
+  // corners that are corners again, and none as in a mirror, leave no other way than to turn the whole cube
+  const isCube = CORNER_PLACES.every((name) => STICKERS_BY_NAME.has(unturnedName(name, centres)));
+  if (!isCube) throw new RangeError("these are not the 54 letters of a cube");
+  return centres;
+}
 
 /**
  * The stickers of some places: the numbers of their letters in what `facelets` returns, from 0, those of a place in the
- * order of its name.
+ * order of its name. Places are named by the centres, as `facts` names them: give the `letters` of a cube that slices
+ * or rotations may have turned.
  * @param {readonly (EdgePlace | CornerPlace)[]} places
+ * @param {string} [letters] what `facelets` returns of the cube, else it is an unturned one
  * @returns {number[]}
  */
-export const stickersOf = (places) => places.flatMap((place) => {
-  const stickers = STICKERS.get(place);
-  if (stickers === undefined) throw new RangeError(`no place is called ${place}`);
-  return stickers;
-});
+export function stickersOf(places, letters) {
+  const centres = letters === undefined ? FACE_LETTERS : centresOf(letters);
+  return places.flatMap((place) => {
+    if (!NAMES_OF_PLACES.has(place)) throw new RangeError(`no place is called ${place}`);
+    return /** @type {number[]} */ (STICKERS_BY_NAME.get(unturnedName(place, centres)));
+  });
+}
