@@ -1,5 +1,5 @@
-// What nissy_attempts.hpp reads attempts by: the lines of a text, what is seen of each, and the heads that tell scrambles apart. Its names are no part
-// of the interface.
+// What nissy_attempts.hpp reads attempts by: the lines of a text, what is seen of each, and the heads that tell scrambles apart. Its names are no
+// part of the interface.
 #ifndef NISSY_HEADS_HPP
 #define NISSY_HEADS_HPP
 
