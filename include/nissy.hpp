@@ -42,10 +42,11 @@ public:
     // by the program's words for it, such as "not a move"; `line` is said before the column
     fault(nissy_fault code, std::size_t column, const std::string &text, const std::string &line = "")
         : std::runtime_error(place_of(column, line) + text), code_(code), line_(line.empty() ? 0 : line == "scramble, " ? 1 : 2),
-          column_(column), place_(place_of(column, line).size()) {}
+          column_(column), place_(place_of(column, line).size()), part_(line.empty() ? 0 : line.size() - 2) {}
 
     nissy_fault code() const noexcept { return code_; }
     int line() const noexcept { return line_; } // of a call on two lines which one has it: 1 the scramble, 2 the other; else 0
+    std::string_view part() const noexcept { return std::string_view(what()).substr(7, part_); } // what that one is called, as "scramble"
     // the place of the fault in bytes, from 1; 0 of NISSY_START
     std::size_t column() const noexcept { return column_; }
     std::size_t character(std::string_view line) const noexcept { return nissy::character(line, column_); } // the same in characters
@@ -55,13 +56,11 @@ public:
     std::string_view start() const noexcept { return code_ == NISSY_START ? text().substr(0, text().find(' ')) : std::string_view(); }
 
 private:
-    static std::string place_of(std::size_t column, const std::string &line) {
-        return "nissy: " + line + (column ? "column " + std::to_string(column) + ": " : "");
-    }
+    static std::string place_of(std::size_t at, const std::string &of) { return "nissy: " + of + (at ? "column " + std::to_string(at) + ": " : ""); }
 
     nissy_fault code_;
     int line_;
-    std::size_t column_, place_; // text() begins in what() at place_: a copy of an exception mustn't throw, as that of a string of its own may
+    std::size_t column_, place_, part_; // the last two of what(): a copy of an exception mustn't throw, as that of a string of its own may
 };
 
 // A search that would have looked at more positions than it may.
@@ -161,9 +160,10 @@ inline std::string text_of(std::uint8_t code, std::string_view step) {
     return code == NISSY_START ? text_of(start) + " " + text_of(words) : text_of(words);
 }
 
+inline constexpr char TOO_LONG[] = "line longer than 16777216 bytes";
 // Throws what is wrong with a line, of a search by this step, and of a call on several lines behind this name.
 inline void end_unless_read(int status, std::uint8_t code, std::size_t column, std::string_view step = {}, const std::string &line = "") {
-    if (status == NISSY_STOPPED) throw std::length_error("nissy: line longer than 16777216 bytes");
+    if (status == NISSY_STOPPED) throw std::length_error(std::string("nissy: ") + TOO_LONG);
     if (status == NISSY_FAULT) throw fault(static_cast<nissy_fault>(code), column, text_of(code, step), line);
 }
 
@@ -192,8 +192,7 @@ using kept_tables = std::map<std::string, nissy_tables, std::less<>>;
 // A step with its tables, which are built when they are first asked for, and stay where they are.
 inline const kept_tables::value_type &kept(std::string_view step) {
     static std::mutex mutex;
-    // never destroyed, since threads may ask until the process ends
-    static auto &built = *new kept_tables;
+    static auto &built = *new kept_tables; // never destroyed, since threads may ask until the process ends
     const std::lock_guard<std::mutex> alone(mutex);
     if (const auto found = built.find(step); found != built.end()) return *found;
     // its place first: tables that were built are never given back
@@ -268,6 +267,8 @@ public:
     nissy_fault code() const noexcept { return static_cast<nissy_fault>(code_); }
     std::size_t column() const noexcept { return column_; } // as that of fault
     std::size_t character(std::string_view line) const noexcept { return nissy::character(line, column_); }
+    // what is wrong with the line, without the place; empty if there is a value
+    std::string text() const { return *this ? "" : status_ == NISSY_FAULT ? detail::text_of(code_, step_) : detail::TOO_LONG; }
     // throws what the call on this line alone throws, if there is no value
     const Value &value() const {
         detail::end_unless_read(status_, code_, column_, step_);
@@ -323,8 +324,7 @@ inline std::vector<std::string> scrambles(std::uint64_t state, std::uint64_t str
     std::string words = "scramble";
     for (const std::uint64_t number : {state, stream, length, count}) words += '\0' + std::to_string(number);
     std::string out(room, '\0');
-    const nissy_run_answer answer =
-        nissy_run(detail::bytes(std::string_view(words)), words.size(), nullptr, 0, detail::bytes(out), out.size(), nullptr, 0);
+    const auto answer = nissy_run(detail::bytes(std::string_view(words)), words.size(), nullptr, 0, detail::bytes(out), out.size(), nullptr, 0);
     if (answer.status != NISSY_DONE) throw std::bad_alloc();
     return detail::lines_of(std::string_view(out).substr(0, answer.out_length));
 }

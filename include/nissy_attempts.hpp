@@ -1,94 +1,35 @@
 // nissy for C++17 and later: reads what solvers write down of their attempts: scrambles, each with the steps of a solution and candidates beside
-// it. Nothing of it is called at fault here: what is no line of moves is at fault where it is used. Header alone, over nissy_written.hpp, without
-// the library.
+// it. Nothing of it is called at fault here: what is no line of moves is at fault where it is used. Header alone, over nissy_heads.hpp, without the
+// library.
 #ifndef NISSY_ATTEMPTS_HPP
 #define NISSY_ATTEMPTS_HPP
 
-#include "nissy_written.hpp"
+#include "nissy_heads.hpp"
 
 #include <iterator>
 
 namespace nissy {
 
-// A way that was tried: its steps, and what is said of it on lines of their own.
+// A way that was tried: its steps, these in one, and what is said of it on lines of their own.
 struct attempt_candidate {
     std::vector<plain> steps;
+    plain solution;
     std::string note;
 };
 
-// An attempt at a scramble, whose parts have their places in bytes of the whole text. What the text hasn't is empty.
+// An attempt at a scramble, whose parts have their places in bytes of the whole text.
 struct attempt {
-    std::string name;                          // what tells the scramble from others, such as "2."
+    std::string name;                          // what tells the scramble from others, such as "2.", or empty
     plain scramble;
     std::vector<plain> steps;                  // the lines of the solution, each of which a comment or a label may describe
-    plain solution;                            // the block whose label says so, else the steps in one
-    std::vector<attempt_candidate> candidates; // what stands beside it
+    std::optional<plain> solution;             // the block whose label says so, else the steps in one; none if it can't be told, or there is none
+    std::vector<attempt_candidate> candidates; // the blocks after a blank line
     std::size_t before = 0;                    // so many lines of prose stand before the scramble
 };
 
 namespace detail {
 
-// A text without the blanks around it.
-inline std::string_view trimmed(std::string_view text) {
-    const std::size_t begin = behind(text, 0, is_blank);
-    std::size_t end = begin;
-    for (std::size_t at = begin; at < text.size();) {
-        const written_sign sign = sign_at(text, at);
-        at += sign.size;
-        if (!is_blank(sign.code)) end = at;
-    }
-    return text.substr(begin, end - begin);
-}
-
-// The words of the label that a line begins with, or none.
-inline std::string_view label_of(std::string_view line) {
-    const found_form it = next_form(line, 0, behind_label);
-    return it.end == it.begin ? std::string_view() : trimmed(line.substr(it.begin, it.end - it.begin - 1));
-}
-
-// Whether three letters stand in a row that no moves have.
-inline bool has_letters(std::string_view moves) {
-    int letters = 0;
-    for (std::size_t at = 0; at < moves.size() && letters < 3; at += sign_at(moves, at).size) {
-        const char32_t code = sign_at(moves, at).code;
-        letters = is_letter(code) && !is_capital(code) ? letters + 1 : 0;
-    }
-    return letters == 3;
-}
-
-// A line of a text, its place there, and what is seen of it.
-struct written_line {
-    std::size_t from;
-    std::string_view text, label;
-    bool is_blank, is_moves, is_prose; // prose says something else than moves: it has none, or a word
-    bool is_told, is_solution;         // it says what its moves are; its label says that the solution follows
-};
-using written_block = std::vector<written_line>;
 using written_blocks = std::vector<written_block>;
-
-inline written_line line_at(std::size_t from, std::string_view text) {
-    const plain read = plain_line(text);
-    const std::string_view moves = trimmed(read.line), label = label_of(text);
-    const bool is_told = !label.empty() || text.find("//") != std::string_view::npos;
-    return {from, text, label, trimmed(text).empty(), !moves.empty(), moves.empty() || has_letters(moves), is_told, has_word(label, "solution")};
-}
-
-inline written_block written_lines(std::string_view text) {
-    written_block lines;
-    for (std::size_t from = 0, end = 0; end < text.size(); from = end + 1) {
-        end = std::min(text.find('\n', from), text.size());
-        lines.push_back(line_at(from, text.substr(from, end - from)));
-    }
-    return lines;
-}
-
-// Some of a row.
-template <typename Part> std::vector<Part> between(const std::vector<Part> &all, std::size_t begin, std::size_t end) {
-    return std::vector<Part>(all.data() + begin, all.data() + end);
-}
-template <typename Part> void append(std::vector<Part> &all, const std::vector<Part> &others) {
-    all.insert(all.end(), others.begin(), others.end());
-}
 
 inline bool has_moves(const written_block &block) {
     return std::any_of(block.begin(), block.end(), [](const written_line &line) { return line.is_moves; });
@@ -113,130 +54,6 @@ inline std::vector<plain> read_each(std::string_view text, const written_block &
     return made;
 }
 
-// What stands before each of several scrambles is a head. Each of these says where that of a line ends, or 0 if it has none.
-using head_of = std::size_t (*)(std::string_view line);
-
-inline bool ends_word(std::string_view text, std::size_t at) { return at == text.size() || is_blank(sign_at(text, at).code); }
-
-// Behind such as "of 3" or "/3" after the number of a scramble, or that place itself.
-inline std::size_t behind_total(std::string_view text, std::size_t at) {
-    const std::size_t word = behind_blanks(text, at), end = sign_at(text, word).code == '/' ? word + 1 : behind_word(text, word, "of");
-    const std::size_t number = behind_blanks(text, end), behind_number = behind(text, number, is_digit);
-    return end > word && behind_number > number ? behind_number : at;
-}
-
-// Behind the sign that ends a numbered head, or a blank; else 0.
-inline std::size_t behind_numbered(std::string_view text, std::size_t at) {
-    const std::size_t blanks = behind_blanks(text, at);
-    const written_sign sign = sign_at(text, blanks);
-    const bool is_end = sign.code == '-' || sign.code == 0x2013 || sign.code == '.' || sign.code == ')' || sign.code == ':';
-    return is_end ? blanks + sign.size : ends_word(text, at) ? at : 0;
-}
-
-// A head by a word, such as "Scramble:" or "Attempt 1 of 3".
-inline std::size_t behind_word_head(std::string_view line) {
-    const std::size_t begin = behind_blanks(line, 0), scramble = behind_word(line, begin, "scramble");
-    const std::size_t word = scramble > begin ? scramble : behind_word(line, begin, "attempt"), at = behind_blanks(line, word);
-    if (word == begin) return 0;
-    if (sign_at(line, at).code == ':') return at + 1;
-    const std::size_t number = sign_at(line, at).code == '#' ? at + 1 : at, end = behind(line, number, is_digit);
-    if (end == number) return 0;
-    const std::size_t whole = behind_numbered(line, behind_total(line, end));
-    return whole > 0 ? whole : behind_numbered(line, end);
-}
-
-// Behind the digits of a head there, and what parts them from moves; else 0.
-inline std::size_t behind_number(std::string_view text, std::size_t begin) {
-    const std::size_t end = behind(text, begin, is_digit);
-    const char32_t code = sign_at(text, end).code;
-    if (end == begin) return 0;
-    if ((code == '.' || code == ')' || code == ':') && !is_digit(sign_at(text, end + 1).code)) return end + 1;
-    return ends_word(text, end) ? end : 0;
-}
-
-// A head by a number, as lists and the WCA's sheets have it.
-inline std::size_t behind_number_head(std::string_view line) {
-    const std::size_t begin = behind_blanks(line, 0);
-    const char32_t code = sign_at(line, begin).code;
-    return behind_number(line, code == '#' || code == '(' ? begin + 1 : behind_blanks(line, behind_word(line, begin, "extra")));
-}
-
-// One of a sheet with extras, such as "E2": that is a move too, but not beside E1, which is none.
-inline std::size_t behind_extra_head(std::string_view line) {
-    const std::size_t begin = behind_blanks(line, 0);
-    const char32_t code = sign_at(line, begin).code;
-    return behind_number(line, code == '#' || code == '(' || code == 'E' ? begin + 1 : begin);
-}
-inline bool is_first_extra(const written_line &line) {
-    const std::size_t begin = behind_blanks(line.text, 0);
-    return line.text.substr(begin, 2) == "E1" && ends_word(line.text, begin + 2);
-}
-
-// The lines from a head to the next one.
-struct headed {
-    std::string_view name;
-    std::size_t begin, end;
-    bool has_scramble;
-    written_line first; // without the head
-};
-
-// The lines by their heads, behind those that stand before the first one. A line that goes on with prose has no head.
-inline std::vector<headed> parted_by(head_of head, const written_block &lines) {
-    std::vector<headed> parts(1);
-    for (std::size_t at = 0; at < lines.size(); at++) {
-        const std::size_t end = head(lines[at].text);
-        const written_line rest = end == 0 ? lines[at] : line_at(lines[at].from + end, lines[at].text.substr(end));
-        if (end > 0 && (rest.is_blank || !rest.is_prose)) parts.push_back({trimmed(lines[at].text.substr(0, end)), at, at, false, rest});
-        parts.back().end = at + 1;
-        parts.back().has_scramble = parts.back().has_scramble || !rest.is_prose;
-    }
-    return parts;
-}
-
-// Those that have a scramble. A head alone, such as that of a page, names the scramble that follows it.
-inline std::vector<headed> with_scrambles(const std::vector<headed> &parts) {
-    std::vector<headed> own;
-    for (std::size_t at = 1; at < parts.size(); at++) {
-        if (!parts[at].has_scramble) continue;
-        own.push_back(parts[at]);
-        if (at > 1 && !parts[at - 1].has_scramble) own.back().name = parts[at - 1].name;
-    }
-    return own;
-}
-
-inline bool is_numbered(const headed &part) { return part.name.find_first_of("0123456789") != std::string_view::npos; }
-
-// An attempt's lines.
-struct written_attempt {
-    std::string_view name;
-    written_block lines;
-};
-
-// The attempts that a text tells apart by heads; the first has the lines before it too. None if there is one without a number, or if they are
-// steps of one scramble: moves without a head stand before them, or it is said what they are.
-inline std::vector<written_attempt> attempts_by(head_of head, const written_block &lines) {
-    const std::vector<headed> parts = parted_by(head, lines), own = with_scrambles(parts);
-    const bool is_word = head == behind_word_head;
-    const std::size_t least = is_word && std::any_of(own.begin(), own.end(), is_numbered) ? 1 : 2;
-    if (own.size() < least || parts.front().has_scramble) return {};
-    if (!is_word && std::any_of(own.begin() + 1, own.end(), [](const headed &it) { return it.first.is_told; })) return {};
-    std::vector<written_attempt> attempts;
-    for (const headed &it : own) {
-        attempts.push_back({it.name, between(lines, 0, attempts.empty() ? it.begin : 0)});
-        attempts.back().lines.push_back(it.first);
-        append(attempts.back().lines, between(lines, it.begin + 1, it.end));
-    }
-    return attempts;
-}
-
-inline std::vector<written_attempt> attempts_of(const written_block &lines) {
-    std::vector<written_attempt> found = attempts_by(behind_word_head, lines);
-    const bool has_extras = std::any_of(lines.begin(), lines.end(), is_first_extra);
-    if (found.empty()) found = attempts_by(has_extras ? behind_extra_head : behind_number_head, lines);
-    if (found.empty()) found.push_back({{}, lines});
-    return found;
-}
-
 // The lines between blank ones.
 inline written_blocks blocks_of(const written_block &lines) {
     written_blocks blocks;
@@ -253,19 +70,30 @@ inline written_blocks blocks_of(const written_block &lines) {
 struct told_blocks {
     written_blocks blocks;
     std::optional<std::size_t> solution;
+    bool is_open = false; // several labels say so
 };
+
+inline bool is_solution(const written_line &line) { return has_word(line.label, "solution"); }
+
+// The lines whose labels say that the solution follows.
+inline written_block solutions_of(const written_blocks &blocks) {
+    written_block told;
+    for (const written_block &block : blocks) std::copy_if(block.begin(), block.end(), std::back_inserter(told), is_solution);
+    return told;
+}
 
 // Where the last of a row is for which it holds, counted from 1; 0 if there is none.
 template <typename Part, typename Which> std::size_t count_to_last(const std::vector<Part> &all, Which which) {
     return static_cast<std::size_t>(all.rend() - std::find_if(all.rbegin(), all.rend(), which));
 }
 
-// The solution's in a block of its own.
+// The solution's in a block of its own, unless several labels say so of which the last one isn't the final one.
 inline told_blocks with_solution(const written_blocks &blocks) {
-    const auto is_solution = [](const written_line &line) { return line.is_solution; };
-    const auto has_solution = [=](const written_block &block) { return std::any_of(block.begin(), block.end(), is_solution); };
+    const written_block solutions = solutions_of(blocks);
+    if (solutions.empty()) return {blocks, {}};
+    if (solutions.size() > 1 && !has_word(solutions.back().label, "final")) return {blocks, {}, true};
+    const auto has_solution = [](const written_block &block) { return std::any_of(block.begin(), block.end(), is_solution); };
     const std::size_t next = count_to_last(blocks, has_solution);
-    if (next == 0) return {blocks, {}};
     const written_block &block = blocks[next - 1];
     const written_block before = between(block, 0, has_moves(block) ? count_to_last(block, is_solution) - 1 : 0);
     written_block own = between(block, has_moves(before) ? before.size() : 0, block.size());
@@ -280,7 +108,7 @@ inline told_blocks with_solution(const written_blocks &blocks) {
     return told;
 }
 
-// What a line without moves says.
+// What a line of prose says.
 inline std::string_view said(const written_line &line) {
     const std::size_t comment = line.text.find("//");
     return trimmed(comment < line.text.size() ? line.text.substr(comment + 2) : line.label.empty() ? line.text : line.label);
@@ -298,8 +126,9 @@ inline std::string note_of(const written_block &block) {
 }
 
 inline attempt_candidate candidate_of(std::string_view text, const written_block &block) {
-    const auto solution = std::find_if(block.begin(), block.end(), [](const written_line &line) { return line.is_solution; });
-    attempt_candidate made = {read_each(text, moves_of(block)), note_of(block)};
+    const auto solution = std::find_if(block.begin(), block.end(), is_solution);
+    const written_block moves = moves_of(block);
+    attempt_candidate made = {read_each(text, moves), read(text, moves), note_of(block)};
     if (made.note.empty() && solution != block.end()) made.note = solution->label;
     return made;
 }
@@ -313,8 +142,9 @@ inline void read_steps(attempt &made, std::string_view text, const written_block
     const written_block only = listed.size() == 1 ? listed.front() : written_block();
     const written_block &solution = told.solution ? told.blocks[*told.solution] : only;
     const written_block steps = moves_of(has_moves(told.blocks.front()) ? told.blocks.front() : solution);
+    const written_block moves = told.solution ? moves_of(solution) : steps;
     made.steps = read_each(text, steps);
-    made.solution = read(text, told.solution ? moves_of(solution) : steps);
+    if (!moves.empty() && !told.is_open) made.solution = read(text, moves);
     for (const written_block &block : listed) made.candidates.push_back(candidate_of(text, block));
 }
 
@@ -324,15 +154,17 @@ inline bool is_told_further(const written_block &block) {
     return std::any_of(block.data() + begin, block.data() + block.size(), [](const written_line &line) { return line.is_told; });
 }
 
-// An attempt of some lines, which have steps if one of them says what its moves are, or if a blank one stands between moves.
+// An attempt of some lines, which have steps if one of them says what its moves are, if a blank one stands between moves, or if the first one has
+// all of a scramble.
 inline attempt attempt_of(std::string_view text, const written_attempt &found) {
     const written_block &lines = found.lines;
-    const auto begin = std::find_if(lines.begin(), lines.end(), [](const written_line &line) { return !line.is_prose; });
+    const auto begin = std::find_if(lines.begin(), lines.end(), [](const written_line &line) { return line.is_moves; });
     const std::size_t before = begin == lines.end() ? 0 : static_cast<std::size_t>(begin - lines.begin());
     written_blocks blocks = blocks_of(between(lines, before, lines.size()));
     blocks.resize(std::max<std::size_t>(blocks.size(), 1));
     written_block &first = blocks.front();
-    const std::size_t end = is_told_further(first) ? 1 : first.size();
+    const bool is_whole = !first.empty() && first.front().is_whole;
+    const std::size_t end = is_whole || is_told_further(first) ? 1 : first.size();
     attempt made;
     made.name = found.name;
     // of a text without form nothing is left out, so that all else than moves is at fault

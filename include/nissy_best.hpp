@@ -333,22 +333,27 @@ inline void find_rows(searches &by, const start &from, const best_search &which,
 // The rows that searches find until they are cut.
 inline std::vector<continuation> rows_by(searches &by, std::string_view scramble, std::string_view so_far, const best_search &which) {
     detail::turns(which.slack, "slack");
-    const nissy_check_answer read = nissy_check(detail::bytes(scramble), scramble.size(), detail::bytes(so_far), so_far.size());
-    detail::end_unless_read(read.status, read.fault, read.column, {}, read.line == 1 ? "scramble, " : "moves so far, ");
+    const start from = start_after(scramble, so_far);
     std::vector<continuation> rows;
     try {
-        find_rows(by, start_of(scramble, so_far), which, rows);
+        find_rows(by, from, which, rows);
     } catch (const cut &) {
         // it may be one of what the caller has called
         if (!by.are_cut()) throw;
     } catch (const fault &found) {
-        // each was read by itself, so they are too long together
-        throw fault(found.code(), 0, std::string(found.text()), "moves so far, ");
+        throw too_long(found);
     }
     return rows;
 }
 
 } // namespace continuing
+
+// The line of the cube at which a solver stands after a scramble and the moves so far, for the calls on one line: face turns, named by the
+// centres, with the moves in brackets inverted before the scramble. They name the faces as the moves outside brackets leave the cube, as `best`
+// reads them. Its inverse is the line of the inverse side.
+inline std::string line_after(std::string_view scramble, std::string_view so_far = {}) {
+    return continuing::start_after(scramble, so_far).cube.lines[continuing::NORMAL];
+}
 
 // What may follow a scramble and the moves so far, the best first, up to a domino reduction: each orientation on three axes and both sides, up
 // to `slack` moves longer than the shortest of its axis and side, and after it the reduction on each of two axes with the fewest moves in

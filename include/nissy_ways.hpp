@@ -116,6 +116,20 @@ inline start start_of(std::string_view scramble, std::string_view so_far) {
     return {{{line, invert(line)}, {normal, invert(before)}}, names};
 }
 
+// What is wrong with lines of which each was read by itself: they have too many moves together.
+inline fault too_long(const fault &found) { return fault(found.code(), 0, std::string(found.text()), "moves so far, "); }
+
+// Where a search begins after lines that aren't read yet.
+inline start start_after(std::string_view scramble, std::string_view so_far) {
+    const nissy_check_answer read = nissy_check(detail::bytes(scramble), scramble.size(), detail::bytes(so_far), so_far.size());
+    detail::end_unless_read(read.status, read.fault, read.column, {}, read.line == 1 ? "scramble, " : "moves so far, ");
+    try {
+        return start_of(scramble, so_far);
+    } catch (const fault &found) {
+        throw too_long(found);
+    }
+}
+
 // The searches of a call: how many positions they may look at together, who is told how far the call is, and who is asked before each whether
 // it is to end.
 class searches {

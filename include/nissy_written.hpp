@@ -1,5 +1,6 @@
 // nissy for C++17 and later: reads text as solvers write it. What is no move but is written beside moves becomes a blank or an apostrophe, or is
-// left out; what comes of it is a line for the other calls, or it is at fault there. Header alone, without the library.
+// left out; what comes of it is a line for the other calls, or it is at fault there. An apostrophe of another form becomes the one that the grammar
+// has, so that it is told. Header alone, without the library.
 //
 // The text is in UTF-8, and other bytes stay as they are. Python and JavaScript know which signs of Unicode are letters; here a letter of a label
 // is A to Z, a to z, and beyond ASCII each sign that isn't in detail::NO_LETTERS, which is right for Latin, Greek, Cyrillic, Chinese, Japanese
@@ -17,6 +18,7 @@
 #include <optional>
 #include <string>
 #include <string_view>
+#include <type_traits>
 #include <vector>
 
 namespace nissy {
@@ -24,11 +26,11 @@ namespace nissy {
 // A text as one line.
 struct plain {
     std::string line;
-    std::vector<std::size_t> places;   // the place in the text of each byte of the line, from 0; place_of_fault has that of a fault
+    std::vector<std::size_t> places;   // the place in the text of each byte of the line, from 0; place_of has that of a fault
     std::vector<std::string> left_out; // what the line hasn't, by the names of detail::LEFT_OUT
 };
 
-// Where a fault stands in a text.
+// Where a fault or a form stands in a text.
 struct text_place {
     std::size_t at;           // in bytes from 0
     std::size_t line, column; // its line, and the character there as nissy.hpp counts it, from 1; a line ends by a line feed, a return, or both
@@ -63,12 +65,14 @@ inline constexpr std::array<sign_range, 10> BLANKS = {{
     {0x3000, 0x3000}, {0xfeff, 0xfeff},
 }};
 inline constexpr std::array<sign_range, 3> UNSEEN = {{{0x200b, 0x200d}, {0x2060, 0x2060}, {0xfeff, 0xfeff}}};
-inline constexpr std::array<sign_range, 5> APOSTROPHES = {{{'`', '`'}, {0xb4, 0xb4}, {0x2bc, 0x2bc}, {0x2018, 0x2019}, {0x2032, 0x2032}}};
+inline constexpr std::array<sign_range, 5> APOSTROPHES = {{{'`', '`'}, {0xb4, 0xb4}, {0x2bc, 0x2bc}, {0x2018, 0x2018}, {0x2032, 0x2032}}};
+// The one that the grammar has beside ', U+2019.
+inline constexpr std::string_view APOSTROPHE = "\xe2\x80\x99";
 
 // What is left out, by a name of its place.
-inline constexpr std::array<const char *, 7> LEFT_OUT = {"", "labels", "comments", "line numbers", "the word Scramble", "commas",
+inline constexpr std::array<const char *, 8> LEFT_OUT = {"", "labels", "numbers of moves", "comments", "line numbers", "the word Scramble", "commas",
                                                          "signs that aren't seen"};
-enum omitted : unsigned char { NOTHING, LABEL, COMMENT, LINE_NUMBER, SCRAMBLE, COMMA, UNSEEN_SIGN };
+enum omitted : unsigned char { NOTHING, LABEL, NUMBER_OF_MOVES, COMMENT, LINE_NUMBER, SCRAMBLE, COMMA, UNSEEN_SIGN };
 
 // Words of a label by which moves without brackets would belong to the inverse: no line says so without them.
 inline constexpr std::array<std::string_view, 6> OTHER_SIDE = {"inverse", "inv", "niss", "premove", "premoves", "switch"};
@@ -134,11 +138,13 @@ inline bool begins_line(std::string_view text, std::size_t at) {
     return at == 0 || last.back() == '\n' || last.back() == '\r' || last == "\xe2\x80\xa8" || last == "\xe2\x80\xa9";
 }
 
-// Whether words may be a move, so that a colon after them is at fault.
-inline bool is_like_move(std::string_view words) {
-    if (words.size() > 1 && words.back() == '2') words.remove_suffix(1);
-    if (words.size() > 1 && is_word(words.substr(words.size() - 1), "w")) words.remove_suffix(1);
-    return words.size() == 1 && is_letter(sign_at(words, 0).code);
+// Whether each of some words may be a move, so that a colon after them is at fault.
+inline bool are_like_moves(std::string_view words) {
+    const std::size_t end = std::min(words.find(' '), words.size());
+    std::string_view word = words.substr(0, end);
+    if (word.size() > 1 && word.back() == '2') word.remove_suffix(1);
+    if (word.size() > 1 && is_word(word.substr(word.size() - 1), "w")) word.remove_suffix(1);
+    return word.size() == 1 && is_letter(sign_at(word, 0).code) && (end == words.size() || are_like_moves(words.substr(end + 1)));
 }
 
 // Whether one of some words is this one.
@@ -150,32 +156,69 @@ inline bool has_other_side(std::string_view words) {
     return std::any_of(OTHER_SIDE.begin(), OTHER_SIDE.end(), [words](std::string_view word) { return has_word(words, word); });
 }
 
-// Whether a bracket stands before the end of the line, and of what stands before its comment.
+// Whether a bracket of moves, not of a number of them, stands before the end of the line, and of what stands before its comment.
 inline bool has_bracket(std::string_view text) {
     const std::string_view line = text.substr(0, behind(text, 0, [](char32_t code) { return !ends_line(code); }));
-    return line.substr(0, line.find("//")).find('(') != std::string_view::npos;
+    const std::string_view moves = line.substr(0, line.find("//"));
+    std::size_t at = moves.find('(');
+    // a number may stand on the next line
+    while (at != std::string_view::npos && is_digit(sign_at(text, behind(text, at + 1, is_blank)).code)) at = moves.find('(', at + 1);
+    return at != std::string_view::npos;
 }
 
-// Whether words before a colon are a label: not if they are a move, or if the moves behind them belong to the inverse and don't say so
+// Whether words before a colon are a label: not if they may be moves, or if the moves behind them belong to the inverse and don't say so
 // themselves.
 inline bool is_label(std::string_view words, std::string_view after) {
-    return !is_like_move(words) && (!has_other_side(words) || has_bracket(after));
+    return !are_like_moves(words) && (!has_other_side(words) || has_bracket(after));
 }
 
-// Each of the next three says where a form ends that begins there, or that place itself if none does.
+// Each of the next says where a form ends that begins there, or that place itself if none does.
 
-// What stands before the moves of a line, such as "EO:" or "Final solution:".
-inline std::size_t behind_label(std::string_view text, std::size_t begin) {
+// Up to three words that may be a label's.
+inline std::size_t behind_words(std::string_view text, std::size_t begin) {
+    const auto is_part = [](char32_t code) { return is_letter(code) || is_number(code); };
     const written_sign first = sign_at(text, begin);
     const std::size_t second = begin + first.size;
-    std::size_t at = behind(text, second, [](char32_t code) { return is_letter(code) || is_number(code); });
-    if (first.size == 0 || !is_letter(first.code) || at == second) return begin;
-    for (int further = 0; further < 2 && sign_at(text, at).code == ' ' && is_letter(sign_at(text, at + 1).code); further++)
-        at = behind(text, at + 1, is_letter);
-    const std::string_view words = text.substr(begin, at - begin);
-    at = behind_blanks(text, at);
-    const bool has_colon = sign_at(text, at).code == ':' && (at + 1 == text.size() || is_blank(sign_at(text, at + 1).code));
-    return has_colon && is_label(words, text.substr(at + 1)) ? at + 1 : begin;
+    std::size_t at = behind(text, second, is_part);
+    if (!is_letter(first.code) || at == second) return begin;
+    for (int further = 0; further < 2 && sign_at(text, at).code == ' ' && is_part(sign_at(text, at + 1).code); further++)
+        at = behind(text, at + 1, is_part);
+    return at;
+}
+
+// What ends a number of moves that begins there, if it does.
+inline std::size_t behind_end_of_number(std::string_view text, std::size_t begin, std::size_t at) {
+    const char32_t code = sign_at(text, at).code;
+    return at > begin && (code == ')' || code == ']') ? at + 1 : begin;
+}
+// The bracket before a number of moves, and the number, such as "(12" or "[1/5".
+inline std::size_t behind_open_number(std::string_view text, std::size_t begin) {
+    const char32_t code = sign_at(text, begin).code;
+    const std::size_t end = behind(text, begin + 1, is_digit);
+    if ((code != '(' && code != '[') || end == begin + 1) return begin;
+    const std::size_t total = sign_at(text, end).code == '/' ? behind(text, end + 1, is_digit) : end;
+    return total > end + 1 ? total : end;
+}
+// A number of moves, such as "(2)", "[1/5]" or "(12 moves)".
+inline std::size_t behind_number_of_moves(std::string_view text, std::size_t begin) {
+    const std::size_t number = behind_open_number(text, begin), word = sign_at(text, number).code == ' ' ? number + 1 : number;
+    const std::size_t move = behind_word(text, word, "move"), moves = behind_word(text, move, "s");
+    return behind_end_of_number(text, begin, word > number && move > word ? moves : number);
+}
+
+// What ends a label after its words: a number of moves, and a colon.
+inline std::size_t behind_colon(std::string_view text, std::size_t begin) {
+    const std::size_t number = sign_at(text, begin).code == ' ' ? begin + 1 : begin;
+    const std::size_t at = behind_blanks(text, behind_end_of_number(text, number, behind_open_number(text, number)));
+    const written_sign sign = sign_at(text, at), next = sign_at(text, at + sign.size);
+    const bool is_colon = sign.code == ':' && (next.size == 0 || is_blank(next.code));
+    return is_colon || sign.code == 0xff1a ? at + sign.size : begin;
+}
+
+// What stands before the moves of a line, such as "EO:" or "Final solution (24):".
+inline std::size_t behind_label(std::string_view text, std::size_t begin) {
+    const std::size_t words = behind_words(text, begin), end = words == begin ? begin : behind_colon(text, words);
+    return end > words && is_label(text.substr(begin, words - begin), text.substr(end)) ? end : begin;
 }
 
 inline std::size_t behind_line_number(std::string_view text, std::size_t begin) {
@@ -217,6 +260,7 @@ class omissions {
 public:
     explicit omissions(std::string_view text) : text_(text), names_(text.size(), NOTHING) {
         mark_lines(behind_label, LABEL);
+        mark_numbers();
         mark_comments();
         mark_lines(behind_line_number, LINE_NUMBER);
         mark_lines(behind_scramble, SCRAMBLE);
@@ -242,6 +286,14 @@ private:
         for (found_form it = next_form(text_, 0, form); it.end > it.begin; it = next_form(text_, it.end, form)) mark(it.blanks, it.end, name);
     }
 
+    void mark_numbers() {
+        for (std::size_t at = 0, next; (at = text_.find_first_of("([", at)) != std::string_view::npos; at = next) {
+            const std::size_t end = behind_number_of_moves(text_, at);
+            mark(at, end, NUMBER_OF_MOVES);
+            next = std::max(end, at + 1);
+        }
+    }
+
     void mark_comments() {
         for (std::size_t at = 0, next; (at = text_.find("//", at)) != std::string_view::npos; at = next) {
             next = std::min(text_.find('\n', at), text_.size());
@@ -262,7 +314,7 @@ struct read_sign {
 inline read_sign read_as(char32_t code) {
     if (is_in(UNSEEN, code)) return {"", UNSEEN_SIGN};
     if (code == ',' || code == ';') return {" ", COMMA};
-    return {is_in(APOSTROPHES, code) ? "'" : is_blank(code) ? " " : ""};
+    return {is_in(APOSTROPHES, code) ? APOSTROPHE : is_blank(code) ? " " : ""};
 }
 
 // The place of a byte of a line in its text; behind the last sign if the line hasn't so many.
@@ -287,9 +339,17 @@ inline text_place place_at(std::string_view text, std::size_t at) {
     return {at, line_ends(before) + 1, static_cast<std::size_t>(signs) + 1};
 }
 
-inline void put(plain &made, std::string_view bytes, std::size_t place) {
-    made.line += bytes;
-    for (std::size_t ahead = 0; ahead < bytes.size(); ahead++) made.places.push_back(place + ahead);
+// Puts a sign of a text there. What it is read as has its place in each byte.
+inline void put(plain &made, std::string_view sign, std::string_view as, std::size_t place) {
+    made.line += as.empty() ? sign : as;
+    for (std::size_t ahead = 0; ahead < sign.size() && as.empty(); ahead++) made.places.push_back(place + ahead);
+    made.places.resize(made.line.size(), place);
+}
+
+// The column of a fault, or of a form, whose is a member.
+template <typename Found> std::size_t column_of(const Found &found) {
+    if constexpr (std::is_member_object_pointer_v<decltype(&Found::column)>) return found.column;
+    else return found.column();
 }
 
 } // namespace detail
@@ -305,15 +365,15 @@ inline plain plain_line(std::string_view text) {
         if (gone.has(at)) continue;
         const auto [as, name] = detail::read_as(sign.code);
         detail::add_name(made.left_out, name);
-        detail::put(made, as.empty() && name == detail::NOTHING ? text.substr(at, size) : as, at);
+        if (name != detail::UNSEEN_SIGN) detail::put(made, text.substr(at, size), as, at);
     }
     return made;
 }
 
-// Where a fault of a plain line stands in the text that it is of; nothing if the fault has no place. A fault is a nissy::fault, or another that
-// has its column() in bytes from 1, or 0, as each answer of count_all: so nobody needs nissy.hpp here.
-template <typename Fault> std::optional<text_place> place_of_fault(const Fault &fault, const plain &line, std::string_view text) {
-    const std::size_t column = fault.column();
+// Where a fault or a form of a plain line stands in the text that it is of; nothing if a fault has no place. A fault is a nissy::fault, or another
+// that has its column() in bytes from 1, or 0, as each answer of count_all; a form is what form_places returns: so nobody needs nissy.hpp here.
+template <typename Found> std::optional<text_place> place_of(const Found &found, const plain &line, std::string_view text) {
+    const std::size_t column = detail::column_of(found);
     if (column == 0) return std::nullopt;
     return detail::place_at(text, detail::place_in(line, column - 1, text));
 }

@@ -26,6 +26,7 @@ if missing node || [ ! -e "$folder/nissy.wasm" ]; then skips "JavaScript, since 
     others+=("js=$folder/nissy.wasm")
 fi
 part python3 tests/hosts/drawn.py "$program" 1 0.12 python "${others[@]}"
+part python3 tests/hosts/after.py 1 600 python "${others[@]}"
 part python3 tests/hosts/best.py 1 24 "${others[@]}"
 part python3 tests/hosts/plain.py 1 2000 python "${others[@]}"
 part python3 tests/hosts/net.py python "${others[@]}"

@@ -22,7 +22,7 @@ call lets go of Python's lock, so calls of several threads run side by side. The
 names, else the one that was installed or built with this package, else the system's.
 """
 from ._attempts import Attempt, AttemptCandidate, read_attempts
-from ._best import best
+from ._best import best, line_after
 from ._continuations import Continuation, Continuations, Lengths, Orientation, Reduction, Side as Side
 from ._facts import Case, Check, Facts, Pieces, check, facts, facts_all
 from ._given import Step as Step, Text as Text
@@ -34,16 +34,16 @@ from ._searches import Tables, count, count_all, near, solutions, solve, solve_a
 from ._stickers import AXES, CORNER_PLACES, EDGE_PLACES, NET, Axis as Axis, stickers_of
 from ._tokens import FormPlace, Token, form_places, tokens
 from ._values import Answer, Count, Cut, Fault, LineFault, Solution, Solutions, StartFault, raising
-from ._written import PlainLine, TextPlace, place_of_fault, plain_line
+from ._written import PlainLine, TextPlace, place_of, plain_line
 
 __all__ = [
     "AXES", "CORNER_PLACES", "DONE", "EDGE_PLACES", "FAULT", "MOST_INPUT", "NET", "STOPPED", "USAGE",
     "Answer", "Attempt", "AttemptCandidate", "Case", "Check", "Continuation", "Continuations", "Count", "Cut", "Facts",
     "Fault", "FormPlace", "Lengths", "LineFault", "Orientation", "Pieces", "PlainLine", "Reduction", "Solution",
     "Solutions", "StartFault", "Tables", "TextPlace", "Token",
-    "best", "check", "cleanup", "count", "count_all", "facelets", "facts", "facts_all", "form_places", "invert", "near",
-    "place_of_fault", "plain_line", "raising", "read_attempts", "run", "scramble", "scrambles", "solutions", "solve",
-    "solve_all", "start_of", "steps", "stickers_of", "tokens", "unniss",
+    "best", "check", "cleanup", "count", "count_all", "facelets", "facts", "facts_all", "form_places", "invert",
+    "line_after", "near", "place_of", "plain_line", "raising", "read_attempts", "run", "scramble", "scrambles",
+    "solutions", "solve", "solve_all", "start_of", "steps", "stickers_of", "tokens", "unniss",
 ]
 
 __version__ = version()

@@ -296,6 +296,36 @@ def _reduced(searches: Searches, start: Start, held: Iterable[Step], slack: int,
     yield _best_reduced(found, most)
 
 
+def _bytes_of_both(scramble: Text, so_far: Text) -> Tuple[bytes, bytes]:
+    """Returns a scramble and the moves so far as the bytes that the library reads."""
+    return bytes_of(scramble, "the scramble"), bytes_of(so_far, "the line so far")
+
+
+def _start_after(given: Tuple[bytes, bytes]) -> Start:
+    """Returns where a search begins after a scramble and the moves so far. Raises Fault."""
+    checked(given, _OTHER)
+    try:
+        return read(given[0].decode(), given[1].decode())
+    except LineFault as fault:
+        raise _too_long(fault) from None
+
+
+def _too_long(fault: LineFault) -> Fault:
+    """Returns what is wrong with lines of which each was read by itself: they have too many moves together."""
+    return named(Fault(fault.text, 2), _OTHER)
+
+
+def line_after(scramble: Text, so_far: Text = "") -> str:
+    """The line of the cube at which a solver stands after a scramble and the moves so far, for `facts`, `solve` and the
+    other calls on one line: face turns, named by the centres, with the moves in brackets inverted before the scramble.
+    They name the faces as the moves outside brackets leave the cube, as `best` reads them. The `invert` of the line is
+    that of the inverse side.
+
+    Raises LineFault with `line` 1 for the scramble and 2 for the moves so far, and Fault if both have too many moves
+    together."""
+    return _start_after(_bytes_of_both(scramble, so_far)).cube.lines[NORMAL]
+
+
 def best(scramble: Text, so_far: Text = "", *, slack: int = 0, most: Optional[int] = 20, nodes: Optional[int] = None,
          partial: bool = False, progress: Optional[Progress] = None, stop: Optional[Stop] = None) -> Continuations:
     """What may follow a scramble and the moves so far, the best first, up to a domino reduction: each orientation on
@@ -319,15 +349,15 @@ def best(scramble: Text, so_far: Text = "", *, slack: int = 0, most: Optional[in
 
     Raises LineFault with `line` 1 for the scramble and 2 for the moves so far, Fault if both have too
     many moves together, and Cut."""
-    given = bytes_of(scramble, "the scramble"), bytes_of(so_far, "the line so far")
+    given = _bytes_of_both(scramble, so_far)
     longer = number_of(slack, "the slack", _MOST_SLACK)
     count = MOST_WORD if most is None else number_of(most, "most", MOST_WORD)
     looks = None if nodes is None else number_of(nodes, "nodes", MOST_WORD)
     asked = function_of(progress, "the progress"), function_of(stop, "the stop")
     searches, found = Searches(looks, *asked), Continuations()
-    checked(given, _OTHER)
+    start = _start_after(given)
     try:
-        for rows in _continuations(searches, read(given[0].decode(), given[1].decode()), longer, count):
+        for rows in _continuations(searches, start, longer, count):
             found = Continuations(rows)
     except Cut:
         # it may be one of what the caller has called
@@ -335,8 +365,7 @@ def best(scramble: Text, so_far: Text = "", *, slack: int = 0, most: Optional[in
             raise
         found.cut = True
     except LineFault as fault:
-        # each was read by itself, so they are too long together
-        raise named(Fault(fault.text, 2), _OTHER) from None
+        raise _too_long(fault) from None
     return found
 
 

@@ -65,8 +65,9 @@ class Fault(ValueError):
     """What is wrong with a line: `text`. If it is one of many lines, `line` is its number, from 1. A LineFault or a
     StartFault; neither, if the line has too many bytes."""
 
-    _name: str = ""
-    """What the line is called, if the call has two: its text begins with that in place of a number."""
+    part: str = ""
+    """What the line is called, if the call has two, such as "scramble": `str` of the fault says that in place of a
+    number."""
 
     def __init__(self, text: str, line: Optional[int] = None) -> None:
         super().__init__(text)
@@ -78,7 +79,11 @@ class Fault(ValueError):
 
     def _of_line(self, then: str) -> str:
         """Returns the words for its line, if there are others."""
-        return f"{self._name}, " if self._name else _place(self.line, then)
+        return f"{self.part}, " if self.part else _place(self.line, then)
+
+    def as_dict(self) -> Dict[str, Any]:
+        """What it has, by the same names, as json.dumps takes it."""
+        return {"text": self.text, "line": self.line, "part": self.part}
 
     def __reduce__(self) -> Tuple[Any, ...]:
         """What a copy is made of, as for another process: an exception is made again of its message, if nothing else is
@@ -98,6 +103,10 @@ class LineFault(Fault):
     def __str__(self) -> str:
         return f"{self._of_line(', ')}column {self.column}: {self.text}"
 
+    def as_dict(self) -> Dict[str, Any]:
+        """What it has, as of a Fault."""
+        return {**super().as_dict(), "column": self.column, "character": self.character}
+
     def __reduce__(self) -> Tuple[Any, ...]:
         """What a copy is made of, as of a Fault."""
         return type(self), (self.column, self.text, self.line, self.character), self.__dict__
@@ -111,6 +120,10 @@ class StartFault(Fault):
         super().__init__(text, line)
         self.step = step
         self.start = start
+
+    def as_dict(self) -> Dict[str, Any]:
+        """What it has, as of a Fault."""
+        return {**super().as_dict(), "step": self.step, "start": self.start}
 
     def __reduce__(self) -> Tuple[Any, ...]:
         """What a copy is made of, as of a Fault."""
@@ -130,6 +143,10 @@ class Cut(RuntimeError):
     def __str__(self) -> str:
         return f"{_place(self.line, ': ')}the search was cut after {self.count.nodes:,} nodes"
 
+    def as_dict(self) -> Dict[str, Any]:
+        """What it has, by the same names, as json.dumps takes it; the count by those of its own."""
+        return {"count": self.count._asdict(), "solutions": list(map(str, self.solutions)), "line": self.line}
+
     def __reduce__(self) -> Tuple[Any, ...]:
         """What a copy is made of, as of a Fault."""
         return type(self), (self.count, self.solutions, self.line), self.__dict__
@@ -146,7 +163,7 @@ def raising(answers: Iterable[Union[Value, Fault, Cut]]) -> Iterator[Value]:
 
 def named(fault: AnyFault, name: str) -> AnyFault:
     """Returns the fault of a call on two lines, whose text begins with the name of the one that has it."""
-    fault._name = name
+    fault.part = name
     return fault
 
 

@@ -1,10 +1,12 @@
 """Reads text as solvers write it: what is no move but is written beside moves becomes a blank or an apostrophe, or is
-left out. What comes of it is a line for the other calls, or it is at fault there."""
+left out. What comes of it is a line for the other calls, or it is at fault there. An apostrophe of another form becomes
+the one that the grammar has, so that it is told."""
 import re
 from itertools import chain
-from typing import Callable, Dict, Iterator, List, Match, NamedTuple, Optional, Pattern, Tuple
+from typing import Callable, Dict, Iterator, List, Match, NamedTuple, Optional, Pattern, Tuple, Union
 
 from ._given import Text, bytes_of, kind_of
+from ._tokens import FormPlace
 from ._values import Fault, LineFault
 
 # the white space of the web's scripts, and what of it ends no line, for a form
@@ -17,15 +19,18 @@ _BEGIN = f"(?<![^\\n\\r\u2028\u2029])[{BLANKS}]*"
 _COMMENT = re.compile("(//[^\n]*)")
 _NUMBER = re.compile(_BEGIN + "([0-9]+[.)])?")
 _SCRAMBLE = re.compile(f"{_BEGIN}(scramble[{BLANKS}]*:)?", re.IGNORECASE | re.ASCII)
-# What stands before the moves of a line, such as "EO:" or "Final solution:", and what follows in the line: _is_label
-# tells what is one.
+_MOVES_MADE = re.compile("([(\\[][0-9]+(?:/[0-9]+)?(?: moves?)?[)\\]])", re.IGNORECASE | re.ASCII)
+# What stands before the moves of a line, such as "EO:" or "Final solution (24):", with its words: _is_label tells what
+# is one.
 _LABEL = re.compile(
-    f"{_BEGIN}(([^\\W_]{{2,}}(?: [^\\W_]+){{0,2}})[{BLANKS}]*:(?=[\n{BLANKS}]|\\Z)(?=([^\n\r\u2028\u2029]*)))?")
+    f"{_BEGIN}(([^\\W_]{{2,}}(?: [^\\W_]+){{0,2}})(?: ?[(\\[][0-9]+(?:/[0-9]+)?[)\\]])?[{BLANKS}]*"
+    f"(?::(?=[\n{BLANKS}]|\\Z)|\uff1a))?")
 # words of a label by which moves without brackets would belong to the inverse: no line says so without them
 _OTHER_SIDE = {"inverse", "inv", "niss", "premove", "premoves", "switch"}
 # what may be a move, so that a colon after it is at fault
 _MOVE = re.compile("[A-Za-z][Ww]?2?")
-_LINE_END = re.compile("\r\n?|\n")
+# looked for on the label's own line alone, before a comment; a number of moves is none
+_HAS_BRACKET = re.compile(f"(?:(?!//)[^\n\r\u2028\u2029])*?\\((?![\n{BLANKS}]*[0-9])")
 
 
 class PlainLine(NamedTuple):
@@ -36,15 +41,15 @@ class PlainLine(NamedTuple):
     places: Tuple[int, ...]
     """The place in the text of each sign of the line, in characters from 0."""
     left_out: Tuple[str, ...]
-    """What the line hasn't: "labels", "comments", "line numbers", "the word Scramble", "commas", "signs that aren't
-    seen"."""
+    """What the line hasn't: "labels", "numbers of moves", "comments", "line numbers", "the word Scramble", "commas",
+    "signs that aren't seen"."""
 
 
 class TextPlace(NamedTuple):
-    """Where a fault stands in a text."""
+    """Where a fault or a form stands in a text."""
 
     at: int
-    """The same in characters of the text, from 0."""
+    """In characters of the text, from 0."""
     line: int
     """The line, from 1."""
     column: int
@@ -52,18 +57,22 @@ class TextPlace(NamedTuple):
 
 
 def _is_label(found: Match[str]) -> bool:
-    """Returns whether the words are those of a label: letters, and in the first one numbers behind these. They are none
-    if they are a move, or if the moves behind them belong to the inverse and don't say so themselves."""
+    """Returns whether the words, of which the first begins with a letter, are a label: not if they may all be moves, or
+    if the moves behind them belong to the inverse and don't say so themselves."""
     words = found[2].split(" ")
-    if _MOVE.fullmatch(found[2]) or not (words[0][0].isalpha() and all(map(str.isalpha, words[1:]))):
+    if not words[0][0].isalpha() or all(map(_MOVE.fullmatch, words)):
         return False
     is_other = any(word.lower() in _OTHER_SIDE for word in words)
-    return not is_other or "(" in found[3].partition("//")[0]
+    return not is_other or _HAS_BRACKET.match(found.string, found.end()) is not None
+
+
+def _has_any(text: str, signs: Tuple[str, ...]) -> bool:
+    return any(sign in text for sign in signs)
 
 
 def label_of(line: str) -> str:
     """Returns the words of the label that a line begins with, or an empty string."""
-    found = _LABEL.finditer(line) if ":" in line else ()
+    found = _LABEL.finditer(line) if _has_any(line, _COLONS) else ()
     return next((it[2] for it in found if it[1] is not None and _is_label(it)), "")
 
 
@@ -71,10 +80,12 @@ def _is_any(_: Match[str]) -> bool:
     return True
 
 
-# what is left out as a whole, a sign that it has, and what it is called; the last name counts
-_LEFT_OUT: List[Tuple[Pattern[str], str, Callable[[Match[str]], bool], str]] = [
-    (_LABEL, ":", _is_label, "labels"), (_COMMENT, "//", _is_any, "comments"), (_NUMBER, "", _is_any, "line numbers"),
-    (_SCRAMBLE, ":", _is_any, "the word Scramble")]
+_COLONS = (":", "\uff1a")
+# what is left out as a whole, signs of which it has one, and what it is called; the last name counts
+_LEFT_OUT: List[Tuple[Pattern[str], Tuple[str, ...], Callable[[Match[str]], bool], str]] = [
+    (_LABEL, _COLONS, _is_label, "labels"), (_MOVES_MADE, ("(", "["), _is_any, "numbers of moves"),
+    (_COMMENT, ("//",), _is_any, "comments"), (_NUMBER, ("",), _is_any, "line numbers"),
+    (_SCRAMBLE, (":",), _is_any, "the word Scramble")]
 
 
 def _each(signs: str, read: str, name: str = "") -> Iterator[Tuple[str, Tuple[str, str]]]:
@@ -84,7 +95,7 @@ def _each(signs: str, read: str, name: str = "") -> Iterator[Tuple[str, Tuple[st
 # what a sign is read as, and what of it is left out, if anything is
 _READ: Dict[str, Tuple[str, str]] = dict(chain(
     _each(WHITE, " "),
-    _each("\u2018\u2019\u02bc\u2032\u00b4`", "'"),
+    _each("\u2018\u02bc\u2032\u00b4`", "\u2019"),
     _each(",;", " ", "commas"),
     _each("\u200b\u200c\u200d\u2060\ufeff", "", "signs that aren't seen")))
 
@@ -92,8 +103,8 @@ _READ: Dict[str, Tuple[str, str]] = dict(chain(
 def _omitted(text: str) -> Dict[int, str]:
     """Returns the places that are left out, each with the name of what stands there."""
     gone: Dict[int, str] = {}
-    for form, sign, is_meant, name in _LEFT_OUT:
-        found = form.finditer(text) if sign in text else ()
+    for form, signs, is_meant, name in _LEFT_OUT:
+        found = form.finditer(text) if _has_any(text, signs) else ()
         for begin, end in [it.span() for it in found if it[1] is not None and is_meant(it)]:
             gone.update(dict.fromkeys(range(begin, end), name))
     return gone
@@ -121,22 +132,25 @@ def plain_part(part: str, begin: int) -> PlainLine:
 
 
 def plain_line(text: Text) -> PlainLine:
-    """A text as solvers write it as one line: without labels, comments and line numbers. `place_of_fault` says where a
-    fault of the line stands in the text."""
+    """A text as solvers write it as one line: without labels, comments, and numbers of lines and moves. `place_of` says
+    where a fault or a form of the line stands in the text."""
     return plain_part(string_of(text), 0)
 
 
-def place_of_fault(fault: Fault, plain: PlainLine, text: Text) -> Optional[TextPlace]:
-    """Where a fault of a plain line stands in the text that it is of, or None if the fault has no place. The line may
-    be a part of an attempt, with its places in the whole text."""
-    for value, kind, what in ((fault, Fault, "fault"), (plain, PlainLine, "plain line")):
-        if not isinstance(value, kind):
-            raise TypeError(f"the {what} is a {kind.__name__}, not {kind_of(value)}")
+def place_of(found: Union[Fault, FormPlace], plain: PlainLine, text: Text) -> Optional[TextPlace]:
+    """Where a fault or a form of a plain line stands in the text that it is of, or None if a fault has no place. The
+    line may be a part of an attempt, with its places in the whole text."""
+    if not isinstance(found, (Fault, FormPlace)):
+        raise TypeError(f"what is found is a Fault or a FormPlace, not {kind_of(found)}")
+    if not isinstance(plain, PlainLine):
+        raise TypeError(f"the plain line is a PlainLine, not {kind_of(plain)}")
     written = string_of(text)
-    if not isinstance(fault, LineFault):
+    if not isinstance(found, (LineFault, FormPlace)):
         return None
-    places, nth = plain.places, fault.character
+    places, nth = plain.places, found.character
     # what isn't at a sign of the line is at its end
     at = places[nth - 1] if 0 < nth <= len(places) else places[-1] + 1 if places else 0
-    *above, last = _LINE_END.split(written[:at])
-    return TextPlace(at, len(above) + 1, len(last) + 1)
+    # both signs of a line's end count once; nothing is made of the lines above, which may be many
+    above = written.count("\n", 0, at) + written.count("\r", 0, at) - written.count("\r\n", 0, at)
+    begin = max(written.rfind("\n", 0, at), written.rfind("\r", 0, at)) + 1
+    return TextPlace(at, above + 1, at - begin + 1)

@@ -116,13 +116,20 @@ std::string forms_of(std::string_view line) {
     return text;
 }
 
+// Whether an apostrophe of a line has another form in its text: its bytes have the place of that one's first byte then, and else their own.
+bool is_of_another_form(std::string_view text, const nissy::plain &it, std::size_t at) {
+    static constexpr std::string_view APOSTROPHE = "\xe2\x80\x99";
+    return it.line.compare(at, APOSTROPHE.size(), APOSTROPHE) == 0 && text.substr(it.places[at], APOSTROPHE.size()) != APOSTROPHE;
+}
+
 // A text as one line, the places of its signs in characters, and what is left out.
 std::string plain_of(std::string_view text) {
     const nissy::plain it = nissy::plain_line(text);
     std::string places;
-    for (std::size_t at = 0; at < it.line.size(); at++) {
+    for (std::size_t at = 0, begin = 0; at < it.line.size(); at++) {
         const bool goes_on = (static_cast<unsigned char>(it.line[at]) & 0xc0) == 0x80;
-        if (goes_on && it.places[at] != it.places[at - 1] + 1) return "another place";
+        if (!goes_on) begin = at;
+        if (it.places[at] != it.places[begin] + (is_of_another_form(text, it, begin) ? 0 : at - begin)) return "another place";
         if (!goes_on) places += (places.empty() ? "" : " ") + std::to_string(nissy::character(text, it.places[at] + 1) - 1);
     }
     return it.places.size() == it.line.size() ? it.line + "\n" + places + "\n" + joined(it.left_out, "|") : "other places";
@@ -130,7 +137,7 @@ std::string plain_of(std::string_view text) {
 
 // The place of a byte of a part in its text, in characters from 0, by the line and column of a fault there; a line ends as for read_attempts.
 std::string place_in(std::string_view text, const nissy::plain &part, std::size_t at) {
-    const nissy::text_place it = nissy::place_of_fault(nissy::fault(NISSY_NOT_A_MOVE, at + 1, ""), part, text).value();
+    const nissy::text_place it = nissy::place_of(nissy::fault(NISSY_NOT_A_MOVE, at + 1, ""), part, text).value();
     const std::size_t wanted = nissy::character(text, it.at + 1) - 1;
     std::size_t begin = 0;
     for (std::size_t line = 1; line < it.line; line++) begin = text.find('\n', begin) + 1;
@@ -139,7 +146,9 @@ std::string place_in(std::string_view text, const nissy::plain &part, std::size_
 }
 
 // A part of an attempt without blanks around it, and the places of its first and last sign.
-std::string part_in(std::string_view text, const nissy::plain &part) {
+std::string part_in(std::string_view text, const std::optional<nissy::plain> &found) {
+    if (!found) return "none";
+    const nissy::plain &part = *found;
     const std::size_t first = part.line.find_first_not_of(' ');
     if (first == std::string::npos) return "";
     std::size_t last = part.line.find_last_not_of(' ');
@@ -159,7 +168,8 @@ std::string attempts_of(std::string_view text) {
     std::vector<std::string> said;
     for (const nissy::attempt &it : nissy::read_attempts(text)) {
         std::vector<std::string> others;
-        for (const nissy::attempt_candidate &each : it.candidates) others.push_back(parts_in(text, each.steps) + "#" + each.note);
+        for (const nissy::attempt_candidate &each : it.candidates)
+            others.push_back(parts_in(text, each.steps) + "=" + part_in(text, each.solution) + "#" + each.note);
         said.push_back(joined({it.name, std::to_string(it.before), part_in(text, it.scramble), parts_in(text, it.steps), part_in(text, it.solution),
                                joined(others, ";")}, "|"));
     }
@@ -230,6 +240,7 @@ std::string called(const std::string &call, std::istream &asked) {
     asked >> hex >> other;
     const exact line(hex);
     if (call == "check") return checked(line.view(), exact(other).view());
+    if (call == "line_after") return nissy::line_after(line.view(), exact(other).view());
     if (call == "facts") return seen(line.view());
     if (call == "stickers") return stickers_of(line.view(), exact(other).view());
     if (call == "tokens") return moves_of(line.view());

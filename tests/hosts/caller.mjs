@@ -105,6 +105,7 @@ const CALLS = {
     const { solved: is, moves, cleanMoves, forms } = await engine.check(lineOf(scramble), lineOf(solution));
     return [Number(is), moves, cleanMoves, forms.join().replaceAll("-", "_")].join(" ");
   },
+  line_after: async (engine, scramble, soFar) => engine.lineAfter(lineOf(scramble), lineOf(soFar)),
   solve: async (engine, step, limit, slack, most, line) =>
     solved(await engine.solve(string(bytesOf(step)), lineOf(line), { limit: Number(limit), slack: Number(slack), most: numberOf(most) })),
   count: async (engine, step, limit, slack, _, line) => {

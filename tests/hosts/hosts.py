@@ -185,7 +185,7 @@ def part_in(text: str, plain: nissy.PlainLine, form: Any) -> str:
     first = plain.line.find(own)
 
     def place_at(at: int) -> int | str:
-        place = nissy.place_of_fault(nissy.LineFault(9, "of bytes", character=at + 1), plain, form)
+        place = nissy.place_of(nissy.LineFault(9, "of bytes", character=at + 1), plain, form)
         assert place is not None
         above = re.split("\r\n?|\n", text[:place.at])
         is_there = text.startswith(above[-1], place.at - place.column + 1) and (place.line, place.column) == (len(above), len(above[-1]) + 1)
@@ -200,9 +200,9 @@ def attempts(text: str, form: Any) -> str:
         return "/".join(part_in(text, it, form) for it in steps)
 
     def told_of(it: nissy.Attempt) -> str:
-        others = ";".join(f"{all_of(each.steps)}#{each.note}" for each in it.candidates)
-        parts = part_in(text, it.scramble, form), all_of(it.steps), part_in(text, it.solution, form)
-        return "|".join([it.name, str(it.before), *parts, others])
+        others = ";".join(f"{all_of(each.steps)}={part_in(text, each.solution, form)}#{each.note}" for each in it.candidates)
+        solution = "none" if it.solution is None else part_in(text, it.solution, form)
+        return "|".join([it.name, str(it.before), part_in(text, it.scramble, form), all_of(it.steps), solution, others])
 
     return "\n".join(map(told_of, nissy.read_attempts(form)))
 
@@ -269,7 +269,7 @@ class Python(Host):
         except nissy.Cut:
             raise Fault(0, 0, "cut") from None
         except nissy.Fault as fault:
-            on_two = call in ("check", "best")
+            on_two = call in ("check", "best", "line_after")
             raise Fault(fault.line or 0 if on_two else 0, getattr(fault, "column", 0), fault.text) from None
 
     def run(self, words: List[str], data: bytes, room: int | None = None) -> Any:

@@ -21,21 +21,26 @@ from tally import Tally
 
 # of the letters that C++ knows from other signs
 PARTS = """R U2 F' L\u2019 B\u2032 ( ) ` ' \u02bc EO DR Final finale R\u00e9duction re\u0301 \u042d\u041e \u89e3 \U00010400 F2L EO\u00b2 \u00bd A
-    Inverse NISS premoves R2w Scramble SCRAMBLE scramble 1. 23) 4 . // / , ; _ - \u2192 \U0001f600 \u200b \u2060 \ufeff""".split()
+    Inverse NISS premoves R2w Scramble SCRAMBLE scramble 1. 23) 4 . // / , ; _ - \u2192 \U0001f600 \u200b \u2060 \ufeff
+    (2) [1/5] (12 (3] \uff1a""".split() + ["(12 moves)", "[1 MOVE]"]
 BLANKS = [" ", " ", " ", ": ", ":", "\n", "\n", "\r\n", "\r", "\t", "\u00a0", "\u2009", "\u2028", "\u3000", "\u0085", "", "", "\n\n", " : "]
 # Latin, Greek, Cyrillic, the punctuation of all, Japanese and Korean, and the middle of Chinese, which C++ reads by a table of its own
 SCRIPTS = [*range(0xa0, 0x530), *range(0x2010, 0x2030), *range(0x3000, 0x3100), *range(0x4e00, 0x4f00), *range(0xac00, 0xad00),
            *range(0xff00, 0xfff0)]
-ALL_NAMES = {"labels", "comments", "line numbers", "the word Scramble", "commas", "signs that aren't seen"}
+ALL_NAMES = {"labels", "numbers of moves", "comments", "line numbers", "the word Scramble", "commas", "signs that aren't seen"}
 # what lines of attempts begin with, and go on with
 HEADS = ["", "", "", "", " ", "1. ", "2) ", "(3)", "#4 ", "5 ", "6.07 ", "E1 ", "E2 ", "Extra 1: ", "Scramble 2:", "scramble: ", "Attempt 3 of 3",
          "Attempt 4/5 - ", "attempt", "EO: ", "Solution: ", "\u00c9tape finale\u00a0: ", "my solution :", "R\u00e9solution: ", "Inverse: ", "NISS: ",
-         "R2: ", "// ", "\u2028", "a\u00b2b "]
+         "R2: ", "// ", "\u2028", "a\u00b2b ", "1. Scramble: ", "Solution (3): ", "EO 2: ", "Final solution: ", "\u6253\u4e71\uff1a",
+         "R' U' F D R' U' F"]
 RESTS = ["", "", "", " ", "\r", "R U", "(F2 D\u2019)", "L, B // hello", "// a note", "Hi all", "thanks a lot", "R (U F) \U0001f600", "q", "\u200bD\r",
-         "3 of 3", "F\rEO: D", "\rInverse: R\r(U)", "R\u2028Switch: (U // F)", "a/b // c", " //\u3000d\ufeff", "\x1c", "2 3. U"]
+         "3 of 3", "F\rEO: D", "\rInverse: R\r(U)", "R\u2028Switch: (U // F)", "a/b // c", " //\u3000d\ufeff", "\x1c", "2 3. U",
+         "R' U' F D R' U' F", "L (2)", "Time: 45:12", "D // hard", "F // EO", "I liked it.", "D // \u03b9EO", "L // a\u2028DR", "[3/5] U2 // (3)"]
 # long texts, with the numbers of their attempts, and of all steps and candidates of these
 LONG = {"\r" * 1_000_000: "1 0 0", "1.\n" * 100_000: "1 0 0", "R U // x\n" * 50_000: "1 49999 0", "Inverse:\r" * 50_000: "1 0 0",
-        "1. R\n" * 20_000: "20000 0 0", "R U\n\n" * 20_000: "1 0 19999", "Solution: R\n\n" * 20_000: "1 1 19999"}
+        "1. R\n" * 20_000: "20000 0 0", "R U\n\n" * 20_000: "1 0 19999", "Solution: R\n\n" * 20_000: "1 0 19999",
+        "Final solution: R\n\n" * 20_000: "1 1 19999", "1. Scramble: R\n" * 20_000: "20000 0 0", "R' U' F D R' U' F\n" * 15_000: "1 14999 0",
+        "Solution (1): R\nR (2) // EO\n" * 10_000: "1 19999 0"}
 SOON = 60
 
 
@@ -76,7 +81,8 @@ def kinds_of(tally: Tally, sheets: List[str]) -> None:
     seen = [any(it[at] not in ("", "0") for it in fields) for at in range(6)]
     tally.equal("each field is there", seen, 6 * [True])
     tally.holds("several attempts are", any("\n" in it for it in sheets))
-    tally.holds("a solution that isn't its steps", any("/" not in it[3] and it[3] != it[4] for it in fields))
+    tally.holds("a solution that isn't its steps", any("/" not in it[3] and it[4] not in (it[3], "none") for it in fields))
+    tally.holds("steps, and no solution that can be told", any(it[3] and it[4] == "none" for it in fields))
 
 
 def times_of(tally: Tally, host: Host) -> None:

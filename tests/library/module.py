@@ -62,7 +62,7 @@ def names(tally: Tally) -> None:
               "StartFault", "Fault", "Cut", "Solutions", "raising", "facts", "facts_all", "check", "Facts", "Check", "Case", "Pieces",
               "tokens", "Token", "solutions", "best", "Continuation", "Continuations", "Orientation", "Reduction", "Lengths", "form_places", "FormPlace",
               "start_of", "plain_line", "PlainLine", "AXES", "EDGE_PLACES", "CORNER_PLACES", "NET", "stickers_of",
-              "read_attempts", "Attempt", "AttemptCandidate", "place_of_fault", "TextPlace"}
+              "read_attempts", "Attempt", "AttemptCandidate", "place_of", "TextPlace", "line_after"}
     tally.equal("what an import of all brings", set(brought), wanted)
     public = [getattr(nissy, name) for name in nissy.__all__ if callable(getattr(nissy, name))]
     tally.holds("each function and each class says what it does", len(public) > 10 and all(it.__doc__ for it in public))
@@ -79,9 +79,9 @@ def classes(tally: Tally) -> None:
         (nissy.Check, {"solved": bool, "moves": int, "clean_moves": int, "forms": Tuple[str, ...]}),
         (nissy.PlainLine, {"line": str, "places": Tuple[int, ...], "left_out": Tuple[str, ...]}),
         (nissy.TextPlace, {"at": int, "line": int, "column": int}),
-        (nissy.AttemptCandidate, {"steps": Tuple[nissy.PlainLine, ...], "note": str}),
-        (nissy.Attempt, {"name": str, "scramble": nissy.PlainLine, "steps": Tuple[nissy.PlainLine, ...], "solution": nissy.PlainLine,
-                         "candidates": Tuple[nissy.AttemptCandidate, ...], "before": int}),
+        (nissy.AttemptCandidate, {"steps": Tuple[nissy.PlainLine, ...], "solution": nissy.PlainLine, "note": str}),
+        (nissy.Attempt, {"name": str, "scramble": nissy.PlainLine, "steps": Tuple[nissy.PlainLine, ...],
+                         "solution": Optional[nissy.PlainLine], "candidates": Tuple[nissy.AttemptCandidate, ...], "before": int}),
         (nissy.FormPlace, {"text": str, "forms": Tuple[str, ...], "column": int, "character": int}),
         (nissy.solve_all, {"return": Iterator[Union[nissy.Solutions, nissy.Fault, nissy.Cut]]}), (nissy.run, {"return": nissy.Answer})]
     for of, wanted in hints:
@@ -142,6 +142,7 @@ def copies(tally: Tally) -> None:
                 '[[1, 2, 20, false], [false, 2, 2, ["slices"]]]')
     tally.equal("a row as JSON", list(json.loads(json.dumps(dataclasses.asdict(row)))), ["total", "line", "eo", "dr", "case"])
     dicts(tally)
+    dicts_of_faults(tally)
     tally.equal("a row as a string", str(row), f"{row.line} ({row.total})")
 
 
@@ -163,6 +164,28 @@ def dicts(tally: Tally) -> None:
     told = json.loads(json.dumps(rows.as_dict()))
     tally.equal("rows", ([it["line"] for it in told["rows"]], told["cut"]), (["F' R", "F (U)"], False))
     tally.equal("each is that of asdict", rows.as_dict()["rows"], list(map(dataclasses.asdict, rows)))
+
+
+def dicts_of_faults(tally: Tally) -> None:
+    """What is told of a fault or a cut as a dict, and of a copy the same."""
+    rows: List[Any] = [
+        (nissy.LineFault, lambda: nissy.check("R", "R\u2019 Q"),
+         {"text": "not a move", "line": 2, "part": "solution", "column": 6, "character": 4}),
+        (nissy.LineFault, lambda: nissy.line_after("(R"),
+         {"text": "bracket not closed", "line": 1, "part": "scramble", "column": 1, "character": 1}),
+        (nissy.LineFault, lambda: nissy.invert("Q"), {"text": "not a move", "line": None, "part": "", "column": 1, "character": 1}),
+        (nissy.Fault, lambda: nissy.best("R U " * 100, "F R " * 50), {"text": "more than 256 moves", "line": 2, "part": "moves so far"}),
+        (nissy.StartFault, lambda: list(nissy.raising(nissy.count_all("drfb-eorl", ["", "R"]))),
+         {"text": "eorl does not hold", "line": 2, "part": "", "step": "drfb-eorl", "start": "eorl"}),
+        (nissy.Cut, lambda: nissy.near("eofb", "F B", 20, 0, nodes=0),
+         {"count": {"length": None, "solutions": 0, "nodes": 0, "cut": True}, "solutions": [], "line": None})]
+    for kind, call, wanted in rows:
+        error = raised(kind, call)
+        tally.equal(f"a {kind.__name__}", error and json.loads(json.dumps(error.as_dict())), wanted)
+        tally.equal("of its copies", [again(error).as_dict() for again in COPIES], [wanted] * len(COPIES))
+    cut = raised(nissy.Cut, lambda: list(nissy.raising(nissy.solve_all("eofb", ["", "R U F"], slack=1, nodes=60))))
+    told = json.loads(json.dumps(cut.as_dict()))
+    tally.equal("what was found until a cut", (told["solutions"][:2], told["line"]), (["F", "F'"], 2))
 
 
 def stickers(tally: Tally) -> None:

@@ -34,7 +34,8 @@ template <typename Thrown> void throw_each(const char *of, std::initializer_list
     }
 }
 
-// A call throws a fault that says this, also in a copy: its code and column, the line of two that has it, and the step that would have to hold.
+// A call throws a fault that says this, also in a copy: its code and column, the line of two that has it, with its name, and the step that would
+// have to hold.
 void has_fault(const call &asked, int code, std::size_t column, const std::string &what, int line = 0, const char *start = "") {
     try {
         asked();
@@ -43,6 +44,9 @@ void has_fault(const call &asked, int code, std::size_t column, const std::strin
         const nissy::fault copy = thrown;
         const std::string text(copy.text()), said = copy.what();
         holds(copy.code() == code && copy.column() == column && copy.line() == line && copy.start() == start, "its fault", what.c_str());
+        const std::string part(copy.part());
+        holds(part.empty() ? line == 0 : line != 0 && said.find("nissy: " + part + ", ") == 0, "the name of its line", what.c_str());
+        holds((part == "scramble") == (line == 1), "that of a scramble", what.c_str());
         holds(said == what && text.size() < said.size() && said.substr(said.size() - text.size()) == text, "what it says", what.c_str());
     }
 }
@@ -138,7 +142,8 @@ void misuse_is_thrown() {
     throw_each<std::length_error>("16,777,217 blanks", {[&] { nissy::invert(blanks); }, [&] { tables.solve(blanks); }, [&] { tables.count(blanks); },
                                                         [&] { nissy::check("R", blanks); }, [&] { nissy::facts(blanks); }, [&] { nissy::best(blanks); },
                                                         [&] { nissy::facts_all(blanks)[0].value(); }});
-    holds(nissy::facts_all(blanks + "\nR").at(1).value().moves == 1, "another line behind them", "16,777,217 blanks");
+    const auto beside = nissy::facts_all(blanks + "\nR");
+    holds(beside.at(1).value().moves == 1 && beside[0].text() == "line longer than 16777216 bytes", "another line behind them", "16,777,217 blanks");
 }
 
 // Each line of a text has a value, or throws what the call on it alone throws.
@@ -149,12 +154,16 @@ void many_lines_are_answered() {
     holds(counts[3] && counts[3].value() == tables.count("F B") && counts[3].status() == NISSY_DONE, "the last one", "four lines");
     holds(!counts[1] && counts[1].status() == NISSY_FAULT && counts[1].code() == NISSY_NOT_A_MOVE && counts[1].column() == 3, "a fault", "R q");
     has_fault([&] { counts[1].value(); }, NISSY_NOT_A_MOVE, 3, "nissy: column 3: not a move");
+    holds(counts[1].text() == "not a move" && counts[0].text().empty(), "its words", "R q");
+    holds(reduction.count_all("F\n")[0].text() == "eofb does not hold", "its words", "F");
     has_fault([&] { reduction.count_all("F\n")[0].value(); }, NISSY_START, 0, "nissy: eofb does not hold", 0, "eofb");
     const auto cut = tables.count_all("F B\nF", {20, 0, NISSY_ALL, 74});
+    holds(cut[0].text().empty(), "no words", "F B");
     holds(cut.size() == 2 && cut[0] && cut[0].status() == NISSY_CUT && cut[0].value().is_cut && !cut[1].value().is_cut, "75 positions", "F B");
     const auto facts = nissy::facts_all("R\n(\nR U R\n");
     holds(facts.size() == 3 && facts[0].value().ud().dr_case() == "4c4e" && facts[2].value().ud().dr_case() == "3c2e", "facts", "three lines");
     has_fault([&] { facts[1].value(); }, NISSY_UNCLOSED, 1, "nissy: column 1: bracket not closed");
+    holds(facts[1].text() == "bracket not closed" && facts[0].text().empty(), "its words", "(");
     holds(tables.count_all("").empty() && nissy::facts_all({}).empty(), "no line", "no text");
     std::string many;
     for (int at = 0; at < 1000; at++) many += at % 3 ? "F\n" : "\n";
@@ -373,9 +382,9 @@ int main() {
     // first, so that each step is built while others ask for it
     threads_agree();
     for (const search_row &row : SEARCHES) solves(nissy::tables(row.step), row);
-    for (const auto trial : {lines_are_read, faults_are_thrown, columns_are_counted, text_is_read, places_are_found, attempts_are_read,
-                             misuse_is_thrown, many_lines_are_answered, searches_are_cut, progress_is_told, best_is_stopped, stickers_are_found,
-                             refused_memory_is_thrown, many_are_whole, objects_are_values})
+    for (const auto trial : {lines_are_read, faults_are_thrown, columns_are_counted, text_is_read, places_are_found, forms_are_found,
+                             attempts_are_read, misuse_is_thrown, many_lines_are_answered, searches_are_cut, progress_is_told, best_is_stopped,
+                             stickers_are_found, refused_memory_is_thrown, many_are_whole, objects_are_values})
         trial();
     holds(nissy::version() == nissy_version() && nissy_version() == NISSY_VERSION_NUMBER, "the library's", "version");
     return ended();

@@ -172,6 +172,8 @@ def faults(tally: Tally) -> None:
         says(tally, nissy.LineFault, "scramble, column 3: not a move", lambda: pair("R Q", "U"))
         says(tally, nissy.LineFault, f"{other}, column 1: bracket not closed", lambda: pair("R", "(U"))
         says(tally, nissy.Fault, f"{other}, {TOO_LONG}", lambda: pair("", BEYOND))
+        parts = [raised(nissy.LineFault, lambda: pair(*lines)).part for lines in (("R Q", "U"), ("R", "(U"))]
+        tally.equal("the names of the lines", parts, ["scramble", other])
     says(tally, nissy.Fault, "moves so far, more than 256 moves", lambda: nissy.best("R U " * 100, "F R " * 50))
     for call in (untyped.invert, ON_A_LINE["solve"], untyped.facts):
         says(tally, nissy.Fault, TOO_LONG, lambda: call(BEYOND))

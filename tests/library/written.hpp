@@ -4,6 +4,7 @@
 
 #include "nissy.hpp"
 #include "nissy_attempts.hpp"
+#include "nissy_names.hpp"
 
 #include "trial.h"
 
@@ -15,8 +16,8 @@ using names = std::vector<std::string>;
 void text_is_read() {
     static constexpr std::string_view TEXT = "EO: R\xe2\x80\x99, U\xff q // to try";
     const auto [line, places, left_out] = nissy::plain_line(TEXT);
-    holds(line == " R'  U\xff q " && left_out == names{"labels", "comments", "commas"}, "its line", "EO: R’, U\\xff q");
-    holds(places == std::vector<std::size_t>{3, 4, 5, 8, 9, 10, 11, 12, 13, 14}, "its places", "EO: R’, U\\xff q");
+    holds(line == " R\xe2\x80\x99  U\xff q " && left_out == names{"labels", "comments", "commas"}, "its line", "EO: R’, U\\xff q");
+    holds(places == std::vector<std::size_t>{3, 4, 5, 6, 7, 8, 9, 10, 11, 12, 13, 14}, "its places", "EO: R’, U\\xff q");
     try {
         nissy::invert(line);
         holds(0, "it has a fault", "EO: R’, U\\xff q");
@@ -37,40 +38,54 @@ void places_are_found() {
         std::size_t column; // in the line
         nissy::text_place place;
     };
-    static constexpr row ROWS[] = {{1, {3, 1, 4}}, {2, {4, 1, 5}}, {5, {7, 1, 7}}, {6, {8, 1, 8}}, {9, {13, 2, 1}}, {14, {18, 2, 3}},
-                                   {17, {21, 3, 1}}, {19, {23, 4, 1}}, {20, {24, 4, 2}}, {21, {27, 4, 3}}, {99, {27, 4, 3}}};
+    static constexpr row ROWS[] = {{1, {3, 1, 4}}, {2, {4, 1, 5}}, {5, {7, 1, 7}}, {6, {8, 1, 8}}, {11, {13, 2, 1}}, {16, {18, 2, 3}},
+                                   {19, {21, 3, 1}}, {21, {23, 4, 1}}, {22, {24, 4, 2}}, {25, {27, 4, 3}}, {99, {27, 4, 3}}};
     for (const auto &[column, place] : ROWS) {
         const nissy::fault fault(NISSY_NOT_A_MOVE, column, "");
-        holds(nissy::place_of_fault(fault, plain, TEXT) == place, "its place in the text", fault.what());
+        holds(nissy::place_of(fault, plain, TEXT) == place, "its place in the text", fault.what());
     }
     const nissy::fault first(NISSY_NOT_A_MOVE, 1, "");
-    holds(nissy::place_of_fault(first, nissy::plain_line({}), {}) == nissy::text_place{0, 1, 1}, "the beginning", "no text");
+    holds(nissy::place_of(first, nissy::plain_line({}), {}) == nissy::text_place{0, 1, 1}, "the beginning", "no text");
     const nissy::tables tables("dr-eofb");
     const auto counts = tables.count_all(plain.line + "\nF");
-    holds(nissy::place_of_fault(counts[0], plain, TEXT) == nissy::text_place{4, 1, 5}, "that of one of many lines", "EO: é");
-    holds(!nissy::place_of_fault(counts[1], plain, TEXT), "eofb does not hold, which has no place", "F");
+    holds(nissy::place_of(counts[0], plain, TEXT) == nissy::text_place{4, 1, 5}, "that of one of many lines", "EO: é");
+    holds(!nissy::place_of(counts[1], plain, TEXT), "eofb does not hold, which has no place", "F");
+}
+
+// Where forms stand in a text. Each byte of an apostrophe that was another one has the place of that: of one byte, two and three.
+void forms_are_found() {
+    static constexpr std::string_view TEXT = "EO: R\nU` F\xca\xbc D\xe2\x80\x98";
+    const nissy::plain plain = nissy::plain_line(TEXT);
+    holds(plain.line == " R U\xe2\x80\x99 F\xe2\x80\x99 D\xe2\x80\x99", "one form of all", "R U` Fʼ D‘");
+    holds(plain.places == std::vector<std::size_t>{3, 4, 5, 6, 7, 7, 7, 8, 9, 10, 10, 10, 12, 13, 14, 14, 14}, "their places", "R U` Fʼ D‘");
+    const std::vector<nissy::form_place> forms = nissy::form_places(plain.line);
+    holds(forms.size() == 3 && nissy::place_of(forms[0], plain, TEXT) == nissy::text_place{6, 2, 1}, "the first form", "U`");
+    holds(nissy::place_of(forms.at(2), plain, TEXT) == nissy::text_place{13, 2, 7}, "the last form", "D‘");
+    holds(nissy::place_of(nissy::fault(NISSY_NOT_A_MOVE, 18, ""), plain, TEXT) == nissy::text_place{17, 2, 9}, "behind the last form", "D‘");
 }
 
 // The attempts of a text, with places in bytes of the whole text. How they are read, the rows of tests/calls.tsv say.
 void attempts_are_read() {
-    static constexpr std::string_view TEXT = "Hello\n1. R\xe2\x80\x99 U\nF // EO\n\n// short\nB q\n\n2) D\n";
+    static constexpr std::string_view TEXT = "Hello\n1. R\xe2\x80\x99 U\nF // EO\n\n// short\nB q\nL\n\n2) D\n";
     const std::vector<nissy::attempt> attempts = nissy::read_attempts(TEXT);
     const auto &[name, scramble, steps, solution, candidates, before] = attempts.at(0);
     const auto is = [](const nissy::plain &part, const char *line, const std::vector<std::size_t> &places, const names &left_out) {
         holds(part.line == line && part.places == places && part.left_out == left_out, "a part of an attempt", line);
     };
-    is(scramble, " R' U", {8, 9, 10, 13, 14}, {});
+    is(scramble, " R\xe2\x80\x99 U", {8, 9, 10, 11, 12, 13, 14}, {});
     is(steps.at(0), "F ", {16, 17}, {"comments"});
-    is(solution, "F ", {16, 17}, {"comments"});
+    is(solution.value(), "F ", {16, 17}, {"comments"});
     is(candidates.at(0).steps.at(0), "B q", {34, 35, 36}, {});
+    is(candidates[0].solution, "B q L", {34, 35, 36, 37, 38}, {});
     holds(name == "1." && before == 1 && steps.size() == 1 && candidates.size() == 1 && candidates[0].note == "short", "the first one", "1.");
-    is(attempts.at(1).scramble, " D", {41, 42}, {});
+    is(attempts.at(1).scramble, " D", {43, 44}, {});
     holds(attempts.size() == 2 && attempts[1].name == "2)" && attempts[1].steps.empty() && attempts[1].before == 0, "the other one", "2)");
+    holds(!attempts[1].solution, "it has no solution", "2)");
     try {
         nissy::check(scramble.line, candidates[0].steps[0].line);
         holds(0, "it has a fault", "B q");
     } catch (const nissy::fault &thrown) {
-        holds(thrown.line() == 2 && nissy::place_of_fault(thrown, candidates[0].steps[0], TEXT) == nissy::text_place{36, 6, 3}, "its place", "B q");
+        holds(thrown.line() == 2 && nissy::place_of(thrown, candidates[0].steps[0], TEXT) == nissy::text_place{36, 6, 3}, "its place", "B q");
     }
     const std::vector<nissy::attempt> broken = nissy::read_attempts("R \xff\n\nU");
     is(broken.at(0).scramble, "R \xff", {0, 1, 2}, {});

@@ -1,5 +1,5 @@
 #!/usr/bin/env python3
-"""The calls of the Python package that read text as solvers write it: forms of the text, copies, places of faults, and values of a wrong type.
+"""The calls of the Python package that read text as solvers write it: forms of the text, copies, places of faults and forms, and values of a wrong type.
 
     tests/library/written.py
 
@@ -22,7 +22,6 @@ from tally import Tally, raised, tried
 untyped: Any = nissy
 MARKED = "EO: R\u2019, U\u0301 q // to try"
 SHEET = "Hello\n1. R U\r\nEO: F // \U0001f600 D q\r\n\nSolution:\rF U\u2019 q\n// a try\n2. D"
-NOTHING = nissy.PlainLine("", (), ())
 
 
 class Loud(str):
@@ -39,11 +38,11 @@ def forms_of(text: str) -> List[Any]:
 
 def line(tally: Tally) -> None:
     """A text as a line."""
-    plain = nissy.PlainLine(" R'  U\u0301 q ", (3, 4, 5, 6, 7, 8, 9, 10, 11, 12), ("labels", "comments", "commas"))
+    plain = nissy.PlainLine(" R\u2019  U\u0301 q ", (3, 4, 5, 6, 7, 8, 9, 10, 11, 12), ("labels", "comments", "commas"))
     for text in forms_of(MARKED):
         tally.equal(f"a text as {type(text).__name__}", nissy.plain_line(text), plain)
     fault = raised(nissy.LineFault, lambda: nissy.invert(plain.line))
-    tally.equal("where its fault stands", nissy.place_of_fault(fault, plain, MARKED), (9, 1, 10))
+    tally.equal("where its fault stands", nissy.place_of(fault, plain, MARKED), (9, 1, 10))
     tally.equal("it can be pickled", pickle.loads(pickle.dumps(plain)), plain)
     # bytes that are no text, and halves of pairs, stay for the other calls to refuse
     tally.equal("a byte", nissy.plain_line(b"R, \xff"), ("R  \udcff", (0, 1, 2, 3), ("commas",)))
@@ -55,54 +54,60 @@ def line(tally: Tally) -> None:
 def attempts(tally: Tally) -> None:
     """A text as attempts, by hand: the first has a step, a solution with a note, and prose before it."""
     step = nissy.PlainLine(" F ", (17, 18, 19), ("labels", "comments"))
-    solution = nissy.PlainLine(" F U' q", (40, 41, 42, 43, 44, 45, 46), ("labels",))
-    second = nissy.Attempt("2.", nissy.PlainLine(" D", (59, 60), ()), (), NOTHING, (), 0)
+    solution = nissy.PlainLine(" F U\u2019 q", (40, 41, 42, 43, 44, 45, 46), ("labels",))
+    second = nissy.Attempt("2.", nissy.PlainLine(" D", (59, 60), ()), (), None, (), 0)
     wanted = [nissy.Attempt("1.", nissy.PlainLine(" R U ", (8, 9, 10, 11, 12), ()), (step,), solution,
-                            (nissy.AttemptCandidate((solution,), "a try"),), 1), second]
+                            (nissy.AttemptCandidate((solution,), solution, "a try"),), 1), second]
     for text in forms_of(SHEET):
         tally.equal(f"attempts of {type(text).__name__}", nissy.read_attempts(text), wanted)
     tally.equal("they can be pickled", pickle.loads(pickle.dumps(wanted)), wanted)
     tally.holds("they can be keys", {it: it.name for it in wanted}[second] == "2.")
-    odds: List[Any] = [b"1. R \xff\n2. \xff", "1. R \udcff\n2. \udcff"]
+    odds: List[Any] = [b"1. R \xff\n2. U\xff", "1. R \udcff\n2. U\udcff"]
     for odd in odds:
-        tally.equal("a byte that is no text", [it.scramble.line for it in nissy.read_attempts(odd)], [" R \udcff", " \udcff"])
+        tally.equal("a byte that is no text", [it.scramble.line for it in nissy.read_attempts(odd)], [" R \udcff", " U\udcff"])
 
 
 def places(tally: Tally) -> None:
     """Where a fault of a part stands in the whole text."""
     first, _ = nissy.read_attempts(SHEET)
-    fault = raised(nissy.LineFault, lambda: nissy.check(first.scramble.line, first.solution.line))
+    solution = first.solution or first.scramble
+    fault = raised(nissy.LineFault, lambda: nissy.check(first.scramble.line, solution.line))
     for text in forms_of(SHEET):
-        tally.equal(f"in {type(text).__name__}", nissy.place_of_fault(fault, first.solution, text), nissy.TextPlace(46, 6, 6))
-    place = nissy.place_of_fault(fault, first.solution, SHEET)
+        tally.equal(f"in {type(text).__name__}", nissy.place_of(fault, solution, text), nissy.TextPlace(46, 6, 6))
+    place = nissy.place_of(fault, solution, SHEET)
     tally.equal("it can be pickled", pickle.loads(pickle.dumps(place)), place)
     text = "R\nU\r\nF\r\r\U0001f600 q"
     plain = nissy.plain_line(text)
     wanted = [(0, 1, 1), (1, 1, 2), (2, 2, 1), (3, 2, 2), (5, 3, 1), (6, 3, 2), (7, 4, 1), (8, 5, 1), (9, 5, 2), (10, 5, 3)]
     for at, line_at, column in wanted:
-        where = nissy.place_of_fault(nissy.LineFault(99, "", character=at + 1), plain, text)
+        where = nissy.place_of(nissy.LineFault(99, "", character=at + 1), plain, text)
         tally.equal(f"the line and column of {at}", where, (at, line_at, column))
+    text_of_forms = "EO: R // \U0001f600\r\n(r2 U\u00b4) (2)"
+    plain_forms = nissy.plain_line(text_of_forms)
+    told = [(it.text, nissy.place_of(it, plain_forms, text_of_forms)) for it in nissy.form_places(plain_forms.line)]
+    tally.equal("forms", told, [("(", (12, 2, 1)), ("r2", (13, 2, 2)), ("U\u2019", (16, 2, 5)), (")", (18, 2, 7))])
     of_none = nissy.LineFault(9, "not there")
-    ends = [nissy.place_of_fault(of_none, nissy.plain_line(it), it) for it in ("R // U", "// R")]
+    ends = [nissy.place_of(of_none, nissy.plain_line(it), it) for it in ("R // U", "// R")]
     tally.equal("what isn't there is at the end of the line", ends, [(2, 1, 3), (0, 1, 1)])
     for other in (nissy.StartFault("dr-eofb", "eofb", "eofb does not hold"), nissy.Fault("more than 256 moves", 2)):
-        tally.equal(f"{type(other).__name__} has no place", nissy.place_of_fault(other, plain, text), None)
+        tally.equal(f"{type(other).__name__} has no place", nissy.place_of(other, plain, text), None)
 
 
 def wrong_types(tally: Tally) -> None:
     """Values of a type that a call doesn't take, told in words of the caller's."""
     wide = array.array("H", [82, 0x155])
     fault, plain = nissy.LineFault(1, "not a move"), nissy.plain_line("q")
-    calls: List[Callable[[Any], object]] = [untyped.plain_line, untyped.read_attempts, lambda it: untyped.place_of_fault(fault, plain, it)]
+    calls: List[Callable[[Any], object]] = [untyped.plain_line, untyped.read_attempts, lambda it: untyped.place_of(fault, plain, it)]
     kinds: List[Any] = [(None, "None"), (3, "int"), (["R"], "list"), (wide, "items of 2 bytes each"), (memoryview(wide), "items of 2 bytes each")]
     for value, named in kinds:
         for call in calls:
             tally.equal("a text", str(raised(TypeError, lambda: call(value))), f"the text is a str or bytes, not {named}")
     for value, named in ((None, "None"), (3, "int"), (nissy.Cut(nissy.Count(None, 0, 0, True)), "Cut"), (ValueError("q"), "ValueError")):
-        tally.equal("a fault", str(raised(TypeError, lambda: untyped.place_of_fault(value, plain, "q"))), f"the fault is a Fault, not {named}")
+        told = str(raised(TypeError, lambda: untyped.place_of(value, plain, "q")))
+        tally.equal("a fault", told, f"what is found is a Fault or a FormPlace, not {named}")
     lines: List[Any] = [(None, "None"), ("q", "str"), (tuple(plain), "tuple"), (nissy.read_attempts("q")[0], "Attempt")]
     for value, named in lines:
-        told = str(raised(TypeError, lambda: untyped.place_of_fault(fault, value, "q")))
+        told = str(raised(TypeError, lambda: untyped.place_of(fault, value, "q")))
         tally.equal("a line", told, f"the plain line is a PlainLine, not {named}")
 
 
@@ -111,6 +116,11 @@ def times(tally: Tally) -> None:
     begun = time.monotonic()
     for long in ("\r" * 1_000_000, "R" * 1_000_000, "ab " * 300_000, "9" * 1_000_000, "\u2028 " * 500_000):
         nissy.plain_line(long)
+    text = "R\r\n" * 100_000 + "\r" * 100_000
+    plain, fault = nissy.plain_line(text), nissy.LineFault(99, "", character=300_001)
+    for _ in range(1000):
+        nissy.place_of(fault, plain, text)
+    tally.equal("a place far below", nissy.place_of(fault, plain, text), (300_000, 100_001, 1))
     tally.holds("soon", time.monotonic() - begun < 20)
 
 

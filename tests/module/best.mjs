@@ -23,9 +23,15 @@ async function tryFaults(engine) {
     [many, many, 2, null, "more than 256 moves", "moves so far, more than 256 moves"],
   ];
   for (const [scramble, soFar, ...wanted] of faults) {
-    const fault = await caught(() => engine.best(scramble, { soFar }));
-    same(`${scramble} / ${soFar}`, [fault?.name, fault?.line, fault?.column, fault?.text, fault?.message], ["NissyFault", ...wanted]);
+    const [part] = wanted.at(-1).split(",");
+    for (const call of [() => engine.best(scramble, { soFar }), () => engine.lineAfter(scramble, soFar)]) {
+      const fault = await caught(call);
+      same(`${scramble} / ${soFar}`, [fault?.name, fault?.line, fault?.column, fault?.text, fault?.message], ["NissyFault", ...wanted]);
+      same(`the part of ${scramble} / ${soFar}`, [fault?.part, fault?.parts().part], [part, part]);
+    }
   }
+  const parts = [await caught(() => engine.check("R", "Q")), await caught(() => engine.check("Q", "R")), await caught(() => engine.invert("Q"))];
+  same("the parts of other faults", parts.map(({ part }) => part), ["solution", "scramble", ""]);
 }
 
 /** What no call takes. */
@@ -33,6 +39,8 @@ async function tryWrong() {
   for (const wrong of [null, 1, {}, ["R"]]) {
     same(`a scramble of another type: ${wrong}`, (await thrown(() => nissy.best(wrong)))[0], "TypeError");
     same(`moves of another type: ${wrong}`, (await thrown(() => nissy.best("R", { soFar: wrong })))[0], "TypeError");
+    same(`a line after ${wrong}`, (await thrown(() => nissy.lineAfter(wrong)))[0], "TypeError");
+    same(`a line after moves of another type: ${wrong}`, (await thrown(() => nissy.lineAfter("R", wrong)))[0], "TypeError");
     same(`no function: ${wrong}`, (await thrown(() => nissy.best("R", { onProgress: wrong })))[0], "TypeError");
   }
   for (const wrong of [-1, 21, 0.5, Number.NaN]) same(`a slack of ${wrong}`, (await thrown(() => nissy.best("R", { slack: wrong })))[0], "RangeError");
@@ -94,6 +102,10 @@ async function tryPoolBounds() {
   const few = await pool.best("U R F", { nodes: 60, cut: "value" });
   const places = few.map((row) => rows.findIndex((each) => JSON.stringify(each) === JSON.stringify(row)));
   same("what each found, as one list", [few.cut, places.includes(-1), places], [true, false, places.slice().sort((one, other) => one - other)]);
+  // after x the face F is called U
+  same("a line by a pool", [await pool.lineAfter("R x", "U"), await pool.lineAfter("R x")], ["R F", "R"]);
+  same("a line that is given up", (await thrown(() => pool.lineAfter("R", "U", { signal: AbortSignal.abort() })))[0], "AbortError");
+  await tryFaults(pool);
   same("a fault before a cut", (await caught(() => pool.best("R", { soFar: "q", nodes: 0 }))).line, 2);
   pool.end();
 }

@@ -96,9 +96,10 @@ export async function followed(nissy: Nissy, worker: NissyWorker, bytes: Uint8Ar
   for await (const { length } of pools[0].solutions("eofb", "R")) if (length > seen.moves) break;
   // what is told of the progress may take its time
   await pools[0].countAll("eofb", ["R"], { onProgress: async (done, all) => void (await Promise.resolve(onProgress(done, all))) });
+  const after: string[] = [nissy.lineAfter(bytes), await worker.lineAfter("R", "(U)", { signal }), await pools[0].lineAfter("R x", bytes)];
   const best: Best = await pools[1].best("R U F", { slack: 1, nodes: 1_000, cut: "value" });
   for (const pool of pools) pool.end();
-  return [rows, total, eo?.moves, lengths, tokens.map(({ layers }) => layers[0]), counts, facts, solutions, best, solved, pools[0].size].join(" ");
+  return [rows, total, eo?.moves, lengths, tokens.map(({ layers }) => layers[0]), counts, facts, solutions, best, solved, pools[0].size, ...after].join(" ");
 }
 
 export async function oneByOne(nissy: Nissy, worker: NissyWorker, signal: AbortSignal): Promise<string> {
@@ -126,7 +127,7 @@ export function cutAfter(error: unknown): number | null {
 
 export function place(fault: unknown): number | null {
   const isStart: boolean = fault instanceof NissyFault && fault.step !== null && fault.start !== null;
-  return fault instanceof NissyFault && !isStart ? fault.column : null;
+  return fault instanceof NissyFault && !isStart && fault.part === "" ? fault.column : null;
 }
 
 // what a worker sends for a line: a value, a fault of the line, or of its cube, which alone has a step that must hold before

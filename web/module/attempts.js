@@ -73,11 +73,15 @@ const isLabelled = ({ text }, word) => labelOf(text).split(" ").some((each) => w
 /** @param {Line} line @returns {boolean} whether its label says that the solution follows */
 const isSolution = (line) => isLabelled(line, /^solution$/i);
 
+/** @param {string} text @returns {string} the comment at its end */
+const commentOf = (text) => (text.includes("//") ? text.slice(text.indexOf("//") + 2) : "");
+
 /** What solvers call the steps of a solution. */
-const STEP = /(?:^|\P{L})(?:eo|dr|htr|fr|finish|skeleton|slice)(?!\p{L})/iu;
+const STEP_WORDS = ["eo", "dr", "htr", "fr", "finish", "skeleton", "slice"];
 
 /** @param {Line} line @returns {boolean} whether its label or its comment says that it is a step */
-const namesStep = ({ text }) => STEP.test(labelOf(text)) || STEP.test(/\/\/.*/.exec(text)?.[0] ?? "");
+const namesStep = ({ text }) =>
+  `${labelOf(text)} ${commentOf(text)}`.split(/\P{L}+/u).some((word) => STEP_WORDS.includes(word.toLowerCase()));
 
 /**
  * Some lines as one.
@@ -159,7 +163,7 @@ function withSolution(blocks) {
 
 /** @param {Line[]} block @returns {string} what it says of its moves on lines of their own */
 const noteOf = (block) => block.filter(isProse).map(({ text }) =>
-  (text.includes("//") ? text.replace(/^.*?\/\/\s*/, "") : labelOf(text) || text).trim()).join(" ");
+  (text.includes("//") ? commentOf(text) : labelOf(text) || text).trim()).join(" ");
 
 /**
  * @param {string} text

@@ -10,6 +10,8 @@ import { SIDES, bracketed, joined, movesOfSides } from "./sides.js";
 import { afterPart, leastOf, totalWith } from "./ways.js";
 
 /** @typedef {import("./best-rows.js").Row} Row */
+/** @typedef {import("./bytes.js").Text} Text */
+/** @typedef {import("./faults.js").FaultParts} FaultParts */
 /** @typedef {import("./nissy.js").Nissy} Nissy */
 /** @typedef {import("./requests.js").BestRequest} BestRequest */
 /** @typedef {import("./sides.js").Part} Part */
@@ -89,17 +91,20 @@ function namingAfter(nissy, rotation) {
   return { named: by(names), read: by(faces) };
 }
 
+/** @param {Text} text that was read */
+const stringIn = (text) => (typeof text === "string" ? text : textIn(text));
+
 /**
  * The cube on both sides, where its axes are those of the normal side's centres. A turn of the whole cube that is left
  * at the end of the normal side renames what follows there, and what is made on the inverse side, since a line has that
  * behind the rest.
  * @param {Nissy} nissy
- * @param {string} scramble
- * @param {string} soFar
+ * @param {{scramble: Text, soFar: Text}} given
  * @returns {Start}
  */
-function startAfter(nissy, scramble, soFar) {
-  const moves = movesOfSides(soFar);
+function startAfter(nissy, { scramble, soFar }) {
+  nissy.check(scramble, soFar);
+  const moves = movesOfSides(stringIn(soFar));
   const whole = nissy.unniss(scramble);
   const made = cleanedIn(nissy, joined(cleanedIn(nissy, whole).rotation, moves.normal));
   const { named, read } = namingAfter(nissy, made.rotation);
@@ -177,9 +182,6 @@ class RowsWithMoves {
   }
 }
 
-/** @param {import("./bytes.js").Text} text that was read */
-const stringIn = (text) => (typeof text === "string" ? text : textIn(text));
-
 /** @typedef {{progress: BestProgress, rows: RowWithMoves[]}} Found how far a search is, and the best that it found */
 
 /**
@@ -188,9 +190,8 @@ const stringIn = (text) => (typeof text === "string" ? text : textIn(text));
  * @param {BestRequest} request
  * @returns {Generator<Found>}
  */
-function* foundOf(nissy, { scramble, soFar, slack, most, nodes, axes }) {
-  nissy.check(scramble, soFar);
-  const start = startAfter(nissy, stringIn(scramble), stringIn(soFar));
+function* foundOf(nissy, { slack, most, nodes, axes, ...given }) {
+  const start = startAfter(nissy, given);
   const { holds } = nissy.facts(start.position.lines.normal);
   if (holds.some((step) => step.startsWith("dr"))) return;
   const held = ORIENTATIONS.filter(({ name }) => holds.includes(name));
@@ -210,8 +211,35 @@ function* foundOf(nissy, { scramble, soFar, slack, most, nodes, axes }) {
   yield { progress, rows: withMoves.of(best.rows) };
 }
 
-/** @typedef {{rows: RowWithMoves[], isCut: boolean} | {fault: import("./faults.js").FaultParts}} BestTold */
+/** @typedef {{rows: RowWithMoves[], isCut: boolean} | {fault: FaultParts}} BestTold */
 /** @typedef {BestTold & {nodes: number}} BestReply what a worker sends: also at how many positions it looked */
+
+/** @typedef {{line: string} | {fault: FaultParts}} LineAfterReply */
+
+/**
+ * What is wrong with a scramble or the moves so far; another error is thrown.
+ * @param {unknown} error
+ * @returns {FaultParts}
+ */
+function faultOfBoth(error) {
+  if (!(error instanceof NissyFault)) throw error;
+  // if none of the lines is named, each was read by itself, so they have too many moves together
+  return (error.line === null ? new NissyFault(error.text, { line: 2 }) : error).parts();
+}
+
+/**
+ * The line of the cube after a scramble and the moves so far, or what is wrong, as a plain value.
+ * @param {Nissy} nissy
+ * @param {import("./requests.js").LineAfterRequest} request
+ * @returns {LineAfterReply}
+ */
+export function lineAfterTold(nissy, request) {
+  try {
+    return { line: startAfter(nissy, request).position.lines.normal };
+  } catch (error) {
+    return { fault: faultOfBoth(error) };
+  }
+}
 
 /**
  * What is told if the search ends at some moment, which may be at a cut or a fault.
@@ -232,10 +260,7 @@ function* toldAtEach(nissy, request) {
       yield { progress: last.progress, told: { rows: last.rows, isCut: true } };
       return;
     }
-    if (!(error instanceof NissyFault)) throw error;
-    // if none of the lines is named, each was read by itself, so they have too many moves together
-    const fault = error.line === null ? new NissyFault(error.text, { line: 2 }) : error;
-    yield { progress: last.progress, told: { fault: fault.parts() } };
+    yield { progress: last.progress, told: { fault: faultOfBoth(error) } };
   }
 }
 

@@ -8,7 +8,9 @@
  * null}} FaultPlace
  */
 
-/** @typedef {FaultPlace & {text: string}} FaultParts a fault as a plain value */
+/**
+ * @typedef {FaultPlace & {text: string, part: string}} FaultParts a fault as a plain value
+ */
 
 /**
  * What is said before a fault: of which line it is, by its number unless the line has a name, and at which column.
@@ -27,10 +29,10 @@ export class NissyFault extends Error {
   /**
    * @param {string} text what is wrong
    * @param {Partial<FaultPlace>} place null is what isn't given
-   * @param {string} [name] of the line in the message, such as `scramble`, if it isn't its number
+   * @param {string} [part] what the line is called, such as `scramble`: the message says that in place of its number
    */
-  constructor(text, { column = null, character = null, step = null, start = null, line = null }, name = "") {
-    super(placeInWords(line, column, name) + text);
+  constructor(text, { column = null, character = null, step = null, start = null, line = null }, part = "") {
+    super(placeInWords(line, column, part) + text);
     this.name = "NissyFault";
     this.text = text;
     this.column = column;
@@ -38,15 +40,16 @@ export class NissyFault extends Error {
     this.step = step;
     this.start = start;
     this.line = line;
+    this.part = part;
   }
 
   /**
    * The same in a line of many.
    * @param {number} line from 1
-   * @param {string} [name] what the line is called, if not by its number
+   * @param {string} [part] what the line is called, if not by its number
    */
-  inLine(line, name) {
-    return new NissyFault(this.text, { ...this.#place(), line }, name);
+  inLine(line, part) {
+    return new NissyFault(this.text, { ...this.#place(), line }, part);
   }
 
   /**
@@ -54,7 +57,7 @@ export class NissyFault extends Error {
    * @returns {FaultParts}
    */
   parts() {
-    return { text: this.text, ...this.#place() };
+    return { text: this.text, part: this.part, ...this.#place() };
   }
 
   /** @returns {FaultPlace} */

@@ -9,16 +9,17 @@
  * A call ends before it returns: a long search belongs into a worker, as `NissyWorker` of browser.js and of node.js has
  * one.
  */
-import { bestTold } from "./best.js";
+import { bestTold, lineAfterTold } from "./best.js";
 import { Bounded } from "./bounded.js";
 import { Engine } from "./engine.js";
 import { NoWebAssembly } from "./faults.js";
 import {
-  allOf, bestIn, checkIn, countIn, factsIn, formPlacesIn, lineIn, linesIn, outputLinesIn, solutionsIn, tokensIn,
+  allOf, bestIn, checkIn, countIn, factsIn, formPlacesIn, lineAfterIn, lineIn, linesIn, outputLinesIn, solutionsIn,
+  tokensIn,
 } from "./replies.js";
 import {
-  allRequest, bestRequest, checkRequest, countRequest, factsRequest, lineRequest, runRequest, scrambleRequest,
-  scramblesRequest, solutionsRequest, solveRequest, stepsRequest,
+  allRequest, bestRequest, checkRequest, countRequest, factsRequest, lineAfterRequest, lineRequest, runRequest,
+  scrambleRequest, scramblesRequest, solutionsRequest, solveRequest, stepsRequest,
 } from "./requests.js";
 import { progressOf } from "./signals.js";
 import { solutionsBy } from "./solutions.js";
@@ -250,6 +251,17 @@ export class Nissy {
    */
   check(scramble, solution) {
     return checkIn(this.#answer(checkRequest(scramble, solution)));
+  }
+
+  /**
+   * The line of the cube at which a solver stands after a scramble and the moves so far, for `facts`, `solve` and the
+   * other calls on one line: face turns, named by the centres, with the moves in brackets inverted before the scramble.
+   * They name the faces as the moves outside brackets leave the cube, as `best` reads them. The `invert` of the line is
+   * that of the inverse side. A fault is told as `best` tells it.
+   * @param {Text} scramble @param {Text} [soFar] @returns {string}
+   */
+  lineAfter(scramble, soFar) {
+    return lineAfterIn(lineAfterTold(this, lineAfterRequest(scramble, soFar)));
   }
 
   /**

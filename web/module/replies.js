@@ -66,7 +66,8 @@ import { formPlacesOf, tokensOf } from "./tokens.js";
  * 2, the solution
  */
 /** @typedef {Answer | LineReply | CountReply | SolveReply | FactsReply | CheckReply} OneReply */
-/** @typedef {OneReply | OneReply[] | import("./best.js").BestReply} Reply */
+/** @typedef {import("./best.js").LineAfterReply} LineAfterReply */
+/** @typedef {OneReply | OneReply[] | import("./best.js").BestReply | LineAfterReply} Reply */
 
 /** What the lines are called of calls that take two. */
 const OF_CHECK = ["scramble", "solution"];
@@ -202,9 +203,21 @@ export function checkIn(reply) {
   throw inLine(errorIn(reply), reply.line, OF_CHECK[reply.line - 1]);
 }
 
+/**
+ * What is thrown of a scramble or of the moves so far.
+ * @param {import("./faults.js").FaultParts} fault
+ */
+const faultOfBest = (fault) => new NissyFault(fault.text, fault, OF_BEST[Number(fault.line) - 1]);
+
+/** @param {LineAfterReply} reply @returns {string} */
+export function lineAfterIn(reply) {
+  if ("fault" in reply) throw faultOfBest(reply.fault);
+  return reply.line;
+}
+
 /** @param {import("./best.js").BestReply} reply @param {{cut: Telling}} asked @returns {import("./best.js").Best} */
 export function bestIn(reply, { cut }) {
-  if ("fault" in reply) throw new NissyFault(reply.fault.text, reply.fault, OF_BEST[Number(reply.fault.line) - 1]);
+  if ("fault" in reply) throw faultOfBest(reply.fault);
   /** @type {import("./best.js").Best} */
   const best = reply.rows.map(({ shown }) => shown);
   if (!reply.isCut) return best;
@@ -227,10 +240,10 @@ export function endsAll({ each, faults }, reply) {
  * What is wrong, with the number of the line in which it is.
  * @param {unknown} error
  * @param {number} line
- * @param {string} [name] what a fault calls the line, if not by its number
+ * @param {string} [part] what a fault calls the line, if not by its number
  */
-function inLine(error, line, name) {
-  if (error instanceof NissyFault) return error.inLine(line, name);
+function inLine(error, line, part) {
+  if (error instanceof NissyFault) return error.inLine(line, part);
   if (error instanceof SearchCut) return error.inLine(line);
   return error instanceof RangeError ? new RangeError(`line ${line}: ${error.message}`) : error;
 }

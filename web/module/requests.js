@@ -21,6 +21,7 @@ import { hasOwn } from "./natives.js";
 /** @typedef {{call: "check", scramble: Text, solution: Text}} CheckRequest */
 /** @typedef {{slack: number, most: number, nodes: number, cut: Telling, axes: readonly Step[]}} BestWithin */
 /** @typedef {BestWithin & {call: "best", scramble: Text, soFar: Text}} BestRequest */
+/** @typedef {{call: "lineAfter", scramble: Text, soFar: Text}} LineAfterRequest */
 /** @typedef {{call: "scramble", state: bigint, stream: bigint, length: number}} ScrambleRequest */
 /** @typedef {{call: "steps"}} StepsRequest */
 /** @typedef {CountRequest | SolveRequest | FactsRequest} OfEach what many lines may be asked */
@@ -31,7 +32,7 @@ import { hasOwn } from "./natives.js";
  * call's, so a worker tells how long it took
  */
 /** @typedef {OneRequest | AllRequest} Request what an engine is asked */
-/** @typedef {Request | BestRequest} Asked what a worker is asked */
+/** @typedef {Request | BestRequest | LineAfterRequest} Asked what a worker is asked */
 /** @typedef {import("./steps.js").Step} Step */
 
 /**
@@ -166,14 +167,24 @@ export const checkRequest = (scramble, solution) => ({
   solution: takenLine(solution, "the solution"),
 });
 
+/**
+ * A scramble and the moves so far.
+ * @param {unknown} scramble
+ * @param {unknown} soFar
+ */
+const bothOf = (scramble, soFar) =>
+  ({ scramble: takenLine(scramble, "the scramble"), soFar: takenLine(soFar, "the moves so far") });
+
+/** @param {unknown} scramble @param {unknown} [soFar] @returns {LineAfterRequest} */
+export const lineAfterRequest = (scramble, soFar = "") => ({ call: "lineAfter", ...bothOf(scramble, soFar) });
+
 /** The orientations that are looked at. */
 const ALL_AXES = ORIENTATIONS.map(({ name }) => name);
 
 /** @param {unknown} scramble @param {unknown} [options] @returns {BestRequest} */
 export const bestRequest = (scramble, options = {}) => ({
   call: "best",
-  scramble: takenLine(scramble, "the scramble"),
-  soFar: takenLine(optionOf(options, "soFar", ""), "the moves so far"),
+  ...bothOf(scramble, optionOf(options, "soFar", "")),
   slack: wholeNumber(optionOf(options, "slack", 0), "the slack", MOST_TURNS),
   most: boundOf(options, "most", "the greatest number of rows", MOST_TOLD),
   nodes: boundOf(options, "nodes", "the greatest number of nodes"),

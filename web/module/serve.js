@@ -1,5 +1,5 @@
 // The engine's side of a worker: the first message brings the module, and each later one is answered.
-import { bestTold } from "./best.js";
+import { bestTold, lineAfterTold } from "./best.js";
 import { Bounded } from "./bounded.js";
 import { Engine } from "./engine.js";
 import { Nissy } from "./nissy.js";
@@ -80,6 +80,18 @@ function pieceReply(engine, request) {
 }
 
 /**
+ * What a worker sends of one request.
+ * @param {Engine} engine
+ * @param {Asked} request
+ * @param {import("./best.js").TellProgress} tell
+ * @returns {Reply}
+ */
+function replyTo(engine, request, tell) {
+  if (request.call === "best") return bestReply(engine, request, tell);
+  return request.call === "lineAfter" ? lineAfterTold(new Nissy(engine), request) : engine.answer(request);
+}
+
+/**
  * Has an engine answer what comes through a port.
  * @param {Port} port
  */
@@ -91,7 +103,7 @@ export function serve(port) {
       return;
     }
     const tell = (/** @type {import("./best.js").BestProgress} */ progress) => port.postMessage({ id, progress });
-    const reply = request.call === "best" ? bestReply(engine, request, tell) : engine.answer(request);
+    const reply = replyTo(engine, request, tell);
     port.postMessage({ id, reply }, buffersOf(reply));
   });
 }

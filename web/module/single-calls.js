@@ -1,10 +1,10 @@
 // Calls of an engine as promises that are one request each, by whatever answers it: a worker, or one of several.
 import {
-  checkIn, countIn, factsIn, formPlacesIn, lineIn, linesIn, outputLinesIn, solutionsIn, tokensIn,
+  checkIn, countIn, factsIn, formPlacesIn, lineAfterIn, lineIn, linesIn, outputLinesIn, solutionsIn, tokensIn,
 } from "./replies.js";
 import {
-  checkRequest, countRequest, factsRequest, lineRequest, optionOf, runRequest, scrambleRequest, scramblesRequest,
-  solutionsRequest, solveRequest, stepsRequest,
+  checkRequest, countRequest, factsRequest, lineAfterRequest, lineRequest, optionOf, runRequest, scrambleRequest,
+  scramblesRequest, solutionsRequest, solveRequest, stepsRequest,
 } from "./requests.js";
 import { signalOf } from "./signals.js";
 import { solutionsLaterBy } from "./solutions.js";
@@ -16,6 +16,7 @@ import { solutionsLaterBy } from "./solutions.js";
 /** @typedef {import("./replies.js").Count} Count */
 /** @typedef {import("./replies.js").Solution} Solution */
 /** @typedef {import("./replies.js").Solutions} Solutions */
+/** @typedef {import("./requests.js").LineAfterRequest} LineAfterRequest */
 /** @typedef {import("./requests.js").OneRequest} OneRequest */
 /** @typedef {import("./requests.js").Wanted} Wanted */
 /** @typedef {import("./signals.js").Stoppable} Stoppable */
@@ -28,7 +29,10 @@ import { solutionsLaterBy } from "./solutions.js";
  * @typedef {import("./steps.js").StepName<Name>} StepName
  */
 
-/** @typedef {(request: OneRequest, options?: Stoppable) => Promise<any>} Ask returns what the engine does */
+/**
+ * @typedef {(request: OneRequest | LineAfterRequest, options?: Stoppable) => Promise<any>} Ask returns what the engine
+ * does
+ */
 
 /** The calls of `Nissy` that are one request each. What these throw, the promises are rejected with. */
 export class SingleCalls {
@@ -109,6 +113,11 @@ export class SingleCalls {
   /** @param {Text} scramble @param {Text} solution @param {Stoppable} [options] @returns {Promise<Check>} */
   async check(scramble, solution, options) {
     return checkIn(await this.#ask(checkRequest(scramble, solution), options));
+  }
+
+  /** @param {Text} scramble @param {Text} [soFar] @param {Stoppable} [options] @returns {Promise<string>} */
+  async lineAfter(scramble, soFar, options) {
+    return lineAfterIn(await this.#ask(lineAfterRequest(scramble, soFar), options));
   }
 
   /** @param {Stoppable} [options] @returns {Promise<Step[]>} */

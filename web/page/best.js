@@ -55,8 +55,9 @@ export class BestContinuations {
   /** @type {Row[]} those that are seen */
   #seen = [];
 
-  /** @param {import("./calls.js").Calls[]} finders of its own, one an axis @param {import("./calls.js").Calls} calls
-   * that tell more of rows that are seen @param {import("./best-row.js").RowActs & {shown: () => void}} acts */
+  /** @param {import("./calls.js").Calls[]} finders of its own, one an axis
+   * @param {import("./calls.js").Calls} calls that tell more of rows that are seen
+   * @param {import("./best-row.js").RowActs & {shown: () => void}} acts */
   constructor(finders, calls, acts) {
     this.#finders = finders;
     this.#reductions = new ShownReductions(calls, this.#body);

@@ -60,8 +60,9 @@ export class Calls {
   }
 
   /** What the engine says. Rejects with a `NissyFault` if lines can't be read.
-   * @template {keyof Answers} Name @param {Name} call @param {Parameters<Answers[Name]>[1]} about
-   * @param {(progress: any) => void} [followed] @returns {Promise<ReturnType<Answers[Name]>>} */
+   * @template {keyof Answers} Name
+   * @param {Name} call @param {Parameters<Answers[Name]>[1]} about @param {(progress: any) => void} [followed]
+   * @returns {Promise<ReturnType<Answers[Name]>>} */
   async ask(call, about, followed) {
     this.#asked++;
     try {

@@ -1,5 +1,6 @@
 // What is left of rows: by what is chosen, by the corners and edges of their cases, by turns that are typed, by the
 // last.
+import { facesOnAxisOf } from "../module/best-steps.js";
 import { withTwins } from "../module/twins.js";
 import { announce, announceLater, counted, element, part, tell } from "./element.js";
 import { ORIENTATIONS, SIDES, reducedAfter, sizeOfCase, stateOf } from "./steps.js";
@@ -15,8 +16,6 @@ export const NOT_MOVES = "The text in the filter is not moves: type face turns s
 const MOST_OF_CASE = { corners: ["7", "6", "5", "4", "3", "2", "0"], edges: ["6", "4", "2", "0"] };
 /** How many moves in all the best may be asked to have at most. */
 const TOTALS = ["7", "8", "9", "10", "11", "12", "13"];
-/** Of two turns of opposite faces, which may stand in either order, the lists have these first. */
-const FIRST_OF_AXIS = { D: "U", L: "R", B: "F" };
 
 /** Offers choices, of which the first leaves all; the one that is chosen stays, if it is among them.
  * @param {string} name of the field @param {string[]} choices @param {string} [first] what the first is called */
@@ -56,13 +55,13 @@ export function caseAtMost(name, casesOf) {
   return { fields: [`${name}-corners`, `${name}-edges`], test };
 }
 
-/** Turns as the lists have them, where neighbours of opposite faces are the other way round.
+/** Turns as the lists have them: those of opposite faces, which may stand in either order, as their axis names them.
  * @param {string[]} turns */
 function inListOrder(turns) {
   const ordered = [...turns];
   for (let at = 1; at < ordered.length; at++) {
     const [one, other] = [ordered[at - 1], ordered[at]];
-    if (FIRST_OF_AXIS[one[0]] === other[0]) ordered.splice(at - 1, 2, other, one);
+    if (facesOnAxisOf(one[0]) === other[0] + one[0]) ordered.splice(at - 1, 2, other, one);
   }
   return ordered;
 }

@@ -18,11 +18,9 @@ const MOST_KEPT = 10_000;
  * @type {Progress} */
 const NOTHING = { done: 0, all: 0, rows: [], isCut: false };
 
-/** @param {Row} row @returns how far the case of a row is; it matters only before its reduction */
-const farness = ({ next, far }) => (next === null ? 0 : far);
-
-/** @param {Row} one @param {Row} other */
-export const byCase = (one, other) => farness(one) - farness(other);
+/** By how far the cases of two rows are, which matters only before their reductions: both have one then.
+ * @param {Row} one @param {Row} other */
+export const byCase = (one, other) => (one.next === null ? 0 : one.far - other.far);
 
 /** A question about what is longer than what was found.
  * @param {Question} question @param {number} known by how much longer that is @param {Progress} before */

@@ -14,29 +14,24 @@ import { MOST_ARE_KEPT, NO_ROOM } from "./words.js";
 /** @typedef {import("./steps.js").Part} Part */
 /** @typedef {import("./position.js").KeptWalk} KeptWalk */
 
-/** @param {Part[]} parts @param {string} next @returns what a candidate is known by */
-const nameOf = (parts, next) => [bracketed(parts), next].join(" ").trim();
-
-/** @param {Candidate} candidate */
-const nameOfCandidate = ({ parts, next }) => nameOf(parts, next);
+/** @param {Pick<Candidate, "parts" | "next">} candidate @returns what it is known by */
+const nameOf = ({ parts, next }) => [bracketed(parts), next].join(" ").trim();
 
 /** @param {Candidate} candidate @returns what a candidate is called where it is said */
 const saidOf = ({ parts, next }) => spoken(bracketed(parts)) + (next === "" ? "" : `, ${stateOf(stepNamed(next))}`);
 
-/** What is kept once a line is starred, or no longer if it was, and whether it is.
- * @param {Candidate[]} candidates @param {Part[]} parts @param {string} next
- * @returns {{kept: Candidate[], isKept: boolean}} */
+/** What is kept once a line is starred, or no longer if it was.
+ * @param {Candidate[]} candidates @param {Part[]} parts @param {string} next @returns {Candidate[]} */
 function withStar(candidates, parts, next) {
-  const others = candidates.filter((each) => nameOfCandidate(each) !== nameOf(parts, next));
-  const isKept = others.length === candidates.length;
-  return { kept: isKept ? [...others, { parts, note: "", next }] : others, isKept };
+  const others = candidates.filter((each) => nameOf(each) !== nameOf({ parts, next }));
+  return others.length === candidates.length ? [...others, { parts, note: "", next }] : others;
 }
 
 /** What is kept once others join, and why not all of them do, or "".
  * @param {Candidate[]} candidates @param {Candidate[]} others */
 export function withOthers(candidates, others) {
   // of a line that is there twice the first place counts, and the last note
-  const all = new Map([...candidates, ...others, ...candidates].map((each) => [nameOfCandidate(each), each]));
+  const all = new Map([...candidates, ...others, ...candidates].map((each) => [nameOf(each), each]));
   return { kept: [...all.values()].slice(0, MOST_CANDIDATES), why: all.size > MOST_CANDIDATES ? MOST_ARE_KEPT : "" };
 }
 
@@ -157,10 +152,10 @@ export class KeptCandidates {
    * @param {Candidate[]} candidates */
   show(candidates) {
     if (candidates === this.#candidates) return;
-    const names = this.#names();
+    const [before, after] = [this.#candidates, candidates].map((all) => all.map(nameOf).join("\n"));
     this.#candidates = candidates;
     // rows stay where they are, since the press that ends a note may be on a button of one
-    if (names === this.#names()) {
+    if (before === after) {
       for (const [at, { note }] of candidates.entries()) {
         if (this.#notes[at].value !== note) this.#notes[at].value = note;
       }
@@ -175,9 +170,11 @@ export class KeptCandidates {
 
   /** Keeps a line, or takes it away if it is kept.
    * @param {import("./address.js").State} state @param {HTMLElement} pressed under which is said why it isn't kept
-   * @param {Part[]} parts @param {string} [next] the reduction that it is kept with */
+   * @param {Part[]} parts
+   * @param {string} [next] the reduction that it is kept with */
   star(state, pressed, parts, next = "") {
-    const { kept, isKept } = withStar(state.kept, parts, next);
+    const kept = withStar(state.kept, parts, next);
+    const isKept = kept.length > state.kept.length;
     if (kept.length > MOST_CANDIDATES) return tellAt(pressed, MOST_ARE_KEPT);
     if (!fitsAddress({ ...state, kept })) return tellAt(pressed, NO_ROOM);
     withoutMoving(part("results"), () => (isKept ? this.#acts.change(kept) : this.leave(kept)));
@@ -208,10 +205,6 @@ export class KeptCandidates {
     if (isFocused && count === 0) part("kept-heading").focus({ preventScroll: true });
   }
 
-  #names() {
-    return this.#candidates.map(nameOfCandidate).join("\n");
-  }
-
   /** Shows what the engine says of the candidates after a scramble, unless it is shown already.
    * @param {string} scramble by its face turns @param {string} written as it is copied */
   async describe(scramble, written) {
@@ -231,7 +224,7 @@ export class KeptCandidates {
 
   /** @param {Part[]} parts @param {string} [next] @returns whether a line is kept, by itself or with a reduction */
   has(parts, next = "") {
-    return this.#candidates.some((each) => nameOfCandidate(each) === nameOf(parts, next));
+    return this.#candidates.some((each) => nameOf(each) === nameOf({ parts, next }));
   }
 
   /** The candidates with their walks, in the order that is chosen. */
@@ -262,7 +255,7 @@ export class KeptCandidates {
 
   #item({ candidate, walk, at }) {
     const { parts, note } = candidate;
-    const [name, said, next] = [nameOfCandidate(candidate), saidOf(candidate), walk?.next ?? null];
+    const [name, said, next] = [nameOf(candidate), saidOf(candidate), walk?.next ?? null];
     const act = (word, control, click) =>
       button(word, { class: "quiet", "data-control": `${control} ${name}`, "aria-label": `${word}: ${said}`, click });
     const field = element("input", {

@@ -1,10 +1,10 @@
 // The card of the line so far: the steps that were taken, each of which may be edited or taken away, undo, moves by
 // hand, the switch of sides, and the whole to copy.
 import { Stopped } from "../module/faults.js";
+import { plainLine } from "../module/written.js";
 import { copy, fmcOf } from "./copying.js";
 import { announce, button, counted, element, shownMoves, part, spoken, tell } from "./element.js";
 import { bracketed, isReduced, newlyReached, otherSide, statesOf } from "./steps.js";
-import { typedLine } from "./typed.js";
 import { showFault, wordsOfLeftOut } from "./words.js";
 
 /** @typedef {import("./steps.js").Part} Part */
@@ -58,7 +58,7 @@ function takeLines(field) {
     const text = event.clipboardData.getData("text/plain").trim().replace(/\r\n?/g, "\n");
     if (!text.includes("\n") || text.length > LONGEST_PASTED) return;
     event.preventDefault();
-    const { line, leftOut } = typedLine(text);
+    const { line, leftOut } = plainLine(text);
     document.execCommand("insertText", false, line);
     tell(part("own-read"), wordsOfLeftOut(leftOut));
   });
@@ -190,8 +190,7 @@ export class LineSoFar {
     const act = (word, click) => button(word, { class: "quiet", "aria-label": `${word} ${spoken(text)}`, click });
     const { moves, reaches, lost, count } = this.#words[index];
     return element("li", {},
-      element("span", { class: "step" },
-        moves, reaches, lost, element("span", { class: "note" }, count)),
+      element("span", { class: "step" }, moves, reaches, lost, element("span", { class: "note" }, count)),
       element("span", { class: "acts" },
         act("Edit", () => this.#edit(index)), act("Remove", () => this.#replace(index, [], 1))));
   }
@@ -265,7 +264,7 @@ export class LineSoFar {
     const [text, parts] = [field.value, this.#parts];
     // what was sent twice, or changed since, isn't added; nor is it to another line
     const isStill = () => field.value === text && this.#parts === parts && field.isConnected;
-    const plain = typedLine(text);
+    const plain = plainLine(text);
     try {
       const added = await this.#calls.ask("readByHand", { text: plain.line, side });
       if (!isStill()) return;

@@ -45,8 +45,7 @@ export function readByHand(nissy, { text, side }) {
   return runs.map((run) => ({ side: run.side, moves: nissy.unniss(run.moves) })).filter(({ moves }) => moves !== "");
 }
 
-/** @typedef {{line: string, fault: import("../module/faults.js").FaultParts}} Unread a line, and why it can't be
- * read */
+/** @typedef {{line: string, fault: import("../module/faults.js").FaultParts}} Unread a line, and why it isn't read */
 
 /** The steps of some lines of text, as solvers write them, up to the first that can't be read.
  * @param {Nissy} nissy @param {import("../module/written.js").PlainLine[]} steps
@@ -84,11 +83,7 @@ export function readWritten(nissy, { steps, candidates }) {
  * @param {Nissy} nissy @param {Part[]} parts @returns {Part[]} */
 function readSteps(nissy, parts) {
   nissy.unniss(bracketed(parts));
-  const turnsOf = (moves) => {
-    const line = nissy.unniss(moves);
-    return FACE_TURNS.test(line) ? line : withoutTurns(nissy.cleanup(moves));
-  };
-  return parts.map(({ side, moves }) => ({ side, moves: turnsOf(moves) })).filter(({ moves }) => moves !== "");
+  return parts.flatMap(({ side, moves }) => readByHand(nissy, { text: moves, side }));
 }
 
 /** A candidate of an address, read as its steps are; one that can't be read stays, and is said to be so.

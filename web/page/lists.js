@@ -8,7 +8,7 @@ import { joined, otherSide } from "./steps.js";
 
 /** @typedef {import("../module/nissy.js").Nissy} Nissy */
 /** @typedef {import("./address.js").List} List */
-/** @typedef {import("./steps.js").Lines} Lines */
+/** @typedef {import("../module/ways.js").Position} Position */
 /** @typedef {import("../module/twins.js").Twins & {total?: number, cases?: Record<string, string>, begin?:
  * import("./steps.js").Part, line?: string, reached?: string | null}} Entry a solution, with all moves and cases if
  * these are known; if it is split `length` counts all its moves, `begin` are those on the other side, and `line` is the
@@ -41,7 +41,7 @@ function beginningsWith(step, count) {
 }
 
 /** The solutions of a step with some moves on the other side, the fewest in all and longer ones by a slack.
- * @param {Nissy} nissy @param {List} list @param {Lines} now the cube
+ * @param {Nissy} nissy @param {List} list @param {Position["lines"]} now the cube
  * @returns {{solutions: Entry[], whole: boolean}} */
 function splitSolutions(nissy, { step, side, slack, split }, now) {
   const beginnings = beginningsWith(step, split).map((turns) => turns.join(" ")).map((moves) => (
@@ -59,7 +59,7 @@ function splitSolutions(nissy, { step, side, slack, split }, now) {
 }
 
 /** The solutions of a step on one side that are at most so many moves longer, and whether these are all.
- * @param {Nissy} nissy @param {List} list @param {Lines} now the cube
+ * @param {Nissy} nissy @param {List} list @param {Position["lines"]} now the cube
  * @returns {{solutions: Entry[], whole: boolean}} */
 function ownSolutions(nissy, { step, side, slack, isAll }, now) {
   const found = nissy.solve(step, now[side], { slack, most: MOST_LISTED + 1 });
@@ -69,23 +69,13 @@ function ownSolutions(nissy, { step, side, slack, isAll }, now) {
   return { solutions, whole: found.length <= MOST_LISTED };
 }
 
-/** @param {Entry[]} solutions @returns {Map<Entry["begin"], Entry[]>} by what they begin with on the other side */
-function byBeginning(solutions) {
-  const groups = new Map();
-  for (const each of solutions) {
-    const group = groups.get(each.begin);
-    if (group) group.push(each);
-    else groups.set(each.begin, [each]);
-  }
-  return groups;
-}
-
 /** Tells of solutions all moves with each, if moves were made before, and puts those with the fewest first.
- * @param {Nissy} nissy @param {Entry[]} solutions @param {import("../module/ways.js").Position} position
- * @param {List} list */
+ * @param {Nissy} nissy @param {Entry[]} solutions @param {Position} position @param {List} list */
 function withTotals(nissy, solutions, position, { side, split = 0 }) {
   if (countOf(position) === 0 || solutions.length > MOST_WITH_CASES) return solutions;
-  const counted = [...byBeginning(solutions)].flatMap(([begin, entries]) => {
+  const beginnings = [...new Set(solutions.map(({ begin }) => begin))];
+  const counted = beginnings.flatMap((begin) => {
+    const entries = solutions.filter((each) => each.begin === begin);
     const before = begin === undefined ? position : afterPart(nissy, position, begin);
     const own = entries.map(({ moves, length }) => ({ moves, length: length - split }));
     const totals = totalsWith(nissy, before, side, own);
@@ -94,7 +84,7 @@ function withTotals(nissy, solutions, position, { side, split = 0 }) {
   return counted.sort((one, other) => one.total - other.total || one.length - other.length);
 }
 
-/** @param {Nissy} nissy @param {{list: List, position: import("../module/ways.js").Position}} asked @returns {Rows} */
+/** @param {Nissy} nissy @param {{list: List, position: Position}} asked @returns {Rows} */
 export function rowsOfList(nissy, { list, position }) {
   const now = position.lines;
   const isSplit = list.split > 0;

@@ -1,5 +1,6 @@
 // The page's state, and what each change of it makes the parts of the page show.
 import { NissyFault, Stopped } from "../module/faults.js";
+import { plainLine } from "../module/written.js";
 import { emptyState, hasLines, readAddress } from "./address.js";
 import { BestContinuations } from "./best.js";
 import { Readiness } from "./calls.js";
@@ -15,10 +16,7 @@ import { ScrambleField } from "./scramble.js";
 import { SolutionList } from "./solutions.js";
 import { ORIENTATIONS, bracketed, isReduced, reductionOf, stateOf, stepNamed } from "./steps.js";
 import { StepTable, cubeWithOffers } from "./table.js";
-import {
-  awaitAnswer, isBare, keepInView, listenToKeys, setUsable, showBeginning, showStart, star,
-} from "./view.js";
-import { typedLine } from "./typed.js";
+import { awaitAnswer, isBare, keepInView, listenToKeys, setUsable, showBeginning, showStart, star } from "./view.js";
 import { tellFailed } from "./watch.js";
 import { titleOfPage, unanswered, whyNotListed, whyUnread } from "./words.js";
 
@@ -194,7 +192,7 @@ export class Page {
     this.#cube = null;
     this.#readiness.stop();
     this.#calls.drop();
-    const asked = cubeWithOffers(this.#calls, { text: typedLine(scramble).line, parts });
+    const asked = cubeWithOffers(this.#calls, { text: plainLine(scramble).line, parts });
     // what is wrong is said where it is waited for
     asked.catch(() => {});
     document.title = titleOfPage(this.#state);
@@ -238,7 +236,7 @@ export class Page {
     const { parts } = this.#state;
     const reached = walk.reached.at(-1);
     // as it was typed, if what follows names the faces so
-    const written = isTurned ? scramble : typedLine(this.#state.scramble).line.trim().replace(/ +/g, " ");
+    const written = isTurned ? scramble : plainLine(this.#state.scramble).line.trim().replace(/ +/g, " ");
     const [{ facts }, made] = [views.normal, walk.totals.at(-1)];
     this.#cube = { scramble, written, position: walk.now, reached, facts, made };
     const count = parts.reduce((sum, { moves }) => sum + moves.split(" ").length, 0);

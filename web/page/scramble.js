@@ -2,10 +2,10 @@
 // the text, examples, random scrambles from a seed, and the fold of it if the page is narrow.
 import { Stopped } from "../module/faults.js";
 import { readAttempts } from "../module/attempts.js";
+import { plainLine } from "../module/written.js";
 import { LONGEST_SCRAMBLE } from "./address.js";
 import { announce, announceLater, button, counted, element, part, tell } from "./element.js";
-import { asTyped, typedLine } from "./typed.js";
-import { withoutMoving } from "./view.js";
+import { areBeside, withoutMoving } from "./view.js";
 import { showFault, wordsOfLeftOut } from "./words.js";
 
 /** @typedef {import("../module/attempts.js").Attempt} Attempt */
@@ -15,13 +15,15 @@ import { showFault, wordsOfLeftOut } from "./words.js";
 const PAUSE = 150;
 const SEEDS = "A seed is a whole number from 0 to 18,446,744,073,709,551,615.";
 const TURNS_LEFT_OUT = "the turns of the whole cube are left out, so U stays the face that was U.";
-const NARROW = "(max-width: 59.99rem)";
 
 /** A seed that nobody chose. */
 const freshSeed = () => String(crypto.getRandomValues(new Uint32Array(1))[0]);
 
+/** @param {{line: string}} plain @returns {string} it with the apostrophe that one types */
+const asTyped = ({ line }) => line.replace(/\u2019/g, "'");
+
 /** @param {{line: string}} plain @returns it with single blanks, by which two scrambles are compared */
-const spaced = ({ line }) => asTyped(line).trim().replace(/ +/g, " ");
+const spaced = (plain) => asTyped(plain).trim().replace(/ +/g, " ");
 
 export class ScrambleField {
   #calls;
@@ -48,7 +50,8 @@ export class ScrambleField {
   /** how many kept lines a way leads back to */
   left = 0;
 
-  /** @param {import("./calls.js").Calls} calls @param {(scramble: string, change: ScrambleChange) => void} changed */
+  /** @param {import("./calls.js").Calls} calls
+   * @param {(scramble: string, change: ScrambleChange) => void} changed */
   constructor(calls, changed) {
     this.#calls = calls;
     this.#changed = changed;
@@ -96,7 +99,7 @@ export class ScrambleField {
     clearTimeout(this.#timer);
     this.tellLeft(0);
     this.#mark(this.#attempts.findIndex((each) => spaced(each.scramble) === spaced({ line: scramble })));
-    if (typedLine(this.#field.value).line !== scramble) {
+    if (asTyped(plainLine(this.#field.value)) !== scramble) {
       this.#field.value = scramble;
       this.#leftOut = this.#others;
     }
@@ -109,7 +112,7 @@ export class ScrambleField {
    * @param {Error | null} fault @param {{line: string, isTurned: boolean} | null} read */
   judge(fault, read) {
     const text = this.#field.value;
-    const plain = typedLine(text);
+    const plain = plainLine(text);
     this.#markPlace(text, showFault(part("scramble-fault"), this.#field, plain, fault, text));
     // of what is typed not after each sign
     if (fault) announceLater(part("scramble-fault").firstChild.textContent);
@@ -157,7 +160,7 @@ export class ScrambleField {
     const focused = document.activeElement;
     part("scramble-card").classList.toggle("folded", isFolded);
     const isWithin = part("scramble-open").contains(focused);
-    if (isFolded && matchMedia(NARROW).matches && isWithin) part("scramble-edit").focus({ preventScroll: true });
+    if (isFolded && !areBeside() && isWithin) part("scramble-edit").focus({ preventScroll: true });
   }
 
   /** Marks a place in the field, by a text behind it.
@@ -183,7 +186,7 @@ export class ScrambleField {
 
   /** @param {boolean} isReplaced by a text that was pasted: by another scramble, if it isn't the same again */
   #read(isReplaced) {
-    const plain = typedLine(this.#field.value);
+    const plain = plainLine(this.#field.value);
     const attempts = readAttempts(this.#field.value);
     this.#take(attempts, 0, { isReplaced, isPart: spaced(attempts[0].scramble) !== spaced(plain) });
   }
@@ -201,7 +204,7 @@ export class ScrambleField {
    * @param {{isReplaced: boolean, isPart: boolean}} how `isPart`: whether its scramble isn't all that the field has */
   #take(attempts, at, { isReplaced, isPart }) {
     const { name, scramble, steps, candidates, before } = attempts[at];
-    const line = isPart ? spaced(scramble) : asTyped(scramble.line);
+    const line = isPart ? spaced(scramble) : asTyped(scramble);
     if (isPart) this.#field.value = line;
     const fmc = steps.length + candidates.length > 0 ? attempts[at] : null;
     const isNew = this.#isOther(spaced(scramble), isReplaced, fmc !== null);
@@ -266,7 +269,7 @@ export class ScrambleField {
     this.#seed.value = seed;
     // of several that are asked for at once the last one counts, whose seed is shown
     const draw = ++this.#draws;
-    const show = (fault) => showFault(part("seed-fault"), this.#seed, typedLine(seed), fault, seed);
+    const show = (fault) => showFault(part("seed-fault"), this.#seed, plainLine(seed), fault, seed);
     try {
       const scramble = await this.#calls.ask("scrambleOf", { seed });
       if (draw !== this.#draws) return;

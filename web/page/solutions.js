@@ -7,9 +7,7 @@ import {
   Filters, NOT_MOVES, caseAtMost, chosen, offerChoices, offerLastTurns, offerMoves, withTurns,
 } from "./filter.js";
 import { addRows, named, roveWithin, showRows, starButton, takeButton, takeNamed } from "./rows.js";
-import {
-  axisName, barred, bracketed, farnessOf, reductionsAfter, sizeOfCase, stateOf, stepNamed, titleOf,
-} from "./steps.js";
+import { axisName, barred, bracketed, reductionsAfter, sizeOfCase, stateOf, stepNamed, titleOf } from "./steps.js";
 import { isNarrow } from "./view.js";
 
 /** @typedef {import("./address.js").List} List */
@@ -226,7 +224,7 @@ export class SolutionList {
 
   /** @param {Entry} entry @returns the nearest case of an entry, and how far it is */
   #nearest(entry) {
-    const cases = this.#casesOf(entry).map(({ name }) => ({ name, far: farnessOf(sizeOfCase(name)) }));
+    const cases = this.#casesOf(entry).map(({ name }) => ({ name, far: sizeOfCase(name).far }));
     return cases.sort((one, other) => one.far - other.far)[0] ?? { name: "unknown case", far: Infinity };
   }
 

@@ -4,13 +4,12 @@ import { FACES_OF, ORIENTATIONS, REDUCTIONS, reductionsAfter, stepNamed } from "
 import { SIDES } from "../module/sides.js";
 
 export { ORIENTATIONS, REDUCTIONS, reductionsAfter, stepNamed } from "../module/best-steps.js";
-export { SIDES, bracketed, joined, movesOn, otherSide } from "../module/sides.js";
+export { SIDES, bracketed, joined, otherSide } from "../module/sides.js";
 
 /** @typedef {import("../module/facts.js").Axis} Axis */
 /** @typedef {import("../module/best-steps.js").StepOnAxis} OfferedStep */
 /** @typedef {import("../module/sides.js").Part} Part one step of a line */
 /** @typedef {import("../module/sides.js").Side} Side */
-/** @typedef {{normal: string, inverse: string}} Lines a cube, as lines of moves that give it on each side */
 
 /** @param {string} name @returns {name is Side} whether it names a side */
 export const isSide = (name) => SIDES.some((side) => side === name);
@@ -23,8 +22,7 @@ export const stateOf = (step) => `${step.needs === null ? "EO" : "DR"} ${axisNam
 
 /** What may be reached by a reduction where some orientations hold.
  * @param {string[]} orientations by the names of their steps */
-export const reducedAfter = (orientations) =>
-  [...new Set(orientations.flatMap(reductionsAfter).map(stateOf))];
+export const reducedAfter = (orientations) => [...new Set(orientations.flatMap(reductionsAfter).map(stateOf))];
 
 /** @param {OfferedStep} step @returns what a step is called on the page */
 export const titleOf = (step) =>
@@ -32,9 +30,8 @@ export const titleOf = (step) =>
 
 /** The steps that may start where others are reached, and aren't reached themselves.
  * @param {string[]} reached */
-export const openSteps = (reached) =>
-  [...ORIENTATIONS, ...REDUCTIONS]
-    .filter(({ name, needs }) => !reached.includes(name) && (needs === null || reached.includes(needs)));
+export const openSteps = (reached) => [...ORIENTATIONS, ...REDUCTIONS]
+  .filter(({ name, needs }) => !reached.includes(name) && (needs === null || reached.includes(needs)));
 
 /** Steps in groups: orientations, and then reductions, if there are any.
  * @param {OfferedStep[]} steps */
@@ -69,16 +66,12 @@ export function newlyReached({ reached }, index) {
 export const barred = ({ side, moves }, beginning = null) =>
   ({ side, moves: beginning === null ? moves : `${beginning} |${moves.slice(beginning.length)}` });
 
-/** @typedef {{corners: number, edges: number}} Size how many there are of each */
-
-/** @param {string} name such as `4c2e` @returns {Size} the numbers in the name of a case */
+/** @param {string} name such as `4c2e` @returns the numbers in the name of a case, and how far it is, to sort by: an
+ * edge costs about as much as a corner */
 export function sizeOfCase(name) {
   const [corners, edges] = name.match(/\d+/g).map(Number);
-  return { corners, edges };
+  return { corners, edges, far: corners + edges };
 }
-
-/** @param {Size} size @returns how far a case is, to sort by: an edge costs about as much as a corner */
-export const farnessOf = ({ corners, edges }) => corners + edges;
 
 /** What solvers choose a step by: bad edges, or the case.
  * @param {import("../module/facts.js").Facts} facts @param {OfferedStep} step */

@@ -3,8 +3,8 @@ import { announce, part } from "./element.js";
 import { offerLast, store, stored } from "./last.js";
 
 const EDGE = 16;
-/** Where the columns stand beside each other. */
-const BESIDE = "(min-width: 60rem)";
+/** Whether the columns stand beside each other. */
+export const areBeside = () => matchMedia("(min-width: 60rem)").matches;
 
 /** Whether the page is as narrow as a phone's. */
 export const isNarrow = () => matchMedia("(max-width: 37.5rem)").matches;
@@ -50,7 +50,7 @@ function showFocused(column, focused) {
 export function keepInView(column) {
   const place = () => {
     // where nothing stays the browser keeps still what is read, but not beside a change of this
-    if (matchMedia(BESIDE).matches) column.style.top = `${Math.min(EDGE, innerHeight - column.offsetHeight - EDGE)}px`;
+    if (areBeside()) column.style.top = `${Math.min(EDGE, innerHeight - column.offsetHeight - EDGE)}px`;
   };
   new ResizeObserver(place).observe(column);
   addEventListener("resize", place);
@@ -75,7 +75,7 @@ export function setUsable(usable) {
 /** Scrolls to what follows a step; on a narrow page to the results, after the last step to the line, below or beside.
  * @param {boolean} isFinished */
 export function showStart(isFinished) {
-  if (!matchMedia(BESIDE).matches) return part(isFinished ? "line" : "results").scrollIntoView({ block: "start" });
+  if (!areBeside()) return part(isFinished ? "line" : "results").scrollIntoView({ block: "start" });
   scrollTo({ top: 0, behavior: "instant" });
   // no further than to its end, so that what is beside it stays in view
   if (isFinished) part("whole").scrollIntoView({ block: "nearest" });

@@ -53,15 +53,15 @@ const visible = (text) => text.replace(/\s/g, " ").replace(/[\p{Cc}\p{Cf}]/gu, "
 
 /** @param {string} line @param {number} place @returns the word that stands at a place, up to a blank or a bracket */
 function wordAt(line, place) {
-  const word = [.../^[^\s()]*/.exec(line.slice(place))[0]];
+  const word = [.../^[^\s()]*/.exec(line.slice(place))[0].replace(/\u2019/g, "'")];
   return visible(word.slice(0, LONGEST_WORD).join("")) + (word.length > LONGEST_WORD ? "…" : "");
 }
 
 /** A move that ends as no move does, such as `R1` or `F-1`, if it stands at a place: all of it, and its letters.
  * @param {string} line @param {number} place that can't be read @returns {{word: string, letters: string} | null} */
 function oddMove(line, place) {
-  const begin = /([UDRLFB]w?|[MESudrlfbxyz])['2]?$/.exec(line.slice(0, place));
-  const isOdd = /^(?:[-+*^'0-9]|i(?!\p{L}))/u.test(line.slice(place));
+  const begin = /([UDRLFB]w?|[MESudrlfbxyz])['\u20192]?$/.exec(line.slice(0, place));
+  const isOdd = /^(?:[-+*^'\u20190-9]|i(?!\p{L}))/u.test(line.slice(place));
   return begin && isOdd ? { word: begin[0] + wordAt(line, place), letters: begin[1] } : null;
 }
 
@@ -109,8 +109,9 @@ function marked(text, place) {
 }
 
 /** Shows a fault under its field, or takes the last one away; returns where it is in the text, or null.
- * @param {HTMLElement} where @param {HTMLElement} field @param {import("../module/written.js").PlainLine} plain what
- * the engine read @param {Error | null} fault @param {string} text what was typed @returns {number | null} */
+ * @param {HTMLElement} where @param {HTMLElement} field
+ * @param {import("../module/written.js").PlainLine} plain what the engine read
+ * @param {Error | null} fault @param {string} text what was typed @returns {number | null} */
 export function showFault(where, field, plain, fault, text) {
   where.hidden = fault === null;
   where.replaceChildren();
