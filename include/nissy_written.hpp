@@ -209,7 +209,7 @@ inline std::size_t behind_number_of_moves(std::string_view text, std::size_t beg
 // What ends a label after its words: a number of moves, and a colon.
 inline std::size_t behind_colon(std::string_view text, std::size_t begin) {
     const std::size_t number = sign_at(text, begin).code == ' ' ? begin + 1 : begin;
-    const std::size_t at = behind_blanks(text, behind_end_of_number(text, number, behind_open_number(text, number)));
+    const std::size_t at = behind_blanks(text, behind_number_of_moves(text, number));
     const written_sign sign = sign_at(text, at), next = sign_at(text, at + sign.size);
     const bool is_colon = sign.code == ':' && (next.size == 0 || is_blank(next.code));
     return is_colon || sign.code == 0xff1a ? at + sign.size : begin;

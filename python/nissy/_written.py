@@ -23,8 +23,8 @@ _MOVES_MADE = re.compile("([(\\[][0-9]+(?:/[0-9]+)?(?: moves?)?[)\\]])", re.IGNO
 # What stands before the moves of a line, such as "EO:" or "Final solution (24):", with its words: _is_label tells what
 # is one.
 _LABEL = re.compile(
-    f"{_BEGIN}(([^\\W_]{{2,}}(?: [^\\W_]+){{0,2}})(?: ?[(\\[][0-9]+(?:/[0-9]+)?[)\\]])?[{BLANKS}]*"
-    f"(?::(?=[\n{BLANKS}]|\\Z)|\uff1a))?")
+    f"{_BEGIN}(([^\\W_]{{2,}}(?: [^\\W_]+){{0,2}})(?: ?[(\\[][0-9]+(?:/[0-9]+)?(?: [Mm][Oo][Vv][Ee][Ss]?)?[)\\]])?"
+    f"[{BLANKS}]*(?::(?=[\n{BLANKS}]|\\Z)|\uff1a))?")
 # words of a label by which moves without brackets would belong to the inverse: no line says so without them
 _OTHER_SIDE = {"inverse", "inv", "niss", "premove", "premoves", "switch"}
 # what may be a move, so that a colon after it is at fault

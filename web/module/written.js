@@ -17,13 +17,18 @@ const APOSTROPHE = "\u2019";
 const UNSEEN = /[\u200B-\u200D\u2060\uFEFF]/;
 const COMMAS = /[,;]/;
 
+/** A number of moves, such as `(2)`, `[1/5]` or `(12 moves)`. */
+const MOVES_MADE = "[([]\\d+(?:/\\d+)?(?: [Mm][Oo][Vv][Ee][Ss]?)?[)\\]]";
+
 /**
  * What stands before the moves of a line, such as `EO:` or `Final solution (24):`. As in the forms below, what is meant
  * is caught, and nothing if something else follows the blanks: so these are gone through once, however many lines they
  * end.
  */
-const LABEL =
-  /^[^\S\n]*(\p{L}[\p{L}\p{N}]+(?: [\p{L}\p{N}]+){0,2}(?: ?[([]\d+(?:\/\d+)?[)\]])?[^\S\n]*(?::(?=\s|$)|\uFF1A))?/gmu;
+const LABEL = new RegExp(
+  `^[^\\S\\n]*(\\p{L}[\\p{L}\\p{N}]+(?: [\\p{L}\\p{N}]+){0,2}(?: ?${MOVES_MADE})?[^\\S\\n]*(?::(?=\\s|$)|\uFF1A))?`,
+  "gmu",
+);
 /** A word of a label by which moves without brackets would belong to the inverse: no line says so without them. */
 const OTHER_SIDE = /^(?:inverse|inv|niss|premoves?|switch)$/i;
 /** What may be a move, so that a colon after it is at fault. */
@@ -34,7 +39,7 @@ const HAS_BRACKET = /^(?:(?!\/\/).)*?\((?!\s*\d)/;
 /** What is left out as a whole, and what it is called; the last name counts. */
 const LEFT_OUT = [
   { form: LABEL, name: "labels" },
-  { form: /([([]\d+(?:\/\d+)?(?: moves?)?[)\]])/gi, name: "numbers of moves" },
+  { form: new RegExp(`(${MOVES_MADE})`, "g"), name: "numbers of moves" },
   { form: /(\/\/[^\n]*)/g, name: "comments" },
   { form: /^[^\S\n]*(\d+[.)])?/gm, name: "line numbers" },
   { form: /^[^\S\n]*(scramble[^\S\n]*:)?/gim, name: "the word Scramble" },
