@@ -148,10 +148,12 @@ inline void read_steps(attempt &made, std::string_view text, const written_block
     for (const written_block &block : listed) made.candidates.push_back(candidate_of(text, block));
 }
 
-// Whether a line after the first one says what its moves are.
-inline bool is_told_further(const written_block &block) {
-    const std::size_t begin = std::min<std::size_t>(block.size(), 1);
-    return std::any_of(block.data() + begin, block.data() + block.size(), [](const written_line &line) { return line.is_told; });
+// How many lines a scramble has of its block. It may go on up to the label of the solution, else only its first line is one if others say what
+// they are, or if it has all of a scramble.
+inline std::size_t end_of_scramble(const written_block &first) {
+    if (first.empty() || first.front().is_whole) return std::min<std::size_t>(first.size(), 1);
+    const auto told = std::find_if(first.begin() + 1, first.end(), [](const written_line &line) { return line.is_told; });
+    return told == first.end() || is_solution(*told) ? static_cast<std::size_t>(told - first.begin()) : 1;
 }
 
 // An attempt of some lines, which have steps if one of them says what its moves are, if a blank one stands between moves, or if the first one has
@@ -163,8 +165,7 @@ inline attempt attempt_of(std::string_view text, const written_attempt &found) {
     written_blocks blocks = blocks_of(between(lines, before, lines.size()));
     blocks.resize(std::max<std::size_t>(blocks.size(), 1));
     written_block &first = blocks.front();
-    const bool is_whole = !first.empty() && first.front().is_whole;
-    const std::size_t end = is_whole || is_told_further(first) ? 1 : first.size();
+    const std::size_t end = end_of_scramble(first);
     attempt made;
     made.name = found.name;
     // of a text without form nothing is left out, so that all else than moves is at fault

@@ -218,6 +218,14 @@ def _attempt_with(text: str, name: str, scramble: _Lines, after: List[_Lines], b
         tuple(_candidate_of(text, block) for block in listed), before)
 
 
+def _end_of_scramble(first: _Lines) -> int:
+    """Returns how many lines a scramble has of its block. It may go on up to the label of the solution, else only its
+    first line is one if others say what they are, or if it has all of a scramble."""
+    told = next((at for at, line in enumerate(first) if at > 0 and line.is_told), len(first))
+    is_open = told == len(first) or first[told].is_solution
+    return told if is_open and not first[0].is_whole else 1
+
+
 def _attempt_of(text: str, name: str, lines: _Lines) -> Attempt:
     """Returns the attempt of some lines, which have steps if one of them says what its moves are, if a blank one stands
     between moves, or if the first one has all of a scramble."""
@@ -228,7 +236,7 @@ def _attempt_of(text: str, name: str, lines: _Lines) -> Attempt:
     has_whole = len(all_lines) > 1 and all_lines[0].is_whole
     if len(blocks) > 1 or has_whole or any(line.is_told for line in all_lines[1:]):
         first = blocks[0]
-        end = 1 if first[0].is_whole or any(line.is_told for line in first[1:]) else len(first)
+        end = _end_of_scramble(first)
         return _attempt_with(text, name, first[:end], [first[end:], *blocks[1:]], before)
     # of a text without form nothing is left out, so that all else than moves is at fault
     return _attempt_with(text, name, all_lines, [[]], before) if name else _attempt_with(text, name, lines, [[]], 0)

@@ -177,11 +177,14 @@ function candidateOf(text, block) {
 }
 
 /**
- * The lines of a scramble, and the blocks of those after it: the first has what follows without a blank line.
+ * The lines of a scramble, and the blocks of those after it: the first has what follows without a blank line. A scramble
+ * may go on up to the label of the solution, else only its first line is one if others say what they are.
  * @param {Line[][]} blocks
  */
 function parted([first, ...further]) {
-  const end = first.slice(1).some(isTold) || isWhole(first[0]) ? 1 : first.length;
+  const told = first.findIndex((line, at) => at > 0 && isTold(line));
+  const last = told < 0 ? first.length : isSolution(first[told]) ? told : 1;
+  const end = isWhole(first[0]) ? 1 : last;
   return { scramble: first.slice(0, end), after: [first.slice(end), ...further] };
 }
 
