@@ -3,7 +3,7 @@ left out. What comes of it is a line for the other calls, or it is at fault ther
 the one that the grammar has, so that it is told."""
 import re
 from itertools import chain
-from typing import Callable, Dict, Iterator, List, Match, NamedTuple, Optional, Pattern, Tuple, Union
+from typing import Callable, Dict, Iterator, List, Match, NamedTuple, Optional, Pattern, Tuple, Union, overload
 
 from ._given import Text, bytes_of, kind_of
 from ._tokens import FormPlace
@@ -135,6 +135,16 @@ def plain_line(text: Text) -> PlainLine:
     """A text as solvers write it as one line: without labels, comments, and numbers of lines and moves. `place_of` says
     where a fault or a form of the line stands in the text."""
     return plain_part(string_of(text), 0)
+
+
+@overload
+def place_of(found: Union[LineFault, FormPlace], plain: PlainLine, text: Text) -> TextPlace:
+    ...
+
+
+@overload
+def place_of(found: Union[Fault, FormPlace], plain: PlainLine, text: Text) -> Optional[TextPlace]:
+    ...
 
 
 def place_of(found: Union[Fault, FormPlace], plain: PlainLine, text: Text) -> Optional[TextPlace]:

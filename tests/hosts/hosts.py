@@ -213,6 +213,18 @@ def attempt_counts(form: Any) -> str:
     return f"{len(found)} {sum(len(it.steps) for it in found)} {sum(len(it.candidates) for it in found)}"
 
 
+def line_and_column(place: nissy.TextPlace | None) -> str:
+    """A place in a text."""
+    return "nowhere" if place is None else f"{place.line}:{place.column}"
+
+
+def attempt_check(it: nissy.AttemptCheck) -> str:
+    """What is said of an attempt: of its solution, its fault and its forms."""
+    fault = "" if it.fault is None else f"{it.fault.part}:{it.fault.column}:{it.fault.text}@{line_and_column(it.place)}"
+    forms = " ".join(f"{each.text}/{','.join(each.forms)}@{line_and_column(each.place)}" for each in it.forms)
+    return "|".join(["" if it.check is None else checked(it.check), fault, forms])
+
+
 class Python(Host):
     """The package, with a line in one form after another, and searches by one call after another."""
 
@@ -257,6 +269,8 @@ class Python(Host):
             return lines([*map(row, found), *(["cut"] if found.cut else [])])
         if call == "read_attempts":
             return attempts(given[0].decode(), self.line(given[0]))
+        if call == "check_attempts":
+            return "\n".join(map(attempt_check, nissy.check_attempts(self.line(given[0]))))
         if call == "attempt_counts":
             return attempt_counts(self.line(given[0]))
         written: Any = {"facts": facts, "tokens": tokens, "form_places": form_places, "check": checked, "plain_line": plain_line}.get(call, str)

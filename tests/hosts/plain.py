@@ -1,6 +1,6 @@
 #!/usr/bin/env python3
 """Texts as solvers write them, read by each host as one line and as attempts: the rows of tests/calls.tsv, and drawn texts, which all hosts read as
-Python does.
+Python does. The same attempts and others are checked, of which each host tells what other calls of Python's tell.
 
     tests/hosts/plain.py SEED COUNT HOST..
 
@@ -14,9 +14,10 @@ import time
 import unicodedata
 from typing import Iterator, List
 
-from hosts import Host, Python, hosts_of, told  # isort: skip
+from hosts import Host, Python, checked, hosts_of, line_and_column, told  # isort: skip
 
 import called
+import nissy
 from tally import Tally
 
 # of the letters that C++ knows from other signs
@@ -42,6 +43,9 @@ LONG = {"\r" * 1_000_000: "1 0 0", "1.\n" * 100_000: "1 0 0", "R U // x\n" * 50_
         "Final solution: R\n\n" * 20_000: "1 1 19999", "1. Scramble: R\n" * 20_000: "20000 0 0", "R' U' F D R' U' F\n" * 15_000: "1 14999 0",
         "Solution (1): R\nR (2) // EO\n" * 10_000: "1 19999 0"}
 SOON = 60
+# scrambles and solutions, of which many belong together, some have forms, and others are at fault
+CHECKED = ["R", "R'", "R\u2032", "R2", "R2'", "(R)", "(R')", "M", "M\u2019", "r Lw'", "x", "", "D (M2 r2\u2019)", "\u2028R, U", "U' R'", "R q", "(R",
+           "R\u00b4 \u00c9F", "R " * 257, "\U0001f600 R"]
 
 
 def wanted_lines() -> Iterator[List[str]]:
@@ -70,6 +74,34 @@ def drawn_sheets(draw: random.Random, count: int) -> Iterator[str]:
         yield "\n".join(draw.choice(HEADS) + draw.choice(RESTS) for _ in range(draw.randrange(12)))
 
 
+def drawn_solutions(draw: random.Random, count: int) -> Iterator[str]:
+    """Texts of scrambles with a solution each, which a comment or a label tells, or with none."""
+    for _ in range(count):
+        pairs = [(draw.choice(CHECKED), draw.choice(("{}", "{} // \u00e9", "EO: {}", "\n{}", "")).format(draw.choice(CHECKED)))
+                 for _ in range(draw.randrange(1, 5))]
+        yield "\n".join(f"{at}. {scramble}\n{solution}" for at, (scramble, solution) in enumerate(pairs, 1))
+
+
+def checks_by_calls(text: str) -> str:
+    """What other calls tell of the attempts of a text: `check`, `form_places`, and `place_of`."""
+    def of_fault(fault: nissy.LineFault, it: nissy.Attempt) -> str:
+        name, plain = ("scramble", it.scramble) if fault.line == 1 else ("solution", it.solution)
+        place = nissy.place_of(fault, plain, text) if plain else None
+        return f"|{name}:{fault.column}:{fault.text}@{line_and_column(place)}|"
+
+    def of_attempt(it: nissy.Attempt) -> str:
+        try:
+            solution = it.solution or nissy.plain_line("")
+            said = checked(nissy.check(it.scramble.line, solution.line))
+        except nissy.LineFault as fault:
+            return of_fault(fault, it)
+        forms = [f"{each.text}/{','.join(each.forms)}@{line_and_column(nissy.place_of(each, solution, text))}"
+                 for each in nissy.form_places(solution.line)]
+        return f"{said}||{' '.join(forms)}" if it.solution else "||"
+
+    return "\n".join(map(of_attempt, nissy.read_attempts(text)))
+
+
 def names_of(tally: Tally, lines: List[str]) -> None:
     """What is told of lines has each name of what may be left out."""
     tally.equal("each name is there", {name for it in lines for name in it.rpartition("\n")[2].split("|") if name}, ALL_NAMES)
@@ -85,6 +117,13 @@ def kinds_of(tally: Tally, sheets: List[str]) -> None:
     tally.holds("steps, and no solution that can be told", any(it[3] and it[4] == "none" for it in fields))
 
 
+def checks_of(tally: Tally, sheets: List[str]) -> None:
+    """What is told of checks has solved and unsolved attempts, faults of both parts, forms, and attempts without any."""
+    fields = [line.split("|") for it in sheets for line in it.split("\n")]
+    seen = {check[:1] + fault.partition(":")[0] + "forms" * (forms != "") for check, fault, forms in fields}
+    tally.equal("each kind of check is there", seen, {"1", "0", "1forms", "0forms", "scramble", "solution", ""})
+
+
 def times_of(tally: Tally, host: Host) -> None:
     """A host reads long texts in a time by their length: by its square they would take minutes."""
     for text, wanted in LONG.items():
@@ -98,8 +137,12 @@ def main() -> None:
     tally, python, (seed, count) = Tally(), Python(), map(int, sys.argv[1:3])
     draw = random.Random(seed)
     texts = {"plain_line": [each_sign(), *drawn(draw, count)], "read_attempts": list(drawn_sheets(draw, count))}
-    rows = {"plain_line": list(wanted_lines()), "read_attempts": list(called.rows("attempts"))}
+    attempts = list(called.rows("attempts"))
+    rows = {"plain_line": list(wanted_lines()), "read_attempts": attempts,
+            "check_attempts": [[text, checks_by_calls(text)] for text, _ in attempts]}
     ours = {call: [told(python, call, text.encode()) for text in those] for call, those in texts.items()}
+    texts["check_attempts"] = [*texts["read_attempts"], *drawn_solutions(draw, count)]
+    ours["check_attempts"] = list(map(checks_by_calls, texts["check_attempts"]))
     for host in hosts_of(sys.argv[3:]):
         for call, those in texts.items():
             for text, wanted in [*rows[call], *zip(those, ours[call])]:
@@ -109,6 +152,7 @@ def main() -> None:
     for call, check in (("plain_line", names_of), ("read_attempts", kinds_of)):
         check(tally, [wanted for _, wanted in rows[call]])
         check(tally, ours[call])
+    checks_of(tally, ours["check_attempts"])
     tally.end()
 
 

@@ -6,11 +6,12 @@
 What is read of a text is tried by tests/hosts. The last line is `N passed, M failed`, and the status is 1 where M isn't 0.
 """
 import array
+import json
 import pickle
 import sys
 import time
 from pathlib import Path
-from typing import Any, Callable, List
+from typing import Any, Callable, List, Tuple
 
 TOP = Path(__file__).resolve().parents[2]
 sys.path[:0] = [str(TOP / "python"), str(TOP / "tests")]
@@ -22,6 +23,17 @@ from tally import Tally, raised, tried
 untyped: Any = nissy
 MARKED = "EO: R\u2019, U\u0301 q // to try"
 SHEET = "Hello\n1. R U\r\nEO: F // \U0001f600 D q\r\n\nSolution:\rF U\u2019 q\n// a try\n2. D"
+# attempts, each with what is told of it by hand: a check, a fault with the sign at which it stands, and such a sign of each form
+CHECKED: List[Tuple[str, Any, Any, List[Any]]] = [
+    ("1. R U F\nEO: F' U\u2032 R' // \U0001f600", (True, 3, 3, ("apostrophe",)), None, [("U\u2019", ("apostrophe",), "U\u2032", 2, 8)]),
+    ("2. R U\nU' R // \u00e9", (False, 2, 2, ()), None, []),
+    ("3. D", None, None, []),
+    ("4. D q", None, (1, "scramble", 4, 4, "not a move", "q", 6, 6), []),
+    ("5. R (U\nU' M // not read", None, (1, "scramble", 4, 4, "bracket not closed", "(", 7, 6), []),
+    ("6. R\nR\u2019 F\u2032 Q // more", None, (2, "solution", 11, 7, "not a move", "Q", 10, 7), []),
+    # M' r is R and two of M's quarters back, so r' M is L2 R as faces
+    ("7. M' r\nr' M // slices", (True, 3, 2, ("slices", "lower_case")), None,
+     [("r'", ("lower_case",), "r' M", 12, 1), ("M", ("slices",), "M //", 12, 4)])]
 
 
 class Loud(str):
@@ -93,11 +105,50 @@ def places(tally: Tally) -> None:
         tally.equal(f"{type(other).__name__} has no place", nissy.place_of(other, plain, text), None)
 
 
+def checks(tally: Tally) -> None:
+    """A text as attempts that are checked."""
+    text = "\n".join(attempt for attempt, *_ in CHECKED)
+    wanted, begin = [], 0
+    for (attempt, check, fault, forms), name in zip(CHECKED, "1234567"):
+        def place(sign: str, line_at: int, column: int) -> Any:
+            return {"at": begin + attempt.index(sign), "line": line_at, "column": column}
+
+        said = check and {"solved": check[0], "moves": check[1], "clean_moves": check[2], "forms": list(check[3])}
+        of = fault and {"line": fault[0], "part": fault[1], "column": fault[2], "character": fault[3], "text": fault[4]}
+        each = [{"text": it[0], "forms": list(it[1]), "place": place(*it[2:])} for it in forms]
+        wanted.append({"name": f"{name}.", "check": said, "fault": of, "place": fault and place(*fault[5:]), "forms": each})
+        begin += len(attempt) + 1
+    for form in forms_of(text):
+        found = nissy.check_attempts(form)
+        tally.equal(f"checks of {type(form).__name__}", [it.as_dict() for it in found], wanted)
+        tally.equal("of these attempts", [it.attempt for it in found], nissy.read_attempts(text))
+    tally.equal("as values", [(it.check, [each[:2] for each in it.forms]) for it in found],
+                [(check, [each[:2] for each in forms]) for _, check, _, forms in CHECKED])
+    tally.equal("as JSON they stay", json.loads(json.dumps(wanted)), [it.as_dict() for it in found])
+    tally.equal("they can be pickled", [it.as_dict() for it in pickle.loads(pickle.dumps(found))], wanted)
+    tally.holds("no fault keeps its calls", all(it.fault is None or it.fault.__traceback__ is None for it in found))
+
+
+def odd_checks(tally: Tally) -> None:
+    """Checks of a text that is none, of one without moves, and of one that is too long."""
+    odds: List[Any] = [b"1. R U \xff\n2. D\nD'\xff // x", "1. R U \udcff\n2. D\nD'\udcff // x"]
+    for odd in odds:
+        first, second = nissy.check_attempts(odd)
+        tally.equal("a byte", (first.check, str(first.fault), first.place), (None, "scramble, column 6: not a move", (7, 1, 8)))
+        tally.equal("a later one", (second.check, str(second.fault), second.place), (None, "solution, column 3: not a move", (16, 3, 3)))
+    (none,) = nissy.check_attempts("")
+    tally.equal("no moves", none[1:], (None, None, None, ()))
+    long = "R" + "\U0001f600" * (nissy.MOST_INPUT // 4)
+    fault = raised(nissy.Fault, lambda: nissy.check_attempts(long))
+    tally.equal("too many bytes", fault and (fault.text, fault.line, fault.part), ("a line has at most 16,777,216 bytes", 1, "scramble"))
+
+
 def wrong_types(tally: Tally) -> None:
     """Values of a type that a call doesn't take, told in words of the caller's."""
     wide = array.array("H", [82, 0x155])
     fault, plain = nissy.LineFault(1, "not a move"), nissy.plain_line("q")
-    calls: List[Callable[[Any], object]] = [untyped.plain_line, untyped.read_attempts, lambda it: untyped.place_of(fault, plain, it)]
+    calls: List[Callable[[Any], object]] = [untyped.plain_line, untyped.read_attempts, untyped.check_attempts,
+                                           lambda it: untyped.place_of(fault, plain, it)]
     kinds: List[Any] = [(None, "None"), (3, "int"), (["R"], "list"), (wide, "items of 2 bytes each"), (memoryview(wide), "items of 2 bytes each")]
     for value, named in kinds:
         for call in calls:
@@ -125,4 +176,4 @@ def times(tally: Tally) -> None:
 
 
 if __name__ == "__main__":
-    tried(line, attempts, places, wrong_types, times)
+    tried(line, attempts, places, checks, odd_checks, wrong_types, times)
