@@ -1,7 +1,6 @@
 /* Makes the calls of the headers for C++ that standard input asks for, one on each line, and answers each on a line, as hosts.py says. */
-#include "nissy_attempts.hpp"
 #include "nissy_best.hpp"
-#include "nissy_names.hpp"
+#include "nissy_checks.hpp"
 #include "nissy_tokens.hpp"
 
 #include <iostream>
@@ -88,8 +87,7 @@ std::string seen(std::string_view line) {
            joined(facts.holds()) + axes;
 }
 
-std::string checked(std::string_view scramble, std::string_view solution) {
-    const nissy::verdict it = nissy::check(scramble, solution);
+std::string said_of(const nissy::verdict &it) {
     return std::to_string(it.solved) + " " + std::to_string(it.moves) + " " + std::to_string(it.clean_moves) + " " +
            joined(nissy::form_names(it.forms));
 }
@@ -176,6 +174,25 @@ std::string attempts_of(std::string_view text) {
     return joined(said, "\n");
 }
 
+// Where a fault or a form stands in a text.
+std::string said_of(const nissy::text_place &it) { return "@" + std::to_string(it.line) + ":" + std::to_string(it.column); }
+
+std::string said_of(const nissy::fault &it, const std::optional<nissy::text_place> &place) {
+    return std::string(it.part()) + ":" + std::to_string(it.column()) + ":" + std::string(it.text()) + (place ? said_of(*place) : "");
+}
+
+// What is said of each attempt of a text, each on a line: of its solution, of its fault, and of its forms.
+std::string checks_of(std::string_view text) {
+    std::vector<std::string> said;
+    for (const nissy::attempt_check &it : nissy::check_attempts(text)) {
+        std::vector<std::string> forms;
+        for (const nissy::form_in_text &each : it.forms)
+            forms.push_back(each.text + "/" + joined(nissy::form_names(each.forms)) + said_of(each.place));
+        said.push_back((it.check ? said_of(*it.check) : "") + "|" + (it.fault ? said_of(*it.fault, it.place) : "") + "|" + joined(forms, " "));
+    }
+    return joined(said, "\n");
+}
+
 // How many attempts a text has, and their steps and candidates.
 std::string counts_of(std::string_view text) {
     const std::vector<nissy::attempt> attempts = nissy::read_attempts(text);
@@ -239,13 +256,14 @@ std::string called(const std::string &call, std::istream &asked) {
     std::string hex, other;
     asked >> hex >> other;
     const exact line(hex);
-    if (call == "check") return checked(line.view(), exact(other).view());
+    if (call == "check") return said_of(nissy::check(line.view(), exact(other).view()));
     if (call == "line_after") return nissy::line_after(line.view(), exact(other).view());
     if (call == "facts") return seen(line.view());
     if (call == "stickers") return stickers_of(line.view(), exact(other).view());
     if (call == "tokens") return moves_of(line.view());
     if (call == "plain_line") return plain_of(line.view());
     if (call == "read_attempts") return attempts_of(line.view());
+    if (call == "check_attempts") return checks_of(line.view());
     if (call == "attempt_counts") return counts_of(line.view());
     if (call == "form_places") return forms_of(line.view());
     if (call == "invert") return nissy::invert(line.view());

@@ -1,10 +1,9 @@
-/* Text as solvers write it in C++: as a line, with the places of faults in it, and as attempts. */
+/* Text as solvers write it in C++: as a line, with the places of faults in it, and as attempts, which are checked. */
 #ifndef WRITTEN_HPP
 #define WRITTEN_HPP
 
 #include "nissy.hpp"
-#include "nissy_attempts.hpp"
-#include "nissy_names.hpp"
+#include "nissy_checks.hpp"
 
 #include "trial.h"
 
@@ -91,6 +90,63 @@ void attempts_are_read() {
     is(broken.at(0).scramble, "R \xff", {0, 1, 2}, {});
     is(broken.at(0).steps.at(0), "U", {5}, {});
     holds(nissy::read_attempts({}).size() == 1 && nissy::read_attempts({})[0].scramble.line.empty(), "one that is empty", "no text");
+}
+
+// An attempt has this verdict, and neither a fault nor a form.
+void is_checked(const nissy::attempt_check &it, bool solved, int moves, const char *of) {
+    holds(it.check && it.check->solved == solved && it.check->moves == moves && it.check->clean_moves == moves, "its verdict", of);
+    holds(it.check && it.check->forms == 0 && it.forms.empty(), "it has no forms", of);
+    holds(!it.fault && !it.place, "it has no fault", of);
+}
+
+// An attempt has this fault: in that part, in this column of it, and here in the text.
+void is_at_fault(const nissy::attempt_check &it, std::string_view part, std::size_t column, const nissy::text_place &place, const char *of) {
+    holds(it.fault && it.fault->code() == NISSY_NOT_A_MOVE && it.fault->text() == "not a move", "what is wrong", of);
+    holds(it.fault && it.fault->part() == part && it.fault->column() == column, "which part has it", of);
+    holds(it.place == place, "where it stands in the text", of);
+    holds(!it.check && it.forms.empty(), "nothing else is said of it", of);
+}
+
+// What is said of attempts, alone and after others with signs of several bytes.
+void attempts_are_checked() {
+    is_checked(nissy::check_attempts("R U F\n\nF' U' R'").at(0), true, 3, "solved");
+    is_checked(nissy::check_attempts("R U F\n\nF' U' R").at(0), false, 3, "not solved");
+    const std::vector<nissy::attempt_check> all =
+        nissy::check_attempts("\xf0\x9f\x98\x80 caf\xc3\xa9\n1. R\n\nR'\n2) U\nEO\xc3\xa9: U\xe2\x80\x99 q\n3) D q\n4) q\n\nq\n5) L\n");
+    is_checked(all.at(0), true, 1, "the first of many");
+    is_at_fault(all.at(1), "solution", 7, {36, 6, 9}, "EOé: U’ q");
+    is_at_fault(all.at(2), "scramble", 4, {43, 7, 6}, "3) D q");
+    is_at_fault(all.at(3), "scramble", 2, {48, 8, 4}, "4) q, which q is to solve");
+    holds(all.size() == 5 && all[4].attempt.name == "5)" && all[4].attempt.scramble.line == " L", "the last one", "5) L");
+    holds(!all[4].check && !all[4].fault && !all[4].place && all[4].forms.empty(), "nothing is said without a solution", "5) L");
+    is_at_fault(nissy::check_attempts("R \xff\n\nU").at(0), "scramble", 3, {2, 1, 3}, "a byte that isn't UTF-8");
+    is_at_fault(nissy::check_attempts("1. R // \xff\n\nR2 \xff").at(0), "solution", 4, {14, 3, 4}, "one behind such a byte");
+    const std::vector<nissy::attempt_check> empty = nissy::check_attempts({});
+    holds(empty.size() == 1 && !empty[0].check && !empty[0].fault && empty[0].forms.empty(), "one that is empty", "no text");
+    // valgrind takes half a minute to read so many bytes out of a text, so the attempt is made here
+    nissy::attempt of_blanks;
+    of_blanks.scramble.line.assign(NISSY_MOST_INPUT + 1, ' ');
+    try {
+        nissy::detail::check_of({}, of_blanks);
+        holds(0, "it throws", "16,777,217 blanks");
+    } catch (const std::length_error &thrown) {
+        holds(thrown.what()[0] != 0, "it says what", "16,777,217 blanks");
+    }
+}
+
+// Where the forms of a solution stand in its text: beside a byte that isn't UTF-8, of apostrophes that the line has otherwise, and two in one move.
+void forms_are_placed() {
+    static constexpr char TEXT[] = "1. R // \xff\n\nR\xe2\x80\xb2 M (f U2\xe2\x80\xb2)";
+    const nissy::attempt_check it = nissy::check_attempts(TEXT).at(0);
+    // those in brackets are inverted at the end: R' M U2 f' is L' x' U2 f'
+    holds(it.check && !it.check->solved && it.check->moves == 5 && it.check->clean_moves == 3 && it.check->forms == 31, "its verdict", TEXT);
+    const nissy::form_in_text wanted[] = {{"R\xe2\x80\x99", NISSY_APOSTROPHE, {11, 3, 1}}, {"M", NISSY_SLICES, {16, 3, 4}},
+                                          {"(", NISSY_BRACKETS, {18, 3, 6}}, {"f", NISSY_LOWER_CASE, {19, 3, 7}},
+                                          {"U2\xe2\x80\x99", NISSY_APOSTROPHE + NISSY_HALF_PRIME, {21, 3, 9}}, {")", NISSY_BRACKETS, {26, 3, 12}}};
+    const auto is = [](const nissy::form_in_text &one, const nissy::form_in_text &other) {
+        return one.text == other.text && one.forms == other.forms && one.place == other.place;
+    };
+    holds(std::equal(it.forms.begin(), it.forms.end(), std::begin(wanted), std::end(wanted), is), "its forms", TEXT);
 }
 
 } // namespace
