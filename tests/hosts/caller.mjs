@@ -87,6 +87,16 @@ function attemptCounts(text) {
   return [found.length, found.flatMap((it) => it.steps).length, found.flatMap((it) => it.candidates).length].join(" ");
 }
 
+const formNames = (forms) => forms.join().replaceAll("-", "_");
+const judged = ({ solved: is, moves, cleanMoves, forms }) => [Number(is), moves, cleanMoves, formNames(forms)].join(" ");
+
+/** What is told of an attempt: its check, its fault, and the forms of its solution. */
+function attemptTold({ check, fault, place, forms }) {
+  const at = ({ line, column }) => `@${line}:${column}`;
+  const wrong = fault ? `${fault.part}:${fault.column}:${fault.text}${at(place)}` : "";
+  return [check ? judged(check) : "", wrong, forms.map((it) => `${it.text}/${formNames(it.forms)}${at(it.place)}`).join(" ")].join("|");
+}
+
 // each call by an engine, and what is given to it
 const CALLS = {
   facts: async (engine, line) => seen(await engine.facts(lineOf(line))),
@@ -99,12 +109,10 @@ const CALLS = {
   attempt_counts: async (_, text) => attemptCounts(string(bytesOf(text))),
   form_places: async (engine, line) => {
     const told = await engine.formPlaces(lineOf(line));
-    return told.map(({ column, text, forms }) => [column, text, forms.join().replaceAll("-", "_")].join("/")).join(" ");
+    return told.map(({ column, text, forms }) => [column, text, formNames(forms)].join("/")).join(" ");
   },
-  check: async (engine, scramble, solution) => {
-    const { solved: is, moves, cleanMoves, forms } = await engine.check(lineOf(scramble), lineOf(solution));
-    return [Number(is), moves, cleanMoves, forms.join().replaceAll("-", "_")].join(" ");
-  },
+  check: async (engine, scramble, solution) => judged(await engine.check(lineOf(scramble), lineOf(solution))),
+  check_attempts: async (engine, text) => (await engine.checkAttempts(string(bytesOf(text)))).map(attemptTold).join("\n"),
   line_after: async (engine, scramble, soFar) => engine.lineAfter(lineOf(scramble), lineOf(soFar)),
   solve: async (engine, step, limit, slack, most, line) =>
     solved(await engine.solve(string(bytesOf(step)), lineOf(line), { limit: Number(limit), slack: Number(slack), most: numberOf(most) })),

@@ -246,6 +246,7 @@ const NO_WORDS = [
 /** What each place of a call is called, how it is filled, and which values it doesn't take, with the words that refuse them. */
 const PLACES = [
   ...["invert", "unniss", "cleanup", "facelets", "formPlaces"].map((call) => [call, "the line", (value) => [value], WRONG, NO_TEXT]),
+  ["checkAttempts", "the text", (value) => [value], [...WRONG, ["bytes", Uint8Array.of(0x52)], ["nothing", undefined]], "is no string"],
   ["run", "the input", (value) => [["unniss"], value], WRONG, NO_TEXT],
   ["run", "word 1", (value) => [[value, value], value], WRONG, NO_TEXT],
   ["run", "word 2", (value) => [["unniss", value], "R"], WRONG, NO_TEXT],

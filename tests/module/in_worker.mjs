@@ -4,7 +4,7 @@ import { performance } from "node:perf_hooks";
 import { Nissy, NissyWorker, loadNissy } from "../../web/module/node.js";
 import { WorkerCalls } from "../../web/module/worker-calls.js";
 import { tryEach, tryMany as tryManyLines, tryOptions, tryReadOptions, tryRows, tryWrongValues } from "./called.mjs";
-import { tryBounds, tryChecks, tryMixed } from "./judged.mjs";
+import { tryAttempts, tryBounds, tryChecks, tryMixed } from "./judged.mjs";
 import { ended, moduleBytes, same, text, thrown } from "./tally.mjs";
 
 const LONG = ["count", "eo", "R U F2 L D R B", { slack: 14 }];
@@ -46,6 +46,8 @@ async function trySignals(worker) {
   const reason = new RangeError("no more");
   const before = await thrown(() => worker.invert("R", { signal: AbortSignal.abort(reason) }));
   same("a signal that was given before", before, ["RangeError", "no more"]);
+  const attempts = await thrown(() => worker.checkAttempts("R\n\nR'", { signal: AbortSignal.abort(reason) }));
+  same("one that was given before attempts", attempts, ["RangeError", "no more"]);
   same("a signal of a time", (await thrown(() => long(worker, { signal: AbortSignal.timeout(20) })))[0], "TimeoutError");
   const [first, second] = [new AbortController(), new AbortController()];
   const running = thrown(() => long(worker, { signal: first.signal }));
@@ -68,10 +70,14 @@ async function trySignals(worker) {
   }
 }
 
+const CALLS_WITHOUT_OPTIONS = [
+  ["run", ["steps"], ""], ["invert", "R"], ["checkAttempts", "R"], ["steps"], ["scramble", 1, 2, 3], ["countAll", "eofb", []],
+];
+
 /** Options that are none: a room that is given by itself, as `Nissy` takes it, isn't lost without a word. */
 async function tryNoOptions(worker) {
   for (const wrong of [null, 2, "2", () => 2]) {
-    for (const [call, ...given] of [["run", ["steps"], ""], ["invert", "R"], ["steps"], ["scramble", 1, 2, 3], ["countAll", "eofb", []]]) {
+    for (const [call, ...given] of CALLS_WITHOUT_OPTIONS) {
       const refused = await thrown(() => worker[call](...given, wrong));
       same(`${call}: no options: ${String(wrong)}`, refused, ["TypeError", "the options are no object"]);
     }
@@ -298,7 +304,7 @@ await tryReadOptions(worker);
 await tryOwnOptions(worker);
 await tryNoOptions(worker);
 await tryMany(worker);
-for (const judge of [tryChecks, tryBounds, tryMixed]) await judge(worker);
+for (const judge of [tryChecks, tryAttempts, tryBounds, tryMixed]) await judge(worker);
 await tryBest(worker);
 await tryStopped(worker);
 await trySignals(worker);

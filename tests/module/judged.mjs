@@ -1,5 +1,5 @@
 // What is told of lines without a search, and searches with a bound on nodes: by `Nissy`, and by what has the same calls as promises.
-import { NissyFault, SearchCut } from "../../web/module/nissy.js";
+import { NissyFault, SearchCut, readAttempts } from "../../web/module/nissy.js";
 import { TURNS, same, thrown } from "./tally.mjs";
 
 // a call, and the fault that it throws: which line has it, its column and its message
@@ -22,6 +22,46 @@ export async function tryChecks(nissy) {
   same("no solution", await thrown(() => nissy.check("R")), ["TypeError", "the solution is neither a string nor a Uint8Array"]);
   same("no line", await thrown(() => nissy.facts()), ["TypeError", "the line is neither a string nor a Uint8Array"]);
   same("no lines", await thrown(() => nissy.factsAll("R")), ["TypeError", "the lines are no array"]);
+}
+
+const NOTHING = { check: null, fault: null, place: null, forms: [] };
+const form = (text, name, at, line, column) => ({ text, forms: [name], place: { at, line, column } });
+const atFault = (part, column, character, at, line, inLine) =>
+  ({ ...NOTHING, fault: [part, column, character, "not a move"], place: { at, line, column: inLine } });
+
+// what a text shows, the text, and what is told of each attempt
+const TEXTS = [
+  ["nothing", "", [NOTHING]],
+  ["a scramble alone", "R U", [NOTHING]],
+  ["a solution", "R U\n\nU' R'", [{ ...NOTHING, check: { solved: true, moves: 2, cleanMoves: 2, forms: [] } }]],
+  ["one that doesn't solve", "R U\n\nR R2", [{ ...NOTHING, check: { solved: false, moves: 2, cleanMoves: 1, forms: [] } }]],
+  ["a fault of a scramble alone", "1. R Q", [atFault("scramble", 4, 4, 5, 1, 6)]],
+  ["one beside a solution with a form", "R Q\n\nM", [atFault("scramble", 3, 3, 2, 1, 3)]],
+  ["faults of both", "R Q\n\nM Q", [atFault("scramble", 3, 3, 2, 1, 3)]],
+  ["one of a solution", "R\n\nM Q", [atFault("solution", 3, 3, 5, 3, 3)]],
+  ["one behind signs of several bytes", "1. R // \u00e9\u{1f600}\nR' // done\n\n2. D // \u00e9\u{1f600}\nSolution: D\u2032 Q\n\n3. F", [
+    { ...NOTHING, check: { solved: true, moves: 1, cleanMoves: 1, forms: [] } }, atFault("solution", 7, 5, 49, 5, 14), NOTHING,
+  ]],
+  // M r is R, as M is r' R
+  ["forms", "R' D\n\nD\u2032 M r", [{
+    ...NOTHING,
+    check: { solved: true, moves: 4, cleanMoves: 2, forms: ["slices", "lower-case", "apostrophe"] },
+    forms: [form("D\u2019", "apostrophe", 6, 3, 1), form("M", "slices", 9, 3, 4), form("r", "lower-case", 11, 3, 6)],
+  }]],
+];
+
+/** Each attempt of a text: what `check` says of it, or its fault, and where that and the forms stand in the text. */
+export async function tryAttempts(nissy) {
+  for (const [what, text, wanted] of TEXTS) {
+    const told = await nissy.checkAttempts(text);
+    same(`attempts of ${what}`, told.map(({ attempt }) => attempt), readAttempts(text));
+    same(`faults of ${what}`, told.every(({ fault }) => fault === null || fault instanceof NissyFault), true);
+    const parts = (fault) => fault && [fault.part, fault.column, fault.character, fault.text];
+    same(`checks of ${what}`, told.map(({ check, fault, place, forms }) => ({ check, fault: parts(fault), place, forms })), wanted);
+  }
+  const beyond = "\u2019".repeat(5_592_406);
+  const refused = ["RangeError", "the scramble has more bytes than the engine reads"];
+  same("an attempt of more bytes than are read", await thrown(() => nissy.checkAttempts(beyond)), refused);
 }
 
 /** A search that looks at 75 positions, with each bound: it is cut exactly below 75, and what it found begins the whole list. */

@@ -14,7 +14,7 @@ import { NissyPool, NissyWorker } from "../../web/module/node.js";
 import { Nissy } from "../../web/module/nissy.js";
 import { WorkerPool } from "../../web/module/pool.js";
 import { tryEach, tryOptions, tryReadOptions, tryRows, tryTooLong, tryWrongValues } from "./called.mjs";
-import { tryBounds, tryChecks, tryMixed } from "./judged.mjs";
+import { tryAttempts, tryBounds, tryChecks, tryMixed } from "./judged.mjs";
 import { TURNS, drawn, ended, moduleBytes, same, thrown } from "./tally.mjs";
 
 const LINES = 40_000;
@@ -97,7 +97,8 @@ async function tryWrong(pool) {
 
 /** Calls on one line have what `Nissy` has, and are given up by a signal. */
 async function trySingle(pool) {
-  for (const part of [tryRows, tryEach, tryTooLong, tryWrongValues, tryOptions, tryReadOptions, tryChecks, tryBounds, tryMixed]) await part(pool);
+  const parts = [tryRows, tryEach, tryTooLong, tryWrongValues, tryOptions, tryReadOptions, tryChecks, tryAttempts, tryBounds, tryMixed];
+  for (const part of parts) await part(pool);
   const line = "R U2 R'";
   same("facts of a line", await pool.facts(line), nissy.facts(line));
   same("a check", await pool.check(line, "R U2"), nissy.check(line, "R U2"));

@@ -1,8 +1,8 @@
 // A caller in TypeScript, who is told of what is wrong: tests/module.sh has tsc read this beside the types of the module.
 import {
   AXES, isStep, loadNissy, NET, Nissy, NissyFault, NissyPool, NissyWorker, placeOf, plainLine, readAttempts, SearchCut, startOf, stickersOf,
-  VERSION, type Attempt, type Axis, type Best, type BestRow, type Check, type Count, type EdgePlace, type Facts, type Form, type FormPlace,
-  type NetPlace, type PlainLine, type Solution, type Solutions, type Step, type TextPlace, type Token,
+  VERSION, type Attempt, type AttemptCheck, type Axis, type Best, type BestRow, type Check, type Count, type EdgePlace, type Facts, type Form,
+  type FormInText, type FormPlace, type NetPlace, type PlainLine, type Solution, type Solutions, type Step, type TextPlace, type Token,
 } from "./node.js";
 import { NissyPool as NissyPoolOfBrowsers, NissyWorker as NissyWorkerOfBrowsers } from "./browser.js";
 import type { CountReply, LineFault, LineReply, StartFault } from "./replies.js";
@@ -62,6 +62,15 @@ export function judged(nissy: Nissy): string {
   const inText: TextPlace | null = placeOf(where[0], plainLine("M"), "M");
   const [start, further]: (Step | null)[] = [startOf("dr-eofb"), startOf(steps[0])];
   return [solved, moves, cleanMoves, places, cases.ud, steps, names, where[0].forms, where[0].column, inText?.line, start, further].join(" ");
+}
+
+export async function checked(nissy: Nissy, worker: NissyWorker, pool: NissyPool, text: string, signal: AbortSignal): Promise<string> {
+  const later: AttemptCheck[][] = [await worker.checkAttempts(text, { signal }), await pool.checkAttempts(text)];
+  const [{ attempt, check, fault, place, forms }]: AttemptCheck[] = [...nissy.checkAttempts(text), ...later.flat()];
+  const each: FormInText[] = forms;
+  const names: Form[] = each.flatMap((form) => [...form.forms]);
+  const [of, told, wrong, where]: [Attempt, Check | null, NissyFault | null, TextPlace | null] = [attempt, check, fault, place];
+  return [of.name, told?.solved, wrong?.part, where?.line, each[0].text, each[0].place.column, names].join(" ");
 }
 
 export async function bounded(nissy: Nissy, worker: NissyWorker, step: string): Promise<number> {
@@ -161,6 +170,10 @@ export function wrong(nissy: Nissy, worker: NissyWorker): void {
   startOf("eofx");
   // @ts-expect-error an attempt may have no solution
   readAttempts("R U F")[0].solution.line.trim();
+  // @ts-expect-error nor then a check
+  nissy.checkAttempts("R U F")[0].check.solved.valueOf();
+  // @ts-expect-error a text is a string
+  nissy.checkAttempts(Uint8Array.of(0x52));
   // @ts-expect-error nothing may have to hold
   startOf("dr-eofb").trim();
   // @ts-expect-error a cut is told in one of two ways

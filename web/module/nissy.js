@@ -9,8 +9,10 @@
  * A call ends before it returns: a long search belongs into a worker, as `NissyWorker` of browser.js and of node.js has
  * one.
  */
+import { attemptChecksBy } from "./attempt-checks.js";
 import { bestTold, lineAfterTold } from "./best.js";
 import { Bounded } from "./bounded.js";
+import { stringOf } from "./bytes.js";
 import { Engine } from "./engine.js";
 import { NoWebAssembly } from "./faults.js";
 import {
@@ -59,6 +61,8 @@ export { placeOf, plainLine } from "./written.js";
 /** @typedef {import("./steps.js").Step} Step */
 /** @typedef {import("./attempts.js").Attempt} Attempt */
 /** @typedef {import("./attempts.js").AttemptCandidate} AttemptCandidate */
+/** @typedef {import("./attempt-checks.js").AttemptCheck} AttemptCheck */
+/** @typedef {import("./attempt-checks.js").FormInText} FormInText */
 /** @typedef {import("./stickers.js").NetPlace} NetPlace */
 /** @typedef {import("./written.js").PlainLine} PlainLine */
 /** @typedef {import("./written.js").TextPlace} TextPlace */
@@ -251,6 +255,15 @@ export class Nissy {
    */
   check(scramble, solution) {
     return checkIn(this.#answer(checkRequest(scramble, solution)));
+  }
+
+  /**
+   * Each attempt that `readAttempts` reads in a text, with what `check` says of it, and where in the text its fault and
+   * the forms of its solution stand.
+   * @param {string} text @returns {AttemptCheck[]}
+   */
+  checkAttempts(text) {
+    return attemptChecksBy(stringOf(text, "the text"), this);
   }
 
   /**

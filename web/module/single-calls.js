@@ -1,4 +1,7 @@
-// Calls of an engine as promises that are one request each, by whatever answers it: a worker, or one of several.
+// Calls of an engine as promises that are one request each, or are made of such calls, by whatever answers these: a
+// worker, or one of several.
+import { attemptChecksLaterBy } from "./attempt-checks.js";
+import { stringOf } from "./bytes.js";
 import {
   checkIn, countIn, factsIn, formPlacesIn, lineAfterIn, lineIn, linesIn, outputLinesIn, solutionsIn, tokensIn,
 } from "./replies.js";
@@ -9,6 +12,7 @@ import {
 import { signalOf } from "./signals.js";
 import { solutionsLaterBy } from "./solutions.js";
 
+/** @typedef {import("./attempt-checks.js").AttemptCheck} AttemptCheck */
 /** @typedef {import("./bytes.js").Text} Text */
 /** @typedef {import("./facts.js").Check} Check */
 /** @typedef {import("./facts.js").Facts} Facts */
@@ -34,7 +38,10 @@ import { solutionsLaterBy } from "./solutions.js";
  * does
  */
 
-/** The calls of `Nissy` that are one request each. What these throw, the promises are rejected with. */
+/**
+ * The calls of `Nissy` that are one request each, and those made of them. What these throw, the promises are rejected
+ * with.
+ */
 export class SingleCalls {
   /** @type {Ask} */ #ask;
 
@@ -113,6 +120,16 @@ export class SingleCalls {
   /** @param {Text} scramble @param {Text} solution @param {Stoppable} [options] @returns {Promise<Check>} */
   async check(scramble, solution, options) {
     return checkIn(await this.#ask(checkRequest(scramble, solution), options));
+  }
+
+  /** @param {string} text @param {Stoppable} [options] @returns {Promise<AttemptCheck[]>} */
+  async checkAttempts(text, options) {
+    const read = stringOf(text, "the text");
+    const stoppable = { signal: signalOf(options) };
+    return attemptChecksLaterBy(read, {
+      check: (scramble, solution) => this.check(scramble, solution, stoppable),
+      formPlaces: (line) => this.formPlaces(line, stoppable),
+    });
   }
 
   /** @param {Text} scramble @param {Text} [soFar] @param {Stoppable} [options] @returns {Promise<string>} */
