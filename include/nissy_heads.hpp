@@ -39,19 +39,18 @@ inline bool has_written_word(std::string_view moves) {
     return letters == 3;
 }
 
-// Behind a move as solvers write it, or that place itself if none begins there.
-inline std::size_t behind_written_move(std::string_view text, std::size_t begin) {
-    static constexpr std::string_view CAPITALS = "UDRLFBMES", OTHERS = "udrlfbxyz";
+// Behind a move of these letters as solvers write it, or that place itself if none begins there.
+inline std::size_t behind_written_move(std::string_view letters, std::string_view text, std::size_t begin) {
     const auto is_sign = [](char32_t code) { return code == '2' || code == '\'' || code == 0x2019; };
-    const auto has = [=](std::string_view letters, std::size_t at) { return at < text.size() && letters.find(text[at]) != std::string_view::npos; };
-    if (has(CAPITALS, begin)) return behind(text, has("w", begin + 1) ? begin + 2 : begin + 1, is_sign);
-    const char32_t next = sign_at(text, begin + 1).code;
-    return has(OTHERS, begin) && (next < 'a' || next > 'z') ? behind(text, begin + 1, is_sign) : begin;
+    if (begin >= text.size() || letters.find(text[begin]) == std::string_view::npos) return begin;
+    const bool is_wide = is_capital(sign_at(text, begin).code) && sign_at(text, begin + 1).code == 'w';
+    return behind(text, is_wide ? begin + 2 : begin + 1, is_sign);
 }
+// Moves by capitals may stand close together, one by a small letter only alone: "My" is a word.
 inline bool is_written_moves(std::string_view word) {
     std::size_t at = 0;
-    for (std::size_t next; (next = behind_written_move(word, at)) > at; at = next) {}
-    return !word.empty() && at == word.size();
+    for (std::size_t next; (next = behind_written_move("UDRLFBMES", word, at)) > at; at = next) {}
+    return !word.empty() && (at == word.size() || behind_written_move("udrlfbxyz", word, 0) == word.size());
 }
 // Whether moves stand by themselves among other words.
 inline bool has_written_moves(std::string_view moves) {

@@ -23,7 +23,7 @@ _NUMBER_OR_EXTRA = re.compile(f"[{BLANKS}]*(?:[#(]?[0-9]+|E[0-9]+){_BEHIND_NUMBE
 # each three signs that may be small letters: isalpha tells letters from numbers
 _THREE = re.compile("(?=([^\\W_A-Z]{3}))")
 # a sentence has three such letters in a row, which no moves have, and no moves by themselves
-_WRITTEN_MOVES = re.compile("(?<![^ ()])(?:(?:[UDRLFBMES]w?|[udrlfbxyz](?![a-z]))[2'\u2019]*)+(?![^ ()])")
+_WRITTEN_MOVES = re.compile("(?<![^ ()])(?:(?:[UDRLFBMES]w?[2'\u2019]*)+|[udrlfbxyz][2'\u2019]*)(?![^ ()])")
 # what the WCA's scrambles begin and end with: such a line has all of one
 _WHOLE_SCRAMBLE = re.compile("R['\u2019] *U['\u2019] *F(?![w2'\u2019]).*R['\u2019] *U['\u2019] *F")
 # what solvers call the steps of a solution

@@ -33,7 +33,7 @@ const EXTRA = /^\s*E1(?=\s|$)/;
 const NUMBER_OR_EXTRA = /^\s*(?:[#(]?\d+|E\d+)(?:[.):](?!\d)|(?=\s|$))/;
 /** Three letters in a row that no moves have: a sentence has such a word, and no moves by themselves. */
 const WRITTEN_WORD = /(?:(?![A-Z])\p{L}){3}/u;
-const WRITTEN_MOVES = /(?:^|[\s()])(?:(?:[UDRLFBMES]w?|[udrlfbxyz](?![a-z]))[2'\u2019]*)+(?=[\s()]|$)/;
+const WRITTEN_MOVES = /(?:^|[\s()])(?:(?:[UDRLFBMES]w?[2'\u2019]*)+|[udrlfbxyz][2'\u2019]*)(?=[\s()]|$)/;
 /** What the WCA's scrambles begin and end with: such a line has all of one. */
 const WHOLE_SCRAMBLE = /^R['\u2019]\s*U['\u2019]\s*F(?![w2'\u2019]).*R['\u2019]\s*U['\u2019]\s*F$/;
 
