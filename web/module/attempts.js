@@ -19,15 +19,17 @@ import { labelOf, plainLine } from "./written.js";
  */
 
 /**
- * A line of the text, and its place there.
- * @typedef {{from: number, text: string}} Line
+ * A line of the text, its place there, and what is read of it.
+ * @typedef {{from: number, text: string, moves: string}} Line
  */
 
 /** What stands before each of several scrambles: a word, or a number as lists and the WCA's sheets have it. */
-const WORD = /^\s*(?:\d+[.)]\s*)?(?:scramble|attempt)\s*(?:#?\d+(?:\s*(?:of|\/)\s*\d+)?(?:\s*[-–.):]|(?=\s|$))|:)/i;
+const WORD_AND_NUMBER = String.raw`^\s*(?:\d+[.)]\s*)?(?:scramble|attempt)\s*`
+  + String.raw`(?:#?\d+(?:\s*(?:of|/)\s*\d+)?(?:\s*[-–.):]|(?=\s|$))`;
+const WORD = new RegExp(`${WORD_AND_NUMBER}|:)`, "i");
 const NUMBER = /^\s*(?:[#(]?\d+|extra\s*\d+)(?:[.):](?!\d)|(?=\s|$))/i;
 /** Both, beside each other: a word has to have a number then. */
-const NUMBERED = new RegExp(`${WORD.source.replace("|:)", ")")}|${NUMBER.source}`, "i");
+const NUMBERED = new RegExp(`${WORD_AND_NUMBER})|${NUMBER.source}`, "i");
 /** The extras of such a sheet: E2 is a move too, but not beside E1, which is none. */
 const EXTRA = /^\s*E1(?=\s|$)/;
 const NUMBER_OR_EXTRA = /^\s*(?:[#(]?\d+|E\d+)(?:[.):](?!\d)|(?=\s|$))/;
@@ -37,26 +39,24 @@ const WRITTEN_MOVES = /(?:^|[\s()])(?:(?:[UDRLFBMES]w?[2'\u2019]*)+|[udrlfbxyz][
 /** What the WCA's scrambles begin and end with: such a line has all of one. */
 const WHOLE_SCRAMBLE = /^R['\u2019]\s*U['\u2019]\s*F(?![w2'\u2019]).*R['\u2019]\s*U['\u2019]\s*F$/;
 
+/** @param {number} from @param {string} text @returns {Line} */
+const textLineAt = (from, text) => ({ from, text, moves: plainLine(text).line.trim() });
+
 /** @param {string} text @returns {Line[]} */
 function linesOf(text) {
   let from = 0;
   return text.split("\n").map((each) => {
     from += each.length + 1;
-    return { from: from - each.length - 1, text: each };
+    return textLineAt(from - each.length - 1, each);
   });
 }
 
 /** @param {Line} line */
 const isBlank = ({ text }) => text.trim() === "";
 
-/** @param {string} text @returns {string} */
-const movesOf = (text) => plainLine(text).line.trim();
-
 /** @param {Line} line @returns {boolean} whether it has letters, and isn't a sentence: what it has is to be read */
-function isMoves({ text }) {
-  const moves = movesOf(text);
-  return /\p{L}/u.test(moves) && (!WRITTEN_WORD.test(moves) || WRITTEN_MOVES.test(moves));
-}
+const isMoves = ({ moves }) =>
+  /\p{L}/u.test(moves) && (!WRITTEN_WORD.test(moves) || WRITTEN_MOVES.test(moves));
 
 /** @param {Line} line @returns {boolean} */
 const isProse = (line) => !isMoves(line);
@@ -65,7 +65,7 @@ const isProse = (line) => !isMoves(line);
 const isTold = ({ text }) => text.includes("//") || labelOf(text) !== "";
 
 /** @param {Line} line @returns {boolean} whether it has all of a scramble */
-const isWhole = ({ text }) => WHOLE_SCRAMBLE.test(movesOf(text));
+const isWhole = ({ moves }) => WHOLE_SCRAMBLE.test(moves);
 
 /** @param {Line} line @param {RegExp} word @returns {boolean} whether its label has such a word */
 const isLabelled = ({ text }, word) => labelOf(text).split(" ").some((each) => word.test(each));
@@ -103,7 +103,7 @@ function read(text, lines) {
  */
 function without(line, head) {
   const [name] = head.exec(line.text) ?? [""];
-  return { name, rest: { from: line.from + name.length, text: line.text.slice(name.length) } };
+  return { name, rest: name === "" ? line : textLineAt(line.from + name.length, line.text.slice(name.length)) };
 }
 
 /**
