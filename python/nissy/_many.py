@@ -173,7 +173,7 @@ def _count_of(lines: Iterable[Text]) -> Optional[int]:
 
 def _copied(line: Text) -> Text:
     """Returns a line as it is now. What is no line is refused later, with its number."""
-    if isinstance(line, (str, bytes)):
+    if isinstance(line, str):
         return line
     try:
         return bytes_of(line, "the line")
@@ -184,7 +184,9 @@ def _copied(line: Text) -> Text:
 def _lasting(lines: Iterable[Text], each: Iterator[Text]) -> Iterator[Text]:
     """Returns lines one by one, each as it is when it comes: an iterator may fill the same buffer anew for the next
     one."""
-    return each if _count_of(lines) is not None else map(_copied, each)
+    if _count_of(lines) is not None:
+        return each
+    return (line if type(line) is str else _copied(line) for line in each)
 
 
 def in_pieces(lines: Iterable[Text], asking: Asking[Value], threads: int,
