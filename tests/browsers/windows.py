@@ -1,5 +1,6 @@
 """Windows of any browser that is here. All that drives one is imported with this module, before there are threads: by Python 3.11 two threads that
 import at once may wait for each other without end."""
+import encodings.idna  # of the name of a host, for each connection
 import json
 import shutil
 from importlib.util import find_spec
