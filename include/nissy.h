@@ -163,7 +163,7 @@ nissy_run_answer nissy_run(const uint8_t *words, size_t words_length, const uint
  * write to it, and copy it as you like: a copy has the same tables. Any threads may ask it and its copies (nissy_solve, nissy_solve_after,
  * nissy_count, nissy_count_lines) at the same time. While nissy_build runs on a struct, no other call and no copy may read or write that
  * struct; its copies may be asked. What no call can see is undefined: fields that something else wrote, and a struct into which another
- * thread builds meanwhile. Such a call may find no tables, use those of either step, or end the program by a signal.
+ * thread builds meanwhile.
  *
  * Tables stay for as long as the process runs: there is no release, and so no use after one. So build those of a step once, and keep
  * them: a nissy_build into a struct without them takes their memory anew, 0.1 million bytes for an edge orientation, 1.2 million for a

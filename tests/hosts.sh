@@ -16,9 +16,12 @@ export NISSY_LIBRARY=$folder/libnissy.so.2
 if missing python3 || [ ! -e "$NISSY_LIBRARY" ]; then skips_all "there is no python3 here, or no library that make lib built"; fi
 typed tests/hosts/*.py
 # -O0 behind -O1, as in library.sh
-others=() sanitized=(-O0 "-fsanitize=address,undefined" -fno-sanitize-recover=all)
+others=()
+# shellcheck disable=SC2034 # by eval
+sanitized=(-O0 "-fsanitize=address,undefined" -fno-sanitize-recover=all)
 compiled() { g++ -std=c++17 -O1 -Wall -Wextra -Wpedantic -Werror -Iinclude "$@" -o "$room/caller" tests/hosts/caller.cpp "$folder/libnissy.a"; }
 if missing g++; then skips "C++, since there is no g++"; else
+    # shellcheck disable=SC2016 # the shell's own
     holds "caller.cpp compiles" eval 'compiled "${sanitized[@]}" || compiled'
     others+=("c++=$room/caller")
 fi

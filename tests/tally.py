@@ -1,7 +1,11 @@
 """Counts what holds and what doesn't, and the line that a script of the gate ends with."""
+import os
 import sys
-from typing import Any, Callable, Type
+from concurrent.futures import ThreadPoolExecutor
+from typing import Any, Callable, Iterable, List, Type, TypeVar
 
+Item = TypeVar("Item")
+Found = TypeVar("Found")
 
 class Tally:
     """What passed and what failed."""
@@ -33,6 +37,24 @@ def tried(*parts: Callable[[Tally], None]) -> None:
     for part in parts:
         part(tally)
     tally.end()
+
+
+def side_by_side(tally: Tally, count: int, call: Callable[[Item], Found], items: Iterable[Item]) -> List[Found]:
+    """What a call returns of each item, by so many threads. No thread may import: by Python 3.11 two that do so at once may wait for each other without
+    end. So what they need is imported before."""
+    before = set(sys.modules)
+    with ThreadPoolExecutor(count) as pool:
+        found = list(pool.map(call, items))
+    tally.equal("what threads imported", sorted(set(sys.modules) - before), [])
+    return found
+
+
+def made_again(kind: str, why: str) -> None:
+    """Says that something is tried once more, and counts it for the closing line of the whole run, in the file that tests/shared names."""
+    print(f"made again ({kind}): {why}", flush=True)
+    if os.environ.get("NISSY_MADE_AGAIN"):
+        with open(os.environ["NISSY_MADE_AGAIN"], "a", encoding="utf-8") as it:
+            it.write(f"{kind}\n")
 
 
 def raised(kind: Type[BaseException], call: Callable[[], object]) -> Any:

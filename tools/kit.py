@@ -6,11 +6,15 @@ import shutil
 import subprocess
 import sys
 import tempfile
+import threading
 from functools import lru_cache
 
 TOP = os.path.dirname(os.path.dirname(os.path.abspath(__file__)))
 # what a check reads of a crate
 PARTS = ("src", "specs", "proofs")
+# by crate whose turn it is to build what is below it, and the copy in which that is built
+TURNS: dict[str, threading.Lock] = {}
+TOPS: dict[str, str] = {}
 
 
 def listing() -> list[str]:
@@ -44,37 +48,18 @@ def built(crate: str, top: str) -> str:
     return f"{top}/crates/{crate}/out/rlib/{crate}.rlib"
 
 
-def keeps() -> bool:
-    """Whether `rt ci` can keep what it passes, which it does beside the kit where the disk has 5 GB left."""
-    beside = os.path.dirname(kit())
-    folder = f"{beside}/rattle-kept"
-    return os.access(folder if os.path.isdir(folder) else beside, os.W_OK) and shutil.disk_usage(beside).free > 5 << 30
-
-
-def goes_on(names: list[str]) -> bool:
-    """Whether the next check goes on from what checks left in this checkout: if they left work of one of these crates, or if `rt ci` keeps nothing.
-    While a gate runs here, the kit's other commands wait until it ends, so nothing goes on that needn't."""
-    left = "NISSY_GATE" not in os.environ and any(os.path.isdir(f"{TOP}/crates/{name}/out/incremental") for name in names)
-    return left or not keeps()
-
-
-@lru_cache(None)
 def build_below(crate: str) -> str:
-    """Proves and builds the libraries below a crate, and returns the top of the repository, or of a copy, below which they are built.
-
-    If the next check goes on from work in this checkout, `rt lib` proves the libraries whose texts are others than before: it compares the
-    texts and the kit, and not times. Else `rt ci` proves them from nothing in a copy. It keeps what passes, for the gate too, which takes no other
-    proofs: so nothing is proved twice. A library fits only those below it that it was built over, so the two kinds are never mixed."""
-    names = below(crate)
-    if not names or not goes_on(names):
-        return build_copy(names) if names else TOP
-    for name in names:
-        run_or_end(["rt", "lib"], f"{TOP}/crates/{name}", f"{name} is not proved")
-    return TOP
+    """Proves and builds the libraries below a crate, once, and returns the top of a copy of the repository below which they are built."""
+    with TURNS.setdefault(crate, threading.Lock()):
+        if crate not in TOPS:
+            TOPS[crate] = build(below(crate))
+        return TOPS[crate]
 
 
-def build_copy(names: list[str]) -> str:
-    """Proves and builds crates by `rt ci` in a copy, which lasts as long as this process, and returns its top."""
+def build(names: list[str]) -> str:
+    """Proves and builds crates, each with those below it among them, by `rt ci` in a copy that lasts as long as this process, and returns the copy's
+    top. `rt ci` keeps on this machine what passes, for the gate too, which takes no other proofs: so nothing is proved twice, and what earlier
+    commands left in the checkout is neither taken nor touched."""
     copy = tempfile.mkdtemp(prefix="nissy-proved-")
     atexit.register(shutil.rmtree, copy, ignore_errors=True)
     for name in names:
@@ -84,15 +69,30 @@ def build_copy(names: list[str]) -> str:
     shutil.copy(f"{TOP}/HANDLES", copy)
     # `rt ci` then takes it for the top of a repository, wherever it stands
     os.mkdir(f"{copy}/.git")
-    run_or_end(["rt", "ci"], copy, f"not all of these are proved: {' '.join(names)}")
+    if names:
+        run_or_end(["rt", "ci"], copy, f"not all of these are proved: {' '.join(names)}")
     return copy
 
 
 def run_or_end(words: list[str], folder: str, why: str) -> None:
-    """Runs a command in a folder. If it fails, this process shows what it said, and ends."""
-    ran = subprocess.run(words, cwd=folder, stdin=subprocess.DEVNULL, stdout=subprocess.PIPE, stderr=subprocess.STDOUT, text=True, check=False)
+    """Runs a command in a folder, and tells the error stream which crates it proved as soon as it says so. If it fails, this process shows all that
+    it said, and ends."""
+    said = []
+    with subprocess.Popen(words, cwd=folder, stdin=subprocess.DEVNULL, stdout=subprocess.PIPE, stderr=subprocess.STDOUT, text=True) as ran:
+        for line in ran.stdout or ():
+            said.append(line)
+            if line.startswith("rt: ") and line.endswith(" proved\n"):
+                print(line, end="", file=sys.stderr, flush=True)
     if ran.returncode:
-        sys.exit(f"{ran.stdout}{why}")
+        sys.exit(f"{''.join(said)}{why}")
+
+
+def made_again(kind: str, why: str) -> None:
+    """Says that something is tried once more, and counts it for the closing line of the tests, in the file that tests/shared names."""
+    print(f"made again ({kind}): {why}", flush=True)
+    if os.environ.get("NISSY_MADE_AGAIN"):
+        with open(os.environ["NISSY_MADE_AGAIN"], "a", encoding="utf-8") as it:
+            it.write(f"{kind}\n")
 
 
 def begin(crate: str, kept: str) -> None:

@@ -7,15 +7,15 @@ as they are seen, and what assistive technology is told that buttons and fields 
 import json
 import sys
 import tempfile
-from concurrent.futures import ThreadPoolExecutor
 from pathlib import Path
 
 sys.path.insert(0, str(Path(__file__).resolve().parent.parent))
 
 from net import letters_of, stickers_of
-from tally import Tally
+from tally import Tally, side_by_side
 from wanted import SIDES
-from windows import BROWSERS, DONE, Window, is_here
+from window import DONE, Window
+from windows import BROWSERS, is_here
 
 SCRAMBLE = "#scramble=R-_U-_F_D2_L2_F_R2_U2_R2_B_D2_L_B2_D-_B2_L-_R-_B-_D2_B2_R-_U-_F"
 BOTH = SCRAMBLE + "&steps=inverse.B_D_R_F2_B_D~normal.R_B-"
@@ -118,8 +118,7 @@ def main() -> None:
     tally = Tally()
     page = Path(sys.argv[1]).resolve().as_uri()
     here = [name for name in BROWSERS if is_here(name)]
-    with ThreadPoolExecutor(2) as pool:
-        found = dict(zip(here, pool.map(lambda name: all_shown(name, page), here)))
+    found = dict(zip(here, side_by_side(tally, 2, lambda name: all_shown(name, page), here)))
     names = [f"{STATES[at][0]}, {width} points" for (width, _), chosen in SIZES.items() for at in chosen] + ["in the tree"]
     for browser in here[1:]:
         for what, one, other in zip(names, found[browser], found[here[0]]):

@@ -7,7 +7,7 @@ import time
 from pathlib import Path
 from typing import Any
 
-from windows import PATIENCE, SEEN, Window
+from window import PATIENCE, SEEN, Window
 
 
 class Firefox(Window):

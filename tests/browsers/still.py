@@ -3,7 +3,7 @@ import time
 
 from browser import Browser
 from looks import SCRAMBLE
-from tally import Tally
+from tally import Tally, made_again
 
 STATES = (("a scramble", SCRAMBLE), ("an EO", SCRAMBLE + "&steps=inverse.B_D_R_F2_B_D"),
     ("a DR", SCRAMBLE + "&steps=inverse.B_D_R_F2_B_D~normal.R_B-~normal.D2_R"),
@@ -67,7 +67,7 @@ def opens(tally: Tally, browser: Browser, width: int) -> None:
     work, is shown before it is complete: so it is opened again."""
     for what, address in STATES:
         moved: list[list[str]] = []
-        for _ in range(4):
+        for more in (3, 2, 1, 0):
             begun = time.monotonic()
             browser.open(address)
             browser.wait_best()
@@ -76,6 +76,8 @@ def opens(tally: Tally, browser: Browser, width: int) -> None:
             moved = browser.script(SHIFTS, 0)
             if was_quick or not moved:
                 break
+            if more:
+                made_again("opening", f"{width}: {what}: it took more than 1.5 seconds")
         tally.equal(f"{width}: {what}: what moves while it is opened", moved, [])
 
 
@@ -114,11 +116,13 @@ def takes(tally: Tally, browser: Browser, width: int) -> None:
     """After a row of the best nothing can be pressed before the page went to the list; there its heading and its first row are seen."""
     for later in (0, 300):
         # one that takes more than a second, since the machine has other work, isn't waited for: so it is taken again
-        for _ in range(4):
+        for more in (3, 2, 1, 0):
             frames = take(browser, later)
             pressable = {scroll for may_press, scroll, _, _, _ in frames if may_press}
             if len(pressable) == 1:
                 break
+            if more:
+                made_again("list", f"{width}: {later}: it wasn't waited for")
         tally.holds(f"{width}: {later}: it may be pressed before and after: {pressable}", frames[-1][0] and not frames[0][0])
         tally.equal(f"{width}: {later}: how far the page is scrolled once it may be", pressable, {frames[-1][1]})
         if width < 960:

@@ -19,6 +19,8 @@ sys.path[:0] = [os.path.join(TOP, folder) for folder in ("python", "tests", os.p
 
 import nissy
 
+from tally import made_again
+
 Given = Union[bytes, int, str]
 AXES: List[nissy.Axis] = ["fb", "rl", "ud"]
 ALL = 2**64 - 1
@@ -93,7 +95,7 @@ class Caller(Host):
 
 class Other(Host):
     """Another program, with what runs it before its name. What wine writes among its error text is left out, and a run that fails without a word
-    of the program is made once more, and once again: a service of wine fails once in some hundred runs on a busy machine."""
+    of the program is made again, twice at most: a service of wine fails once in some hundred runs on a busy machine."""
 
     has_calls = False
 
@@ -101,13 +103,14 @@ class Other(Host):
         self.name, self.command = " ".join(map(os.path.basename, command)), command
 
     def run(self, words: List[str], data: bytes, room: int | None = None) -> Any:
-        for _ in range(3):
+        for more in (2, 1, 0):
             done = subprocess.run(self.command + words, input=data, capture_output=True, check=False)
             text = b"".join(line for line in done.stderr.splitlines(keepends=True) if not line.startswith(OF_WINE))
             # the program says why it fails
             if done.returncode == 0 or text or OF_CRASH in done.stderr:
                 break
-            print(f"once more, since wine said: {done.stderr!r}")
+            if more:
+                made_again("wine", f"it said {done.stderr!r}")
         return done.stdout, text, done.returncode, False
 
 

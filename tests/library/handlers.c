@@ -17,14 +17,10 @@ enum { STACK = 16 * 1024, HANDLED = 400, MICROSECONDS = 300 };
 static nissy_tables asked[SEARCH_COUNT];
 static volatile sig_atomic_t handled, wrong;
 
-/* A stack for the handler. The sanitizers themselves take more. */
+/* A stack for the handler. */
 static guarded stack_of_handler(void) {
     size_t laid = getauxval(AT_MINSIGSTKSZ);
-#if defined __SANITIZE_ADDRESS__
-    return guard(16 * STACK + laid);
-#else
     return guard(STACK + (laid ? laid : 4096));
-#endif
 }
 
 static int is_text(nissy_line_answer got, const uint8_t *out, const char *text) {

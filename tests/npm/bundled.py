@@ -20,7 +20,8 @@ sys.path[:0] = [str(TOP / "tests"), str(TOP / "tests/browsers")]
 
 from served import served
 from tally import Tally
-from windows import BROWSERS, Window, is_here
+from window import Window
+from windows import BROWSERS, is_here
 
 OF_TESTS = TOP / "tests/npm/bundled"
 

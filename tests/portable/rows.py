@@ -11,7 +11,6 @@ import signal
 import subprocess
 import sys
 import tempfile
-from concurrent.futures import ThreadPoolExecutor
 from pathlib import Path
 
 HERE = Path(__file__).resolve().parent
@@ -20,7 +19,7 @@ sys.path.insert(0, str(HERE.parent))
 from compilers import COMPILERS, Compiler
 from drawing import drawn
 from instructions import Tried, all_tried
-from tally import Tally
+from tally import Tally, side_by_side
 from translated import Row, by_c, by_node, make_modules, rows_of, translate, write_driver
 
 TOOLS = HERE.parent.parent / "tools"
@@ -82,9 +81,8 @@ def main() -> None:
         here = [it for it in COMPILERS if shutil.which(it.words[0]) and it.can_run()]
         for name in sorted({it.name for it in COMPILERS} - {it.name for it in here}):
             print(f"skipped: the small modules by {name}, which isn't here")
-        with ThreadPoolExecutor(4) as pool:
-            for compiler, wrong in zip(here, pool.map(lambda it: try_by(it, room, functions, calls, wanted), here)):
-                tally.holds(f"{compiler.name}, {len(calls)} calls of {len(functions)} functions: {wrong}", not wrong)
+        for compiler, wrong in zip(here, side_by_side(tally, 4, lambda it: try_by(it, room, functions, calls, wanted), here)):
+            tally.holds(f"{compiler.name}, {len(calls)} calls of {len(functions)} functions: {wrong}", not wrong)
         try_traps(tally, room, functions, [row for row, it in zip(rows, said) if it == "trap"])
     tally.end()
 

@@ -7,7 +7,6 @@ import shutil
 import subprocess
 import sys
 import tempfile
-from concurrent.futures import ThreadPoolExecutor
 from pathlib import Path
 
 HERE = Path(__file__).resolve().parent
@@ -15,7 +14,7 @@ sys.path.insert(0, str(HERE.parent))
 
 from compilers import SANITIZED
 from instructions import Tried, all_tried
-from tally import Tally
+from tally import Tally, side_by_side
 from translated import Row, by_c, by_node, make_modules, rows_of, translate, write_driver
 
 TOP = HERE.parent.parent
@@ -108,9 +107,8 @@ def main() -> None:
         wanted = [it for it in said if it != "trap"]
         right = translate(modules, TOP / "tools", room / "right.c")
         tally.holds("the right translator's stack", "STACK_OF_framed 64" in (room / "right.c").read_text(encoding="utf-8") and not right.returncode)
-        with ThreadPoolExecutor(4) as pool:
-            for what, why in zip(WRONG, pool.map(lambda it: tried(it, room, modules, calls, wanted), WRONG)):
-                tally.holds(f"a wrong translator is seen, by which {what}: {why}", not why)
+        for what, why in zip(WRONG, side_by_side(tally, 4, lambda it: tried(it, room, modules, calls, wanted), list(WRONG))):
+            tally.holds(f"a wrong translator is seen, by which {what}: {why}", not why)
     tally.end()
 
 
