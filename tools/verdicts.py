@@ -12,12 +12,13 @@ REFUSED, WAITS, UNTOLD, LEMMA = "refused", "waits", "untold", "by a lemma"
 
 
 def errors_of(function: str, said: str) -> list[str]:
-    """Returns the errors in the files of proofs of a function; those of a cycle of calls have one folder, and the function's name before each goal."""
+    """Returns the errors in the files of proofs of a function; those of a cycle of calls have one folder, and the function's name before each goal;
+    one that calls itself has the folder +NAME."""
     *above, name = function.split("::")[1:]
     own, cycle = re.escape("/".join(["proofs", *above])), rf"\+\w+/\w+\.antt:\S* error: `{name}-"
     # an error may go on in the lines below it
     whole = re.sub(r"\n  +", " ", said)
-    return re.findall(rf"^(?:\./)?{own}/(?:{name}/\w+\.antt:\S* error: |{cycle}).*", whole, re.MULTILINE)
+    return re.findall(rf"^(?:\./)?{own}/(?:\+?{name}/\w+\.antt:\S* error: |{cycle}).*", whole, re.MULTILINE)
 
 
 def notes_of(body: WrongBody, said: str) -> list[str]:

@@ -129,7 +129,7 @@ below-after (suc k) p t =
     rw (last_turn-push p t, below-after k (p ++ t ∷ []) u))
     ∙ sum-after t.face k
 
-count-suc : (k : ℕ) → count_of_length turn_order (suc k) ≡ 9 * (afters k).0 + 9 * (afters k).1
+pub count-suc : (k : ℕ) → count_of_length turn_order (suc k) ≡ 9 * (afters k).0 + 9 * (afters k).1
 count-suc k =
     sym (ap length (below-all turn_order (suc k)))
     ∙ length-below turn_order k []

@@ -5,6 +5,7 @@ pub mod DescentParts
 pub mod SpentLemmas
 pub mod LookLemmas
 pub mod Bounds
+pub mod Counts
 pub mod DeepeningLemmas
 pub mod AfterLemmas
 pub mod AfterParts

@@ -1,6 +1,6 @@
 -- Laws over counts and looks, and over positions.
 use Rattle.std.specs.Prelude.{◌≡◌, ℕ, ◌+◌, ◌*◌, ◌^◌, ◌≤◌, ◌<◌, min, Bool, IsTrue, None, option_map, unwrap_or}
-use Rattle.std.specs.Prelude.{List, [], ◌∷◌, filter, length, slice_get, sum_by, All, Contains, ◌⊎◌, ◌++◌}
+use Rattle.std.specs.Prelude.{List, [], ◌∷◌, filter, length, map, slice_get, sum_by, All, Contains, ◌⊎◌, ◌++◌}
 use Rattle.std.specs.Option.{option_map_or}
 use Rattle.niss_moves.specs.Places.{Place, SameMap}
 use Rattle.niss_moves.specs.Canonical.{turn_order}
@@ -20,6 +20,17 @@ CountRecurrence =
     (k : ℕ) → 1 ≤ k →
     count_of_length turn_order (k + 2)
     ≡ 12 * count_of_length turn_order (k + 1) + 18 * count_of_length turn_order k
+
+-- The counts of the first lengths and the first bounds, over the 18 turns and over the 14 of a step that has so many.
+pub record FirstCounts : Type 0 where
+  pub counts : map (count_of_length turn_order) (up_to 5) ≡ 1 ∷ 18 ∷ 243 ∷ 3240 ∷ 43254 ∷ 577368 ∷ []
+  pub bounds : map (look_bound turn_order) (up_to 5) ≡ 1 ∷ 20 ∷ 282 ∷ 3784 ∷ 50540 ∷ 674664 ∷ []
+  pub counts_of_14 :
+      (s : Step) → length (turns_of s) ≡ 14 →
+      map (count_of_length (turns_of s)) (up_to 3) ≡ 1 ∷ 14 ∷ 139 ∷ 1368 ∷ []
+  pub bounds_of_14 :
+      (s : Step) → length (turns_of s) ≡ 14 →
+      map (look_bound (turns_of s)) (up_to 3) ≡ 1 ∷ 16 ∷ 170 ∷ 1692 ∷ []
 
 -- A part of the turns has no larger counts.
 abbrev pub PartHasNoMore : Type 0

@@ -1,6 +1,6 @@
 //! Laws over the definitions, each as a contract.
 ghost use Rattle.std.specs.Prelude.{◌≡◌};
-ghost use Rattle.niss_search.specs.Laws.{CountRecurrence, PartHasNoMore, LooksWithinBound, NoSlackIsLeast};
+ghost use Rattle.niss_search.specs.Laws.{CountRecurrence, FirstCounts, PartHasNoMore, LooksWithinBound, NoSlackIsLeast};
 ghost use Rattle.niss_search.specs.Laws.{FirstIsLeast, DistanceIsShortest, StepBoundIsLess, BoundIsSmall};
 ghost use Rattle.niss_search.specs.Laws.{EntriesAreCounted, EdgeFillIsSmall, FillIsSmall, DistanceIsLeast};
 ghost use Rattle.niss_search.specs.Laws.{PositionsFollowCubes, SolutionsAreSequences, AfterIsRest};
@@ -17,6 +17,7 @@ use niss_moves::laws::canonical_members;
 /// turns its fill tries; and that the distance of a position is the least over its goals.
 pub fn counts_and_bounds()
     ensures recurrence { CountRecurrence }
+    ensures first { FirstCounts }
     ensures part { PartHasNoMore }
     ensures within { LooksWithinBound }
     ensures step { StepBoundIsLess }
