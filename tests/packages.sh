@@ -122,7 +122,7 @@ if [ ! -e "$release" ]; then skips "the archive in C, which wasn't made"; elif m
         }
         uses_it() { # as another project finds it
             mkdir -p "$room/other" && write_caller "$room/other/one.c" && printf '%s\n' 'cmake_minimum_required(VERSION 3.13)' 'project(other C)' \
-                'find_package(nissy REQUIRED)' 'add_executable(one one.c)' 'target_link_libraries(one nissy::nissy)' > "$room/other/CMakeLists.txt" &&
+                "find_package(nissy ${version%%.*} REQUIRED)" 'add_executable(one one.c)' 'target_link_libraries(one nissy::nissy)' > "$room/other/CMakeLists.txt" &&
                 by_system cmake -S "$room/other" -B "$room/other/built" -DCMAKE_PREFIX_PATH="$room/cmade" && by_system cmake --build "$room/other/built" &&
                 { "$room/other/built/one"; [ $? -eq 4 ]; }
         }

@@ -116,11 +116,19 @@ def refuses(tally: Tally) -> None:
             tally.equal(f"tools/page makes a page with {what or 'nothing added'}", is_made, not what)
 
 
+def is_as_large_as_said(tally: Tally, page: bytes) -> None:
+    """docs/MANY.md says how large it is, in tens of KB."""
+    said = re.findall(r"one file of some (\d+) KB \((\d+) by gzip\)", (TOP / "docs/MANY.md").read_text())
+    sizes = [f"{round(len(each) / 10_000) * 10}" for each in (page, gzip.compress(page))]
+    tally.equal("what docs/MANY.md says of its size", said, [tuple(sizes)])
+
+
 def main() -> None:
     """All of these."""
     tally = Tally()
     text = Path(sys.argv[1]).read_text()
     tally.holds("the page isn't too large", len(text.encode()) <= MOST_BYTES)
+    is_as_large_as_said(tally, text.encode())
     for part in (is_closed, is_plain, is_whole):
         part(tally, text)
     is_indented(tally)
