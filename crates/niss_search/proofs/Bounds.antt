@@ -11,7 +11,7 @@ use Rattle.niss_search.proofs.Words.{true, ◌-◌, ◌/◌, ◌%◌, no_turn, c
 use Rattle.niss_moves.specs.Indices.{face_index}
 use Rattle.std.proofs.Math.Nat.{pow-le-pow_right}
 use Rattle.std.proofs.lemmas.List.Filters.{sum_by-filter_both}
-use Rattle.niss_search.proofs.ListLemmas.{sum_by-same}
+use Rattle.niss_search.proofs.ListLemmas.{sum_by-same, sum_by-range_more}
 use Rattle.niss_search.proofs.DepthFirst.{below, below-all}
 use Rattle.niss_search.proofs.LookLemmas.{first_or-within}
 pub use Rattle.niss_cube.proofs.CallerLemmas.{turns_of-length, turns_of-oriented}
@@ -196,3 +196,8 @@ choice-index last w h =
 pub choice-follows : (last : Option Turn) (w : ℕ) → w < 2 ^ 32 → may_follow last (choice last w) ≡ true
 choice-follows last w h =
     filter_passes (may_follow last) turn_order _ no_turn (choice-index last w h)
+
+-- one deepening makes few looks
+pub looks-small : {turns : List Turn} {S : Type 0} (space : Space turns S) (look : S → ℕ) (start : S) (d : ℕ) → length turns ≤ 18 → d ≤ 20 → looks space look start d ≤ 21 * (21 * 18 ^ 20)
+looks-small space look start d few small =
+    omega (arith, sum_by-range_more (looks space look start) d, looks-sum-small space look start (d + 1) few (omega (arith, small)))

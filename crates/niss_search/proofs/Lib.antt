@@ -16,3 +16,4 @@ pub mod EntryLemmas
 pub mod GoalLemmas
 pub mod FillLemmas
 pub mod ScanLemmas
+pub mod BothLemmas

@@ -5,13 +5,15 @@ ghost use Rattle.niss_search.specs.Laws.{FirstIsLeast, DistanceIsShortest, StepB
 ghost use Rattle.niss_search.specs.Laws.{EntriesAreCounted, EdgeFillIsSmall, FillIsSmall, DistanceIsLeast};
 ghost use Rattle.niss_search.specs.Laws.{PositionsFollowCubes, SolutionsAreSequences, AfterIsRest};
 ghost use Rattle.niss_search.specs.Filling.{EntriesTurn};
+ghost use Rattle.niss_search.specs.BothSides.{FromInverse};
 
 use crate::path::Limit;
 use niss_cube::laws::{
-    are_coordinates, domino_keeps_start, inverses_of_steps, start_is_kept, step_turns_in_order,
-    steps_see_places, turned_is_cube,
+    are_coordinates, cubes_permute_places, domino_keeps_start, inverse_has_steps,
+    inverses_of_steps, start_is_kept, step_turns_in_order, steps_see_places, turned_before_is_cube,
+    turned_is_cube,
 };
-use niss_moves::laws::canonical_members;
+use niss_moves::laws::{canonical_members, inverse_is_undone, inverse_undoes, places_stay};
 
 /// How many canonical sequences there are, how often a search looks, how many entries a pruning table has, and how many
 /// turns its fill tries; and that the distance of a position is the least over its goals.
@@ -77,6 +79,20 @@ pub fn positions_follow_cubes()
     start_is_kept();
     steps_see_places();
     domino_keeps_start();
+}
+
+/// A pair that reaches a step from the inverse of a cube reaches it from the cube.
+pub(crate) fn from_inverse()
+    ensures { FromInverse }
+{
+    turned_is_cube();
+    turned_before_is_cube();
+    inverse_undoes();
+    inverse_is_undone();
+    places_stay();
+    cubes_permute_places();
+    steps_see_places();
+    inverse_has_steps();
 }
 
 /// How the turns of a step lead between the entries of its pruning table.

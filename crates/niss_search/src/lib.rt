@@ -65,5 +65,7 @@ pub use budget::Stopped;
 pub use path::{Limit, TurnPath};
 pub use scan::next_at;
 pub use scramble::random_turns;
-pub use searching::{Outcome, Sink, search, search_after, search_within};
+pub use searching::{
+    Outcome, PairSink, Sink, search, search_after, search_both_within, search_within,
+};
 pub use tables::{Meter, Position, Tables};

@@ -12,6 +12,7 @@ ghost use Rattle.niss_search.specs.LookNumbers.{found_within_of, look_number_of}
 ghost use Rattle.niss_search.specs.Deepening.{deepening, all_deepenings, Delivers, turns};
 
 mod after;
+mod both;
 mod depth_first;
 
 use crate::budget::{Budget, Stopped, Unbounded, UpTo};
@@ -19,6 +20,7 @@ use crate::laws::positions_follow_cubes;
 use crate::path::{Limit, TurnPath};
 use crate::tables::{Meter, Position, Tables};
 pub use after::search_after;
+pub use both::{PairSink, search_both_within};
 use depth_first::Descent;
 use niss_cube::laws::step_turns_in_order;
 use std::alloc::Allocator;
