@@ -1,259 +1,229 @@
--- Searches over both sides: what a sink takes, one search after another; tails that are joined to a head; and the cube and its
--- inverse as mirrors of each other, so that a pair reaches the step on one exactly if it does on the other.
-use Rattle.niss_search.proofs.Words.{◌≡◌, ◌⊎◌, inl, inr, refl, sym, ◌∙◌, ap, subst, Bool, true, false, ℕ, List, [], ◌∷◌, ◌++◌, All, IsTrue}
-use Rattle.niss_search.proofs.Words.{Turn, Step, Place, SameMap, IsCube, cubes, positions, after_all, reached, reaching, turned, filter_passes, all_canonical, Result, Ok, Err}
-use Rattle.niss_search.proofs.Words.{All-nil, All-cons, All-head, All-tail, All-append, All-weaker, fold-append, HasPosition, PositionsFollowCubes}
-use Rattle.niss_search.proofs.Words.{Path, at_limit, EndedIn, StoppedIn, WentInto, WentThrough, TurnedIsCube, StepsSeePlaces, GoalCoordinates}
-use Rattle.niss_search.proofs.Words.{take, get_or, length, ◌+◌, ◌<◌, ◌||◌, list_any, list_any_at, range_with_len, length-range_with_len, arith}
-use Rattle.std.proofs.lemmas.List.FromFn.{get_or-range_with_len}
-use Rattle.std.proofs.lemmas.List.Folds.{list_any-append}
-use Rattle.std.proofs.lemmas.List.{take_more}
-use Rattle.niss_search.proofs.ListLemmas.{range-push}
-use Rattle.niss_search.proofs.LookLemmas.{reaching-same}
-use Rattle.niss_moves.specs.Effects.{inverse_turn, effect_of_turns}
-use Rattle.niss_moves.specs.Places.{IsPlace}
-use Rattle.niss_cube.specs.AfterTurn.{TurnedBeforeIsCube}
-use Rattle.niss_cube.specs.Sets.{CubesPermutePlaces}
-use Rattle.niss_cube.specs.StepLaws.{InverseHasSteps}
-use Rattle.niss_cube.specs.BadPieces.{TakesBack}
-use Rattle.niss_cube.specs.Map.{map_of}
-use Rattle.niss_cube.specs.declared.cube.Cube.{Cube}
-use Rattle.niss_search.specs.BothSides.{Pair, pair, turned_before, inverse_side, after_pair, reaches, join, WentThroughPairs, TookOnly, EndedAfter}
-use Rattle.niss_search.specs.BothSides.{HandsOut, ReachesFrom, reached_along, begins_reached}
-use Rattle.niss_search.specs.BothWalk.{joined, begun, StaysJoined, JoinedTook, JoinedRefused}
-use Rattle.niss_search.specs.declared.searching.both.Joined.{Joined}
+-- The search over both sides part by part: how a sink goes through pairs, what is done for heads, and that all of it is the pairs
+-- of a length, by their looks.
+use Rattle.niss_search.proofs.Words.{◌≡◌, arith, ◌+◌, ◌<◌, ◌-◌, ℕ, suc, zero, ap, ◌∙◌, sym, refl, subst, Bool, true, false, not, ◌&&◌, cond, nat_le}
+use Rattle.niss_search.proofs.Words.{List, [], ◌∷◌, ◌++◌, length, map, filter, flat_map, sum_by, take, drop, get_or, length-append, append-nil}
+use Rattle.niss_search.proofs.Words.{flat_map-append, sum_by-append, sum_by-cons, range_with_len, up_to, take-append-drop, drop_more, all_canonical, below}
+use Rattle.niss_search.proofs.Words.{Turn, Step, Place, Follower, turns_of, after_all, reached, may_follow, last_turn}
+use Rattle.niss_search.proofs.Words.{Path, Option, Some, None, last_length, least_of}
+use Rattle.std.specs.Prelude.{IfSome, IfNone}
+use Rattle.std.proofs.lemmas.List.Folds.{flat_map-map}
+use Rattle.niss_search.proofs.ListLemmas.{filter-flat_map, flat_map-flat_map, sum_by-flat_map, sum_by-map, sum_by-one, before-last}
+use Rattle.niss_search.proofs.ByLength.{from_least-all}
+use Rattle.niss_search.proofs.DepthFirst.{below-all}
+use Rattle.niss_search.proofs.DescentParts.{WentThrough-append, EndedIn-after, EndedIn-before}
+use Rattle.niss_search.proofs.InverseLemmas.{apart}
+use Rattle.niss_search.specs.BothSides.{Pair, reaches, begins_reached, pairs_of_lengths, splits, HandedOut, StoppedEarly}
+unfoldable use Rattle.niss_search.specs.BothSides.{first_pairs, looks_of_pairs, least_pair_length, pair_solutions, pair_looks}
+use Rattle.niss_search.specs.BothSides.{looks_of_lengths}
+use Rattle.niss_search.specs.BothWalk.{PairPart, parts, after_head, part_of_lengths, on_side, on_other, join}
+unfoldable use Rattle.niss_search.specs.BothWalk.{after_heads}
+use Rattle.niss_search.specs.declared.searching.both.Sides.{Sides}
+use Rattle.niss_search.specs.declared.searching.both.walk.Side.{Side}
+use Rattle.niss_search.specs.declared.searching.both.walk.Side.TheVariants.{Normal, Inverse}
 
-module _ {K : Type 0} where
-  -- a joining sink is of a step and a cube, and has a head on a side
-  pub record Joins (step : Step) (cube : Cube) (side : Bool) (head : List Turn) (j : Joined K) : Type 0 where
-    pub of_step : j.step ≡ step
-    pub of_cube : j.cube.now ≡ cube
-    pub on_side : j.is_head_normal ≡ side
-    pub has_head : j.head.now.turns ≡ head
+-- One part after another.
+module _ {K : Type 0} (took refused : K → Pair → K → Type 0) where
+  pub none_yet : (m : ℕ) (s : K) → HandedOut took refused [] 0 m m s s 0
+  none_yet m s = record { taken = refl; counted = refl; looked = omega arith }
 
-  still_joins : (step : Step) (cube : Cube) (side : Bool) (head : List Turn) (old new : Joined K) → Joins step cube side head old → StaysJoined old new → Joins step cube side head new
-  still_joins step cube side head old new j s =
-      record { of_step = s.step ∙ j.of_step; of_cube = s.cube ∙ j.of_cube; on_side = s.side ∙ j.on_side; has_head = ap (λ (p : Path). p.turns) s.head ∙ j.has_head }
+  -- the same of a part that is the same
+  pub same_went : (p q : PairPart) → p ≡ q → {m o c : ℕ} {s u : K} → HandedOut took refused q.pairs q.looks m o s u c → HandedOut took refused p.pairs p.looks m o s u c
+  same_went p q e {m} {o} {c} {s} {u} h = subst (λ (r : PairPart). HandedOut took refused r.pairs r.looks m o s u c) (sym e) h
 
-  pair_is : (step : Step) (cube : Cube) (side : Bool) (head : List Turn) (j : Joined K) → Joins step cube side head j → (t : List Turn) → join side head t ≡ joined j t
-  pair_is step cube side head j js t = sym (λ i. join (js.on_side i) (js.has_head i) t)
+  pub same_stopped : (p q : PairPart) → p ≡ q → {m o : ℕ} {s u : K} {cut : Bool} {bound : ℕ} → StoppedEarly took refused q.pairs q.looks m o s u cut bound → StoppedEarly took refused p.pairs p.looks m o s u cut bound
+  same_stopped p q e {m} {o} {s} {u} {cut} {bound} h = subst (λ (r : PairPart). StoppedEarly took refused r.pairs r.looks m o s u cut bound) (sym e) h
 
-  begun_is : (step : Step) (cube : Cube) (side : Bool) (head : List Turn) (j : Joined K) → Joins step cube side head j → (t : List Turn) → begins_reached step (map_of cube) (joined j t) ≡ begun j t
-  begun_is step cube side head j js t = sym (λ i. begins_reached (js.of_step i) (map_of (js.of_cube i)) (joined j t))
+  module _ (p q : PairPart) {m n o c : ℕ} {s t u : K} (went : HandedOut took refused p.pairs p.looks m n s t c) where
+    then_went : {d : ℕ} → HandedOut took refused q.pairs q.looks n o t u d → HandedOut took refused (p.pairs ++ q.pairs) (p.looks + q.looks) m o s u (c + d)
+    then_went h = record {
+      taken = WentThrough-append took refused s t u p.pairs q.pairs went.taken h.taken;
+      counted = omega (arith, went.counted, h.counted, length-append p.pairs q.pairs);
+      looked = omega (arith, went.looked, h.looked);
+    }
 
-  stays_then : (a b c : Joined K) → StaysJoined a b → StaysJoined b c → StaysJoined a c
-  stays_then a b c v w = record { head = w.head ∙ v.head; side = w.side ∙ v.side; step = w.step ∙ v.step; cube = w.cube ∙ v.cube; same_sink = w.same_sink ∙ v.same_sink }
+    then_stopped : (rest : PairPart) {cut : Bool} {bound : ℕ} → StoppedEarly took refused q.pairs q.looks n o t u cut bound
+        → StoppedEarly took refused (p.pairs ++ (q.pairs ++ rest.pairs)) (p.looks + (q.looks + rest.looks)) m o s u cut bound
+    then_stopped rest {cut} h = record {
+      taken = EndedIn-after took refused cut s t u p.pairs (q.pairs ++ rest.pairs) went.taken (EndedIn-before took refused cut t u q.pairs rest.pairs h.taken);
+      over = λ is. omega (arith, went.looked, h.over is);
+      rises = omega (arith, went.looked, h.rises);
+      looked = omega (arith, went.looked, h.looked);
+    }
 
-  stays_itself : (a b : Joined K) → a ≡ b → StaysJoined a b
-  stays_itself a b e = record {
-    head = sym (ap (λ (j : Joined K). j.head.now) e);
-    side = sym (ap (λ (j : Joined K). j.is_head_normal) e);
-    step = sym (ap (λ (j : Joined K). j.step) e);
-    cube = sym (ap (λ (j : Joined K). j.cube.now) e);
-    same_sink = sym (ap (λ (j : Joined K). j.sink.ghost_name) e);
+  module _ {X : Type 0} (part : X → PairPart) (xs : List X) (x : X) where
+    parts-push : parts part (xs ++ x ∷ []) ≡ record { pairs = (parts part xs).pairs ++ (part x).pairs; looks = (parts part xs).looks + (part x).looks }
+    parts-push = λ i. record {
+      pairs = (flat_map-append (λ y. (part y).pairs) xs (x ∷ []) ∙ ap (λ ps. (parts part xs).pairs ++ ps) (append-nil (part x).pairs)) i;
+      looks = (sum_by-append (λ y. (part y).looks) xs (x ∷ []) ∙ ap (λ k. (parts part xs).looks + k) (sum_by-one (λ y. (part y).looks) x)) i;
+    }
+
+    parts-split : (ys : List X) → parts part (xs ++ x ∷ ys)
+        ≡ record { pairs = (parts part xs).pairs ++ ((part x).pairs ++ (parts part ys).pairs); looks = (parts part xs).looks + ((part x).looks + (parts part ys).looks) }
+    parts-split ys = λ i. record {
+      pairs = flat_map-append (λ y. (part y).pairs) xs (x ∷ ys) i;
+      looks = (sum_by-append (λ y. (part y).looks) xs (x ∷ ys) ∙ ap (λ k. (parts part xs).looks + k) (sum_by-cons (λ y. (part y).looks) x ys)) i;
+    }
+
+    module _ {m n o c : ℕ} {s t u : K} (went : HandedOut took refused (parts part xs).pairs (parts part xs).looks m n s t c) where
+      pub parts_more : {d : ℕ} → HandedOut took refused (part x).pairs (part x).looks n o t u d
+          → HandedOut took refused (parts part (xs ++ x ∷ [])).pairs (parts part (xs ++ x ∷ [])).looks m o s u (c + d)
+      parts_more {d} h =
+          same_went (parts part (xs ++ x ∷ [])) _ parts-push (then_went (parts part xs) (part x) went h)
+
+      pub parts_stop : (ys : List X) {cut : Bool} {bound : ℕ} → StoppedEarly took refused (part x).pairs (part x).looks n o t u cut bound
+          → StoppedEarly took refused (parts part (xs ++ x ∷ ys)).pairs (parts part (xs ++ x ∷ ys)).looks m o s u cut bound
+      parts_stop ys {cut} {bound} h =
+          same_stopped (parts part (xs ++ x ∷ ys)) _ (parts-split ys) (then_stopped (parts part xs) (part x) went (parts part ys) h)
+
+-- a list to an element, and from there on
+pub list_split : {X : Type 0} (xs : List X) (i : ℕ) (d : X) → i < length xs → xs ≡ take i xs ++ get_or xs i d ∷ drop (i + 1) xs
+list_split xs i d l = sym (take-append-drop i xs) ∙ ap (λ ys. take i xs ++ ys) (drop_more xs i d l)
+
+-- a range to a number, and from there on
+pub range_cut : (a i n : ℕ) → i < n → range_with_len a n ≡ range_with_len a i ++ (a + i) ∷ range_with_len (a + i + 1) (n - i - 1)
+range_cut a zero zero l = absurd (omega (arith, l))
+range_cut a zero (suc n) l =
+    let e : a + zero ≡ a = omega arith in
+    let k : suc n - zero - 1 ≡ n = omega arith in
+    rw (e, k) refl
+range_cut a (suc i) zero l = absurd (omega (arith, l))
+range_cut a (suc i) (suc n) l =
+    let e : a + 1 + i ≡ a + suc i = omega arith in
+    let k : n - i - 1 ≡ suc n - suc i - 1 = omega arith in
+    ap (λ (ks : List ℕ). a ∷ ks) (range_cut (a + 1) i n (omega (arith, l)) ∙ (λ j. range_with_len (a + 1) i ++ e j ∷ range_with_len (e j + 1) (k j)))
+
+pub range_push : (a i : ℕ) → range_with_len a (i + 1) ≡ range_with_len a i ++ (a + i) ∷ []
+range_push a i =
+    let k : i + 1 - i - 1 ≡ 0 = omega arith in
+    range_cut a i (i + 1) (omega arith) ∙ ap (λ n. range_with_len a i ++ (a + i) ∷ range_with_len (a + i + 1) n) k
+
+-- a path after a turn was pushed and popped
+pub popped : (old pushed now : Path) (t : Turn) (r : Option Turn) → pushed ≡ record { limit = old.limit; turns = old.turns ++ t ∷ [] } → now.limit ≡ pushed.limit
+    → IfSome r (λ u. pushed.turns ≡ now.turns ++ u ∷ []) → IfNone r ((pushed.turns ≡ []) × (now.turns ≡ [])) → now ≡ old
+popped old pushed now t (Some u) e same some none =
+    let turns : now.turns ≡ old.turns = before-last old.turns now.turns t u (sym (ap (λ (p : Path). p.turns) e) ∙ some) in
+    let limit : now.limit ≡ old.limit = same ∙ ap (λ (p : Path). p.limit) e in
+    λ i. record { limit = limit i; turns = turns i }
+popped old pushed now t None e same some none =
+    absurd (omega (arith, ap length (sym (ap (λ (p : Path). p.turns) e) ∙ none.0), length-append old.turns (t ∷ [])))
+
+-- What is done for heads: at one alone, and for those with one turn more by that turn.
+module _ (step : Step) (e : Place → Place) (side : Side) (tail : ℕ) where
+  abbrev at : List Turn → PairPart
+  at = after_head step e side tail
+
+  abbrev pub next_heads : List Turn → ℕ → Follower → PairPart
+  next_heads head left f = after_heads step e side tail (head ++ f.turn ∷ []) left
+
+  pub heads-end : (head : List Turn) → after_heads step e side tail head 0 ≡ after_head step e side tail head
+  unfolding after_heads
+  heads-end head = λ i. record { pairs = append-nil (at head).pairs i; looks = sum_by-one (λ h. (at h).looks) head i }
+
+  pub heads-next : (head : List Turn) (left : ℕ) (fs : List Follower) → map (λ f. f.turn) fs ≡ filter (may_follow (last_turn head)) (turns_of step)
+      → after_heads step e side tail head (suc left) ≡ parts (next_heads head left) fs
+  unfolding after_heads
+  heads-next head left fs listed = λ i. record { pairs = listed_pairs i; looks = listed_looks i } where
+    turns : List Turn
+    turns = filter (may_follow (last_turn head)) (turns_of step)
+
+    push : Turn → List Turn
+    push t = head ++ t ∷ []
+
+    pairs_at : List Turn → List Pair
+    pairs_at h = flat_map (λ q. (at q).pairs) (below (turns_of step) h left)
+
+    looks_at : List Turn → ℕ
+    looks_at h = sum_by (λ q. (at q).looks) (below (turns_of step) h left)
+
+    listed_pairs : flat_map (λ q. (at q).pairs) (flat_map (λ q. below (turns_of step) q left) (map push turns)) ≡ flat_map (λ f. pairs_at (push f.turn)) fs
+    listed_pairs =
+        flat_map-flat_map (λ q. (at q).pairs) (λ q. below (turns_of step) q left) (map push turns)
+        ∙ flat_map-map pairs_at push turns
+        ∙ ap (flat_map (λ t. pairs_at (push t))) (sym listed)
+        ∙ flat_map-map (λ t. pairs_at (push t)) (λ (f : Follower). f.turn) fs
+
+    listed_looks : sum_by (λ q. (at q).looks) (flat_map (λ q. below (turns_of step) q left) (map push turns)) ≡ sum_by (λ f. looks_at (push f.turn)) fs
+    listed_looks =
+        sum_by-flat_map (λ q. (at q).looks) (λ q. below (turns_of step) q left) (map push turns)
+        ∙ sum_by-map looks_at push turns
+        ∙ ap (sum_by (λ t. looks_at (push t))) (sym listed)
+        ∙ sum_by-map (λ t. looks_at (push t)) (λ (f : Follower). f.turn) fs
+
+-- of a list by two tests, one after another
+filter_twice : {X Y : Type 0} (r : X → Bool) (q k : Y → Bool) (g : X → Y) (xs : List X) → ((x : X) → r x ≡ q (g x)) → filter k (map g (filter r xs)) ≡ filter (λ y. q y && k y) (map g xs)
+filter_twice r q k g [] same = refl
+filter_twice {X} {Y} r q k g (x ∷ xs) same = by_test (r x) (q (g x)) (same x) (filter_twice r q k g xs same) where
+  by_test : (a b : Bool) → a ≡ b → filter k (map g (filter r xs)) ≡ filter (λ y. q y && k y) (map g xs)
+      → filter k (map g (cond a (x ∷ filter r xs) (filter r xs))) ≡ cond (b && k (g x)) (g x ∷ filter (λ y. q y && k y) (map g xs)) (filter (λ y. q y && k y) (map g xs))
+  by_test true true e rest = ap (λ ys. cond (k (g x)) (g x ∷ ys) ys) rest
+  by_test false false e rest = rest
+  by_test true false e rest = absurd (cc e)
+  by_test false true e rest = absurd (cc e)
+
+-- The pairs of a length are those that the heads give.
+module _ (step : Step) (e : Place → Place) where
+  abbrev first : Pair → Bool
+  first p = reaches step e p && not (begins_reached step e p)
+
+  abbrev all : ℕ → List (List Turn)
+  all k = all_canonical (turns_of step) k
+
+  reach_alike : (side : Side) (head tail : List Turn) → (on_other side step).reached (after_all (on_other side step) (after_all (on_side side step) e head) tail) ≡ reaches step e (join side head tail)
+  reach_alike Normal head tail = ap (reached step) (sym (apart step head e tail))
+  reach_alike Inverse head tail = refl
+
+  one_head : (side : Side) (k : ℕ) (head : List Turn) → (after_head step e side k head).pairs ≡ filter first (map (join side head) (all k))
+  one_head side k head =
+      filter_twice (λ t. (on_other side step).reached (after_all (on_other side step) (after_all (on_side side step) e head) t)) (reaches step e) (λ p. not (begins_reached step e p)) (join side head) (all k) (reach_alike side head)
+
+  abbrev start : Side → (tail head : ℕ) → PairPart
+  start side tail head = after_heads step e side tail [] head
+
+  start-pairs : (side : Side) (tail head : ℕ) → (start side tail head).pairs ≡ filter first (flat_map (λ h. map (join side h) (all tail)) (all head))
+  unfolding after_heads
+  start-pairs side tail head =
+      ap (flat_map (λ h. (after_head step e side tail h).pairs)) (below-all (turns_of step) head)
+      ∙ (λ i. flat_map (λ h. one_head side tail h i) (all head))
+      ∙ sym (filter-flat_map first (λ h. map (join side h) (all tail)) (all head))
+
+  start-looks : (side : Side) (tail head : ℕ) → (start side tail head).looks ≡ sum_by (λ h. (after_head step e side tail h).looks) (all head)
+  unfolding after_heads
+  start-looks side tail head = ap (sum_by (λ h. (after_head step e side tail h).looks)) (below-all (turns_of step) head)
+
+  lengths-pairs : (i j : ℕ) → (part_of_lengths step e i j).pairs ≡ filter first (pairs_of_lengths (turns_of step) i j)
+  lengths-pairs i j = by_test (nat_le i j) refl where
+    by_test : (b : Bool) → nat_le i j ≡ b → (part_of_lengths step e i j).pairs ≡ filter first (pairs_of_lengths (turns_of step) i j)
+    by_test true is = rw is (start-pairs Normal j i)
+    by_test false is = rw is (start-pairs Inverse i j)
+
+  lengths-looks : (i j : ℕ) → (part_of_lengths step e i j).looks ≡ looks_of_lengths step e i j
+  lengths-looks i j = by_test (nat_le i j) refl where
+    by_test : (b : Bool) → nat_le i j ≡ b → (part_of_lengths step e i j).looks ≡ looks_of_lengths step e i j
+    by_test true is = rw is (start-looks Normal j i)
+    by_test false is = rw is (start-looks Inverse i j)
+
+  -- what is done for a length, and for so many of its turns on the normal side
+  abbrev pub part_of_length : Sides → ℕ → PairPart
+  part_of_length sides n = record { pairs = first_pairs step e sides n; looks = looks_of_pairs step e sides n }
+
+  abbrev pub part_of_split : ℕ → ℕ → PairPart
+  part_of_split n i = part_of_lengths step e i (n - i)
+
+  pub length-parts : (sides : Sides) (n : ℕ) → part_of_length sides n ≡ parts (part_of_split n) (splits sides n)
+  unfolding first_pairs looks_of_pairs
+  length-parts sides n = λ i. record {
+    pairs = (filter-flat_map first (λ k. pairs_of_lengths (turns_of step) k (n - k)) (splits sides n) ∙ sym (λ j. flat_map (λ k. lengths-pairs k (n - k) j) (splits sides n))) i;
+    looks = sym (λ j. sum_by (λ k. lengths-looks k (n - k) j) (splits sides n)) i;
   }
 
-module _ {K : Type 0} (took refused : K → Pair → K → Type 0) where
-  pub none_taken : (Must : Pair → Type 0) (s : K) → TookOnly took refused Must s s
-  none_taken Must s = record { pairs = []; each = All-nil Must; went = refl }
+  -- and up to the last length
+  abbrev pub whole : Sides → (n slack : ℕ) → PairPart
+  whole sides n slack = record { pairs = pair_solutions step e sides n slack; looks = pair_looks step e sides n slack }
 
-  went_then : (ps qs : List Pair) (a b c : K) → WentThroughPairs took refused a ps b → WentThroughPairs took refused b qs c → WentThroughPairs took refused a (ps ++ qs) c
-  went_then [] qs a b c e w = subst (λ x. WentThroughPairs took refused x qs c) (sym e) w
-  went_then (p ∷ ps) qs a b c v w = (v.0, (v.1.0, went_then ps qs v.0 b c v.1.1 w))
+  pub whole-parts : (sides : Sides) (n slack : ℕ) → whole sides n slack ≡ parts (part_of_length sides) (up_to (last_length (least_of (first_pairs step e sides) n) n slack))
+  unfolding pair_solutions pair_looks least_pair_length
+  whole-parts sides n slack = λ i. record { pairs = from_least-all (first_pairs step e sides) n slack i; looks = pair_looks step e sides n slack }
 
-  pub taken_then : {Must : Pair → Type 0} {a b c : K} → TookOnly took refused Must a b → TookOnly took refused Must b c → TookOnly took refused Must a c
-  taken_then {Must} {a} {b} {c} v w =
-      record { pairs = v.pairs ++ w.pairs; each = All-append Must v.pairs w.pairs v.each w.each; went = went_then v.pairs w.pairs a b c v.went w.went }
-
-  pub ended_then : {Must : Pair → Type 0} {cut : Bool} {a b c : K} → TookOnly took refused Must a b → EndedAfter took refused Must cut b c → EndedAfter took refused Must cut a c
-  ended_then v w = record { between = w.between; before = taken_then v w.before; end = w.end }
-
-  -- what is handed out is of a weaker kind too
-  taken_weaker : (Must Weaker : Pair → Type 0) → ((p : Pair) → Must p → Weaker p) → (a b : K) → TookOnly took refused Must a b → TookOnly took refused Weaker a b
-  taken_weaker Must Weaker f a b v = record { pairs = v.pairs; each = All-weaker Must Weaker f v.pairs v.each; went = v.went }
-
-  pub hands_weaker : {T E : Type 0} (is_cut : E → Bool) (Must Weaker : Pair → Type 0) → ((p : Pair) → Must p → Weaker p) → (a b : K) (r : Result T E)
-      → HandsOut took refused is_cut Must a b r → HandsOut took refused is_cut Weaker a b r
-  hands_weaker is_cut Must Weaker f a b (Ok v) h = taken_weaker Must Weaker f a b h
-  hands_weaker is_cut Must Weaker f a b (Err e) h =
-      record { between = h.between; before = taken_weaker Must Weaker f a h.between h.before; end = ends h.end } where
-        ends : ((is_cut e ≡ true) × (h.between ≡ b)) ⊎ ((is_cut e ≡ false) × ((p : Pair) × Must p × refused h.between p b))
-            → ((is_cut e ≡ true) × (h.between ≡ b)) ⊎ ((is_cut e ≡ false) × ((p : Pair) × Weaker p × refused h.between p b))
-        ends (inl x) = inl x
-        ends (inr x) = inr (x.0, (x.1.0, f x.1.0 x.1.1, x.1.2))
-
-  module _ (Reach : Pair → Type 0) (step : Step) (cube : Cube) (side : Bool) (head : List Turn) (limit : ℕ) where
-    -- what is handed on
-    abbrev Must : Pair → Type 0
-    Must p = Reach p × (begins_reached step (map_of cube) p ≡ false)
-
-    must : (old : Joined K) → Joins step cube side head old → (t : List Turn) → Reach (join side head t) → begun old t ≡ false → Must (joined old t)
-    must old js t m b = (subst Reach (pair_is step cube side head old js t) m, begun_is step cube side head old js t ∙ b)
-
-    -- what one tail does
-    one_joined : (old mid : Joined K) (t : List Turn) → Joins step cube side head old → Reach (join side head t) → JoinedTook took old (record { limit = limit; turns = t }) mid
-        → TookOnly took refused Must old.sink.now mid.sink.now
-    one_joined old mid t js m (stays, inl (b, e)) = subst (λ s. TookOnly took refused Must old.sink.now s) (sym e) (none_taken Must old.sink.now)
-    one_joined old mid t js m (stays, inr (b, took_it)) =
-        record { pairs = joined old t ∷ []; each = All-cons Must (joined old t) [] (must old js t m b) (All-nil Must); went = (mid.sink.now, (took_it, refl)) }
-
-    pub joined_went : (ts : List (List Turn)) (old new : Joined K) → Joins step cube side head old → All (λ t. Reach (join side head t)) ts → WentThrough (at_limit (JoinedTook took) limit) old ts new
-        → StaysJoined old new × TookOnly took refused Must old.sink.now new.sink.now
-    joined_went [] old new js all e =
-        (stays_itself old new e, subst (λ (j : Joined K). TookOnly took refused Must old.sink.now j.sink.now) e (none_taken Must old.sink.now))
-    joined_went (t ∷ ts) old new js all (mid, (did, rest)) =
-        let after = joined_went ts mid new (still_joins step cube side head old mid js did.0) (All-tail (λ t. Reach (join side head t)) t ts all) rest in
-        (stays_then old mid new did.0 after.0, taken_then (one_joined old mid t js (All-head (λ t. Reach (join side head t)) t ts all) did) after.1)
-
-    abbrev Ends : Bool → Joined K → Joined K → Type 0
-    Ends cut old new = StaysJoined old new × EndedAfter took refused Must cut old.sink.now new.sink.now
-
-    cut_here : (old new : Joined K) → old ≡ new → Ends true old new
-    cut_here old new e =
-        (stays_itself old new e, record { between = old.sink.now; before = none_taken Must old.sink.now; end = inl (refl, ap (λ (j : Joined K). j.sink.now) e) })
-
-    then_ends : (cut : Bool) (t : List Turn) (old mid new : Joined K) → Joins step cube side head old → Reach (join side head t)
-        → JoinedTook took old (record { limit = limit; turns = t }) mid → Ends cut mid new → Ends cut old new
-    then_ends cut t old mid new js m did after =
-        (stays_then old mid new did.0 after.0, ended_then (one_joined old mid t js m did) after.1)
-
-    pub joined_ended : (cut : Bool) (ts : List (List Turn)) (old new : Joined K) → Joins step cube side head old → All (λ t. Reach (join side head t)) ts
-        → EndedIn (at_limit (JoinedTook took) limit) (at_limit (JoinedRefused refused) limit) cut old ts new → Ends cut old new
-    joined_ended true [] old new js all e = cut_here old new e
-    joined_ended true (t ∷ ts) old new js all (inl e) = cut_here old new e
-    joined_ended true (t ∷ ts) old new js all (inr (mid, (did, rest))) =
-        then_ends true t old mid new js (All-head (λ t. Reach (join side head t)) t ts all) did
-        (joined_ended true ts mid new (still_joins step cube side head old mid js did.0) (All-tail (λ t. Reach (join side head t)) t ts all) rest)
-    joined_ended false [] old new js all e = absurd e
-    joined_ended false (t ∷ ts) old new js all (inl away) =
-        (away.0, record { between = old.sink.now; before = none_taken Must old.sink.now; end = inr (refl, (joined old t, must old js t (All-head (λ t. Reach (join side head t)) t ts all) away.1, away.2)) })
-    joined_ended false (t ∷ ts) old new js all (inr (mid, (did, rest))) =
-        then_ends false t old mid new js (All-head (λ t. Reach (join side head t)) t ts all) did
-        (joined_ended false ts mid new (still_joins step cube side head old mid js did.0) (All-tail (λ t. Reach (join side head t)) t ts all) rest)
-
--- each tail that a search finds reaches the step
-by_side : (step : Step) (f : Place → Place) (side : Bool) (h t : List Turn) → IsTrue (reached step (after_all (cubes step) (after_all (inverse_side step) f h) t))
-    → ReachesFrom step f side (join side h t)
-by_side step f true h t r = r
-by_side step f false h t r = r
-
-pub tails_reach : PositionsFollowCubes → (step : Step) (f : Place → Place) (side : Bool) (h : List Turn) (x : List GoalCoordinates) (k : ℕ)
-    → HasPosition step (after_all (inverse_side step) f h) x → All (λ t. ReachesFrom step f side (join side h t)) (reaching (positions step) x k)
-tails_reach law step f side h x k at =
-    let here = after_all (inverse_side step) f h in
-    let test : List Turn → Bool = λ t. reached step (after_all (cubes step) here t) in
-    subst (All (λ t. ReachesFrom step f side (join side h t))) (reaching-same (law.follow step) here x at k)
-    (All-weaker (λ t. test t ≡ true) (λ t. ReachesFrom step f side (join side h t)) (λ t r. by_side step f side h t r)
-    (reaching (cubes step) here k) (filter_passes test (all_canonical _ k)))
-
--- the other side's cube after one turn more of the head
-pub other_next : ((t : Turn) (q : Place) → IsPlace q → IsPlace (turned t q)) → (step : Step) (f : Place → Place) (c d : Cube) (p : List Turn) (t u : Turn)
-    → u ≡ inverse_turn t → SameMap (map_of c) (after_all (inverse_side step) f p) → SameMap (map_of d) (λ q. map_of c (turned u q))
-    → SameMap (map_of d) (after_all (inverse_side step) f (p ++ t ∷ []))
-other_next stay step f c d p t u is before after q l =
-    after q l ∙ before (turned u q) (stay u q l)
-    ∙ ap (λ v. after_all (inverse_side step) f p (turned v q)) is
-    ∙ (λ i. sym (fold-append turned_before f p (t ∷ [])) i q)
-
--- A cube and its inverse, by their maps: a turn on one side of one is a turn on the other side of the other.
-pub record Mirror (e d : Place → Place) : Type 0 where
-  pub cube : IsCube e
-  pub mirrored : IsCube d
-  pub back : (q : Place) → IsPlace q → d (e q) ≡ q
-
-pub record MirrorLaws : Type 0 where
-  pub is_turned : TurnedIsCube
-  pub is_before : TurnedBeforeIsCube
-  pub undo : (t : Turn) (q : Place) → turned (inverse_turn t) (turned t q) ≡ q
-  pub redo : (t : Turn) (q : Place) → turned t (turned (inverse_turn t) q) ≡ q
-  pub stay : (t : Turn) (q : Place) → IsPlace q → IsPlace (turned t q)
-  pub permute : CubesPermutePlaces
-  pub see : StepsSeePlaces
-  pub alike : InverseHasSteps
-
-module _ (law : MirrorLaws) (step : Step) where
-  all_normal : (a : List Turn) (e d : Place → Place) → Mirror e d → Mirror (after_all (cubes step) e a) (after_all (inverse_side step) d a)
-  all_normal [] e d m = m
-  all_normal (t ∷ a) e d m =
-      all_normal a (λ q. turned t (e q)) (turned_before d t)
-      (record { cube = law.is_turned e t m.cube; mirrored = law.is_before d (inverse_turn t) m.mirrored; back = λ q p. ap d (law.undo t (e q)) ∙ m.back q p })
-
-  all_inverse : (b : List Turn) (e d : Place → Place) → Mirror e d → Mirror (after_all (inverse_side step) e b) (after_all (cubes step) d b)
-  all_inverse [] e d m = m
-  all_inverse (t ∷ b) e d m =
-      all_inverse b (turned_before e t) (λ q. turned t (d q))
-      (record { cube = law.is_before e (inverse_turn t) m.cube; mirrored = law.is_turned d t m.mirrored; back = λ q p. ap (turned t) (m.back (turned (inverse_turn t) q) (law.stay (inverse_turn t) q p)) ∙ law.redo t q })
-
-  -- turns on the two sides don't see each other
-  one_apart : (f : Place → Place) (t : Turn) (b : List Turn) → (λ q. turned t (after_all (inverse_side step) f b q)) ≡ after_all (inverse_side step) (λ q. turned t (f q)) b
-  one_apart f t [] = refl
-  one_apart f t (u ∷ b) = one_apart (turned_before f u) t b
-
-  apart : (a : List Turn) (f : Place → Place) (b : List Turn) → after_all (cubes step) (after_all (inverse_side step) f b) a ≡ after_all (inverse_side step) (after_all (cubes step) f a) b
-  apart [] f b = refl
-  apart (t ∷ a) f b = ap (λ g. after_all (cubes step) g a) (one_apart f t b) ∙ apart a (λ q. turned t (f q)) b
-
-  reached_alike : (e d : Place → Place) → Mirror e d → reached step e ≡ reached step d
-  reached_alike e d m =
-      let c = m.cube.0 in
-      let b = m.mirrored.0 in
-      let back : TakesBack c b = λ q p. m.mirrored.1 (map_of c q) ((law.permute c).to_places q p) ∙ ap d (m.cube.1 q p) ∙ m.back q p in
-      sym ((law.see (map_of c) e m.cube.1).goal step) ∙ (law.alike c b back).goal step ∙ (law.see (map_of b) d m.mirrored.1).goal step
-
-  -- a pair reaches the step from the inverse exactly if it does from the cube
-  pub from_inverse : (c d : Cube) → TakesBack c d → (p : Pair) → ReachesFrom step (map_of d) true p → IsTrue (reaches step (map_of c) p)
-  from_inverse c d back p r =
-      let m : Mirror (map_of c) (map_of d) = record { cube = (c, λ q l. refl); mirrored = (d, λ q l. refl); back = back } in
-      reached_alike _ _ (all_normal p.normal _ _ (all_inverse p.inverse (map_of c) (map_of d) m))
-      ∙ ap (reached step) (sym (apart p.inverse (map_of d) p.normal)) ∙ r
-
--- a test over the numbers below n
-pub any_at : (f : ℕ → Bool) (n i : ℕ) → i < n → f i ≡ true → list_any f (range_with_len 0 n) ≡ true
-any_at f n i l e =
-    let there : 0 + i ≡ i = omega arith in
-    list_any_at f (range_with_len 0 n) i 0 (omega (arith, l, length-range_with_len 0 n)) (ap f (get_or-range_with_len 0 n i 0 l ∙ there) ∙ e)
-
-pub none_more : (f : ℕ → Bool) (n : ℕ) → list_any f (range_with_len 0 n) ≡ false → f n ≡ false → list_any f (range_with_len 0 (n + 1)) ≡ false
-none_more f n none e =
-    ap (list_any f) (range-push n) ∙ list_any-append f (range_with_len 0 n) (n ∷ [])
-    ∙ (λ i. none i || (e i || false))
-
--- the cube after one turn more
-pub turned_next : (step : Step) (f : Place → Place) (c d : Cube) (ts : List Turn) (i : ℕ) (none : Turn) → i < length ts
-    → SameMap (map_of c) (after_all (cubes step) f (take i ts)) → SameMap (map_of d) (λ q. turned (get_or ts i none) (map_of c q))
-    → SameMap (map_of d) (after_all (cubes step) f (take (i + 1) ts))
-turned_next step f c d ts i none l before after q p =
-    after q p ∙ ap (turned (get_or ts i none)) (before q p)
-    ∙ (λ j. sym (fold-append (λ (e : Place → Place) t q. turned t (e q)) f (take i ts) (get_or ts i none ∷ [])) j q)
-    ∙ (λ j. after_all (cubes step) f (sym (take_more ts i none l) j) q)
-
-pub before_next : ((t : Turn) (q : Place) → IsPlace q → IsPlace (turned t q)) → (step : Step) (f : Place → Place) (c d : Cube) (ts : List Turn) (i : ℕ) (none u : Turn) → i < length ts
-    → u ≡ inverse_turn (get_or ts i none)
-    → SameMap (map_of c) (after_all (inverse_side step) f (take i ts)) → SameMap (map_of d) (λ q. map_of c (turned u q))
-    → SameMap (map_of d) (after_all (inverse_side step) f (take (i + 1) ts))
-before_next stay step f c d ts i none u l is before after q p =
-    other_next stay step f c d (take i ts) (get_or ts i none) u is before after q p
-    ∙ (λ j. after_all (inverse_side step) f (sym (take_more ts i none l) j) q)
-
--- turns bring maps that are the same to maps that are the same
-pub after_same : (step : Step) (a : List Turn) (d e : Place → Place) → SameMap d e → SameMap (after_all (cubes step) d a) (after_all (cubes step) e a)
-after_same step [] d e same = same
-after_same step (t ∷ a) d e same = after_same step a (λ q. turned t (d q)) (λ q. turned t (e q)) (λ q p. ap (turned t) (same q p))
-
--- what is reached from a cube is so from its map
-pub along_same : StepsSeePlaces → (step : Step) (d e : Place → Place) → SameMap d e → (a : List Turn) → reached_along step d a ≡ reached_along step e a
-unfolding reached_along
-along_same see step d e same a =
-    (λ i. list_any (λ k. (see (after_all (cubes step) d (take k a)) (after_all (cubes step) e (take k a)) (after_same step (take k a) d e same)).goal step i) (range_with_len 0 (length a)))
-
--- the same of beginnings, or all
-pub row_same : StepsSeePlaces → (step : Step) (d e : Place → Place) → SameMap d e → (a : List Turn)
-    → (reached_along step d a || reached step (after_all (cubes step) d a)) ≡ (reached_along step e a || reached step (after_all (cubes step) e a))
-row_same see step d e same a =
-    let along = along_same see step d e same a in
-    let whole = (see (after_all (cubes step) d a) (after_all (cubes step) e a) (after_same step a d e same)).goal step in
-    λ i. along i || whole i
-
-pub all_effect : (step : Step) (f : Place → Place) (ts : List Turn) (q : Place) → effect_of_turns ts (f q) ≡ after_all (cubes step) f ts q
-all_effect step f [] q = refl
-all_effect step f (t ∷ ts) q = all_effect step (λ q. turned t (f q)) ts q
+  pub least-is_of : (sides : Sides) (n : ℕ) → least_pair_length step e sides n ≡ least_of (first_pairs step e sides) n
+  unfolding least_pair_length
+  least-is_of sides n = refl

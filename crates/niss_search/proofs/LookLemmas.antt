@@ -196,7 +196,7 @@ module _ {X : Type 0} where
   filter-each P p q [] g h = refl
   filter-each P p q (x ∷ xs) g h = rw (g x (All-head P x xs h), filter-each P p q xs g (All-tail P x xs h))
 
-  list_any-each : (P : X → Type 0) (p q : X → Bool) (xs : List X) → ((x : X) → P x → p x ≡ q x) → All P xs → list_any p xs ≡ list_any q xs
+  pub list_any-each : (P : X → Type 0) (p q : X → Bool) (xs : List X) → ((x : X) → P x → p x ≡ q x) → All P xs → list_any p xs ≡ list_any q xs
   list_any-each P p q xs g h =
       list_any-filter p xs ∙ ap (λ l. nat_le 1 (length l)) (filter-each P p q xs g h) ∙ sym (list_any-filter q xs)
 

@@ -5,7 +5,7 @@ ghost use Rattle.niss_search.specs.Laws.{FirstIsLeast, DistanceIsShortest, StepB
 ghost use Rattle.niss_search.specs.Laws.{EntriesAreCounted, EdgeFillIsSmall, FillIsSmall, DistanceIsLeast};
 ghost use Rattle.niss_search.specs.Laws.{PositionsFollowCubes, SolutionsAreSequences, AfterIsRest};
 ghost use Rattle.niss_search.specs.Filling.{EntriesTurn};
-ghost use Rattle.niss_search.specs.BothSides.{FromInverse};
+ghost use Rattle.niss_search.specs.BothWalk.{PositionsFollowInverses};
 
 use crate::path::Limit;
 use niss_cube::laws::{
@@ -13,7 +13,7 @@ use niss_cube::laws::{
     inverses_of_steps, start_is_kept, step_turns_in_order, steps_see_places, turned_before_is_cube,
     turned_is_cube,
 };
-use niss_moves::laws::{canonical_members, inverse_is_undone, inverse_undoes, places_stay};
+use niss_moves::laws::{canonical_members, inverse_is_undone, places_stay};
 
 /// How many canonical sequences there are, how often a search looks, how many entries a pruning table has, and how many
 /// turns its fill tries; and that the distance of a position is the least over its goals.
@@ -81,13 +81,12 @@ pub fn positions_follow_cubes()
     domino_keeps_start();
 }
 
-/// A pair that reaches a step from the inverse of a cube reaches it from the cube.
-pub(crate) fn from_inverse()
-    ensures { FromInverse }
+/// What of a cube's inverse depends on its position alone, as the cube is turned on its inverse side.
+pub(crate) fn positions_follow_inverses()
+    ensures { PositionsFollowInverses }
 {
-    turned_is_cube();
+    positions_follow_cubes();
     turned_before_is_cube();
-    inverse_undoes();
     inverse_is_undone();
     places_stay();
     cubes_permute_places();

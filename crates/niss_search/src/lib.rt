@@ -62,10 +62,11 @@ mod searching;
 mod tables;
 
 pub use budget::Stopped;
-pub use path::{Limit, TurnPath};
+pub use path::{Lengths, Limit, TurnPath};
 pub use scan::next_at;
 pub use scramble::random_turns;
 pub use searching::{
-    Outcome, PairSink, Sink, search, search_after, search_both_within, search_within,
+    Outcome, PairSink, Sides, Sink, search, search_after, search_both_within,
+    search_pairs_of_length, search_within,
 };
 pub use tables::{Meter, Position, Tables};

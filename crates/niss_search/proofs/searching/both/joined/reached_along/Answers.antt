@@ -1,7 +1,7 @@
-use Rattle.niss_search.proofs.Words.{◌≡◌, ◌∙◌, sym, refl, arith, take, length, false, no_turn, Bool, ℕ, map_of, cubes, after_all, reached, list_any, range_with_len, ap}
-use Rattle.niss_search.proofs.BothLemmas.{any_at, none_more, turned_next}
-use Rattle.niss_search.specs.BothSides.{reached_along}
-use Rattle.niss_search.proofs.searching.both.reached_along.Goals as goal
+use Rattle.niss_search.proofs.Words.{◌≡◌, ◌∙◌, sym, arith, take, length, false, no_turn, Bool, ℕ, map_of, cubes, after_all, reached, list_any, range_with_len, ap}
+use Rattle.niss_search.proofs.BeginningLemmas.{any_at, none_more, turned_next}
+use Rattle.niss_search.specs.BothWalk.{reached_along}
+use Rattle.niss_search.proofs.searching.both.joined.reached_along.Goals as goal
 
 pub loop-turn-preserved : goal.loop-turn-preserved
 loop-turn-preserved c =

@@ -1,7 +1,7 @@
 use Rattle.niss_search.proofs.Words.{◌≡◌, ◌∙◌, sym, false, ◌||◌, map_of, cubes, after_all, reached, SameMap}
-use Rattle.niss_search.proofs.BothLemmas.{all_effect}
-use Rattle.niss_search.specs.BothSides.{reached_along}
-use Rattle.niss_search.proofs.searching.both.reaches_by.Goals as goal
+use Rattle.niss_search.proofs.BeginningLemmas.{all_effect}
+use Rattle.niss_search.specs.BothWalk.{reached_along}
+use Rattle.niss_search.proofs.searching.both.joined.reaches_by.Goals as goal
 
 pub returns-else-reached_along : goal.returns-else-reached_along
 returns-else-reached_along c =

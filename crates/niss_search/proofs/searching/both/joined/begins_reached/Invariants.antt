@@ -1,6 +1,7 @@
 use Rattle.niss_search.proofs.Words.{◌≡◌, take, false, ◌||◌, list_any, range_with_len, SameMap, after_all, map_of}
-use Rattle.niss_search.specs.BothSides.{inverse_side, reached_along, reaches, pair}
-use Rattle.niss_search.proofs.searching.both.begins_reached.Given as goal
+use Rattle.niss_search.specs.BothSides.{inverse_side, reaches, pair}
+use Rattle.niss_search.specs.BothWalk.{reached_along}
+use Rattle.niss_search.proofs.searching.both.joined.begins_reached.Given as goal
 
 abbrev pub invariant-loop-turn : goal.invariant-loop-turn
 invariant-loop-turn l = record {
