@@ -59,8 +59,8 @@ pub struct Outcome {
 /// The position is one of the tables' step, the path is empty, and the meter is at most at 2^127. The path is empty
 /// again at the end, of the same limit. The meter rises by one for each look: by those of the whole search if the
 /// sink took every path, and by those up to the one at a path that it refused.
-pub fn search<K: Sink, A: Allocator>(
-    tables: &Tables<A>,
+pub fn search<K: Sink>(
+    tables: &Tables<impl Allocator>,
     position: &Position,
     slack: Limit,
     path: &mut TurnPath,
@@ -103,8 +103,8 @@ pub fn search<K: Sink, A: Allocator>(
 ///
 /// The position is one of the tables' step, the path is empty, and the meter is at most at 2^127. The path is empty
 /// again at the end, of the same limit. The meter rises by one for each look.
-pub fn search_within<K: Sink, A: Allocator>(
-    tables: &Tables<A>,
+pub fn search_within<K: Sink>(
+    tables: &Tables<impl Allocator>,
     position: &Position,
     slack: Limit,
     path: &mut TurnPath,

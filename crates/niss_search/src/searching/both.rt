@@ -74,8 +74,8 @@ pub trait PairSink {
 /// of the shorter side, and of the other. It makes at most `looks` looks, as `search_within`.
 ///
 /// The step may start on the cube, and the meter is at most at 2^127. The meter rises by one for each look.
-pub fn search_both_within<K: PairSink, A: Allocator>(
-    tables: &Tables<A>,
+pub fn search_both_within<K: PairSink>(
+    tables: &Tables<impl Allocator>,
     cube: &Cube,
     lengths: Lengths,
     meter: &mut Meter,
@@ -106,8 +106,8 @@ pub fn search_both_within<K: PairSink, A: Allocator>(
 ///
 /// The step may start on the cube, and the meter is at most at 2^127. The meter rises by one for each look, and by at most
 /// `looks`, as in `search_within`.
-pub fn search_pairs_of_length<K: PairSink, A: Allocator>(
-    tables: &Tables<A>,
+pub fn search_pairs_of_length<K: PairSink>(
+    tables: &Tables<impl Allocator>,
     cube: &Cube,
     sides: Sides,
     length: Limit,
