@@ -19,6 +19,8 @@ mod generator;
 #[cfg(test)]
 mod memory;
 #[cfg(test)]
+mod pairs;
+#[cfg(test)]
 mod path_sinks;
 #[cfg(test)]
 mod pieces;

@@ -9,7 +9,8 @@ use Rattle.niss_cube.proofs.CubieKinds.{lists_of, cube_of, CubieLists, Valid, ma
 use Rattle.niss_cube.proofs.Codes.{kept_same, cubies_for, renaming, sets_are_places, zero-kept, code, rank_of-code}
 use Rattle.niss_cube.proofs.Codes.{code-below, cubies_with, cubies_with-valid, cubies_with-code, rank_after-is}
 use Rattle.niss_cube.proofs.Codes.{code-turned, unrenamed}
-use Rattle.niss_cube.proofs.MovedCubies.{By, moved, moved-map, moved-valid}
+use Rattle.niss_cube.specs.AfterTurn.{TurnedBeforeIsCube}
+use Rattle.niss_cube.proofs.MovedCubies.{By, Before, moved, moved-map, moved-valid}
 use Rattle.niss_cube.proofs.StepLemmas.{same_turn, same_turn-is}
 
 turned-inverse_turn : (t : Turn) (q : Place) → is_place q ≡ true → turned (inverse_turn t) (turned t q) ≡ q
@@ -28,6 +29,16 @@ turned_is_cube e t h =
     let c : CubieLists = lists_of h.0 in
     let v : Valid c = h.0.are_cubies in
     (cube_of (moved (By t) c) (moved-valid (By t) c v), λ q p. moved-map (By t) c v q p ∙ ap (turned t) (h.1 q p))
+
+turned-place : (t : Turn) (q : Place) → is_place q ≡ true → is_place (turned t q) ≡ true
+unfolding every_turn every_face every_power
+turned-place = holds (Turns λ t. Places λ q. Yes (is_place (turned t q))) refl
+
+pub turned_before_is_cube : TurnedBeforeIsCube
+turned_before_is_cube e t h =
+    let c : CubieLists = lists_of h.0 in
+    let v : Valid c = h.0.are_cubies in
+    (cube_of (moved (Before t) c) (moved-valid (Before t) c v), λ q p. moved-map (Before t) c v q p ∙ h.1 (turned t q) (turned-place t q p))
 
 -- what a number is on the standard axis
 pub standard-code : (k : Coordinate) (c : CubieLists) → Valid c → rank_of k (standard_axis k) (map_lists c) ≡ code k c

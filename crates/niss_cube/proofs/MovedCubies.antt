@@ -1,7 +1,7 @@
 -- Turns and renamings move cubies by tables: what they make of cubies is cubies again, with the moved map.
 use Rattle.niss_cube.proofs.Words.{◌≡◌, ℕ, zero, suc, ◌+◌, ◌-◌, ◌%◌, ◌<◌, ◌==◌, refl, sym, ◌∙◌, ap, subst, get_or}
 use Rattle.niss_cube.proofs.Words.{length, not, sum, arith, inl, inr, Turn, Renaming, Place, SameMap, is_corner}
-use Rattle.niss_cube.proofs.Words.{is_edge, turned, turn_table, every_turn, every_face, every_power, eqb-true, eq-eqb}
+use Rattle.niss_cube.proofs.Words.{is_edge, turned, inverse_turn, turn_table, every_turn, every_face, every_power, eqb-true, eq-eqb}
 use Rattle.niss_cube.proofs.Words.{same_truth, Fact, Both, Below, Equal, Alike, Same, When, Numbers, Places, Turns}
 use Rattle.niss_cube.proofs.Words.{Holds, holds, rotated, rotated_back, renaming_table, true, is_place, renamed_turn}
 use Rattle.niss_cube.proofs.Words.{renamed_by, Yes, face_by, tested, XCounter, XQuarter, YQuarter}
@@ -15,41 +15,52 @@ use Rattle.niss_cube.proofs.Sums.{sum_by-below}
 
 pub data Motion : Type 0 where
   By : Turn → Motion
+  Before : Turn → Motion
   Under : Renaming → Motion
 
 -- where a motion brings a place, and whence it takes what it brings
 abbrev pub out : Motion → Place → Place
 out (By t) = turned t
+out (Before t) = λ q. q
 out (Under v) = rotated v
 
 abbrev pub back : Motion → Place → Place
 back (By t) q = q
+back (Before t) q = turned t q
 back (Under v) q = rotated_back v q
 
 -- From which place a cubie comes, which one it becomes and was, and how it is turned: by its home and by its place.
 abbrev pub from_at : Kind → Motion → ℕ → ℕ
 from_at Corners (By t) i = get_or (turn_table t.face t.power).corners i 0
 from_at Edges (By t) i = get_or (turn_table t.face t.power).edges i 0
+from_at k (Before t) i = i
 from_at Corners (Under v) i = get_or (renaming_table v).corners.from i 0
 from_at Edges (Under v) i = get_or (renaming_table v).edges.from i 0
 
 abbrev to_at : Kind → Motion → ℕ → ℕ
 to_at k (By t) h = h
+to_at Corners (Before t) h = get_or (turn_table t.face t.power).corners h 0
+to_at Edges (Before t) h = get_or (turn_table t.face t.power).edges h 0
 to_at Corners (Under v) h = get_or (renaming_table v).corners.to h 0
 to_at Edges (Under v) h = get_or (renaming_table v).edges.to h 0
 
 abbrev was_at : Kind → Motion → ℕ → ℕ
 was_at k (By t) h = h
+was_at Corners (Before t) h = get_or (turn_table t.face (inverse_turn t).power).corners h 0
+was_at Edges (Before t) h = get_or (turn_table t.face (inverse_turn t).power).edges h 0
 was_at k (Under v) h = from_at k (Under v) h
 
 abbrev inward_at : Kind → Motion → ℕ → ℕ
 inward_at k (By t) h = 0
+inward_at Corners (Before t) h = get_or (turn_table t.face t.power).twists h 0
+inward_at Edges (Before t) h = get_or (turn_table t.face t.power).flips h 0
 inward_at Corners (Under v) h = get_or (renaming_table v).corners.inward h 0
 inward_at Edges (Under v) h = get_or (renaming_table v).edges.inward h 0
 
 abbrev outward_at : Kind → Motion → ℕ → ℕ
 outward_at Corners (By t) i = get_or (turn_table t.face t.power).twists i 0
 outward_at Edges (By t) i = get_or (turn_table t.face t.power).flips i 0
+outward_at k (Before t) i = 0
 outward_at k (Under v) i = facelets k - inward_at k (Under v) (from_at k (Under v) i)
 
 -- what computation shows of the tables: cubies are permuted, as the motion brings their facelets, and whole rounds are added
@@ -84,11 +95,12 @@ each_renaming : (f : Renaming → Fact) → tested (renamings f) ≡ true → (v
 each_renaming f h = at_renaming f (holds (renamings f) h)
 
 abbrev motion_fact : (Motion → Fact) → Fact
-motion_fact f = Both (Turns λ t. f (By t)) (renamings λ v. f (Under v))
+motion_fact f = Both (Turns λ t. f (By t)) (Both (Turns λ t. f (Before t)) (renamings λ v. f (Under v)))
 
 at_motion : (f : Motion → Fact) → Holds (motion_fact f) → (m : Motion) → Holds (f m)
 at_motion f h (By t) = h.0 t
-at_motion f h (Under v) = at_renaming (λ v. f (Under v)) h.1 v
+at_motion f h (Before t) = h.1.0 t
+at_motion f h (Under v) = at_renaming (λ v. f (Under v)) h.1.1 v
 
 tables : (k : Kind) → Holds (motion_fact (table_fact k))
 unfolding every_turn every_face every_power
@@ -126,22 +138,22 @@ table k m =
     }
 
 -- remainders of sums
-record Mod (m : ℕ) : Type 0 where
+pub record Mod (m : ℕ) : Type 0 where
   pub add : (a b c d : ℕ) → a % m ≡ c % m → b % m ≡ d % m → (a + b) % m ≡ (c + d) % m
   pub twice : (a : ℕ) → (a % m) % m ≡ a % m
   pub zeros : (a b : ℕ) → a % m ≡ 0 → b % m ≡ 0 → (a + b) % m ≡ 0
   pub regroup : (j a t b : ℕ) → (j + (a + t + b) % m) % m ≡ ((((j + a) % m) + t) % m + b) % m
 
-remainders : (k : Kind) → Mod (facelets k)
+pub remainders : (k : Kind) → Mod (facelets k)
 remainders Corners = record { add = λ a b c d p q. omega arith; twice = λ a. omega arith; zeros = λ a b p q. omega arith; regroup = λ j a t b. omega arith }
 remainders Edges = record { add = λ a b c d p q. omega arith; twice = λ a. omega arith; zeros = λ a b p q. omega arith; regroup = λ j a t b. omega arith }
 
-below_mod : (m : ℕ) → Mod m → (n : ℕ) (f : ℕ → ℕ) → below n (λ i. f i % m) % m ≡ below n f % m
+pub below_mod : (m : ℕ) → Mod m → (n : ℕ) (f : ℕ → ℕ) → below n (λ i. f i % m) % m ≡ below n f % m
 below_mod m laws zero f = refl
 below_mod m laws (suc n) f = laws.add (below n (λ i. f i % m)) (f n % m) (below n f) (f n) (below_mod m laws n f) (laws.twice (f n))
 
 -- how the cubies of a kind are turned, as a sum over the places
-sum_turns : (k : Kind) (c : CubieLists) → length (turns k c) ≡ count k → sum (turns k c) ≡ below (count k) (turn_at k c)
+pub sum_turns : (k : Kind) (c : CubieLists) → length (turns k c) ≡ count k → sum (turns k c) ≡ below (count k) (turn_at k c)
 sum_turns k c l = sum_by-below (λ x. x) 0 (turns k c) ∙ ap (λ n. below n (turn_at k c)) l
 
 -- the cubies after a motion
@@ -151,13 +163,15 @@ new_home k m c i = to_at k m (home_at k c (from_at k m i))
 abbrev turned_sum : Kind → Motion → CubieLists → ℕ → ℕ
 turned_sum k m c i = inward_at k m (home_at k c (from_at k m i)) + turn_at k c (from_at k m i) + outward_at k m i
 
--- the same sum as it is written: a turn adds nothing by the home
+-- the same sum as it is written: a turn adds nothing by the home, one before all others nothing by the place
 abbrev written_sum : Kind → Motion → CubieLists → ℕ → ℕ
 written_sum k (By t) c i = turn_at k c (from_at k (By t) i) + outward_at k (By t) i
+written_sum k (Before t) c i = inward_at k (Before t) (home_at k c i) + turn_at k c i
 written_sum k (Under v) c i = turned_sum k (Under v) c i
 
 written-sum : (k : Kind) (m : Motion) (c : CubieLists) (i : ℕ) → written_sum k m c i ≡ turned_sum k m c i
 written-sum k (By t) c i = omega arith
+written-sum k (Before t) c i = omega arith
 written-sum k (Under v) c i = refl
 
 abbrev pub moved : Motion → CubieLists → CubieLists

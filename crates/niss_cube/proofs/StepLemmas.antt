@@ -16,7 +16,8 @@ use Rattle.niss_cube.specs.Names.{Edges}
 use Rattle.niss_cube.specs.Steps.{holds as goal_holds}
 use Rattle.niss_cube.proofs.Codes.{kept_is_tested, kept_same, sets_are_places}
 use Rattle.niss_cube.proofs.CubieKinds.{cubes_permute_places, kept_is_equal}
-use Rattle.niss_cube.specs.StepLaws.{ReachedStepsSeePlaces}
+use Rattle.niss_cube.specs.StepLaws.{ReachedStepsSeePlaces, StartIsKeptBefore, InverseHasSteps, SameSteps}
+use Rattle.niss_cube.specs.BadPieces.{TakesBack}
 use Rattle.niss_cube.proofs.Words.{Numbers, Below, drop, suc, ◌+◌, ◌*◌, ◌<◌, get_or, cond, get_or-map, length-drop}
 use Rattle.niss_cube.proofs.BadPlaces.{next_bit, byte_is}
 use Rattle.std.proofs.lemmas.Simd.{mask_l-lt}
@@ -191,40 +192,76 @@ start_kept (Some a) e t m h =
     (kept_is_tested (flip_set a) (λ q. turned t (e q)) (sets_are_places Flip a)).1
     (λ q s. turn_keeps a t m (e q) ((kept_is_tested (flip_set a) e (sets_are_places Flip a)).0 h q s))
 
+start_kept_before : (start : Option Axis) (e : Place → Place) (t : Turn) → Contains (turns_from start) t → IsTrue (starts start e) → IsTrue (starts start (λ q. e (turned t q)))
+start_kept_before None e t m h = refl
+start_kept_before (Some a) e t m h =
+    (kept_is_tested (flip_set a) (λ q. e (turned t q)) (sets_are_places Flip a)).1
+    (λ q s. (kept_is_tested (flip_set a) e (sets_are_places Flip a)).0 h (turned t q) (turn_keeps a t m q s))
+
+pub start_is_kept_before : StartIsKeptBefore
+unfolding may_start turns_of
+start_is_kept_before s e t m h = start_kept_before (start_of s) e t m h
+
 pub start_is_kept : StartIsKept
 unfolding may_start turns_of
 start_is_kept s e t m h = start_kept (start_of s) e t m h
 
 -- the places alone are seen
 
-is_kept_same : (set : Place → Bool) (d e : Place → Place) → HasOnlyPlaces set → SameMap d e → is_kept set d ≡ is_kept set e
-is_kept_same set d e inside same =
+-- Two maps keep the same sets of places.
+abbrev KeepAlike : (d e : Place → Place) → Type 0
+KeepAlike d e = (set : Place → Bool) → HasOnlyPlaces set → is_kept set d ≡ is_kept set e
+
+is_kept_same : (d e : Place → Place) → SameMap d e → KeepAlike d e
+is_kept_same d e same set inside =
     same_truth (is_kept set d) (is_kept set e)
     (λ h. (kept_is_tested set e inside).1 (kept_same set d e inside same ((kept_is_tested set d inside).0 h)))
     (λ h. (kept_is_tested set d inside).1 (kept_same set e d inside (λ q p. sym (same q p)) ((kept_is_tested set e inside).0 h)))
 
-holds_same : (g : Goal) (d e : Place → Place) → SameMap d e → goal_holds g d ≡ goal_holds g e
-holds_same (Edges a) d e same = is_kept_same (flip_set a) d e (sets_are_places Flip a) same
+holds_same : (g : Goal) (d e : Place → Place) → KeepAlike d e → goal_holds g d ≡ goal_holds g e
+holds_same (Edges a) d e same = same (flip_set a) (sets_are_places Flip a)
 holds_same (Domino b a) d e same =
-    let flips : is_kept (flip_set b) d ≡ is_kept (flip_set b) e = is_kept_same (flip_set b) d e (sets_are_places Flip b) same in
-    let twists : is_kept (twist_set a) d ≡ is_kept (twist_set a) e = is_kept_same (twist_set a) d e (sets_are_places Twist a) same in
-    let slices : is_kept (slice_set a) d ≡ is_kept (slice_set a) e = is_kept_same (slice_set a) d e (sets_are_places Slice a) same in
+    let flips : is_kept (flip_set b) d ≡ is_kept (flip_set b) e = same (flip_set b) (sets_are_places Flip b) in
+    let twists : is_kept (twist_set a) d ≡ is_kept (twist_set a) e = same (twist_set a) (sets_are_places Twist a) in
+    let slices : is_kept (slice_set a) d ≡ is_kept (slice_set a) e = same (slice_set a) (sets_are_places Slice a) in
     λ i. flips i && twists i && slices i
 
-starts_same : (start : Option Axis) (d e : Place → Place) → SameMap d e → starts start d ≡ starts start e
+starts_same : (start : Option Axis) (d e : Place → Place) → KeepAlike d e → starts start d ≡ starts start e
 starts_same None d e same = refl
 starts_same (Some a) d e same = holds_same (Edges a) d e same
 
-any_same : (goals : List Goal) (d e : Place → Place) → SameMap d e → list_any (λ g. goal_holds g d) goals ≡ list_any (λ g. goal_holds g e) goals
+any_same : (goals : List Goal) (d e : Place → Place) → KeepAlike d e → list_any (λ g. goal_holds g d) goals ≡ list_any (λ g. goal_holds g e) goals
 any_same [] d e same = refl
 any_same (g ∷ goals) d e same =
     let first : goal_holds g d ≡ goal_holds g e = holds_same g d e same in
     let others : list_any (λ g. goal_holds g d) goals ≡ list_any (λ g. goal_holds g e) goals = any_same goals d e same in
     λ i. first i || others i
 
-pub steps_see_places : StepsSeePlaces
+same_steps : (d e : Place → Place) → KeepAlike d e → SameSteps d e
 unfolding may_start reached
-steps_see_places d e same = record { start = λ s. starts_same (start_of s) d e same; goal = λ s. any_same (goals_of s) d e same }
+same_steps d e same = record { start = λ s. starts_same (start_of s) d e same; goal = λ s. any_same (goals_of s) d e same }
+
+pub steps_see_places : StepsSeePlaces
+steps_see_places d e same = same_steps d e (is_kept_same d e same)
+
+-- what a cube keeps its inverse keeps, and the other way round
+takes_back_too : (c d : Cube) → TakesBack c d → TakesBack d c
+takes_back_too c d back q l =
+    let from = (cubes_permute_places c).onto q l in
+    ap (λ z. map_of c (map_of d z)) (sym from.2) ∙ ap (map_of c) (back from.0 from.1) ∙ from.2
+
+kept_by_inverse : (c d : Cube) → TakesBack c d → (set : Place → Bool) → HasOnlyPlaces set → Kept set (map_of c) → Kept set (map_of d)
+kept_by_inverse c d back set inside kept q s =
+    let from = (cubes_permute_places c).onto q (inside q s) in
+    let member : set from.0 ≡ true = kept_is_equal c set kept from.0 from.1 (ap set from.2 ∙ s) in
+    ap (λ z. set (map_of d z)) (sym from.2) ∙ ap set (back from.0 from.1) ∙ member
+
+pub inverse_has_steps : InverseHasSteps
+inverse_has_steps c d back =
+    same_steps (map_of c) (map_of d) (λ set inside.
+    same_truth (is_kept set (map_of c)) (is_kept set (map_of d))
+    (λ h. (kept_is_tested set (map_of d) inside).1 (kept_by_inverse c d back set inside ((kept_is_tested set (map_of c) inside).0 h)))
+    (λ h. (kept_is_tested set (map_of c) inside).1 (kept_by_inverse d c (takes_back_too c d back) set inside ((kept_is_tested set (map_of d) inside).0 h))))
 
 reached_same : (d e : Place → Place) → SameMap d e → (all : List Step) → map (λ step. reached step d) all ≡ map (λ step. reached step e) all
 reached_same d e s [] = refl

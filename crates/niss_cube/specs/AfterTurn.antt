@@ -18,6 +18,10 @@ IsCube e = (c : Cube) × SameMap (map_of c) e
 abbrev pub TurnedIsCube : Type 0
 TurnedIsCube = (e : Place → Place) (t : Turn) → IsCube e → IsCube (λ q. turned t (e q))
 
+-- So is a cube with a turn before all that made it.
+abbrev pub TurnedBeforeIsCube : Type 0
+TurnedBeforeIsCube = (e : Place → Place) (t : Turn) → IsCube e → IsCube (λ q. e (turned t q))
+
 -- On an axis each rank below the count is some cube's, and each cube's is one of them. It is 0 if the set is kept,
 -- and the rank after a turn follows from the rank alone.
 pub record IsCoordinate (k : Coordinate) (a : Axis) : Type 0 where

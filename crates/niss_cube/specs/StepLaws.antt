@@ -4,6 +4,7 @@ use Rattle.std.specs.Option.{option_map_or}
 use Rattle.niss_moves.specs.Canonical.{turn_order}
 use Rattle.niss_cube.specs.Names.{Place, SameMap, turned, inverse_turn, Turn, Axis, Domino, Cube, Step}
 use Rattle.niss_cube.specs.Map.{map_of}
+use Rattle.niss_cube.specs.BadPieces.{TakesBack}
 use Rattle.niss_cube.specs.Steps.{reached_mask, start_of, goals_of, turns_of, may_start, reached, name_of}
 
 -- A step that may start may start after each of its turns too.
@@ -11,6 +12,12 @@ abbrev pub StartIsKept : Type 0
 StartIsKept =
     (s : Step) (e : Place → Place) (t : Turn) → Contains (turns_of s) t →
     IsTrue (may_start s e) → IsTrue (may_start s (λ q. turned t (e q)))
+
+-- The same of a turn that is made before all that made the cube.
+abbrev pub StartIsKeptBefore : Type 0
+StartIsKeptBefore =
+    (s : Step) (e : Place → Place) (t : Turn) → Contains (turns_of s) t →
+    IsTrue (may_start s e) → IsTrue (may_start s (λ q. e (turned t q)))
 
 -- A turn that is none of the step's brings each cube on which the step may start to one on which it may not.
 abbrev pub OtherTurnsLeaveStart : Type 0
@@ -28,6 +35,10 @@ StepsSeePlaces = (d e : Place → Place) → SameMap d e → SameSteps d e
 
 abbrev pub ReachedStepsSeePlaces : Type 0
 ReachedStepsSeePlaces = (d e : Place → Place) → SameMap d e → reached_mask d ≡ reached_mask e
+
+-- A cube and its inverse have the same start and the same goal.
+abbrev pub InverseHasSteps : Type 0
+InverseHasSteps = (c d : Cube) → TakesBack c d → SameSteps (map_of c) (map_of d)
 
 -- The turns of a step hold their inverses.
 abbrev pub InversesOfSteps : Type 0

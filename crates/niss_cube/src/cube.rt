@@ -3,7 +3,7 @@ ghost use Rattle.std.specs.Prelude.{◌≡◌, ◌<◌};
 ghost use Rattle.niss_moves.specs.Rotations.{about_vertical};
 ghost use Rattle.niss_cube.specs.Cubies.{AreCubies};
 
-use crate::cubie_turns::{cubie_turn, turn_homes, turn_orientations};
+use crate::cubie_turns::{cubie_turn, places_of, turn_homes, turn_orientations, turned_back};
 use crate::facelet_text::{
     CORNER_POSITIONS, CUBIES, EDGE_POSITIONS, FACELETS, SOLVED_TEXT, rotated_if,
 };
@@ -42,6 +42,7 @@ impl Cube {
     ghost use Rattle.niss_moves.specs.Effects.{effect, effect_of_turns, turned};
     ghost use Rattle.niss_moves.specs.Rotations.{spelling};
     ghost use Rattle.niss_cube.specs.Map.{map_of, same_cubies, BeganAt, is_home};
+    ghost use Rattle.niss_cube.specs.BadPieces.{TakesBack};
     ghost use Rattle.niss_cube.specs.CubieTurns.{renamed_by};
     ghost use Rattle.niss_cube.specs.Coordinates.{IsRank};
     ghost use Rattle.niss_cube.specs.declared.cube.coordinate.Coordinate.TheVariants.{Flip, Twist, Slice};
@@ -69,6 +70,33 @@ impl Cube {
             edges: turn_homes(&self.edges, &table.edges),
             flips: turn_orientations::<12, 2>(&self.flips, &table.edges, &table.flips),
         };
+    }
+
+    /// Makes a turn before all that made the cube, as one on its inverse is: the inverse turn on the inverse side.
+    pub fn turn_before(&mut self, turn: Turn)
+        ensures { SameMap (map_of self.new) (λ q. map_of self.old (turned turn q)) }
+    {
+        let table = cubie_turn(turn);
+        *self = Cube {
+            corners: turn_homes(&table.corners, &self.corners),
+            twists: turn_orientations::<8, 3>(&table.twists, &self.corners, &self.twists),
+            edges: turn_homes(&table.edges, &self.edges),
+            flips: turn_orientations::<12, 2>(&table.flips, &self.edges, &self.flips),
+        };
+    }
+
+    /// The cube of the inverse scramble, which takes this one back.
+    pub fn inverse(&self) -> Cube
+        ensures { TakesBack self.now result }
+    {
+        let corners = places_of(&self.corners);
+        let edges = places_of(&self.edges);
+        Cube {
+            corners,
+            twists: turned_back::<8, 3>(&self.twists, &corners),
+            edges,
+            flips: turned_back::<12, 2>(&self.flips, &edges),
+        }
     }
 
     /// Turns faces, from the first to the last.

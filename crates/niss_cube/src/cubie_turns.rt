@@ -1,6 +1,7 @@
 //! Turns of the faces on cubies.
-ghost use Rattle.std.specs.Prelude.{◌≡◌, ◌<◌, ◌≤◌, ◌+◌, ◌%◌, EachIndex, slice_index};
+ghost use Rattle.std.specs.Prelude.{◌≡◌, ◌==◌, ◌<◌, ◌≤◌, ◌+◌, ◌-◌, ◌%◌, EachIndex, slice_index, get_or, length};
 ghost use Rattle.niss_cube.specs.CubieTurns.{turn_table, IsInRange};
+ghost use Rattle.niss_cube.specs.Cubies.{ArePlaced, index_in};
 
 use niss_moves::Turn;
 
@@ -135,4 +136,37 @@ pub fn turn_orientations<const PLACES: usize, const FACELETS: u8>(
         turned[place] = (orientations[from[place] as usize] + added[place]) % FACELETS;
     }
     turned
+}
+
+/// At which place each of the cubies stands, each at one.
+pub fn places_of<const PLACES: usize>(homes: &[u8; PLACES]) -> [u8; PLACES]
+    requires placed { ArePlaced PLACES homes.now }
+    requires few { PLACES ≤ 12 }
+    ensures value { EachIndex result (λ h. slice_index result h ≡ index_in (λ x. x == h) homes.now) }
+    ensures in_range { EachIndex result (λ h. slice_index result h < PLACES) }
+{
+    let mut places = [0; PLACES];
+    for place in 0..PLACES {
+        places[homes[place] as usize] = place as u8;
+    }
+    places
+}
+
+/// How each cubie is turned back that stands at the place that `places` names for it. Corners have three `FACELETS`, edges two.
+pub fn turned_back<const PLACES: usize, const FACELETS: u8>(
+    orientations: &[u8; PLACES],
+    places: &[u8; PLACES],
+) -> [u8; PLACES]
+    requires facelets { FACELETS ≤ 3 }
+    requires some { 0 < FACELETS }
+    requires place_range { EachIndex places.now (λ k. slice_index places.now k < PLACES) }
+    requires orientation_range { EachIndex orientations.now (λ k. slice_index orientations.now k < FACELETS) }
+    ensures { EachIndex result (λ k. slice_index result k
+        ≡ (FACELETS - slice_index orientations.now (slice_index places.now k)) % FACELETS) }
+{
+    let mut back = [0; PLACES];
+    for home in 0..PLACES {
+        back[home] = (FACELETS - orientations[places[home] as usize]) % FACELETS;
+    }
+    back
 }

@@ -1,12 +1,12 @@
 //! Laws over the definitions, each as a contract.
 #![tactic(auto, using(crate::proofs::CallerLemmas::laws))]
 
-ghost use Rattle.niss_cube.specs.AfterTurn.{TurnedIsCube, AreCoordinates};
+ghost use Rattle.niss_cube.specs.AfterTurn.{TurnedIsCube, TurnedBeforeIsCube, AreCoordinates};
 ghost use Rattle.niss_cube.specs.Sets.{KeptIsTested, SetsArePlaces, CubesPermutePlaces, KeptIsEqual};
 ghost use Rattle.niss_cube.specs.BadPieces.{InverseIsAsBad, BadEdgesAreEven, NoCornerAlone, BadPiecesSeePlaces};
 ghost use Rattle.niss_cube.specs.BadPieces.{BadPiecesAreCounted, GoalsByBadPieces};
 ghost use Rattle.niss_cube.specs.BadPlaces.{BadPlacesAreCounted, BadPlacesSeePlaces};
-ghost use Rattle.niss_cube.specs.StepLaws.{StartIsKept, OtherTurnsLeaveStart, StepsSeePlaces, InversesOfSteps};
+ghost use Rattle.niss_cube.specs.StepLaws.{StartIsKept, StartIsKeptBefore, InverseHasSteps, OtherTurnsLeaveStart, StepsSeePlaces, InversesOfSteps};
 ghost use Rattle.niss_cube.specs.StepLaws.{ReachedStepsSeePlaces};
 ghost use Rattle.niss_cube.specs.Map.{HomeIsTested, HomeSeesPlaces};
 ghost use Rattle.niss_cube.specs.StepLaws.{StepTurnsInOrder, StepTurnsAreCounted, DominoKeepsStart, NamesDiffer};
@@ -14,6 +14,11 @@ ghost use Rattle.niss_cube.specs.StepLaws.{StepTurnsInOrder, StepTurnsAreCounted
 /// A turned cube is a cube.
 pub fn turned_is_cube()
     ensures { TurnedIsCube }
+{}
+
+/// A cube with a turn before all that made it is a cube.
+pub fn turned_before_is_cube()
+    ensures { TurnedBeforeIsCube }
 {}
 
 /// A cube's map permutes the 54 sticker places.
@@ -40,6 +45,16 @@ pub fn kept_is_tested()
 /// The sets of the coordinates have sticker places only.
 pub fn sets_are_places()
     ensures { SetsArePlaces }
+{}
+
+/// A step that may start may start after a turn of its own is made before all that made the cube.
+pub fn start_is_kept_before()
+    ensures { StartIsKeptBefore }
+{}
+
+/// A cube and its inverse have the same start and the same goal, for each step.
+pub fn inverse_has_steps()
+    ensures { InverseHasSteps }
 {}
 
 /// On the inverse of a cube as many edges are flipped, corners twisted and slice edges outside as on the cube.

@@ -2,35 +2,35 @@
 -- is small. And how many turns may follow one, from which a word picks the next.
 use Rattle.niss_search.proofs.Words.{◌≡◌, arith, length, ◌+◌, ◌<◌, ℕ, ap, ◌≤◌, [], List, turns_of, ◌*◌, ◌∷◌, Bool, Turn, suc, cond}
 use Rattle.niss_search.proofs.Words.{range_with_len, ◌++◌, zero, get_or, may_follow, last_turn, subst, count_by, filter, sum_by}
-use Rattle.niss_search.proofs.Words.{sum_by-cons, None, Space, reaching, nat_lt, Option, Some, ◌^◌, last_length, looks, unwrap_or, up_to}
+use Rattle.niss_search.proofs.Words.{sum_by-cons, None, Space, Option, Some, ◌^◌, last_length, looks, up_to}
 use Rattle.niss_search.proofs.Words.{all_canonical, canonical_extensions, least_length, length-flat_map, all_looks, is_looked_at}
 use Rattle.niss_search.proofs.Words.{length-map, look_bound, sum_by-le-sum_by, count_by-le-length, count_of_length, sum_by-le, BoundIsSmall}
 use Rattle.niss_search.proofs.Words.{length-filter, pow-suc, ◌∙◌, sym, refl, B, D, F, Face, L, R, U, face_may_follow, last_turn-push}
 use Rattle.niss_search.proofs.Words.{turn_order, CountRecurrence, PartHasNoMore, StepBoundIsLess, StepTurnsInOrder, goes_first, map, not}
-use Rattle.niss_search.proofs.Words.{true, ◌-◌, ◌/◌, ◌%◌, no_turn, choice, filter_passes, mul-le-mul_right, choices, lit<, false}
+use Rattle.niss_search.proofs.Words.{true, ◌-◌, ◌/◌, ◌%◌, no_turn, choice, filter_passes, mul-le-mul_right, choices, lit<, false, below}
 use Rattle.niss_moves.specs.Indices.{face_index}
 use Rattle.std.proofs.Math.Nat.{pow-le-pow_right}
 use Rattle.std.proofs.lemmas.List.Filters.{sum_by-filter_both}
-use Rattle.niss_search.proofs.ListLemmas.{sum_by-same}
-use Rattle.niss_search.proofs.DepthFirst.{below, below-all}
-use Rattle.niss_search.proofs.LookLemmas.{first_or-within}
+use Rattle.niss_search.proofs.ListLemmas.{sum_by-same, sum_by-range_more}
+use Rattle.niss_search.proofs.DepthFirst.{below-all}
+use Rattle.niss_search.proofs.ByLength.{last-within}
 pub use Rattle.niss_cube.proofs.CallerLemmas.{turns_of-length, turns_of-oriented}
 
 pub ruleset few_turns = (turns_of-length)
 
 -- the looks of a deepening are at most the canonical sequences of its lengths
-looks-le : {turns : List Turn} {S : Type 0} (space : Space turns S) (look : S → ℕ) (start : S) (d : ℕ) → looks space look start d ≤ sum_by (count_of_length turns) (up_to d)
+pub looks-le : {turns : List Turn} {S : Type 0} (space : Space turns S) (look : S → ℕ) (start : S) (d : ℕ) → looks space look start d ≤ sum_by (count_of_length turns) (up_to d)
 unfolding looks
 looks-le {turns} space look start d =
     let looked = is_looked_at space look start d in
     sum_by-le-sum_by (λ k. count_by looked (all_canonical turns k)) (count_of_length turns) (up_to d) (λ k. count_by-le-length looked (all_canonical turns k))
 
-range-le : (f : ℕ → ℕ) (m a n : ℕ) → ((j : ℕ) → j < a + n → f j ≤ m) → sum_by f (range_with_len a n) ≤ n * m
+pub range-le : (f : ℕ → ℕ) (m a n : ℕ) → ((j : ℕ) → j < a + n → f j ≤ m) → sum_by f (range_with_len a n) ≤ n * m
 range-le f m a zero h = omega arith
 range-le f m a (suc n) h =
     omega (arith, sum_by-cons f a (range_with_len (a + 1) n), h a (omega arith), range-le f m (a + 1) n (λ j l. h j (omega arith)))
 
-count-le : (turns : List Turn) (k : ℕ) → length turns ≤ 18 → count_of_length turns k ≤ 18 ^ k
+pub count-le : (turns : List Turn) (k : ℕ) → length turns ≤ 18 → count_of_length turns k ≤ 18 ^ k
 unfolding all_canonical
 count-le turns zero h = omega arith
 count-le turns (suc k) h =
@@ -51,17 +51,7 @@ prefix-le f g a (suc m) zero h l = absurd (omega arith)
 prefix-le f g a (suc m) (suc n) h l =
     omega (arith, sum_by-cons f a (range_with_len (a + 1) m), sum_by-cons g a (range_with_len (a + 1) n), h a, prefix-le f g (a + 1) m n h (omega arith))
 
-pub last-within : (o : Option ℕ) (n slack : ℕ) → last_length o n slack ≤ n
-last-within None n slack = omega arith
-last-within (Some least) n slack = omega arith
-
 module _ {turns : List Turn} {S : Type 0} (space : Space turns S) where
-  pub least-within : (start : S) (n d : ℕ) → least_length space start n ≡ Some d → d ≤ n
-  unfolding least_length
-  least-within start n d e =
-      let P : Option ℕ → Type 0 = λ o. unwrap_or o n ≤ n in
-      subst P e (first_or-within (λ k. nat_lt 0 (length (reaching space start k))) 0 (n + 1) n n (omega arith) (omega arith))
-
   module _ (look : S → ℕ) (start : S) where
     abbrev most : ℕ → ℕ
     most d = sum_by (count_of_length turns) (up_to d)
@@ -196,3 +186,8 @@ choice-index last w h =
 pub choice-follows : (last : Option Turn) (w : ℕ) → w < 2 ^ 32 → may_follow last (choice last w) ≡ true
 choice-follows last w h =
     filter_passes (may_follow last) turn_order _ no_turn (choice-index last w h)
+
+-- one deepening makes few looks
+pub looks-small : {turns : List Turn} {S : Type 0} (space : Space turns S) (look : S → ℕ) (start : S) (d : ℕ) → length turns ≤ 18 → d ≤ 20 → looks space look start d ≤ 21 * (21 * 18 ^ 20)
+looks-small space look start d few small =
+    omega (arith, sum_by-range_more (looks space look start) d, looks-sum-small space look start (d + 1) few (omega (arith, small)))

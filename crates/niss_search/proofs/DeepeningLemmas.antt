@@ -1,99 +1,37 @@
--- The search by lengths: deepenings one after another, what those up to one say of the whole, and what they are for a
--- cube.
-use Rattle.niss_search.proofs.Words.{◌≡◌, arith, length, ◌+◌, ◌<◌, ℕ, ap, ◌∙◌, sym, ◌≤◌, [], List, refl, true, ◌-◌, ◌∷◌, Bool, Turn, false}
-use Rattle.niss_search.proofs.Words.{cond, range_with_len, ◌++◌, flat_map, GoalCoordinates, distance_at, Step, None, positions, Space, Option}
-use Rattle.niss_search.proofs.Words.{Some, flat_map-append, last_length, looks, reaching, unwrap_or, up_to, all_canonical, find}
-use Rattle.niss_search.proofs.Words.{least_length, solution_lengths, solutions, option_or, then_some, find-append, sum_by, ◌^◌, Place}
-use Rattle.niss_search.proofs.Words.{at_limit, min, HasPosition, append-nil, nat_lt, nat_tests, Err, GoesThrough, Ok, Part, for_each}
+-- The search by lengths: deepenings one after another, and what they are for a cube.
+use Rattle.niss_search.proofs.Words.{◌≡◌, arith, length, ◌+◌, ◌<◌, ℕ, ap, ◌∙◌, sym, ◌≤◌, [], List, refl, true, ◌-◌, ◌∷◌, Bool, Turn}
+use Rattle.niss_search.proofs.Words.{range_with_len, ◌++◌, flat_map, GoalCoordinates, distance_at, Step, None, positions, Space, Option}
+use Rattle.niss_search.proofs.Words.{Some, last_length, looks, reaching, unwrap_or, up_to, all_canonical}
+use Rattle.niss_search.proofs.Words.{least_length, solution_lengths, solutions, sum_by, ◌^◌, Place}
+use Rattle.niss_search.proofs.Words.{at_limit, min, HasPosition, append-nil, nat_lt, Err, GoesThrough, Ok, Part, for_each}
 use Rattle.niss_search.proofs.Words.{PositionsFollowCubes, Result, all_looks, progress_at, OnOk, Path, StopsIn}
 use Rattle.niss_search.proofs.Words.{EndedIn, IfErr, WentThrough, near_looks_of, near_solutions_of, option_map_or, Delivers, IfOk, NoSlackIsLeast, suc}
 use Rattle.niss_search.proofs.Words.{Contains, All, All-head, All-filter, All-contains_itself, subst, after_all, then_part, deepening}
-use Rattle.niss_search.proofs.Words.{all_deepenings, distance_of, find_passes}
+use Rattle.niss_search.proofs.Words.{all_deepenings, distance_of, find_passes, least_of}
 use Rattle.std.specs.Prelude.{option_map, slice_get}
-use Rattle.std.proofs.lemmas.List.{nil_from_length}
 use Rattle.niss_search.specs.Laws.{FirstIsLeast, FirstIsLeastIn, NoSlackIsLeastIn}
 use Rattle.niss_moves.specs.Canonical.{CanonicalMembers}
-use Rattle.niss_search.proofs.Bounds.{last-within, least-within, looks-sum-small}
-use Rattle.niss_search.proofs.ListLemmas.{flat_map-none, in-range, range-push, range-split, sum_by-range_more, flat_map-range_more}
-use Rattle.niss_search.proofs.LookLemmas.{first_or-from, first_or-le, first_or-within, solutions-same, all_looks-same, distance-cube}
+use Rattle.niss_search.proofs.Bounds.{looks-sum-small}
+use Rattle.niss_search.proofs.ByLength.{is_length, least_below, length-within, least-is, from_least-all}
+use Rattle.niss_search.proofs.ByLength.{least-within as least-within_each}
+use Rattle.niss_search.proofs.ListLemmas.{range-split, sum_by-range_more, flat_map-range_more}
+use Rattle.niss_search.proofs.LookLemmas.{solutions-same, all_looks-same, distance-cube}
 use Rattle.niss_search.specs.declared.searching.Outcome.{Outcome}
 use Rattle.niss_search.proofs.DescentParts.{Descends-then, StopsIn-before, for_each-append}
 
--- a length within the last one is so still where none is nearer than it
-within-or : (n slack d : ℕ) (o p : Option ℕ) → d ≤ unwrap_or p (n + 1) → d ≤ last_length o n slack → d ≤ last_length (option_or o p) n slack
-within-or n slack d None None from k = k
-within-or n slack d None (Some e) from k = omega (arith, from)
-within-or n slack d (Some l) p from k = k
+module _ {turns : List Turn} {S : Type 0} (space : Space turns S) (start : S) (n : ℕ) where
+  -- the least length is that of the lists of each length
+  pub least-of : least_length space start n ≡ least_of (reaching space start) n
+  unfolding least_length
+  least-of = refl
 
-module _ {turns : List Turn} {S : Type 0} (space : Space turns S) (start : S) where
-  -- Is there a solution of k turns?
-  abbrev pub is_length : ℕ → Bool
-  is_length k = nat_lt 0 (length (reaching space start k))
+  least-within : (d : ℕ) → least_length space start n ≡ Some d → d ≤ n
+  least-within d e = least-within_each (reaching space start) n d (sym least-of ∙ e)
 
-  -- the least length of one, below d
-  abbrev pub least_below : ℕ → Option ℕ
-  least_below d = find is_length (range_with_len 0 d)
-
-  -- by what the deepening to d finds
-  pub least_below-more : (d : ℕ) → least_below (d + 1) ≡ option_or (least_below d) (then_some (is_length d) d)
-  least_below-more d =
-      ap (find is_length) (range-push d)
-      ∙ find-append is_length (range_with_len 0 d) (d ∷ [])
-      ∙ ap (option_or (least_below d)) (one (is_length d)) where
-        one : (b : Bool) → cond b (Some d) None ≡ then_some b d
-        one true = refl
-        one false = refl
-
-  -- a length within the last one is so still when it was deepened to
-  pub length-next : (n slack d : ℕ) → d ≤ last_length (least_below d) n slack → d ≤ last_length (least_below (d + 1)) n slack
-  length-next n slack d h =
-      rw (least_below-more d) (within-or n slack d (least_below d) _ (here (is_length d)) h) where
-        here : (b : Bool) → d ≤ unwrap_or (then_some b d) (n + 1)
-        here true = omega arith
-        here false = omega (arith, h, last-within (least_below d) n slack)
-
-  module _ (n : ℕ) where
-    abbrev least : Option ℕ
-    least = least_length space start n
-
-    from-length : (d : ℕ) → d ≤ n + 1 → least ≡ option_or (least_below d) (find is_length (range_with_len d (n + 1 - d)))
-    unfolding least_length
-    from-length d h = ap (find is_length) (range-split d (n + 1) h) ∙ find-append is_length (range_with_len 0 d) (range_with_len d (n + 1 - d))
-
-    pub length-within : (slack d : ℕ) → d ≤ last_length (least_below d) n slack → d ≤ last_length least n slack
-    length-within slack d h =
-        let small : d ≤ n + 1 = omega (arith, h, last-within (least_below d) n slack) in
-        rw (from-length d small) (within-or n slack d (least_below d) _ (first_or-from is_length d (n + 1 - d) (n + 1) (omega (arith, small))) h)
-
-    pub least_length-is : (slack d : ℕ) → d ≡ last_length (least_below d) n slack + 1 → least ≡ least_below d
-    unfolding least_length
-    least_length-is slack d h = by_least (least_below d) refl h where
-      by_least : (o : Option ℕ) → least_below d ≡ o → d ≡ last_length o n slack + 1 → find is_length (range_with_len 0 (n + 1)) ≡ o
-      by_least None e k = ap least_below (sym k) ∙ e
-      by_least (Some l) e k = from-length d (omega (arith, k)) ∙ ap (λ o. option_or o (find is_length (range_with_len d (n + 1 - d)))) e
-
-    -- below the least length there is nothing
-    nothing-below : (k : ℕ) → k < unwrap_or least (n + 1) → reaching space start k ≡ []
-    unfolding least_length
-    nothing-below k h =
-        let within = first_or-within is_length 0 (n + 1) (n + 1) (n + 1) (omega arith) (omega arith) in
-        nil_from_length (reaching space start k) (grind (arith, nat_tests, h, within, first_or-le is_length 0 (n + 1) (n + 1) k))
-
-    -- so the solutions are all that reach, up to the last length
-    pub solutions-up_to : (slack : ℕ) → solutions space start n slack ≡ flat_map (reaching space start) (up_to (last_length least n slack))
-    unfolding solutions
-    solutions-up_to slack = by_least least nothing-below (least-within space start n) where
-      each : ℕ → List (List Turn)
-      each = reaching space start
-
-      by_least : (o : Option ℕ) → ((k : ℕ) → k < unwrap_or o (n + 1) → each k ≡ []) → ((d : ℕ) → o ≡ Some d → d ≤ n)
-          → flat_map each (solution_lengths o n slack) ≡ flat_map each (up_to (last_length o n slack))
-      by_least None none within = sym (flat_map-none each (range_with_len 0 (n + 1)) (λ k m. none k (omega (arith, in-range 0 (n + 1) k m))))
-      by_least (Some d) none within =
-          let end = last_length (Some d) n slack + 1 in
-          sym (ap (flat_map each) (range-split d end (omega (arith, within d refl)))
-          ∙ flat_map-append each (range_with_len 0 d) (range_with_len d (end - d))
-          ∙ ap (λ ps. ps ++ flat_map each (range_with_len d (end - d))) (flat_map-none each (range_with_len 0 d) (λ k m. none k (omega (arith, in-range 0 d k m)))))
+  -- the solutions are all that reach, up to the last length
+  pub solutions-up_to : (slack : ℕ) → solutions space start n slack ≡ flat_map (reaching space start) (up_to (last_length (least_length space start n) n slack))
+  unfolding solutions least_length
+  solutions-up_to slack = from_least-all (reaching space start) n slack
 
 -- without slack the last length is the least
 last-is : (o : Option ℕ) (n : ℕ) → ((d : ℕ) → o ≡ Some d → d ≤ n) → last_length o n 0 ≡ unwrap_or o n
@@ -138,7 +76,7 @@ first_least_in members S turns space start n slack = by_least (least_length spac
   by_least (Some d) same within =
       let count = min n (d + slack) - d in
       let more : min n (d + slack) + 1 - d ≡ suc count = omega (arith, within d refl) in
-      of_length d (each d) (flat_map each (range_with_len (d + 1) count)) refl (find_passes (is_length space start) (up_to n) d same)
+      of_length d (each d) (flat_map each (range_with_len (d + 1) count)) refl (find_passes (is_length (reaching space start)) (up_to n) d same)
       ∙ ap (λ k. option_map (length {A = Turn}) (slice_get (flat_map each (range_with_len d k)) 0)) (sym more)
 
 pub first_least : CanonicalMembers → FirstIsLeast
@@ -183,13 +121,13 @@ module _
         record { delivered = h.delivered; counted = omega (arith, h.counted); looked = h.looked; along = h.along })
 
     -- or stop
-    pub stops-here : d ≤ last_length (least_below space start d) n slack
+    pub stops-here : d ≤ last_length (least_below (reaching space start) d) n slack
         → {m2 : ℕ} {s2 : K} {cut : Bool} {bound : ℕ} → StopsIn took refused (each d) (progress_at m1 0 s1) (progress_at m2 0 s2) cut bound
         → StopsIn took refused (all_deepenings space look start n slack) (progress_at m0 0 s0) (progress_at m2 0 s2) cut bound
     stops-here within {m2} {s2} {cut} {bound} h =
         let last = last_length (least_length space start n) n slack in
         let more = range_with_len (d + 1) (last + 1 - (d + 1)) in
-        let parts = range-split (d + 1) (last + 1) (omega (arith, length-within space start n slack d within)) in
+        let parts = range-split (d + 1) (last + 1) (omega (arith, ap (λ o. last_length o n slack) (least-of space start n), length-within (reaching space start) n slack d within)) in
         let whole : all_deepenings space look start n slack ≡ then_part (then_part (done d) (each d)) (for_each each more) =
         whole-parts space look start n slack ∙ ap (for_each each) parts ∙ for_each-append each (range_with_len 0 (d + 1)) more ∙ ap (λ q. then_part q (for_each each more)) done-more in
         rw whole
@@ -198,10 +136,10 @@ module _
         record { stopped = h.stopped; rises = h.rises; looked = h.looked; over = h.over; ends = h.ends }))
 
     -- until the last
-    pub all-done : d ≡ last_length (least_below space start d) n slack + 1
+    pub all-done : d ≡ last_length (least_below (reaching space start) d) n slack + 1
         → GoesThrough took refused (all_deepenings space look start n slack) (progress_at m0 0 s0) (progress_at m1 c s1)
     all-done end =
-        let last : last_length (least_length space start n) n slack + 1 ≡ d = rw (least_length-is space start n slack d end) (sym end) in
+        let last : last_length (least_length space start n) n slack + 1 ≡ d = rw (least-of space start n ∙ least-is (reaching space start) n slack d end) (sym end) in
         rw (whole-parts space look start n slack, last) went
 
 -- What a search says of a cube, by what it returns.

@@ -5,17 +5,12 @@ use Rattle.niss_search.proofs.Words.{suc, cond, subst, reaching, range_with_len,
 use Rattle.niss_search.proofs.Words.{leb, sum_by, sum_by-cons, nat_le, looks, all_canonical, canonical_extensions, le-leb, lt-leb, add-one}
 use Rattle.niss_search.proofs.Words.{up_to, is_looked_at, Space, after_all, All-contains, All-contains_itself, All-filter, leb-true, Part}
 use Rattle.niss_search.proofs.Words.{beyond, length-append, only_looks, then_part, for_each, fold-append, leb-false, take_at, append-nil}
-use Rattle.niss_search.proofs.Words.{GoalCoordinates, positions, distance_at, Step, below_at, beyond_at, deepening}
+use Rattle.niss_search.proofs.Words.{GoalCoordinates, positions, distance_at, Step, below_at, beyond_at, deepening, below}
 use Rattle.niss_search.proofs.ListLemmas.{flat_map-none, filter-flat_map, sum_by-flat_map, flat_map-flat_map, sum_by-map, sum_by-swap}
 use Rattle.niss_search.proofs.ListLemmas.{sum_by-shift, sum_by-none, sum_by-one, in-range}
 use Rattle.std.proofs.lemmas.List.Folds.{flat_map-map, map_fixed}
 use Rattle.std.proofs.lemmas.List.Concat.{flat_map_single}
 use Rattle.niss_search.proofs.LookLemmas.{distance_at-goal, distance_at-turn}
-
--- the canonical sequences that begin with p and have k turns more, in turn order
-abbrev pub below : List Turn → List Turn → ℕ → List (List Turn)
-below turns p zero = p ∷ []
-below turns p (suc k) = flat_map (λ q. below turns q k) (canonical_extensions turns p)
 
 module _ (turns : List Turn) where
   below-last : (k : ℕ) (p : List Turn) → below turns p (suc k) ≡ flat_map (canonical_extensions turns) (below turns p k)

@@ -54,44 +54,46 @@ module _ (step : Step) (x : List GoalCoordinates) (p : List Turn) where
   unfolding beyond beyond_at
   beyond_at-end h = rw (le-leb (distance_at step x) 0 h)
 
-module _ {K : Type 0} (took refused : K → List Turn → K → Type 0) where
-  WentThrough-append : (a b c : K) (ps qs : List (List Turn)) → WentThrough took a ps b → WentThrough took b qs c → WentThrough took a (ps ++ qs) c
+-- How a sink goes through one list, and then through another.
+module _ {K X : Type 0} (took refused : K → X → K → Type 0) where
+  pub WentThrough-append : (a b c : K) (ps qs : List X) → WentThrough took a ps b → WentThrough took b qs c → WentThrough took a (ps ++ qs) c
   WentThrough-append a b c [] qs h k = subst (λ (s : K). WentThrough took s qs c) (sym h) k
   WentThrough-append a b c (p ∷ ps) qs h k = (h.0, (h.1.0, WentThrough-append h.0 b c ps qs h.1.1 k))
 
   -- a refusal after some paths
-  StoppedIn-after : (a b c : K) (ps qs : List (List Turn)) → WentThrough took a ps b → StoppedIn took refused b qs c → StoppedIn took refused a (ps ++ qs) c
+  StoppedIn-after : (a b c : K) (ps qs : List X) → WentThrough took a ps b → StoppedIn took refused b qs c → StoppedIn took refused a (ps ++ qs) c
   StoppedIn-after a b c [] qs h k = subst (λ (s : K). StoppedIn took refused s qs c) (sym h) k
   StoppedIn-after a b c (p ∷ ps) qs h k = inr (h.0, (h.1.0, StoppedIn-after h.0 b c ps qs h.1.1 k))
 
   -- a refusal before some paths
-  StoppedIn-before : (a c : K) (ps qs : List (List Turn)) → StoppedIn took refused a ps c → StoppedIn took refused a (ps ++ qs) c
+  StoppedIn-before : (a c : K) (ps qs : List X) → StoppedIn took refused a ps c → StoppedIn took refused a (ps ++ qs) c
   StoppedIn-before a c [] qs h = absurd h
   StoppedIn-before a c (p ∷ ps) qs h =
       elim h [ inl r ↦ inl r | inr m ↦ inr (m.0, (m.1.0, StoppedIn-before m.0 c ps qs m.1.1)) ]
 
   -- cut after some paths, or before any
-  WentInto-after : (a b c : K) (ps qs : List (List Turn)) → WentThrough took a ps b → WentInto took b qs c → WentInto took a (ps ++ qs) c
+  WentInto-after : (a b c : K) (ps qs : List X) → WentThrough took a ps b → WentInto took b qs c → WentInto took a (ps ++ qs) c
   WentInto-after a b c [] qs h k = subst (λ (s : K). WentInto took s qs c) (sym h) k
   WentInto-after a b c (p ∷ ps) qs h k = inr (h.0, (h.1.0, WentInto-after h.0 b c ps qs h.1.1 k))
 
-  pub WentInto-none : (a : K) (ps : List (List Turn)) → WentInto took a ps a
+  pub WentInto-none : (a : K) (ps : List X) → WentInto took a ps a
   WentInto-none a [] = refl
   WentInto-none a (p ∷ ps) = inl refl
 
-  WentInto-before : (a c : K) (ps qs : List (List Turn)) → WentInto took a ps c → WentInto took a (ps ++ qs) c
+  WentInto-before : (a c : K) (ps qs : List X) → WentInto took a ps c → WentInto took a (ps ++ qs) c
   WentInto-before a c [] qs h = subst (λ (s : K). WentInto took a qs s) h (WentInto-none a qs)
   WentInto-before a c (p ∷ ps) qs h =
       elim h [ inl r ↦ inl r | inr m ↦ inr (m.0, (m.1.0, WentInto-before m.0 c ps qs m.1.1)) ]
 
-  EndedIn-after : (cut : Bool) (a b c : K) (ps qs : List (List Turn)) → WentThrough took a ps b → EndedIn took refused cut b qs c → EndedIn took refused cut a (ps ++ qs) c
+  pub EndedIn-after : (cut : Bool) (a b c : K) (ps qs : List X) → WentThrough took a ps b → EndedIn took refused cut b qs c → EndedIn took refused cut a (ps ++ qs) c
   EndedIn-after true = WentInto-after
   EndedIn-after false = StoppedIn-after
 
-  EndedIn-before : (cut : Bool) (a c : K) (ps qs : List (List Turn)) → EndedIn took refused cut a ps c → EndedIn took refused cut a (ps ++ qs) c
+  pub EndedIn-before : (cut : Bool) (a c : K) (ps qs : List X) → EndedIn took refused cut a ps c → EndedIn took refused cut a (ps ++ qs) c
   EndedIn-before true = WentInto-before
   EndedIn-before false = StoppedIn-before
 
+module _ {K : Type 0} (took refused : K → List Turn → K → Type 0) where
   -- the same of looks and paths in order
   GoesAlong-append : (es fs : Events) (m : ℕ) (a : K) (n : ℕ) (b : K) (o : ℕ) (c : K) → GoesAlong took refused es m a n b → GoesAlong took refused fs n b o c → GoesAlong took refused (es ++ fs) m a o c
   GoesAlong-append [] fs m a n b o c h k =

@@ -4,6 +4,7 @@ pub mod DepthFirst
 pub mod DescentParts
 pub mod SpentLemmas
 pub mod LookLemmas
+pub mod ByLength
 pub mod Bounds
 pub mod Counts
 pub mod DeepeningLemmas
@@ -17,3 +18,8 @@ pub mod EntryLemmas
 pub mod GoalLemmas
 pub mod FillLemmas
 pub mod ScanLemmas
+pub mod InverseLemmas
+pub mod BeginningLemmas
+pub mod BothLemmas
+pub mod JoinedLemmas
+pub mod BothBounds

@@ -2,7 +2,7 @@
 use Rattle.niss_search.proofs.Words.{◌≡◌, arith, length, ◌+◌, ◌<◌, ℕ, ap, ◌∙◌, sym, ◌≤◌, [], List, refl, ◌-◌, ◌∷◌, Bool, suc}
 use Rattle.niss_search.proofs.Words.{range_with_len, ◌++◌, zero, map, Contains, flat_map, filter, sum_by, sum_by-cons, sum_by-le, list_any}
 use Rattle.niss_search.proofs.Words.{nat_le, nat_tests, flat_map-append, sum_by-append, Contains-get_or, add-one, Contains-append_right}
-use Rattle.niss_search.proofs.Words.{add-zero, filter-append, sum_by_push, length-range_with_len, append-nil}
+use Rattle.niss_search.proofs.Words.{add-zero, filter-append, sum_by_push, length-range_with_len, append-nil, take, take_at, length-append}
 use Rattle.std.proofs.lemmas.List.FromFn.{get_or-range_with_len}
 
 module _ {X : Type 0} where
@@ -106,3 +106,9 @@ flat_map-range_more f n =
     ap (flat_map f) (range-push n)
     ∙ flat_map-append f (range_with_len 0 n) (n ∷ [])
     ∙ ap (λ ys. flat_map f (range_with_len 0 n) ++ ys) (append-nil (f n))
+
+-- what stands before the last element
+pub before-last : {X : Type 0} (xs ys : List X) (x y : X) → xs ++ x ∷ [] ≡ ys ++ y ∷ [] → ys ≡ xs
+before-last xs ys x y e =
+    let size : length ys ≡ length xs = omega (arith, ap length e, length-append xs (x ∷ []), length-append ys (y ∷ [])) in
+    sym (take_at ys (y ∷ []) (length xs) size) ∙ ap (take (length xs)) (sym e) ∙ take_at xs (x ∷ []) (length xs) refl

@@ -7,7 +7,8 @@ use Rattle.niss_search.proofs.Words.{All, All-cons, All-nil, All-map, All-weaker
 use Rattle.niss_search.proofs.Words.{turn_place, is_later, eq-eqb, length-append, range_with_len, not, ◌&&◌, is_looked_at, get_or, up_to, add-one, all_canonical}
 use Rattle.niss_search.proofs.Words.{looks, deepening, look_number, is_looked_at_before, reaching, count_by, ap₂}
 use Rattle.niss_search.proofs.ListLemmas.{Contains-first, Contains-later, sum_by-none, sum_by-one, sum_by-flat_map, sum_by-map, sum_by-swap, sum_by-shift, sum_by-range_more}
-use Rattle.niss_search.proofs.DepthFirst.{below, below-all, looked, here, here-push, far, looked-push, done_is, deepening_is}
+use Rattle.niss_search.proofs.Words.{below}
+use Rattle.niss_search.proofs.DepthFirst.{below-all, looked, here, here-push, far, looked-push, done_is, deepening_is}
 use Rattle.niss_search.proofs.AfterLemmas.{BeginsWith, all-begin}
 use Rattle.niss_search.proofs.LookLemmas.{All-flat_map}
 use Rattle.niss_search.proofs.OrderLemmas.{comes_before, later-differs, pairs-first, pairs-rest}

@@ -44,7 +44,7 @@ pub use Rattle.niss_moves.specs.Canonical.{goes_first}
 pub use Rattle.niss_search.specs.Cubes.{HasPosition, near_looks_of, near_solutions_of, distance_of, least_length_of, cubes}
 pub use Rattle.niss_search.specs.Deepening.{Delivers, progress_of, Keeps, GoesThrough, progress_at, Descends, Progress, StopsIn, GoesAlong, EndsAt}
 pub use Rattle.niss_search.specs.Delivery.{Path, at_limit, EndedIn, StoppedIn, StoppedAt, WentInto, WentThrough}
-pub use Rattle.niss_search.specs.Deepening.{Part, only_looks, only_paths, then_part, for_each, deepening, all_deepenings, below_at}
+pub use Rattle.niss_search.specs.Deepening.{Part, only_looks, only_paths, then_part, for_each, deepening, all_deepenings, below_at, below}
 pub use Rattle.niss_search.specs.Deepening.{by_place, later_turn_at, all_after}
 unfoldable pub use Rattle.niss_search.specs.Deepening.{beyond, beyond_at, later, later_at}
 pub use Rattle.niss_search.specs.Draw.{after_words, choice, choices}
@@ -65,7 +65,7 @@ pub use Rattle.niss_search.specs.Names.{TwistAndSlice}
 pub use Rattle.niss_search.specs.Positions.{are_zero, coordinates_after, coordinates_of, positions}
 unfoldable pub use Rattle.niss_search.specs.Positions.{distance_at, position_after, is_reached_at, position_of}
 pub use Rattle.niss_search.specs.Solutions.{Space, Homomorphism, after_all, last_length, reaching, up_to, solution_lengths, count_of_length}
-pub use Rattle.niss_search.specs.Solutions.{is_looked_at}
+pub use Rattle.niss_search.specs.Solutions.{is_looked_at, least_of, from_least}
 unfoldable pub use Rattle.niss_search.specs.Solutions.{least_length, look_bound, solutions, is_reached_in, distance, looks, all_looks}
 pub use Rattle.niss_search.specs.LookNumbers.{is_looked_at_before, found_within, found_within_of, look_number_of}
 unfoldable pub use Rattle.niss_search.specs.LookNumbers.{look_number}

@@ -5,7 +5,7 @@ use Rattle.std.specs.Prelude.{if◌then◌else◌, get_or, drop, map, replicate,
 use Rattle.std.specs.List.{range_with_len}
 use Rattle.std.specs.Prelude.{List, [], ◌∷◌, ◌++◌, length, filter, flat_map, sum_by}
 use Rattle.niss_search.specs.Names.{Turn, Step, GoalCoordinates, no_turn}
-use Rattle.niss_moves.specs.Canonical.{may_follow, last_turn}
+use Rattle.niss_moves.specs.Canonical.{may_follow, last_turn, canonical_extensions}
 use Rattle.niss_search.specs.Solutions.{Space, reaching, looks, solutions, all_looks, up_to, last_length, least_length}
 use Rattle.niss_search.specs.After.{turn_place}
 use Rattle.niss_search.specs.Delivery.{Path, at_limit, WentThrough, EndedIn}
@@ -37,6 +37,11 @@ for_each part xs = record {
   looks = sum_by (λ x. (part x).looks) xs;
   events = flat_map (λ x. (part x).events) xs;
 }
+
+-- the canonical sequences that begin with p and have k turns more, in turn order
+abbrev pub below : List Turn → List Turn → ℕ → List (List Turn)
+below turns p zero = p ∷ []
+below turns p (suc k) = flat_map (λ q. below turns q k) (canonical_extensions turns p)
 
 -- what is done after a turn, by its place and that of another: what is due at this one, what is due after it, or nothing
 abbrev pub by_place : (t u : Turn) → (same later : Part) → Part

@@ -15,3 +15,5 @@ pub mod Moves
 pub mod StepSpace
 pub mod KindOfStep
 pub mod Budgets
+pub mod BothSides
+pub mod BothWalk

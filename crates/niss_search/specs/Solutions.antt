@@ -29,6 +29,15 @@ abbrev pub solution_lengths : Option ℕ → (n slack : ℕ) → List ℕ
 solution_lengths None n slack = []
 solution_lengths (Some least) n slack = range_with_len least (last_length (Some least) n slack + 1 - least)
 
+-- Of lists by length: the least length of which there is something, of at most n; and what there is of that length and of
+-- as many more as the slack allows, the shorter ones first.
+module _ {X : Type 0} (each : ℕ → List X) where
+  abbrev pub least_of : ℕ → Option ℕ
+  least_of n = find (λ k. nat_lt 0 (length (each k))) (up_to n)
+
+  abbrev pub from_least : (n slack : ℕ) → List X
+  from_least n slack = flat_map each (solution_lengths (least_of n) n slack)
+
 -- A space of states under some turns: the state after a turn, and whether a state is at the goal.
 pub record Space (turns : List Turn) (S : Type 0) : Type 0 where
   pub after : S → Turn → S

@@ -5,13 +5,15 @@ ghost use Rattle.niss_search.specs.Laws.{FirstIsLeast, DistanceIsShortest, StepB
 ghost use Rattle.niss_search.specs.Laws.{EntriesAreCounted, EdgeFillIsSmall, FillIsSmall, DistanceIsLeast};
 ghost use Rattle.niss_search.specs.Laws.{PositionsFollowCubes, SolutionsAreSequences, AfterIsRest};
 ghost use Rattle.niss_search.specs.Filling.{EntriesTurn};
+ghost use Rattle.niss_search.specs.BothWalk.{PositionsFollowInverses};
 
 use crate::path::Limit;
 use niss_cube::laws::{
-    are_coordinates, domino_keeps_start, inverses_of_steps, start_is_kept, step_turns_in_order,
-    steps_see_places, turned_is_cube,
+    are_coordinates, cubes_permute_places, domino_keeps_start, inverse_has_steps,
+    inverses_of_steps, start_is_kept, step_turns_in_order, steps_see_places, turned_before_is_cube,
+    turned_is_cube,
 };
-use niss_moves::laws::canonical_members;
+use niss_moves::laws::{canonical_members, inverse_is_undone, places_stay};
 
 /// How many canonical sequences there are, how often a search looks, how many entries a pruning table has, and how many
 /// turns its fill tries; and that the distance of a position is the least over its goals.
@@ -78,6 +80,19 @@ pub fn positions_follow_cubes()
     start_is_kept();
     steps_see_places();
     domino_keeps_start();
+}
+
+/// What of a cube's inverse depends on its position alone, as the cube is turned on its inverse side.
+pub(crate) fn positions_follow_inverses()
+    ensures { PositionsFollowInverses }
+{
+    positions_follow_cubes();
+    turned_before_is_cube();
+    inverse_is_undone();
+    places_stay();
+    cubes_permute_places();
+    steps_see_places();
+    inverse_has_steps();
 }
 
 /// How the turns of a step lead between the entries of its pruning table.

@@ -19,6 +19,9 @@
 //!
 //! `search_after` hands out those alone that come after a sequence: so a caller goes through a long list in pieces.
 //!
+//! `search_both_within` hands out pairs of turns on a cube and turns on its inverse that reach the step together, to a
+//! `PairSink`; `search_pairs_of_length` those of one length, on one side or on both.
+//!
 //! A sink says by `took` and `refused` what a path does to it, and so a caller knows what it was handed. One that
 //! promises nothing writes both of them so (`crates/eo_axes` is the whole program):
 //!
@@ -62,8 +65,11 @@ mod searching;
 mod tables;
 
 pub use budget::Stopped;
-pub use path::{Limit, TurnPath};
+pub use path::{Lengths, Limit, TurnPath};
 pub use scan::next_at;
 pub use scramble::random_turns;
-pub use searching::{Outcome, Sink, search, search_after, search_within};
+pub use searching::{
+    Outcome, PairSink, Sides, Sink, search, search_after, search_both_within,
+    search_pairs_of_length, search_within,
+};
 pub use tables::{Meter, Position, Tables};

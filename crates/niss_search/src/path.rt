@@ -51,6 +51,13 @@ impl Limit {
     }
 }
 
+/// The lengths of a search's solutions: at most `limit` turns, and at most `slack` more than the least.
+#[derive(Clone, Copy, Debug, PartialEq, Eq)]
+pub struct Lengths {
+    pub limit: Limit,
+    pub slack: Limit,
+}
+
 /// The most turns of a path.
 const CAPACITY: usize = Limit::MOST as usize;
 

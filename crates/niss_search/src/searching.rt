@@ -12,6 +12,7 @@ ghost use Rattle.niss_search.specs.LookNumbers.{found_within_of, look_number_of}
 ghost use Rattle.niss_search.specs.Deepening.{deepening, all_deepenings, Delivers, turns};
 
 mod after;
+mod both;
 mod depth_first;
 
 use crate::budget::{Budget, Stopped, Unbounded, UpTo};
@@ -19,6 +20,7 @@ use crate::laws::positions_follow_cubes;
 use crate::path::{Limit, TurnPath};
 use crate::tables::{Meter, Position, Tables};
 pub use after::search_after;
+pub use both::{PairSink, Sides, search_both_within, search_pairs_of_length};
 use depth_first::Descent;
 use niss_cube::laws::step_turns_in_order;
 use std::alloc::Allocator;
@@ -57,8 +59,8 @@ pub struct Outcome {
 /// The position is one of the tables' step, the path is empty, and the meter is at most at 2^127. The path is empty
 /// again at the end, of the same limit. The meter rises by one for each look: by those of the whole search if the
 /// sink took every path, and by those up to the one at a path that it refused.
-pub fn search<K: Sink, A: Allocator>(
-    tables: &Tables<A>,
+pub fn search<K: Sink>(
+    tables: &Tables<impl Allocator>,
     position: &Position,
     slack: Limit,
     path: &mut TurnPath,
@@ -101,8 +103,8 @@ pub fn search<K: Sink, A: Allocator>(
 ///
 /// The position is one of the tables' step, the path is empty, and the meter is at most at 2^127. The path is empty
 /// again at the end, of the same limit. The meter rises by one for each look.
-pub fn search_within<K: Sink, A: Allocator>(
-    tables: &Tables<A>,
+pub fn search_within<K: Sink>(
+    tables: &Tables<impl Allocator>,
     position: &Position,
     slack: Limit,
     path: &mut TurnPath,

@@ -75,6 +75,8 @@ impl<A: Allocator> Tables<A> {
     ghost use Rattle.niss_search.specs.Positions.{position_after, distance_at};
     ghost use Rattle.niss_search.specs.Entries.{entry_count, fill_ticks};
     ghost use Rattle.niss_search.specs.Cubes.{HasPosition, IsPosition, distance_of};
+    ghost use Rattle.niss_search.specs.Followers.{AreFollowers};
+    ghost use Rattle.niss_moves.specs.Canonical.{may_follow};
     ghost use Rattle.niss_search.specs.KindOfStep.{IsOfStep};
 
     /// `build` over any allocator, for a caller that has a heap of its own, or that refuses growths.
@@ -103,6 +105,18 @@ impl<A: Allocator> Tables<A> {
         ensures { IsOfStep result.now self.now }
     {
         &self.kind
+    }
+
+    /// The step's turns that may stand directly after the last one, in turn order.
+    pub(crate) fn turns_after(&self, last: Option<Turn>) -> &[Follower]
+        ensures { AreFollowers self.now (may_follow last) result.now }
+    {
+        match &self.kind {
+            Kind::Edges(tables) => tables.turns_after(last),
+            Kind::AnyEdges(tables) => tables.turns_after(last),
+            Kind::Domino(tables) => tables.turns_after(last),
+            Kind::EitherDomino(tables) => tables.turns_after(last),
+        }
     }
 
     /// The position of a cube on which the step may start.

@@ -36,8 +36,8 @@ fn turn_place(turn: Turn) -> usize
 /// It makes at most so many looks, as `search_within`. The position is one of the tables' step, the path is empty, and
 /// the meter is at most at 2^127. The path is empty again at the end, of the same limit. The meter rises by one for each
 /// look.
-pub fn search_after<K: Sink, A: Allocator>(
-    tables: &Tables<A>,
+pub fn search_after<K: Sink>(
+    tables: &Tables<impl Allocator>,
     position: &Position,
     after: &[Turn],
     path: &mut TurnPath,

@@ -1,7 +1,8 @@
 use Rattle.niss_search.proofs.Words.{◌≡◌, ◌+◌, arith, ◌∙◌, sym, last_length, err_from_is_err_and, positions, distance_at, length}
 use Rattle.niss_search.proofs.Words.{reaching}
 use Rattle.niss_search.proofs.Bounds.{turns_of-length}
-use Rattle.niss_search.proofs.DeepeningLemmas.{least_below, least_below-more, length-next, least_length-is, looks-room, goes-on, stops-here}
+use Rattle.niss_search.proofs.ByLength.{least_below, least_below-more, length-next, least-is}
+use Rattle.niss_search.proofs.DeepeningLemmas.{least-of, looks-room, goes-on, stops-here}
 use Rattle.niss_search.proofs.DeepeningLemmas.{all-done}
 use Rattle.niss_search.proofs.searching.Root.deepen_all.Goals as goal
 
@@ -28,8 +29,8 @@ loop-length-preserved g c =
     record {
       bounded = c.deepen.ensures.within;
       path = c.deepen.ensures.path ∙ inv.path;
-      least = c.or-least.ensures ∙ rw (c.then_some.ensures, inv.least, count) (sym (least_below-more (positions step) x d));
-      within = omega (arith, length-next (positions step) x c.args.path.now.limit c.args.slack d (omega (arith, last)));
+      least = c.or-least.ensures ∙ rw (c.then_some.ensures, inv.least, count) (sym (least_below-more (reaching (positions step) x) d));
+      within = omega (arith, length-next (reaching (positions step) x) c.args.path.now.limit c.args.slack d (omega (arith, last)));
       counted = omega (arith, inv.counted, c.in_ok-found.ensures.counted);
       went = goes-on (positions step) (distance_at step) x c.args.path.now.limit c.args.slack d inv.went went;
     }
@@ -61,9 +62,9 @@ returns g c =
     let x = c.args.self.now.position.now in
     let n = c.args.path.now.limit in
     let last = rw (inv.least, c.limit-limit.ensures.value) at c.last_length.ensures.value in
-    let end : c.loop-length.length ≡ last_length (least_below (positions step) x c.loop-length.length) n c.args.slack + 1 = omega (arith, last, inv.within) in
+    let end : c.loop-length.length ≡ last_length (least_below (reaching (positions step) x) c.loop-length.length) n c.args.slack + 1 = omega (arith, last, inv.within) in
     record {
-      length = inv.least ∙ sym (least_length-is (positions step) x n c.args.slack c.loop-length.length end);
+      length = inv.least ∙ sym (least-of (positions step) x n ∙ least-is (reaching (positions step) x) n c.args.slack c.loop-length.length end);
       path = inv.path;
       delivers = all-done (positions step) (distance_at step) x n c.args.slack c.loop-length.length inv.went end;
       rises = omega (arith, inv.went.looked);

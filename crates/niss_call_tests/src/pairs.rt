@@ -1,0 +1,224 @@
+//! Searches over both sides. Pairs and looks are those of another program, which has its own cube and tables; the few looks of
+//! a part are counted by hand.
+ghost use Rattle.std.specs.Prelude.{IsTrue};
+ghost use Rattle.niss_cube.specs.Map.{map_of};
+ghost use Rattle.niss_cube.specs.Steps.{may_start};
+
+use crate::cubes::{cube_after, quarter};
+use crate::path_sinks::{PairComparison, Refused};
+use crate::searches::{Search, tables_of};
+use niss_cube::{Cube, Face, Step};
+use niss_search::{
+    Lengths, Limit, Meter, Outcome, Sides, Stopped, Tables, search_both_within,
+    search_pairs_of_length,
+};
+use std::process::Abort;
+
+/// The solved cube after some moves, on which the step of the tables may start.
+fn start(rt: &impl Abort, tables: &Tables, moves: &str) -> Cube
+    ensures { IsTrue (may_start tables.now (map_of result)) }
+{
+    let cube = cube_after(rt, moves);
+    assert!(rt; tables.step().may_start(&cube), "{moves}");
+    cube
+}
+
+/// No search of this file looks so often.
+const ENOUGH: u128 = 1_000_000;
+
+/// A pair: its turns on the normal side, and those on the inverse.
+type Written = (&'static str, &'static str);
+
+/// A search over both sides within so many looks, the pairs that its sink takes before it refuses one, what it returns, and how
+/// often it looks.
+#[derive(Clone, Copy)]
+struct Row {
+    search: Search,
+    bound: u128,
+    pairs: &'static [Written],
+    answer: Result<Outcome, Stopped<Refused>>,
+    looks: u128,
+}
+
+impl Row {
+    fn check(self, rt: &impl Abort, tables: &Tables) {
+        let cube = start(rt, tables, self.search.moves);
+        let lengths = Lengths {
+            limit: Limit::new(self.search.limit).expect(rt, "a limit"),
+            slack: Limit::new(self.search.slack).expect(rt, "a slack"),
+        };
+        let mut meter = Meter::new();
+        let mut sink = PairComparison::new(self.pairs);
+        let answer = search_both_within(tables, &cube, lengths, &mut meter, &mut sink, self.bound);
+        assert!(rt; sink.took_all(), "{}", self.search.moves);
+        assert!(rt; answer == self.answer, "{}", self.search.moves);
+        assert!(rt; meter.count() == self.looks, "{}", self.search.moves);
+    }
+}
+
+/// Up to 20 turns, so many more than the least.
+const fn after(moves: &'static str, slack: u8) -> Search {
+    Search {
+        moves,
+        limit: 20,
+        slack,
+    }
+}
+
+/// A search whose pairs are all taken, with the least length.
+const fn found(search: Search, pairs: &'static [Written], length: Option<u8>, looks: u128) -> Row {
+    let solutions = pairs.len() as u128;
+    Row {
+        search,
+        bound: ENOUGH,
+        pairs,
+        answer: Ok(Outcome { length, solutions }),
+        looks,
+    }
+}
+
+/// A search that ends before it is done.
+const fn ended(
+    search: Search,
+    bound: u128,
+    pairs: &'static [Written],
+    stop: Stopped<Refused>,
+    looks: u128,
+) -> Row {
+    Row {
+        search,
+        bound,
+        pairs,
+        answer: Err(stop),
+        looks,
+    }
+}
+
+const AFTER_F: &[(&str, &str)] = &[("", "F"), ("", "F'"), ("F", ""), ("F'", "")];
+
+const AFTER_F_B: &[(&str, &str)] = &[
+    ("", "F B"),
+    ("", "F B'"),
+    ("", "F' B"),
+    ("", "F' B'"),
+    ("F", "B"),
+    ("F", "B'"),
+    ("F'", "B"),
+    ("F'", "B'"),
+    ("B", "F"),
+    ("B", "F'"),
+    ("B'", "F"),
+    ("B'", "F'"),
+    ("F B", ""),
+    ("F B'", ""),
+    ("F' B", ""),
+    ("F' B'", ""),
+];
+
+/// One side alone needs four turns.
+const AFTER_F_R_U_B: &[(&str, &str)] = &[("B", "F"), ("B", "F'"), ("B'", "F"), ("B'", "F'")];
+
+/// With a turn more: of two sequences that differ in order alone, one is canonical.
+const AND_A_TURN_MORE: &[(&str, &str)] = &[
+    ("B", "F"),
+    ("B", "F'"),
+    ("B'", "F"),
+    ("B'", "F'"),
+    ("F2 B", "F"),
+    ("F2 B'", "F"),
+    ("F2 B", "F'"),
+    ("F2 B'", "F'"),
+];
+
+/// Four turns are needed on one side alone, and two over both.
+const TOO_FEW: Search = Search {
+    moves: "F R U B",
+    limit: 1,
+    slack: 3,
+};
+
+/// Those of no or one turn more than the least: F U, a solution with a turn more, has F as its first turn, which reaches the
+/// step, so it is none of them. Up to one turn no pair reaches the step after F R U B: each side makes one look with no turn,
+/// and one with a turn on the other.
+#[test]
+fn all_pairs_come_in_order(rt: HostRuntime) {
+    let tables = tables_of(&rt, rt.alloc(), Step::Eofb, &mut Meter::new());
+    for row in &[
+        found(after("", 0), &[("", "")], Some(0), 1),
+        found(after("F", 0), AFTER_F, Some(1), 39),
+        found(after("F B", 0), AFTER_F_B, Some(2), 239),
+        found(after("F R U B", 0), AFTER_F_R_U_B, Some(2), 59),
+        found(after("F", 1), AFTER_F, Some(1), 497),
+        found(after("F R U B", 1), AND_A_TURN_MORE, Some(2), 385),
+        found(TOO_FEW, &[], None, 3),
+    ] {
+        row.check(&rt, &tables);
+    }
+    drop(tables);
+}
+
+/// After F: the look with no turn; on the inverse the one at the root, 13 to F and 2 more to F', and 3 after it; on the normal
+/// side the one at the root, and 18 that follow at once, which pass a bound of 38.
+#[test]
+fn a_search_over_both_sides_ends_early(rt: HostRuntime) {
+    let tables = tables_of(&rt, rt.alloc(), Step::Eofb, &mut Meter::new());
+    let search = after("F", 0);
+    for row in &[
+        ended(search, 38, &[("", "F"), ("", "F'")], Stopped::Cut, 21),
+        ended(search, 0, &[], Stopped::Cut, 0),
+        ended(search, ENOUGH, &[], Stopped::Refused(Refused), 15),
+        ended(search, ENOUGH, &[("", "F")], Stopped::Refused(Refused), 17),
+    ] {
+        row.check(&rt, &tables);
+    }
+    drop(tables);
+}
+
+/// R and L turn the corners of this reduction.
+#[test]
+fn a_reduction_has_pairs(rt: HostRuntime) {
+    let tables = tables_of(&rt, rt.alloc(), Step::DrudEofb, &mut Meter::new());
+    let pairs = &[("R", "R"), ("R", "R'"), ("R'", "R"), ("R'", "R'")];
+    found(after("R U R", 0), pairs, Some(2), 47).check(&rt, &tables);
+    drop(tables);
+}
+
+/// A search for pairs of one length on some sides after F, the pairs, and how often it looks.
+type LengthRow = (Sides, u8, &'static [Written], u128);
+
+/// The looks of all lengths together are those of the search over both sides.
+const LENGTHS: &[LengthRow] = &[
+    (Sides::Both, 0, &[], 1),
+    (Sides::Both, 1, AFTER_F, 38),
+    (Sides::Both, 2, &[], 458),
+    (Sides::Normal, 1, &[("F", ""), ("F'", "")], 19),
+    (Sides::Inverse, 1, &[("", "F"), ("", "F'")], 19),
+];
+
+#[test]
+fn pairs_have_a_length_and_sides(rt: HostRuntime) {
+    let tables = tables_of(&rt, rt.alloc(), Step::Eofb, &mut Meter::new());
+    let cube = start(&rt, &tables, "F");
+    for (sides, turns, pairs, looks) in LENGTHS {
+        let length = Limit::new(*turns).expect(&rt, "a length");
+        let mut meter = Meter::new();
+        let mut sink = PairComparison::new(pairs);
+        let answer = search_pairs_of_length(
+            &tables, &cube, *sides, length, &mut meter, &mut sink, ENOUGH,
+        );
+        assert!(rt; sink.took_all(), "{turns}");
+        assert!(rt; answer == Ok(pairs.len() as u128), "{turns}");
+        assert!(rt; meter.count() == *looks, "{turns}");
+    }
+    drop(tables);
+}
+
+/// A turn before all that made a cube, and the cube of the inverse moves.
+#[test]
+fn cubes_have_an_inverse_side(rt: HostRuntime) {
+    let mut cube = cube_after(&rt, "R U2 L'");
+    assert!(rt; cube.inverse() == cube_after(&rt, "L U2 R'"));
+    cube.turn_before(quarter(Face::F));
+    assert!(rt; cube == cube_after(&rt, "F R U2 L'"));
+    assert!(rt; cube.inverse() == cube_after(&rt, "L U2 R' F'"));
+}

@@ -1,0 +1,229 @@
+-- The search over both sides part by part: how a sink goes through pairs, what is done for heads, and that all of it is the pairs
+-- of a length, by their looks.
+use Rattle.niss_search.proofs.Words.{◌≡◌, arith, ◌+◌, ◌<◌, ◌-◌, ℕ, suc, zero, ap, ◌∙◌, sym, refl, subst, Bool, true, false, not, ◌&&◌, cond, nat_le}
+use Rattle.niss_search.proofs.Words.{List, [], ◌∷◌, ◌++◌, length, map, filter, flat_map, sum_by, take, drop, get_or, length-append, append-nil}
+use Rattle.niss_search.proofs.Words.{flat_map-append, sum_by-append, sum_by-cons, range_with_len, up_to, take-append-drop, drop_more, all_canonical, below}
+use Rattle.niss_search.proofs.Words.{Turn, Step, Place, Follower, turns_of, after_all, reached, may_follow, last_turn}
+use Rattle.niss_search.proofs.Words.{Path, Option, Some, None, last_length, least_of}
+use Rattle.std.specs.Prelude.{IfSome, IfNone}
+use Rattle.std.proofs.lemmas.List.Folds.{flat_map-map}
+use Rattle.niss_search.proofs.ListLemmas.{filter-flat_map, flat_map-flat_map, sum_by-flat_map, sum_by-map, sum_by-one, before-last}
+use Rattle.niss_search.proofs.ByLength.{from_least-all}
+use Rattle.niss_search.proofs.DepthFirst.{below-all}
+use Rattle.niss_search.proofs.DescentParts.{WentThrough-append, EndedIn-after, EndedIn-before}
+use Rattle.niss_search.proofs.InverseLemmas.{apart}
+use Rattle.niss_search.specs.BothSides.{Pair, reaches, begins_reached, pairs_of_lengths, splits, HandedOut, StoppedEarly}
+unfoldable use Rattle.niss_search.specs.BothSides.{first_pairs, looks_of_pairs, least_pair_length, pair_solutions, pair_looks}
+use Rattle.niss_search.specs.BothSides.{looks_of_lengths}
+use Rattle.niss_search.specs.BothWalk.{PairPart, parts, after_head, part_of_lengths, on_side, on_other, join}
+unfoldable use Rattle.niss_search.specs.BothWalk.{after_heads}
+use Rattle.niss_search.specs.declared.searching.both.Sides.{Sides}
+use Rattle.niss_search.specs.declared.searching.both.walk.Side.{Side}
+use Rattle.niss_search.specs.declared.searching.both.walk.Side.TheVariants.{Normal, Inverse}
+
+-- One part after another.
+module _ {K : Type 0} (took refused : K → Pair → K → Type 0) where
+  pub none_yet : (m : ℕ) (s : K) → HandedOut took refused [] 0 m m s s 0
+  none_yet m s = record { taken = refl; counted = refl; looked = omega arith }
+
+  -- the same of a part that is the same
+  pub same_went : (p q : PairPart) → p ≡ q → {m o c : ℕ} {s u : K} → HandedOut took refused q.pairs q.looks m o s u c → HandedOut took refused p.pairs p.looks m o s u c
+  same_went p q e {m} {o} {c} {s} {u} h = subst (λ (r : PairPart). HandedOut took refused r.pairs r.looks m o s u c) (sym e) h
+
+  pub same_stopped : (p q : PairPart) → p ≡ q → {m o : ℕ} {s u : K} {cut : Bool} {bound : ℕ} → StoppedEarly took refused q.pairs q.looks m o s u cut bound → StoppedEarly took refused p.pairs p.looks m o s u cut bound
+  same_stopped p q e {m} {o} {s} {u} {cut} {bound} h = subst (λ (r : PairPart). StoppedEarly took refused r.pairs r.looks m o s u cut bound) (sym e) h
+
+  module _ (p q : PairPart) {m n o c : ℕ} {s t u : K} (went : HandedOut took refused p.pairs p.looks m n s t c) where
+    then_went : {d : ℕ} → HandedOut took refused q.pairs q.looks n o t u d → HandedOut took refused (p.pairs ++ q.pairs) (p.looks + q.looks) m o s u (c + d)
+    then_went h = record {
+      taken = WentThrough-append took refused s t u p.pairs q.pairs went.taken h.taken;
+      counted = omega (arith, went.counted, h.counted, length-append p.pairs q.pairs);
+      looked = omega (arith, went.looked, h.looked);
+    }
+
+    then_stopped : (rest : PairPart) {cut : Bool} {bound : ℕ} → StoppedEarly took refused q.pairs q.looks n o t u cut bound
+        → StoppedEarly took refused (p.pairs ++ (q.pairs ++ rest.pairs)) (p.looks + (q.looks + rest.looks)) m o s u cut bound
+    then_stopped rest {cut} h = record {
+      taken = EndedIn-after took refused cut s t u p.pairs (q.pairs ++ rest.pairs) went.taken (EndedIn-before took refused cut t u q.pairs rest.pairs h.taken);
+      over = λ is. omega (arith, went.looked, h.over is);
+      rises = omega (arith, went.looked, h.rises);
+      looked = omega (arith, went.looked, h.looked);
+    }
+
+  module _ {X : Type 0} (part : X → PairPart) (xs : List X) (x : X) where
+    parts-push : parts part (xs ++ x ∷ []) ≡ record { pairs = (parts part xs).pairs ++ (part x).pairs; looks = (parts part xs).looks + (part x).looks }
+    parts-push = λ i. record {
+      pairs = (flat_map-append (λ y. (part y).pairs) xs (x ∷ []) ∙ ap (λ ps. (parts part xs).pairs ++ ps) (append-nil (part x).pairs)) i;
+      looks = (sum_by-append (λ y. (part y).looks) xs (x ∷ []) ∙ ap (λ k. (parts part xs).looks + k) (sum_by-one (λ y. (part y).looks) x)) i;
+    }
+
+    parts-split : (ys : List X) → parts part (xs ++ x ∷ ys)
+        ≡ record { pairs = (parts part xs).pairs ++ ((part x).pairs ++ (parts part ys).pairs); looks = (parts part xs).looks + ((part x).looks + (parts part ys).looks) }
+    parts-split ys = λ i. record {
+      pairs = flat_map-append (λ y. (part y).pairs) xs (x ∷ ys) i;
+      looks = (sum_by-append (λ y. (part y).looks) xs (x ∷ ys) ∙ ap (λ k. (parts part xs).looks + k) (sum_by-cons (λ y. (part y).looks) x ys)) i;
+    }
+
+    module _ {m n o c : ℕ} {s t u : K} (went : HandedOut took refused (parts part xs).pairs (parts part xs).looks m n s t c) where
+      pub parts_more : {d : ℕ} → HandedOut took refused (part x).pairs (part x).looks n o t u d
+          → HandedOut took refused (parts part (xs ++ x ∷ [])).pairs (parts part (xs ++ x ∷ [])).looks m o s u (c + d)
+      parts_more {d} h =
+          same_went (parts part (xs ++ x ∷ [])) _ parts-push (then_went (parts part xs) (part x) went h)
+
+      pub parts_stop : (ys : List X) {cut : Bool} {bound : ℕ} → StoppedEarly took refused (part x).pairs (part x).looks n o t u cut bound
+          → StoppedEarly took refused (parts part (xs ++ x ∷ ys)).pairs (parts part (xs ++ x ∷ ys)).looks m o s u cut bound
+      parts_stop ys {cut} {bound} h =
+          same_stopped (parts part (xs ++ x ∷ ys)) _ (parts-split ys) (then_stopped (parts part xs) (part x) went (parts part ys) h)
+
+-- a list to an element, and from there on
+pub list_split : {X : Type 0} (xs : List X) (i : ℕ) (d : X) → i < length xs → xs ≡ take i xs ++ get_or xs i d ∷ drop (i + 1) xs
+list_split xs i d l = sym (take-append-drop i xs) ∙ ap (λ ys. take i xs ++ ys) (drop_more xs i d l)
+
+-- a range to a number, and from there on
+pub range_cut : (a i n : ℕ) → i < n → range_with_len a n ≡ range_with_len a i ++ (a + i) ∷ range_with_len (a + i + 1) (n - i - 1)
+range_cut a zero zero l = absurd (omega (arith, l))
+range_cut a zero (suc n) l =
+    let e : a + zero ≡ a = omega arith in
+    let k : suc n - zero - 1 ≡ n = omega arith in
+    rw (e, k) refl
+range_cut a (suc i) zero l = absurd (omega (arith, l))
+range_cut a (suc i) (suc n) l =
+    let e : a + 1 + i ≡ a + suc i = omega arith in
+    let k : n - i - 1 ≡ suc n - suc i - 1 = omega arith in
+    ap (λ (ks : List ℕ). a ∷ ks) (range_cut (a + 1) i n (omega (arith, l)) ∙ (λ j. range_with_len (a + 1) i ++ e j ∷ range_with_len (e j + 1) (k j)))
+
+pub range_push : (a i : ℕ) → range_with_len a (i + 1) ≡ range_with_len a i ++ (a + i) ∷ []
+range_push a i =
+    let k : i + 1 - i - 1 ≡ 0 = omega arith in
+    range_cut a i (i + 1) (omega arith) ∙ ap (λ n. range_with_len a i ++ (a + i) ∷ range_with_len (a + i + 1) n) k
+
+-- a path after a turn was pushed and popped
+pub popped : (old pushed now : Path) (t : Turn) (r : Option Turn) → pushed ≡ record { limit = old.limit; turns = old.turns ++ t ∷ [] } → now.limit ≡ pushed.limit
+    → IfSome r (λ u. pushed.turns ≡ now.turns ++ u ∷ []) → IfNone r ((pushed.turns ≡ []) × (now.turns ≡ [])) → now ≡ old
+popped old pushed now t (Some u) e same some none =
+    let turns : now.turns ≡ old.turns = before-last old.turns now.turns t u (sym (ap (λ (p : Path). p.turns) e) ∙ some) in
+    let limit : now.limit ≡ old.limit = same ∙ ap (λ (p : Path). p.limit) e in
+    λ i. record { limit = limit i; turns = turns i }
+popped old pushed now t None e same some none =
+    absurd (omega (arith, ap length (sym (ap (λ (p : Path). p.turns) e) ∙ none.0), length-append old.turns (t ∷ [])))
+
+-- What is done for heads: at one alone, and for those with one turn more by that turn.
+module _ (step : Step) (e : Place → Place) (side : Side) (tail : ℕ) where
+  abbrev at : List Turn → PairPart
+  at = after_head step e side tail
+
+  abbrev pub next_heads : List Turn → ℕ → Follower → PairPart
+  next_heads head left f = after_heads step e side tail (head ++ f.turn ∷ []) left
+
+  pub heads-end : (head : List Turn) → after_heads step e side tail head 0 ≡ after_head step e side tail head
+  unfolding after_heads
+  heads-end head = λ i. record { pairs = append-nil (at head).pairs i; looks = sum_by-one (λ h. (at h).looks) head i }
+
+  pub heads-next : (head : List Turn) (left : ℕ) (fs : List Follower) → map (λ f. f.turn) fs ≡ filter (may_follow (last_turn head)) (turns_of step)
+      → after_heads step e side tail head (suc left) ≡ parts (next_heads head left) fs
+  unfolding after_heads
+  heads-next head left fs listed = λ i. record { pairs = listed_pairs i; looks = listed_looks i } where
+    turns : List Turn
+    turns = filter (may_follow (last_turn head)) (turns_of step)
+
+    push : Turn → List Turn
+    push t = head ++ t ∷ []
+
+    pairs_at : List Turn → List Pair
+    pairs_at h = flat_map (λ q. (at q).pairs) (below (turns_of step) h left)
+
+    looks_at : List Turn → ℕ
+    looks_at h = sum_by (λ q. (at q).looks) (below (turns_of step) h left)
+
+    listed_pairs : flat_map (λ q. (at q).pairs) (flat_map (λ q. below (turns_of step) q left) (map push turns)) ≡ flat_map (λ f. pairs_at (push f.turn)) fs
+    listed_pairs =
+        flat_map-flat_map (λ q. (at q).pairs) (λ q. below (turns_of step) q left) (map push turns)
+        ∙ flat_map-map pairs_at push turns
+        ∙ ap (flat_map (λ t. pairs_at (push t))) (sym listed)
+        ∙ flat_map-map (λ t. pairs_at (push t)) (λ (f : Follower). f.turn) fs
+
+    listed_looks : sum_by (λ q. (at q).looks) (flat_map (λ q. below (turns_of step) q left) (map push turns)) ≡ sum_by (λ f. looks_at (push f.turn)) fs
+    listed_looks =
+        sum_by-flat_map (λ q. (at q).looks) (λ q. below (turns_of step) q left) (map push turns)
+        ∙ sum_by-map looks_at push turns
+        ∙ ap (sum_by (λ t. looks_at (push t))) (sym listed)
+        ∙ sum_by-map (λ t. looks_at (push t)) (λ (f : Follower). f.turn) fs
+
+-- of a list by two tests, one after another
+filter_twice : {X Y : Type 0} (r : X → Bool) (q k : Y → Bool) (g : X → Y) (xs : List X) → ((x : X) → r x ≡ q (g x)) → filter k (map g (filter r xs)) ≡ filter (λ y. q y && k y) (map g xs)
+filter_twice r q k g [] same = refl
+filter_twice {X} {Y} r q k g (x ∷ xs) same = by_test (r x) (q (g x)) (same x) (filter_twice r q k g xs same) where
+  by_test : (a b : Bool) → a ≡ b → filter k (map g (filter r xs)) ≡ filter (λ y. q y && k y) (map g xs)
+      → filter k (map g (cond a (x ∷ filter r xs) (filter r xs))) ≡ cond (b && k (g x)) (g x ∷ filter (λ y. q y && k y) (map g xs)) (filter (λ y. q y && k y) (map g xs))
+  by_test true true e rest = ap (λ ys. cond (k (g x)) (g x ∷ ys) ys) rest
+  by_test false false e rest = rest
+  by_test true false e rest = absurd (cc e)
+  by_test false true e rest = absurd (cc e)
+
+-- The pairs of a length are those that the heads give.
+module _ (step : Step) (e : Place → Place) where
+  abbrev first : Pair → Bool
+  first p = reaches step e p && not (begins_reached step e p)
+
+  abbrev all : ℕ → List (List Turn)
+  all k = all_canonical (turns_of step) k
+
+  reach_alike : (side : Side) (head tail : List Turn) → (on_other side step).reached (after_all (on_other side step) (after_all (on_side side step) e head) tail) ≡ reaches step e (join side head tail)
+  reach_alike Normal head tail = ap (reached step) (sym (apart step head e tail))
+  reach_alike Inverse head tail = refl
+
+  one_head : (side : Side) (k : ℕ) (head : List Turn) → (after_head step e side k head).pairs ≡ filter first (map (join side head) (all k))
+  one_head side k head =
+      filter_twice (λ t. (on_other side step).reached (after_all (on_other side step) (after_all (on_side side step) e head) t)) (reaches step e) (λ p. not (begins_reached step e p)) (join side head) (all k) (reach_alike side head)
+
+  abbrev start : Side → (tail head : ℕ) → PairPart
+  start side tail head = after_heads step e side tail [] head
+
+  start-pairs : (side : Side) (tail head : ℕ) → (start side tail head).pairs ≡ filter first (flat_map (λ h. map (join side h) (all tail)) (all head))
+  unfolding after_heads
+  start-pairs side tail head =
+      ap (flat_map (λ h. (after_head step e side tail h).pairs)) (below-all (turns_of step) head)
+      ∙ (λ i. flat_map (λ h. one_head side tail h i) (all head))
+      ∙ sym (filter-flat_map first (λ h. map (join side h) (all tail)) (all head))
+
+  start-looks : (side : Side) (tail head : ℕ) → (start side tail head).looks ≡ sum_by (λ h. (after_head step e side tail h).looks) (all head)
+  unfolding after_heads
+  start-looks side tail head = ap (sum_by (λ h. (after_head step e side tail h).looks)) (below-all (turns_of step) head)
+
+  lengths-pairs : (i j : ℕ) → (part_of_lengths step e i j).pairs ≡ filter first (pairs_of_lengths (turns_of step) i j)
+  lengths-pairs i j = by_test (nat_le i j) refl where
+    by_test : (b : Bool) → nat_le i j ≡ b → (part_of_lengths step e i j).pairs ≡ filter first (pairs_of_lengths (turns_of step) i j)
+    by_test true is = rw is (start-pairs Normal j i)
+    by_test false is = rw is (start-pairs Inverse i j)
+
+  lengths-looks : (i j : ℕ) → (part_of_lengths step e i j).looks ≡ looks_of_lengths step e i j
+  lengths-looks i j = by_test (nat_le i j) refl where
+    by_test : (b : Bool) → nat_le i j ≡ b → (part_of_lengths step e i j).looks ≡ looks_of_lengths step e i j
+    by_test true is = rw is (start-looks Normal j i)
+    by_test false is = rw is (start-looks Inverse i j)
+
+  -- what is done for a length, and for so many of its turns on the normal side
+  abbrev pub part_of_length : Sides → ℕ → PairPart
+  part_of_length sides n = record { pairs = first_pairs step e sides n; looks = looks_of_pairs step e sides n }
+
+  abbrev pub part_of_split : ℕ → ℕ → PairPart
+  part_of_split n i = part_of_lengths step e i (n - i)
+
+  pub length-parts : (sides : Sides) (n : ℕ) → part_of_length sides n ≡ parts (part_of_split n) (splits sides n)
+  unfolding first_pairs looks_of_pairs
+  length-parts sides n = λ i. record {
+    pairs = (filter-flat_map first (λ k. pairs_of_lengths (turns_of step) k (n - k)) (splits sides n) ∙ sym (λ j. flat_map (λ k. lengths-pairs k (n - k) j) (splits sides n))) i;
+    looks = sym (λ j. sum_by (λ k. lengths-looks k (n - k) j) (splits sides n)) i;
+  }
+
+  -- and up to the last length
+  abbrev pub whole : Sides → (n slack : ℕ) → PairPart
+  whole sides n slack = record { pairs = pair_solutions step e sides n slack; looks = pair_looks step e sides n slack }
+
+  pub whole-parts : (sides : Sides) (n slack : ℕ) → whole sides n slack ≡ parts (part_of_length sides) (up_to (last_length (least_of (first_pairs step e sides) n) n slack))
+  unfolding pair_solutions pair_looks least_pair_length
+  whole-parts sides n slack = λ i. record { pairs = from_least-all (first_pairs step e sides) n slack i; looks = pair_looks step e sides n slack }
+
+  pub least-is_of : (sides : Sides) (n : ℕ) → least_pair_length step e sides n ≡ least_of (first_pairs step e sides) n
+  unfolding least_pair_length
+  least-is_of sides n = refl

@@ -1,0 +1,120 @@
+-- The search over both sides from within: the shorter side of a pair is its head, the other one its tail. (For the search's own
+-- functions.)
+use Rattle.std.specs.Prelude.{◌≡◌, ◌⊎◌, ℕ, ◌+◌, ◌^◌, ◌-◌, min, nat_le, if◌then◌else◌, Bool, true, false, not}
+use Rattle.std.specs.Prelude.{List, [], length, take, map, filter, flat_map, sum_by}
+use Rattle.std.specs.List.{list_any, range_with_len}
+use Rattle.niss_moves.specs.Places.{Place, SameMap, IsPlace}
+use Rattle.niss_cube.specs.Map.{map_of}
+use Rattle.niss_cube.specs.AfterTurn.{IsCube}
+use Rattle.niss_cube.specs.Steps.{turns_of, reached}
+use Rattle.niss_search.specs.Names.{Turn, Step, GoalCoordinates}
+use Rattle.niss_search.specs.Delivery.{Path}
+use Rattle.niss_search.specs.Solutions.{Space, Homomorphism, after_all, reaching, distance, looks}
+use Rattle.niss_search.specs.Cubes.{cubes, HasPosition}
+use Rattle.niss_search.specs.Positions.{positions}
+use Rattle.niss_search.specs.Deepening.{below}
+use Rattle.niss_search.specs.BothSides.{Pair, pair, inverse_side, begins_reached}
+use Rattle.niss_search.specs.declared.searching.both.walk.Side.{Side}
+use Rattle.niss_search.specs.declared.searching.both.walk.Side.TheVariants.{Normal, Inverse}
+use Rattle.niss_search.specs.declared.searching.both.walk.Split.{Split}
+use Rattle.niss_search.specs.declared.searching.both.joined.Joined.{Joined}
+
+-- the cubes of a step after its turns on a side, and on the other
+abbrev pub on_side : Side → (step : Step) → Space (turns_of step) (Place → Place)
+on_side Normal step = cubes step
+on_side Inverse step = inverse_side step
+
+abbrev pub on_other : Side → (step : Step) → Space (turns_of step) (Place → Place)
+on_other Normal step = inverse_side step
+on_other Inverse step = cubes step
+
+-- the pair of a head on a side and a tail on the other
+abbrev pub join : Side → (head tail : List Turn) → Pair
+join Normal head tail = pair head tail
+join Inverse head tail = pair tail head
+
+-- the shorter side is the head, the normal one if both are equally long
+abbrev pub split_of : (normal inverse : ℕ) → Split
+split_of normal inverse =
+    if nat_le normal inverse
+    then record { side = Normal; head = normal; tail = inverse }
+    else record { side = Inverse; head = inverse; tail = normal }
+
+-- A part of a search: the pairs that it hands out, and how many looks it makes. One part for each of a list, one after another.
+pub record PairPart : Type 0 where
+  pub pairs : List Pair
+  pub looks : ℕ
+
+abbrev pub parts : {X : Type 0} → (X → PairPart) → List X → PairPart
+parts part xs = record { pairs = flat_map (λ x. (part x).pairs) xs; looks = sum_by (λ x. (part x).looks) xs }
+
+-- those of pairs whose first turns don't reach the step
+abbrev pub kept : Step → (Place → Place) → List Pair → List Pair
+kept step e ps = filter (λ p. not (begins_reached step e p)) ps
+
+module _ (step : Step) (e : Place → Place) (side : Side) (tail : ℕ) where
+  -- what is done after a head: the search for its tails
+  abbrev pub after_head : List Turn → PairPart
+  after_head head = let here = after_all (on_side side step) e head in record {
+    pairs = kept step e (map (join side head) (reaching (on_other side step) here tail));
+    looks = looks (on_other side step) (distance (on_other side step)) here tail;
+  }
+
+  -- what is done for all heads that begin with one and have so many turns more
+  unfoldable pub after_heads : List Turn → ℕ → PairPart
+  after_heads head left = parts after_head (below (turns_of step) head left)
+
+-- what is done for pairs of so many turns on each side
+abbrev pub part_of_lengths : (step : Step) → (e : Place → Place) → (i j : ℕ) → PairPart
+part_of_lengths step e i j = let split = split_of i j in after_heads step e split.side split.tail [] split.head
+
+-- The cube of the other side: on that, a head on this side stands before all that made it.
+abbrev pub IsOther : Step → Side → (e : Place → Place) → (head : List Turn) → (other : Place → Place) → Type 0
+IsOther step Normal e head other = (q : Place) → IsPlace q → other (after_all (cubes step) e head q) ≡ q
+IsOther step Inverse e head other = SameMap other (after_all (inverse_side step) e head)
+
+-- A cube whose inverse has the position.
+pub record HasInverseAt (step : Step) (e : Place → Place) (x : List GoalCoordinates) : Type 0 where
+  pub inverse : Place → Place
+  pub cube : IsCube e
+  pub back : (q : Place) → IsPlace q → inverse (e q) ≡ q
+  pub here : HasPosition step inverse x
+
+-- A position follows the turns on the inverse, by the inverse's position.
+abbrev pub PositionsFollowInverses : Type 0
+PositionsFollowInverses = (step : Step) → Homomorphism (HasInverseAt step) (inverse_side step) (positions step)
+
+-- Is the step reached from a cube after the first turns, but not all?
+unfoldable pub reached_along : Step → (Place → Place) → List Turn → Bool
+reached_along step f a = list_any (λ i. reached step (after_all (cubes step) f (take i a))) (range_with_len 0 (length a))
+
+-- A sink that joins tails to a head, and hands on the pairs.
+module _ {K : Type 0} where
+  -- the pair of a tail
+  abbrev pub joined : Joined K → List Turn → Pair
+  joined sink tail = join sink.side sink.head.now.turns tail
+
+  -- Do its first turns reach the step?
+  abbrev pub begun : Joined K → List Turn → Bool
+  begun sink tail = begins_reached sink.step (map_of sink.cube.now) (joined sink tail)
+
+  -- It lends the same sink, and has the same head on the same side.
+  pub record StaysJoined (old new : Joined K) : Type 0 where
+    pub head : new.head.now ≡ old.head.now
+    pub side : new.side ≡ old.side
+    pub step : new.step ≡ old.step
+    pub cube : new.cube.now ≡ old.cube.now
+    pub same_sink : new.sink.ghost_name ≡ old.sink.ghost_name
+
+  -- A pair was counted, as far as numbers go, and the sink took it; or its first turns reach the step, and nothing was done.
+  abbrev pub JoinedTook : (K → Pair → K → Type 0) → Joined K → Path → Joined K → Type 0
+  JoinedTook took old path new =
+      StaysJoined old new
+      × (((begun old path.turns ≡ true) × ((new.sink.now ≡ old.sink.now) × (new.count ≡ old.count)))
+      ⊎ ((begun old path.turns ≡ false)
+      × (took old.sink.now (joined old path.turns) new.sink.now × (new.count ≡ min (old.count + 1) (2 ^ 128 - 1)))))
+
+  abbrev pub JoinedRefused : (K → Pair → K → Type 0) → Joined K → Path → Joined K → Type 0
+  JoinedRefused refused old path new =
+      StaysJoined old new
+      × ((begun old path.turns ≡ false) × refused old.sink.now (joined old path.turns) new.sink.now)

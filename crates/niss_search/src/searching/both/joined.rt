@@ -1,0 +1,89 @@
+//! The sink of the search for tails, which makes pairs of them.
+ghost use Rattle.std.specs.Prelude.{◌≡◌, ◌||◌};
+ghost use Rattle.niss_cube.specs.Map.{map_of};
+ghost use Rattle.niss_cube.specs.Steps.{reached};
+ghost use Rattle.niss_search.specs.Cubes.{cubes};
+ghost use Rattle.niss_search.specs.Solutions.{after_all};
+ghost use Rattle.niss_search.specs.BothSides.{pair, begins_reached};
+ghost use Rattle.niss_search.specs.BothWalk.{JoinedTook, JoinedRefused, reached_along};
+
+use super::PairSink;
+use super::walk::Side;
+use crate::path::TurnPath;
+use crate::searching::Sink;
+use niss_cube::laws::steps_see_places;
+use niss_cube::{Cube, Step, Turn};
+use niss_moves::laws::places_stay;
+
+/// Hands on a pair for each tail after a head, but for those whose first turns reach the step already.
+#[derive(Drop)]
+pub(super) struct Joined<'a, K> {
+    pub step: Step,
+    pub cube: &'a Cube,
+    pub head: &'a TurnPath,
+    pub side: Side,
+    pub sink: &'a mut K,
+    pub count: u128,
+}
+
+impl<K: PairSink> Sink for Joined<'_, K> {
+    type Fault = K::Fault;
+
+    ghost took = { λ old path new. JoinedTook K.took old path new };
+
+    ghost refused = { λ old path new. JoinedRefused K.refused old path new };
+
+    fn take(&mut self, path: &TurnPath) -> Result<(), K::Fault> {
+        let (normal, inverse) = match self.side {
+            Side::Normal => (self.head, path),
+            Side::Inverse => (path, self.head),
+        };
+        if begins_reached(self.step, self.cube, normal.turns(), inverse.turns()) {
+            return Ok(());
+        }
+        self.count = self.count.saturating_add(1);
+        self.sink.take(normal, inverse)
+    }
+}
+
+/// Whether the step is reached after the first turns on each side, some or all, but not all on both.
+fn begins_reached(step: Step, cube: &Cube, normal: &[Turn], inverse: &[Turn]) -> bool
+    ensures { result ≡ begins_reached step (map_of cube.now) (pair normal.now inverse.now) }
+{
+    steps_see_places();
+    places_stay();
+    let mut here = *cube;
+    for turn in inverse {
+        if reaches_by(step, &here, normal) {
+            return true;
+        }
+        here.turn_before(turn.inverse());
+    }
+    reached_along(step, &here, normal)
+}
+
+/// Whether the cube after the first turns, some or all, has reached the step.
+fn reaches_by(step: Step, cube: &Cube, turns: &[Turn]) -> bool
+    ensures { result ≡ (reached_along step (map_of cube.now) turns.now
+        || reached step (after_all (cubes step) (map_of cube.now) turns.now)) }
+{
+    steps_see_places();
+    let mut here = *cube;
+    here.apply(turns);
+    reached_along(step, cube, turns) || step.reached(&here)
+}
+
+/// Whether the cube after the first turns, but not all, has reached the step.
+fn reached_along(step: Step, cube: &Cube, turns: &[Turn]) -> bool
+    ensures { result ≡ reached_along step (map_of cube.now) turns.now }
+{
+    steps_see_places();
+    let mut here = *cube;
+    for turn in turns {
+        if step.reached(&here) {
+            return true;
+        }
+        here.turn(*turn);
+    }
+    false
+}
