@@ -73,7 +73,7 @@ cp "$user/user.mts" "$user/user.ts" && cp "$user/user2.mts" "$user/user2.ts"
 for resolution in "nodenext nodenext mts" "es2022 node ts"; do
     read -r kind way ending <<< "$resolution"
     strict=(tsc --strict --exactOptionalPropertyTypes --noEmit --target es2022 --module "$kind" --moduleResolution "$way" --lib "es2022,dom")
-    holds "tsc reads its types by $way" in_folder "${strict[@]}" user.$ending user2.$ending
+    holds "tsc reads its types by $way" in_folder "${strict[@]}" "user.$ending" "user2.$ending"
 done
 
 # bundled, in a page. Debian's Python has Debian's selenium, whatever other Python comes first

@@ -2,7 +2,8 @@
 import os
 import sys
 from concurrent.futures import ThreadPoolExecutor
-from typing import Any, Callable, Iterable, List, Type, TypeVar
+from contextlib import contextmanager
+from typing import Any, Callable, Iterable, Iterator, List, Type, TypeVar
 
 Item = TypeVar("Item")
 Found = TypeVar("Found")
@@ -39,14 +40,19 @@ def tried(*parts: Callable[[Tally], None]) -> None:
     tally.end()
 
 
-def side_by_side(tally: Tally, count: int, call: Callable[[Item], Found], items: Iterable[Item]) -> List[Found]:
-    """What a call returns of each item, by so many threads. No thread may import: by Python 3.11 two that do so at once may wait for each other without
-    end. So what they need is imported before."""
+@contextmanager
+def without_imports(tally: Tally) -> Iterator[None]:
+    """While there are threads none may import: by Python 3.11 two that do so at once may wait for each other without end. So what they need is imported
+    before."""
     before = set(sys.modules)
-    with ThreadPoolExecutor(count) as pool:
-        found = list(pool.map(call, items))
-    tally.equal("what threads imported", sorted(set(sys.modules) - before), [])
-    return found
+    yield
+    tally.equal("what was imported while there were threads", sorted(set(sys.modules) - before), [])
+
+
+def side_by_side(tally: Tally, count: int, call: Callable[[Item], Found], items: Iterable[Item]) -> List[Found]:
+    """What a call returns of each item, by so many threads."""
+    with without_imports(tally), ThreadPoolExecutor(count) as pool:
+        return list(pool.map(call, items))
 
 
 def made_again(kind: str, why: str) -> None:

@@ -135,7 +135,9 @@ def build_program(crate: str, made: str, target: str) -> None:
 
 def build_for(crate: str, made: str, target: str, *kind: str) -> None:
     """Proves a crate for a target, and compiles it."""
-    words = [f"{kit()}/bin/rattle", "build", *words_on(crate, build_below(crate), kit()), "--jobs", "2", *kind, "--target", target]
+    # RT_JOBS has `rt ci` make as many proofs at once, each by one job
+    jobs = "1" if "RT_JOBS" in os.environ else "2"
+    words = [f"{kit()}/bin/rattle", "build", *words_on(crate, build_below(crate), kit()), "--jobs", jobs, *kind, "--target", target]
     words += ["--toolchain", f"{kit()}/toolchain", "--backend", "llvm", "-o", made]
     with tempfile.TemporaryDirectory() as kept:
         words += ["--incremental", kept]

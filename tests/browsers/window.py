@@ -4,8 +4,10 @@ import time
 from typing import Any
 
 PATIENCE = 90
+# kept lines have their totals by a worker of their own, for which nothing else waits
 DONE = """
-    return document.querySelector("#results[aria-busy=false]") !== null && document.querySelector("[aria-busy=true]") === null"""
+    return document.querySelector("#results[aria-busy=false]") !== null && document.querySelector("[aria-busy=true]") === null
+        && [...document.querySelectorAll("#kept-list .total")].every((each) => each.textContent !== "")"""
 SEEN = "return [...document.querySelectorAll(%s)].filter((each) => each.checkVisibility())"
 
 

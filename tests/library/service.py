@@ -5,6 +5,7 @@ The library is that of NISSY_LIBRARY.
 """
 from __future__ import annotations
 
+import encodings.idna  # of the name of a host, for each connection
 import http.client
 import json
 import os
@@ -23,7 +24,7 @@ TOP = Path(__file__).resolve().parents[2]
 sys.path[:0] = [str(TOP / "python"), str(TOP / "examples"), str(TOP / "tests")]
 
 import serve
-from tally import Tally
+from tally import Tally, without_imports
 
 # clients at once, and how long they may wait: the search that each asks for would take days without a bound
 CLIENTS, SECONDS = 16, 60
@@ -139,9 +140,10 @@ def main() -> None:
     with subprocess.Popen([sys.executable, str(TOP / "examples/serve.py"), "0"], env=environment, stdout=subprocess.PIPE, text=True) as server:
         assert server.stdout is not None
         port = int(server.stdout.readline())
-        by_hand(tally, port)
-        searches_are_cut(tally, port)
-        ends_amid_searches(tally, server, port)
+        with without_imports(tally):
+            by_hand(tally, port)
+            searches_are_cut(tally, port)
+            ends_amid_searches(tally, server, port)
     tally.end()
 
 
