@@ -156,7 +156,7 @@ fn fits_in(
     Ok(fits)
 }
 
-/// Checks that of rooms that grow some are refused, each of which leaves the meter where it stood, and that one is enough.
+/// Checks that of rooms that grow some are refused, which leaves the meter where it stood, and that one is enough.
 fn check_growths(rt: &impl Abort, alloc: Global, step: Step) -> Result<(), AllocError> {
     let heap = LocalHeap::new(alloc, AMPLE)?;
     let mut meter = Meter::new();
