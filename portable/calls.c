@@ -93,17 +93,16 @@ struct run {
 /* Makes it, and returns whether there was so much memory. */
 static bool run_in(size_t lent, struct run *run, nissy_run_answer *said) {
     STACK(STACK_OF_nissy_run);
-    _Alignas(16) unsigned char answer[32], room[16];
+    _Alignas(16) unsigned char answer[24], room[16];
     void *block = lent == 0 ? NULL : malloc(lent);
     put_room(room, block, block == NULL ? 0 : lent);
     w_nissy_run(STACK_END, address(answer), address(room), run->words, run->words_length, run->input, run->input_length, run->out, run->out_room,
                 address(run->err), sizeof run->err);
     free(block);
-    /* the engine has the fields in another order than nissy.h */
     said->status = (uint8_t)load1(address(answer));
+    said->out_too_small = load1(address(answer) + 1) != 0;
     said->out_length = load8(address(answer) + 8);
     said->err_length = load8(address(answer) + 16);
-    said->out_too_small = load1(address(answer) + 24) != 0;
     return lent == 0 || block != NULL;
 }
 

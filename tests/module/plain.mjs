@@ -50,10 +50,10 @@ async function runner() {
       status: bytes[answerAt],
       out: text(bytes.slice(outAt, outAt + number(answerAt + 8))),
       err: text(bytes.slice(errAt, errAt + number(answerAt + 16))),
-      small: [bytes[answerAt + 24], bytes[answerAt + 25]],
+      small: [bytes[answerAt + 1], bytes[answerAt + 2]],
       room: [number(roomAt) - lentAt, number(roomAt + 8)],
       kept:
-        is(answerAt + 32, roomAt) && is(roomAt + 16, inputAt) && is(outAt + number(answerAt + 8), errAt) &&
+        is(answerAt + 24, roomAt) && is(roomAt + 16, inputAt) && is(outAt + number(answerAt + 8), errAt) &&
         is(errAt + number(answerAt + 16), wordsAt) && is(lentAt + lent, lentAt + lent + 64),
     };
   };

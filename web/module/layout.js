@@ -26,7 +26,7 @@ export const LONG = 8;
 export const HEAD = { status: 0, fault: 1, column: 4 };
 
 /** Where the other fields of each struct are. */
-export const RUN_ANSWER = { outLength: 8, errLength: 16, outTooSmall: 24 };
+export const RUN_ANSWER = { outTooSmall: 1, outLength: 8, errLength: 16 };
 export const LINE_ANSWER = { length: 8 };
 export const SEARCH_ANSWER = { bytes: 32, least: 2, more: 3, length: 8, solutions: 16, nodes: 24 };
 export const FACTS_ANSWER = { bytes: 44, solved: 2, moves: 8, cleanMoves: 10, holds: 12, axes: 14 };

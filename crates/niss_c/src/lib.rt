@@ -8,9 +8,11 @@ mod text_calls;
 mod version;
 
 pub use check_calls::{nissy_check, nissy_facts, nissy_facts_lines};
-pub use niss_embed::{AxisFacts, CheckAnswer, FactsAnswer, LineAnswer, LinesAnswer, SearchAnswer};
+pub use niss_embed::{
+    Answer, AxisFacts, CheckAnswer, FactsAnswer, LineAnswer, LinesAnswer, SearchAnswer,
+};
 pub use niss_kept::Held;
-pub use run_call::{RunAnswer, nissy_run};
+pub use run_call::nissy_run;
 pub use table_calls::{
     nissy_build, nissy_count, nissy_count_lines, nissy_solve, nissy_solve_after,
 };

@@ -1,8 +1,10 @@
 //! Tables in heaps of the size that they ask for, or a little less, each of their growths refused in turn, and a heap while a
 //! search goes on.
+ghost use Rattle.std.specs.Prelude.{◌≤◌, ◌^◌};
+
 use crate::coordinates::check_tables;
 use crate::path_sinks::HeapWatch;
-use crate::searches::Search;
+use crate::searches::{Search, tables_of};
 use linked_list_allocator::LocalHeap;
 use niss_cube::{OutOfMemory, Step, TurnTables};
 use niss_search::{Meter, Tables};
@@ -130,17 +132,23 @@ fn more_for(step: Step) -> usize {
     }
 }
 
+/// The turns that the fill of an orientation's table tries: where the meter stands before each build.
+const TICKS_BEFORE: u128 = 36_864;
+
 /// Whether a room, the number of which is given, is enough for the tables of a step. Enough or not, nothing is left in the heap.
 fn fits_in(
     rt: &impl Abort,
     heap: &LocalHeap,
     step: Step,
     number: usize,
-) -> Result<bool, AllocError> {
+    meter: &mut Meter,
+) -> Result<bool, AllocError>
+    requires { meter.old ≤ 2 ^ 127 }
+{
     let room = number.saturating_mul(more_for(step));
     let filled: Vec<u8, &LocalHeap> = Vec::with_capacity(heap, AMPLE.saturating_sub(room))?;
     let used = heap.used();
-    let built = Tables::build_in(heap, step, &mut Meter::new());
+    let built = Tables::build_in(heap, step, meter);
     let fits = built.is_ok();
     drop(built);
     assert!(rt; heap.used() == used, "{}", step.name());
@@ -148,12 +156,15 @@ fn fits_in(
     Ok(fits)
 }
 
-/// Checks that of rooms that grow some are refused, and that one is enough.
+/// Checks that of rooms that grow some are refused, which leaves the meter where it stood, and that one is enough.
 fn check_growths(rt: &impl Abort, alloc: Global, step: Step) -> Result<(), AllocError> {
     let heap = LocalHeap::new(alloc, AMPLE)?;
+    let mut meter = Meter::new();
+    drop(tables_of(rt, alloc, Step::Eofb, &mut meter));
     let mut refused = 0usize;
     for number in 0..MOST_ROOMS {
-        if fits_in(rt, &heap, step, number)? {
+        assert!(rt; meter.count() == TICKS_BEFORE, "{}", step.name());
+        if fits_in(rt, &heap, step, number, &mut meter)? {
             break;
         }
         refused = refused.saturating_add(1);

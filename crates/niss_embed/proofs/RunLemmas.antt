@@ -113,10 +113,10 @@ pub record Call : Type 0 where
 abbrev pub answer_of : Call → Given
 answer_of c = record {
   status = c.status;
-  out_length = c.out.count;
-  err_length = c.err.count;
   out_too_small = c.out.refused;
   err_too_small = c.err.refused;
+  out_length = c.out.count;
+  err_length = c.err.count;
 }
 
 good_flush : (o : Result (Unit {0}) Stop) (flushed : Result (Unit {0}) DeviceFault) → flushed ≡ Ok tt → flushed_outcome o flushed ≡ o

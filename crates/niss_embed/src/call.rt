@@ -67,10 +67,10 @@ fn run_words<A: Allocator + Copy>(
     );
     Answer {
         status,
-        out_length: out.written,
-        err_length: err.written,
         out_too_small: out.refused,
         err_too_small: err.refused,
+        out_length: out.written,
+        err_length: err.written,
     }
 }
 
@@ -83,10 +83,10 @@ fn refuse_memory(out: &mut [u8], err: &mut [u8]) -> Answer
     let err_length = put(err, 0, text);
     Answer {
         status: Status::Stopped.number(),
-        out_length: 0,
-        err_length,
         out_too_small: false,
         err_too_small: err_length < text.len(),
+        out_length: 0,
+        err_length,
     }
 }
 
