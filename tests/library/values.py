@@ -266,9 +266,9 @@ def bounds(tally: Tally) -> None:
         tally.equal("the same raised", (cut.count, cut.solutions, cut.line), (part, [], None))
         cut = raised(nissy.Cut, lambda: nissy.near("eofb", "R U F", 20, 2, nodes=nodes))
         tally.equal("with solutions", (cut.count, cut.solutions, str(cut)), (part, some, f"the search was cut after {part.nodes:,} nodes"))
-    begun = time.monotonic()
+    begun = time.process_time()
     tally.holds("the longest search of all ends", raised(nissy.Cut, lambda: nissy.count("eofb", "R", slack=20, nodes=1_000_000)))
-    tally.holds("soon", time.monotonic() - begun < 20)
+    tally.holds("soon", time.process_time() - begun < 20)
     many = list(nissy.count_all("eofb", ["R U F", "F", "R Q", "L D B"], slack=2, nodes=50))
     tally.equal("many lines", [(type(it), getattr(it, "line")) for it in many],
                 [(nissy.Cut, 1), (nissy.Cut, 2), (nissy.LineFault, 3), (nissy.Cut, 4)])

@@ -163,8 +163,8 @@ def wrong_types(tally: Tally) -> None:
 
 
 def times(tally: Tally) -> None:
-    """Long texts are read in a time by their length."""
-    begun = time.monotonic()
+    """Long texts are read in a time by their length, on a processor, of which a busy machine has others' work too."""
+    begun = time.process_time()
     for long in ("\r" * 1_000_000, "R" * 1_000_000, "ab " * 300_000, "9" * 1_000_000, "\u2028 " * 500_000):
         nissy.plain_line(long)
     text = "R\r\n" * 100_000 + "\r" * 100_000
@@ -172,7 +172,7 @@ def times(tally: Tally) -> None:
     for _ in range(1000):
         nissy.place_of(fault, plain, text)
     tally.equal("a place far below", nissy.place_of(fault, plain, text), (300_000, 100_001, 1))
-    tally.holds("soon", time.monotonic() - begun < 20)
+    tally.holds("soon", time.process_time() - begun < 20)
 
 
 if __name__ == "__main__":
