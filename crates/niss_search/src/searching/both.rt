@@ -18,6 +18,7 @@ use crate::path::{Lengths, Limit, TurnPath};
 use crate::tables::{Meter, Tables};
 use niss_cube::Cube;
 use std::alloc::Allocator;
+pub use joined::begins_reached;
 use walk::{Split, Walk};
 
 /// The sides that a search has turns on: the normal one, the inverse, or both.

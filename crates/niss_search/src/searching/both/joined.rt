@@ -47,7 +47,7 @@ impl<K: PairSink> Sink for Joined<'_, K> {
 }
 
 /// Whether the step is reached after the first turns on each side, some or all, but not all on both.
-fn begins_reached(step: Step, cube: &Cube, normal: &[Turn], inverse: &[Turn]) -> bool
+pub fn begins_reached(step: Step, cube: &Cube, normal: &[Turn], inverse: &[Turn]) -> bool
     ensures { result ≡ begins_reached step (map_of cube.now) (pair normal.now inverse.now) }
 {
     steps_see_places();

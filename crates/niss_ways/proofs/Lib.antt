@@ -1,0 +1,6 @@
+pub mod CleanLemmas
+pub mod OrderLemmas
+pub mod SolutionLemmas
+pub mod RoomLemmas
+pub mod SinkLemmas
+pub mod TruthLemmas

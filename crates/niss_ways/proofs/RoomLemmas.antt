@@ -1,0 +1,97 @@
+-- A room that grows, and grows again, grows; and what each pair does to it, a search does.
+use Rattle.std.proofs.Common.{◌≡◌, ◌⊎◌, inl, inr, refl, sym, ap, ◌∙◌, subst, ℕ, ◌<◌, ◌≤◌, List, [], ◌∷◌, length, get_or, arith, Result, Ok, Err, Bool, true, false}
+use Rattle.niss_search.specs.BothSides.{Pair, HandsOut}
+use Rattle.niss_search.specs.Delivery.{WentThrough, StoppedIn, WentInto, EndedIn}
+use Rattle.niss_ways.specs.Searched.{Searched}
+use Rattle.niss_ways.specs.Order.{IsSorted}
+use Rattle.niss_ways.specs.Rooms.{Grows}
+use Rattle.niss_ways.specs.Sinks.{KeepsRoom}
+use Rattle.niss_ways.specs.Truth.{Origin, IsWay, AreWays, AreFrom}
+use Rattle.niss_ways.specs.declared.way.Way.{Way}
+
+pub grows_none : (o : Origin) (n : ℕ) (room : List Way) → Grows o n room n room
+grows_none o n room = record { same_length = refl; within = λ h. h ; sorted = λ h. h; true_rows = λ h. h }
+
+pub grows_more : (o : Origin) (i : ℕ) (x : List Way) (j : ℕ) (y : List Way) (k : ℕ) (z : List Way)
+    → Grows o i x j y → Grows o j y k z → Grows o i x k z
+grows_more o i x j y k z g h = record {
+  same_length = h.same_length ∙ g.same_length;
+  within = λ w. h.within (g.within w);
+  sorted = λ s. h.sorted (g.sorted s);
+  true_rows = λ t. h.true_rows (g.true_rows t);
+}
+
+-- A true way came.
+pub grows_by : (o : Origin) (way : Way) (n : ℕ) (old : List Way) (m : ℕ) (new : List Way) → IsWay o way → AreFrom way n old m new
+    → (IsSorted n old → IsSorted m new) → m ≤ length new → length new ≡ length old → Grows o n old m new
+grows_by o way n old m new is from sorted within same = record {
+  same_length = same;
+  within = λ w. within;
+  sorted = sorted;
+  true_rows = λ h k d lt. by_from h k d (from k d lt);
+} where
+  by_from : AreWays o n old → (k : ℕ) (d : Way) → (get_or new k d ≡ way) ⊎ ((j : ℕ) × (j < n) × (get_or new k d ≡ get_or old j d)) → IsWay o (get_or new k d)
+  by_from h k d (inl e) = subst (IsWay o) (sym e) is
+  by_from h k d (inr (j, lt, e)) = subst (IsWay o) (sym e) (h j d lt)
+
+pub keeps_none : (o : Origin) (most name n : ℕ) (room : List Way) → KeepsRoom o most name n room o most name n room
+keeps_none o most name n room = record { same_start = refl; same_most = refl; same_room = refl; grows = grows_none o n room }
+
+-- Looks were made, and no row came.
+pub keeps_looks : (o : Origin) (most new_most name n : ℕ) (room : List Way) → new_most ≡ most → KeepsRoom o most name n room o new_most name n room
+keeps_looks o most new_most name n room e = record { same_start = refl; same_most = e; same_room = refl; grows = grows_none o n room }
+
+-- A true way came.
+pub keeps_taken : (o : Origin) (most new_most name n : ℕ) (room : List Way) (way : Way) (m : ℕ) (new : List Way) → new_most ≡ most → IsWay o way
+    → AreFrom way n room m new → (IsSorted n room → IsSorted m new) → m ≤ length new → length new ≡ length room
+    → KeepsRoom o most name n room o new_most name m new
+keeps_taken o most new_most name n room way m new e is from sorted within same =
+    record { same_start = refl; same_most = e; same_room = refl; grows = grows_by o way n room m new is from sorted within same }
+
+pub keeps_more : (o : Origin) (a b i : ℕ) (x : List Way) (p : Origin) (c d j : ℕ) (y : List Way) (q : Origin) (e f k : ℕ) (z : List Way)
+    → KeepsRoom o a b i x p c d j y → KeepsRoom p c d j y q e f k z → KeepsRoom o a b i x q e f k z
+keeps_more o a b i x p c d j y q e f k z g h = record {
+  same_start = h.same_start ∙ g.same_start;
+  same_most = h.same_most ∙ g.same_most;
+  same_room = h.same_room ∙ g.same_room;
+  grows = grows_more o i x j y k z g.grows (subst (λ (r : Origin). Grows r j y k z) g.same_start h.grows);
+}
+
+-- What holds between a sink before and after each pair, and goes on, holds between those before and after a search.
+module _ {K : Type 0} (R : K → K → Type 0) (none : (a : K) → R a a) (both : (a m b : K) → R a m → R m b → R a b) where
+  abbrev pub By : K → Pair → K → Type 0
+  By old p new = R old new
+
+  went_rel : (all : List Pair) (a b : K) → WentThrough By a all b → R a b
+  went_rel [] a b h = subst (λ k. R a k) h (none a)
+  went_rel (p ∷ ps) a b h = both a h.0 b h.1.0 (went_rel ps h.0 b h.1.1)
+
+  stopped_rel : (all : List Pair) (a b : K) → StoppedIn By By a all b → R a b
+  stopped_rel [] a b h = absurd h
+  stopped_rel (p ∷ ps) a b (inl h) = h
+  stopped_rel (p ∷ ps) a b (inr h) = both a h.0 b h.1.0 (stopped_rel ps h.0 b h.1.1)
+
+  into_rel : (all : List Pair) (a b : K) → WentInto By a all b → R a b
+  into_rel [] a b h = subst (λ k. R a k) h (none a)
+  into_rel (p ∷ ps) a b (inl h) = subst (λ k. R a k) h (none a)
+  into_rel (p ∷ ps) a b (inr h) = both a h.0 b h.1.0 (into_rel ps h.0 b h.1.1)
+
+  ended_rel : (cut : Bool) (all : List Pair) (a b : K) → EndedIn By By cut a all b → R a b
+  ended_rel true all a b h = into_rel all a b h
+  ended_rel false all a b h = stopped_rel all a b h
+
+  pub hands_rel : {T E : Type 0} (pairs : List Pair) (looks m n : ℕ) (a b : K) (is_cut : E → Bool) (bound : ℕ) (count : T → ℕ) (r : Result T E)
+      → HandsOut By By pairs looks m n a b is_cut bound count r → R a b
+  hands_rel pairs looks m n a b is_cut bound count (Ok value) h = went_rel pairs a b h.taken
+  hands_rel pairs looks m n a b is_cut bound count (Err stop) h = ended_rel (is_cut stop) pairs a b h.taken
+
+  pub searched_rel : {T E : Type 0} (starts : Bool) (pairs : List Pair) (looks m n : ℕ) (a b : K) (is_cut : E → Bool) (count : T → ℕ) (r : Result T E)
+      → Searched By By starts pairs looks m n a b is_cut count r → R a b
+  searched_rel true pairs looks m n a b is_cut count r h = hands_rel pairs looks m n a b is_cut (h.some refl).0 count r (h.some refl).1
+  searched_rel false pairs looks m n a b is_cut count r h = subst (λ k. R a k) (sym (h.none refl)) (none a)
+
+-- the same, the sink first
+pub by_search : {K T E : Type 0} (a b : K) (R : K → K → Type 0) (none : (a : K) → R a a) (both : (a m b : K) → R a m → R m b → R a b)
+    (starts : Bool) (pairs : List Pair) (looks m n : ℕ) (is_cut : E → Bool) (count : T → ℕ) (r : Result T E)
+    → Searched (By R none both) (By R none both) starts pairs looks m n a b is_cut count r → R a b
+by_search a b R none both starts pairs looks m n is_cut count r h = searched_rel R none both starts pairs looks m n a b is_cut count r h

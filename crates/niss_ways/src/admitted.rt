@@ -1,0 +1,134 @@
+//! Which lengths of a step's solutions are let in.
+ghost use Rattle.std.specs.Prelude.{◌≡◌, ◌≤◌, IfOk};
+
+use crate::looks::{Cut, Exactly, Looks, NO_LENGTH};
+use niss_cube::Cube;
+use niss_search::{Limit, PairSink, Sides, Tables, TurnPath};
+use std::alloc::Allocator;
+
+/// The least lengths of a step's solutions, on the scramble alone, on its inverse alone and over both, or 21; and by how many
+/// turns those are longer at most that are let in.
+#[derive(Clone, Copy, Debug)]
+pub struct Admitted {
+    pub normal: u8,
+    pub inverse: u8,
+    both: u8,
+    slack: u8,
+    ghost small: { (normal ≤ 21) × (inverse ≤ 21) × (both ≤ 21) × (slack ≤ 20) },
+}
+
+/// Takes no solution.
+#[derive(Drop)]
+struct Nobody;
+
+impl PairSink for Nobody {
+    type Fault = Cut;
+
+    ghost took = { λ old p new. Unit {0} };
+
+    ghost refused = { λ old p new. Unit {0} };
+
+    fn take(&mut self, _normal: &TurnPath, _inverse: &TurnPath) -> Result<(), Cut> {
+        Ok(())
+    }
+}
+
+/// The least length over both sides, which is at most the least on one.
+fn least_on_both<A: Allocator>(
+    tables: &Tables<A>,
+    cube: &Cube,
+    on_one: u8,
+    looks: &mut Looks,
+) -> Result<u8, Cut>
+    requires { on_one ≤ 21 }
+    ensures most { looks.new.most ≡ looks.old.most }
+    ensures length { IfOk result (λ length. length ≤ 21) }
+{
+    for length in 0..on_one {
+        let Some(limit) = Limit::new(length) else {
+            break;
+        };
+        let exactly = Exactly {
+            sides: Sides::Both,
+            length: limit,
+        };
+        match looks.search(tables, cube, exactly, &mut Nobody) {
+            Ok(found) => {
+                if found > 0 {
+                    return Ok(length);
+                }
+            }
+            Err(_) => return Err(Cut),
+        }
+    }
+    Ok(on_one)
+}
+
+impl Admitted {
+    /// No length is let in.
+    pub const NONE: Admitted = Admitted {
+        normal: NO_LENGTH,
+        inverse: NO_LENGTH,
+        both: NO_LENGTH,
+        slack: 0,
+    };
+
+    /// Those of a step from a cube.
+    pub fn find<A: Allocator>(
+        tables: &Tables<A>,
+        cube: &Cube,
+        slack: Limit,
+        looks: &mut Looks,
+    ) -> Result<Admitted, Cut>
+        ensures { looks.new.most ≡ looks.old.most }
+    {
+        let slack = slack.get();
+        let normal = looks.distance(tables, cube)?;
+        let inverse = looks.distance(tables, &cube.inverse())?;
+        let both = least_on_both(tables, cube, normal.min(inverse), looks)?;
+        Ok(Admitted {
+            normal,
+            inverse,
+            both,
+            slack,
+        })
+    }
+
+    /// The greatest length that is let in by a least one.
+    fn last(&self, least: u8) -> u8
+        requires { least ≤ 21 }
+        ensures { result ≤ 21 }
+    {
+        if least == NO_LENGTH {
+            0
+        } else {
+            (least + self.slack).min(20)
+        }
+    }
+
+    /// Whether a length is let in by a least one.
+    fn lets(&self, least: u8, length: u8) -> bool
+        requires { least ≤ 21 }
+    {
+        least <= length && length <= self.last(least)
+    }
+
+    /// Whether the solutions of a length are asked for on these sides: if it is let in over both, there alone, else on each one on
+    /// which it is let in.
+    pub fn asks(&self, sides: Sides, length: u8) -> bool {
+        let both = self.lets(self.both, length);
+        match sides {
+            Sides::Both => both,
+            Sides::Normal => !both && self.lets(self.normal, length),
+            Sides::Inverse => !both && self.lets(self.inverse, length),
+        }
+    }
+
+    /// The greatest length that is let in on some sides.
+    pub fn longest(&self) -> u8
+        ensures { result ≤ 21 }
+    {
+        let alone = self.last(self.normal).max(self.last(self.inverse));
+        alone.max(self.last(self.both))
+    }
+}

@@ -1,0 +1,291 @@
+//! The reductions after orientations.
+ghost use Rattle.std.specs.Prelude.{◌≡◌, ◌≤◌, [], ◌∷◌, IfSome, IfOk, OnOk};
+ghost use Rattle.niss_cube.specs.Map.{map_of};
+ghost use Rattle.niss_cube.specs.Steps.{goals_of, edge_step_on};
+ghost use Rattle.niss_cube.specs.declared.step.Goal.TheVariants.{Domino};
+ghost use Rattle.niss_ways.specs.Truth.{IsWay, IsReduction};
+
+use crate::looks::{Cut, Exactly, Looks};
+use crate::made::Made;
+use crate::nearest::{Nearest, total_after};
+use crate::solution::Solution;
+use crate::start::Start;
+use crate::way::{Part, Way};
+use niss_cube::{Axis, Coordinate, Cube, Step};
+use niss_search::{Limit, Sides, Stopped, Tables};
+use std::alloc::Allocator;
+
+/// The axis of the orientation that a reduction keeps, and its own.
+#[derive(Clone, Copy, Debug, PartialEq, Eq)]
+pub struct Axes {
+    pub edges: Axis,
+    pub domino: Axis,
+}
+
+impl Axes {
+    /// Those of a step, if it is a reduction on one axis.
+    pub fn of(step: Step) -> Option<Axes>
+        ensures { IfSome result (λ axes. goals_of step ≡ Domino axes.edges axes.domino ∷ []) }
+    {
+        let (edges, domino) = match step {
+            Step::DrudEofb => (Axis::Fb, Axis::Ud),
+            Step::DrrlEofb => (Axis::Fb, Axis::Rl),
+            Step::DrudEorl => (Axis::Rl, Axis::Ud),
+            Step::DrfbEorl => (Axis::Rl, Axis::Fb),
+            Step::DrrlEoud => (Axis::Ud, Axis::Rl),
+            Step::DrfbEoud => (Axis::Ud, Axis::Fb),
+            _ => return None,
+        };
+        Some(Axes { edges, domino })
+    }
+
+    /// The axis that is neither.
+    pub fn third(self) -> Axis {
+        match (self.edges, self.domino) {
+            (Axis::Fb, Axis::Ud) | (Axis::Ud, Axis::Fb) => Axis::Rl,
+            (Axis::Fb, Axis::Rl) | (Axis::Rl, Axis::Fb) => Axis::Ud,
+            _ => Axis::Fb,
+        }
+    }
+}
+
+/// The step that orients the edges on an axis.
+pub fn edge_step_on(axis: Axis) -> Step
+    ensures { result ≡ edge_step_on axis }
+{
+    match axis {
+        Axis::Fb => Step::Eofb,
+        Axis::Rl => Step::Eorl,
+        Axis::Ud => Step::Eoud,
+    }
+}
+
+/// An orientation, a reduction after it, and the moves in all.
+#[derive(Drop)]
+pub struct Found {
+    pub total: u16,
+    orientation: Solution,
+    reduction: Solution,
+    on_normal: u8,
+    on_inverse: u8,
+}
+
+/// A reduction that is looked for after orientations.
+#[derive(Drop)]
+pub struct Following<'a, A: Allocator> {
+    pub start: &'a Start,
+    pub tables: &'a Tables<A>,
+    pub axes: Axes,
+    ghost of_step: { goals_of tables.now ≡ Domino axes.edges axes.domino ∷ [] },
+}
+
+/// A cube after an orientation, and the least lengths of the reduction on it alone and on its inverse alone.
+#[derive(Drop)]
+struct Between {
+    cube: Cube,
+    made: Made,
+    on_normal: u8,
+    on_inverse: u8,
+    ghost small: { (made.count ≤ 1024) × (made.saving ≤ 2052) × (on_normal ≤ 21) × (on_inverse ≤ 21) },
+}
+
+impl<'a, A: Allocator> Following<'a, A> {
+    /// That of a reduction, if the tables are those of one.
+    pub fn of(start: &'a Start, tables: &'a Tables<A>) -> Option<Following<'a, A>>
+        ensures { IfSome result (λ following. following.start.now ≡ start.now) }
+    {
+        let axes = Axes::of(tables.step())?;
+        Some(Following {
+            start,
+            tables,
+            axes,
+        })
+    }
+
+    /// The cube after an orientation.
+    fn between(&self, orientation: &Solution, looks: &mut Looks) -> Result<Between, Cut>
+        ensures { looks.new.most ≡ looks.old.most }
+    {
+        let cube = orientation.cube_after(self.start.cube());
+        let made = Made::with(self.start, self.axes.edges, orientation);
+        let on_normal = looks.distance(self.tables, &cube)?;
+        let on_inverse = looks.distance(self.tables, &cube.inverse())?;
+        Ok(Between {
+            cube,
+            made,
+            on_normal,
+            on_inverse,
+        })
+    }
+
+    /// At most so many moves there are in all with the best reduction after an orientation or one of its twins.
+    pub fn at_most(&self, class: &Solution, looks: &mut Looks) -> Result<u16, Cut>
+        ensures { looks.new.most ≡ looks.old.most }
+    {
+        let mut least = u16::MAX;
+        for number in 0..class.twins(self.axes.edges) {
+            let orientation = class.twin(self.axes.edges, number);
+            let between = self.between(&orientation, looks)?;
+            let length = between.on_normal.min(between.on_inverse);
+            least = least.min(between.made.count + u16::from(length));
+        }
+        Ok(least)
+    }
+
+    /// The best reduction after an orientation or one of its twins, the first with the fewest moves in all, if these are fewer
+    /// than a bound.
+    pub fn best(&self, class: &Solution, below: u16, looks: &mut Looks) -> Result<Option<Found>, Cut>
+        ensures { looks.new.most ≡ looks.old.most }
+    {
+        let mut best = None;
+        let mut below = below;
+        for number in 0..class.twins(self.axes.edges) {
+            let orientation = class.twin(self.axes.edges, number);
+            if let Some(found) = self.after(orientation, below, looks)? {
+                below = found.total;
+                best = Some(found);
+            }
+        }
+        Ok(best)
+    }
+
+    /// The best reduction after an orientation, if it has fewer moves in all than a bound.
+    fn after(
+        &self,
+        orientation: Solution,
+        below: u16,
+        looks: &mut Looks,
+    ) -> Result<Option<Found>, Cut>
+        ensures { looks.new.most ≡ looks.old.most }
+    {
+        let between = self.between(&orientation, looks)?;
+        let mut nearest = Nearest {
+            start: self.start,
+            orientation: &orientation,
+            below,
+            is_plain: between.made.saving == 0,
+            is_seen: false,
+            found: None,
+        };
+        self.search(&between, Sides::Normal, between.on_normal, &mut nearest, looks)?;
+        self.search(&between, Sides::Inverse, between.on_inverse, &mut nearest, looks)?;
+        self.search_both(&between, &mut nearest, looks)?;
+        let total = nearest.below;
+        let Some(reduction) = nearest.found else {
+            return Ok(None);
+        };
+        Ok(Some(Found {
+            total,
+            orientation,
+            reduction,
+            on_normal: between.on_normal,
+            on_inverse: between.on_inverse,
+        }))
+    }
+
+    /// Searches for reductions of exactly so many turns, if they may come to fewer moves in all.
+    fn search(
+        &self,
+        between: &Between,
+        sides: Sides,
+        length: u8,
+        nearest: &mut Nearest,
+        looks: &mut Looks,
+    ) -> Result<(), Cut>
+        ensures { looks.new.most ≡ looks.old.most }
+    {
+        let made = between.made;
+        if made.count + u16::from(length) >= nearest.below.saturating_add(made.saving) {
+            return Ok(());
+        }
+        let Some(length) = Limit::new(length) else {
+            return Ok(());
+        };
+        let exactly = Exactly { sides, length };
+        match looks.search(self.tables, &between.cube, exactly, nearest) {
+            Err(Stopped::Cut) => Err(Cut),
+            _ => Ok(()),
+        }
+    }
+
+    /// Searches for the shortest reductions over both sides. If nothing merges, those that have all turns on one side were
+    /// searched for already.
+    fn search_both(
+        &self,
+        between: &Between,
+        nearest: &mut Nearest,
+        looks: &mut Looks,
+    ) -> Result<(), Cut>
+        ensures { looks.new.most ≡ looks.old.most }
+    {
+        let on_one = between.on_normal.min(between.on_inverse);
+        let end = if nearest.is_plain { on_one } else { on_one + 1 };
+        nearest.is_seen = false;
+        for length in 1..end {
+            if !nearest.is_seen {
+                self.search(between, Sides::Both, length, nearest, looks)?;
+            }
+        }
+        Ok(())
+    }
+
+    /// The row of an orientation and a reduction that were found. What it tells is tested once more, so a row is true whatever
+    /// came before.
+    pub fn row(&self, found: &Found) -> Option<Way>
+        ensures { IfSome result (λ way. IsWay self.now.start.now way) }
+    {
+        let (orientation, reduction) = (&found.orientation, &found.reduction);
+        let step = edge_step_on(self.axes.edges);
+        if !orientation.first_reaches(step, self.start.cube()) {
+            return None;
+        }
+        let cube = orientation.cube_after(self.start.cube());
+        let eo = Part::of(self.start.names(), step, orientation);
+        let way = self.reduced(eo, orientation, &cube, reduction)?;
+        Some(Way {
+            on_normal: found.on_normal,
+            on_inverse: found.on_inverse,
+            ..way
+        })
+    }
+
+    /// The row of a reduction if the orientation holds already.
+    pub fn row_of_reduction(&self, reduction: &Solution, on_normal: u8, on_inverse: u8) -> Option<Way>
+        ensures { IfSome result (λ way. IsWay self.now.start.now way) }
+    {
+        let cube = self.start.cube();
+        if !edge_step_on(self.axes.edges).reached(cube) {
+            return None;
+        }
+        let nothing = Solution::of(&[], &[]);
+        let way = self.reduced(Part::none(), &nothing, cube, reduction)?;
+        Some(Way {
+            on_normal,
+            on_inverse,
+            ..way
+        })
+    }
+
+    /// The row of a reduction from a cube after first moves.
+    pub fn reduced(&self, eo: Part, first: &Solution, cube: &Cube, reduction: &Solution) -> Option<Way>
+        ensures eo { IfSome result (λ way. way.eo ≡ eo) }
+        ensures reduction { IfSome result (λ way. IsReduction self.now.start.now self.now.axes.edges first.now cube.now way) }
+    {
+        let step = self.tables.step();
+        if !reduction.first_reaches(step, cube) {
+            return None;
+        }
+        let total = total_after(self.start, first, reduction.normal(), reduction.inverse());
+        let corners = Coordinate::Twist.bad_places(self.axes.domino, cube).count_ones();
+        let edges = Coordinate::Slice.bad_places(self.axes.domino, cube).count_ones();
+        Some(Way {
+            total,
+            corners: corners as u8,
+            edges: edges as u8,
+            on_normal: 0,
+            on_inverse: 0,
+            eo,
+            dr: Part::of(self.start.names(), step, reduction),
+        })
+    }
+}

@@ -1,0 +1,80 @@
+//! The turns at the end of a sequence, in whose direction its twins differ.
+ghost use Rattle.std.specs.Prelude.{◌≡◌, ◌≤◌, length};
+ghost use Rattle.niss_cube.specs.Steps.{is_face_of};
+
+use crate::counting::{Sequence, sequence_of};
+use niss_cube::{Axis, Face, Power, Turn};
+
+/// Whether a face is one of the two of an axis.
+pub fn is_face_of(axis: Axis, face: Face) -> bool
+    ensures { result ≡ is_face_of axis face }
+{
+    match axis {
+        Axis::Ud => matches!(face, Face::U | Face::D),
+        Axis::Rl => matches!(face, Face::R | Face::L),
+        Axis::Fb => matches!(face, Face::F | Face::B),
+    }
+}
+
+/// How many turns at the end of a canonical sequence are of an axis: at most two.
+fn last_count(axis: Axis, turns: &[Turn]) -> usize
+    ensures { result ≤ 2 }
+{
+    let Some((last, front)) = turns.split_last() else {
+        return 0;
+    };
+    if !is_face_of(axis, last.face) {
+        return 0;
+    }
+    match front.last() {
+        Some(before) if is_face_of(axis, before.face) => 2,
+        _ => 1,
+    }
+}
+
+/// How many twins a sequence has, with itself.
+pub fn twin_count(axis: Axis, turns: &[Turn]) -> u8
+    ensures { result ≤ 4 }
+{
+    match last_count(axis, turns) {
+        0 => 1,
+        1 => 2,
+        _ => 4,
+    }
+}
+
+/// Whether a sequence stands for its twins: if it has turns, its last ones on the axis are quarter turns clockwise, one at
+/// least.
+pub fn stands_for_twins(axis: Axis, turns: &[Turn]) -> bool {
+    let Some((last, front)) = turns.split_last() else {
+        return true;
+    };
+    if !is_face_of(axis, last.face) || last.power != Power::Quarter {
+        return false;
+    }
+    match front.last() {
+        Some(before) => !is_face_of(axis, before.face) || before.power == Power::Quarter,
+        None => true,
+    }
+}
+
+/// A turn, or the one in the other direction.
+fn turned_round(turn: Turn, is_round: bool) -> Turn {
+    if is_round { turn.inverse() } else { turn }
+}
+
+/// The twin of a number: bit 0 turns the last turn round, bit 1 the one before.
+pub fn twin_of(turns: &[Turn], number: u8) -> Sequence
+    requires { length turns.now ≤ 20 }
+{
+    let mut twin = sequence_of(turns);
+    let last = twin.pop();
+    let before = twin.pop();
+    if let Some(turn) = before {
+        twin.push(turned_round(turn, number & 2 != 0));
+    }
+    if let Some(turn) = last {
+        twin.push(turned_round(turn, number & 1 != 0));
+    }
+    twin
+}

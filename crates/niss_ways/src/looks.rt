@@ -1,0 +1,112 @@
+//! The looks of a call, within a bound.
+ghost use Rattle.std.specs.Prelude.{◌≡◌, ◌+◌, ◌≤◌, IfOk};
+ghost use Rattle.niss_cube.specs.Map.{map_of};
+ghost use Rattle.niss_search.specs.Budgets.{is_cut_in};
+ghost use Rattle.niss_cube.specs.Steps.{may_start};
+ghost use Rattle.niss_search.specs.BothSides.{first_pairs, looks_of_pairs};
+ghost use Rattle.niss_ways.specs.Searched.{Searched};
+
+use niss_cube::Cube;
+use niss_search::{Limit, Meter, PairSink, Sides, Stopped, Tables, search_pairs_of_length};
+use std::alloc::Allocator;
+
+/// More turns than a solution has.
+pub const NO_LENGTH: u8 = 21;
+
+/// The call would look more often than it may.
+#[derive(Clone, Copy, Debug, PartialEq, Eq)]
+pub struct Cut;
+
+/// How often was looked, and how often may be.
+#[derive(Drop)]
+pub struct Looks {
+    meter: Meter,
+    most: u64,
+    ghost within: { meter ≤ most },
+}
+
+impl Looks {
+    /// No look yet, and at most so many.
+    pub fn new(most: u64) -> Looks
+        ensures { result.most ≡ most }
+    {
+        Looks {
+            meter: Meter::new(),
+            most,
+        }
+    }
+
+    /// How many were made.
+    pub fn count(&self) -> u64
+        ensures value { result ≡ self.now.meter }
+        ensures within { result ≤ self.now.most }
+    {
+        let most = self.most;
+        self.meter.count().min(u128::from(most)) as u64
+    }
+
+    /// How many may still be made.
+    pub fn left(&self) -> u64
+        ensures { result + self.now.meter ≡ self.now.most }
+    {
+        self.most - self.count()
+    }
+
+    /// Takes looks that were made elsewhere into account.
+    pub fn spend(&mut self, count: u64) {
+        self.most -= count.min(self.left());
+    }
+
+    /// The least length of a step from a cube, or 21 if it is more than 20, or if the step may not start there.
+    pub fn distance<A: Allocator>(&mut self, tables: &Tables<A>, cube: &Cube) -> Result<u8, Cut>
+        ensures most { self.new.most ≡ self.old.most }
+        ensures length { IfOk result (λ length. length ≤ 21) }
+    {
+        if !tables.step().may_start(cube) {
+            return Ok(NO_LENGTH);
+        }
+        let most = self.most;
+        if self.meter.count() >= u128::from(most) {
+            return Err(Cut);
+        }
+        Ok(tables.look(&tables.position(cube), &mut self.meter))
+    }
+
+    /// Hands out the solutions of exactly so many turns on these sides, and returns how many they are: none if the step may not
+    /// start on the cube.
+    pub fn search<K: PairSink, A: Allocator>(
+        &mut self,
+        tables: &Tables<A>,
+        cube: &Cube,
+        exactly: Exactly,
+        sink: &mut K,
+    ) -> Result<u128, Stopped<K::Fault>>
+        ensures most { self.new.most ≡ self.old.most }
+        ensures solutions { Searched K.took K.refused (may_start tables.now (map_of cube.now))
+            (first_pairs tables.now (map_of cube.now) exactly.sides exactly.length)
+            (looks_of_pairs tables.now (map_of cube.now) exactly.sides exactly.length)
+            self.old.meter self.new.meter sink.old sink.new is_cut_in (λ count. count) result }
+    {
+        if !tables.step().may_start(cube) {
+            return Ok(0);
+        }
+        let most = self.most;
+        let left = u128::from(most) - self.meter.count();
+        search_pairs_of_length(
+            tables,
+            cube,
+            exactly.sides,
+            exactly.length,
+            &mut self.meter,
+            sink,
+            left,
+        )
+    }
+}
+
+/// Which solutions are searched for: on these sides, of exactly so many turns.
+#[derive(Clone, Copy, Debug)]
+pub struct Exactly {
+    pub sides: Sides,
+    pub length: Limit,
+}

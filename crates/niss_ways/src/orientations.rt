@@ -1,0 +1,331 @@
+//! The orientations, each class of twins with the best reductions after it.
+ghost use Rattle.std.specs.Prelude.{◌≡◌, ◌≤◌, length};
+ghost use Rattle.niss_ways.specs.Rooms.{Grows};
+ghost use Rattle.niss_ways.specs.Sinks.{KeepsOrientations, KeepsRows};
+
+use crate::admitted::Admitted;
+use crate::finding::{FoundWays, Wish};
+use crate::following::Following;
+use crate::looks::{Cut, Exactly, Looks};
+use crate::rows::take;
+use crate::solution::Solution;
+use crate::start::Start;
+use crate::tables::WayTables;
+use crate::totals::Totals;
+use crate::way::Way;
+use niss_cube::Axis;
+use niss_search::{Limit, PairSink, Sides, Tables, TurnPath};
+use std::alloc::Allocator;
+
+/// What is done with an orientation.
+#[derive(Clone, Copy, Debug, PartialEq, Eq)]
+enum Task {
+    /// Nothing: the search counts its looks.
+    Nothing,
+    /// The moves in all that it comes to at most are counted.
+    Bound,
+    /// The ways on by it are taken.
+    Take,
+}
+
+/// Which lengths are let in on each axis; none on one that isn't asked for.
+#[derive(Clone, Copy)]
+struct Plan {
+    fb: Admitted,
+    rl: Admitted,
+    ud: Admitted,
+}
+
+impl Plan {
+    /// The plan of a wish.
+    fn find<A: Allocator>(
+        tables: &WayTables<A>,
+        start: &Start,
+        wish: &Wish,
+        looks: &mut Looks,
+    ) -> Result<Plan, Cut>
+        ensures { looks.new.most ≡ looks.old.most }
+    {
+        Ok(Plan {
+            fb: admitted_on(tables, start, wish, Axis::Fb, looks)?,
+            rl: admitted_on(tables, start, wish, Axis::Rl, looks)?,
+            ud: admitted_on(tables, start, wish, Axis::Ud, looks)?,
+        })
+    }
+
+    /// Those on an axis.
+    fn on(&self, axis: Axis) -> Admitted {
+        match axis {
+            Axis::Fb => self.fb,
+            Axis::Rl => self.rl,
+            Axis::Ud => self.ud,
+        }
+    }
+
+    /// The greatest length that is let in.
+    fn longest(&self) -> u8 {
+        self.fb.longest().max(self.rl.longest()).max(self.ud.longest())
+    }
+}
+
+/// The lengths that are let in on an axis, if it is asked for.
+fn admitted_on<A: Allocator>(
+    tables: &WayTables<A>,
+    start: &Start,
+    wish: &Wish,
+    axis: Axis,
+    looks: &mut Looks,
+) -> Result<Admitted, Cut>
+    ensures { looks.new.most ≡ looks.old.most }
+{
+    if wish.axes.has(axis) {
+        Admitted::find(tables.orientation(axis), start.cube(), wish.slack, looks)
+    } else {
+        Ok(Admitted::NONE)
+    }
+}
+
+/// Takes the orientations of each axis.
+#[derive(Drop)]
+struct Orientations<'a, A: Allocator> {
+    tables: &'a WayTables<'a, A>,
+    start: &'a Start,
+    plan: Plan,
+    task: Task,
+    axis: Axis,
+    totals: Totals,
+    below: u16,
+    looks: Looks,
+    tried: u64,
+    room: &'a mut [Way],
+    count: usize,
+}
+
+impl<A: Allocator> Orientations<'_, A> {
+    /// Takes a class of orientations, by the reductions after it.
+    fn take_class(&mut self, class: &Solution) -> Result<(), Cut>
+        ensures { KeepsOrientations self.old self.new }
+    {
+        let tables = self.tables;
+        self.follow_by(tables.first_after(self.axis), class)?;
+        self.follow_by(tables.second_after(self.axis), class)
+    }
+
+    /// Takes it by one of them.
+    fn follow_by(&mut self, reduction: &Tables<A>, class: &Solution) -> Result<(), Cut>
+        ensures { KeepsOrientations self.old self.new }
+    {
+        let start = self.start;
+        match Following::of(start, reduction) {
+            Some(following) => self.follow(&following, class),
+            None => Ok(()),
+        }
+    }
+
+    /// Counts or takes the best way on by a reduction.
+    fn follow(&mut self, following: &Following<A>, class: &Solution) -> Result<(), Cut>
+        requires { following.now.start.now ≡ self.old.start.now }
+        ensures { KeepsOrientations self.old self.new }
+    {
+        match self.task {
+            Task::Nothing => Ok(()),
+            Task::Bound => self.count_total(following, class),
+            Task::Take => self.take_best(following, class),
+        }
+    }
+
+    /// Counts the moves in all that there are at most with a reduction.
+    fn count_total(&mut self, following: &Following<A>, class: &Solution) -> Result<(), Cut>
+        ensures { KeepsOrientations self.old self.new }
+    {
+        let most = following.at_most(class, &mut self.looks)?;
+        self.totals.add(most);
+        Ok(())
+    }
+
+    /// So many moves in all no way has that may still come into the room.
+    fn too_many(&self) -> u16 {
+        let places = self.room.len();
+        if self.count < places {
+            return u16::MAX;
+        }
+        if places == 0 {
+            return 0;
+        }
+        self.room[places - 1].total.saturating_add(1)
+    }
+
+    /// Takes the best way on by a reduction, if it comes into the room.
+    fn take_best(&mut self, following: &Following<A>, class: &Solution) -> Result<(), Cut>
+        requires { following.now.start.now ≡ self.old.start.now }
+        ensures { KeepsOrientations self.old self.new }
+    {
+        self.tried = self.tried.saturating_add(1);
+        let count = self.count;
+        let below = self.below.min(self.too_many());
+        let Some(found) = following.best(class, below, &mut self.looks)? else {
+            return Ok(());
+        };
+        let Some(way) = following.row(&found) else {
+            return Ok(());
+        };
+        self.count = take(self.room, count, way);
+        Ok(())
+    }
+
+    /// Goes through the orientations of a wish's lengths on each axis.
+    fn go(&mut self, wish: &Wish, outer: &mut Looks) -> Result<(), Cut>
+        ensures most { outer.new.most ≡ outer.old.most }
+        ensures room { KeepsOrientations self.old self.new }
+    {
+        for axis in [Axis::Fb, Axis::Rl, Axis::Ud] {
+            self.go_on_axis(axis, wish, outer)?;
+        }
+        Ok(())
+    }
+
+    /// Goes through those on an axis.
+    fn go_on_axis(&mut self, axis: Axis, wish: &Wish, outer: &mut Looks) -> Result<(), Cut>
+        ensures most { outer.new.most ≡ outer.old.most }
+        ensures room { KeepsOrientations self.old self.new }
+    {
+        self.axis = axis;
+        for length in wish.from..wish.to.saturating_add(1).min(21) {
+            self.go_through(length, outer)?;
+        }
+        Ok(())
+    }
+
+    /// Goes through those of a length.
+    fn go_through(&mut self, length: u8, outer: &mut Looks) -> Result<(), Cut>
+        ensures most { outer.new.most ≡ outer.old.most }
+        ensures room { KeepsOrientations self.old self.new }
+    {
+        self.search(Sides::Both, length, outer)?;
+        self.search(Sides::Normal, length, outer)?;
+        self.search(Sides::Inverse, length, outer)
+    }
+
+    /// Goes through those on these sides, if they are asked for.
+    fn search(&mut self, sides: Sides, length: u8, outer: &mut Looks) -> Result<(), Cut>
+        ensures most { outer.new.most ≡ outer.old.most }
+        ensures room { KeepsOrientations self.old self.new }
+    {
+        if !self.plan.on(self.axis).asks(sides, length) {
+            return Ok(());
+        }
+        let Some(length) = Limit::new(length) else {
+            return Ok(());
+        };
+        let tables = self.tables.orientation(self.axis);
+        let cube = *self.start.cube();
+        let exactly = Exactly { sides, length };
+        match outer.search(tables, &cube, exactly, self) {
+            Ok(_) => Ok(()),
+            Err(_) => Err(Cut),
+        }
+    }
+
+    /// Goes through all of them for a task with at most so many looks, of which `each` are kept for the search for orientations.
+    /// Returns how many are left, and whether it was cut.
+    fn go_within(&mut self, task: Task, wish: &Wish, each: u64, left: u64) -> (u64, bool)
+        requires { each ≤ left }
+        ensures left { result.0 ≤ left }
+        ensures room { KeepsRows self.old self.new }
+    {
+        let mut outer = Looks::new(each);
+        self.looks = Looks::new(left - each);
+        self.task = task;
+        let cut = self.go(wish, &mut outer).is_err();
+        (left - outer.count() - self.looks.count(), cut)
+    }
+
+    /// Goes through all of them three times: it counts the looks of the search for orientations, and the moves in all that each comes
+    /// to at most, which gives a bound early, and then takes the ways on. Returns how many looks are left, and whether it was cut.
+    fn find(&mut self, wish: &Wish, left: u64) -> (u64, bool)
+        ensures left { result.0 ≤ left }
+        ensures room { KeepsRows self.old self.new }
+    {
+        let (rest, cut) = self.go_within(Task::Nothing, wish, left, left);
+        let each = left - rest;
+        if cut || rest < each {
+            return (rest, true);
+        }
+        // what was counted holds even if this is cut
+        let half = each + (rest - each) / 2;
+        let (unused, _) = self.go_within(Task::Bound, wish, each, half);
+        let rest = rest - (half - unused);
+        if rest < each {
+            return (rest, true);
+        }
+        let places = self.room.len();
+        self.below = self.totals.that_has(places).saturating_add(1);
+        self.go_within(Task::Take, wish, each, rest)
+    }
+}
+
+impl<A: Allocator> PairSink for Orientations<'_, A> {
+    type Fault = Cut;
+
+    ghost took = { λ old p new. KeepsOrientations old new };
+
+    ghost refused = { λ old p new. KeepsOrientations old new };
+
+    fn take(&mut self, normal: &TurnPath, inverse: &TurnPath) -> Result<(), Cut> {
+        let class = Solution::of(normal.turns(), inverse.turns());
+        if !class.stands_for_twins(self.axis) {
+            return Ok(());
+        }
+        self.take_class(&class)
+    }
+}
+
+/// How many ways that stand there have each total.
+fn totals_of(ways: &[Way]) -> Totals {
+    let mut totals = Totals::new();
+    for way in ways {
+        totals.add(way.total);
+    }
+    totals
+}
+
+/// Finds the best ways on by orientations.
+pub fn find_orientations<A: Allocator>(
+    tables: &WayTables<A>,
+    start: &Start,
+    wish: &Wish,
+    room: &mut [Way],
+    there: usize,
+) -> FoundWays
+    requires { there ≤ length room.old }
+    ensures looks { result.looks ≤ wish.now.most_looks }
+    ensures grows { Grows start.now there room.old result.rows room.new }
+{
+    let most_looks = wish.most_looks;
+    let mut looks = Looks::new(most_looks);
+    let Ok(plan) = Plan::find(tables, start, wish, &mut looks) else {
+        return FoundWays::cut(there, looks.count());
+    };
+    let totals = totals_of(&room[..there]);
+    let mut sink = Orientations {
+        tables,
+        start,
+        plan,
+        task: Task::Nothing,
+        axis: Axis::Fb,
+        totals,
+        below: u16::MAX,
+        looks: Looks::new(0),
+        tried: 0,
+        room,
+        count: there,
+    };
+    let (left, cut) = sink.find(wish, looks.left());
+    FoundWays {
+        rows: sink.count,
+        tried: sink.tried,
+        looks: most_looks - left,
+        cut,
+        next: plan.longest() > wish.to,
+    }
+}

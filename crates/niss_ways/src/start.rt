@@ -1,0 +1,185 @@
+//! Where a search begins: the cube after a scramble and the moves so far, and how those name the faces.
+ghost use Rattle.niss_moves.specs.Effects.{effect_of_turns};
+ghost use Rattle.niss_moves.specs.Places.{SameMap};
+ghost use Rattle.niss_cube.specs.Map.{map_of};
+ghost use Rattle.std.specs.Prelude.{◌≡◌, ◌+◌, ◌≤◌, length, IfSome};
+
+use crate::counting::{cleaned, inverse_of};
+use crate::way::Names;
+use arrayvec::ArrayVec;
+use niss_cube::{Cube, Step};
+use niss_moves::{Axis, Face, Faces, Niss, Rotation, Token, Turn, to_faces, unniss};
+use std::marker::Model;
+
+/// The most face turns of the moves so far on a side.
+const MOST_MADE: usize = 200;
+
+/// Where one stands: a cube, and what the faces are called for whoever holds it.
+#[derive(Drop)]
+pub struct Start {
+    cube: Cube,
+    line: Faces,
+    normal: Faces,
+    inverse: Faces,
+    names: Names,
+}
+
+impl Model for Start {
+    ghost use Rattle.std.specs.Prelude.{◌≡◌, ◌≤◌, length};
+    ghost use Rattle.niss_moves.specs.Effects.{effect_of_turns};
+    ghost use Rattle.niss_moves.specs.Places.{SameMap};
+    ghost use Rattle.niss_cube.specs.Map.{map_of};
+    ghost use Rattle.niss_ways.specs.Truth.{Origin};
+
+    ghost Value = { Origin };
+
+    ghost view = { λ s. record {
+        cube = s.cube; line = s.line.items; normal = s.normal.items; inverse = s.inverse.items; names = s.names } };
+
+    ghost invariant = { λ s. SameMap (map_of s.cube) (effect_of_turns s.line.items)
+        × (length s.normal.items ≤ 200) × (length s.inverse.items ≤ 200) × (length s.names ≡ 6) };
+}
+
+/// A rotation and then another.
+fn then(rotation: Rotation, next: Rotation) -> Rotation {
+    let first = match next.top.to_top() {
+        Some((axis, power)) => rotation.then(axis, power),
+        None => rotation,
+    };
+    match next.vertical {
+        Some(power) => first.then(Axis::Ud, power),
+        None => first,
+    }
+}
+
+/// The face turns of moves after a rotation, by the names of the centres, cleaned, and the rotation after all; none if
+/// they are too many.
+fn made_after(rotation: Rotation, moves: &[Token]) -> Option<(Faces, Rotation)>
+    requires { length moves.now ≤ 256 }
+    ensures { IfSome result (λ made. length made.0.items ≤ 200) }
+{
+    let (turns, left) = to_faces(moves);
+    if turns.len() > MOST_MADE {
+        return None;
+    }
+    let mut renamed = Faces::new();
+    for turn in turns.as_slice() {
+        renamed.push(Turn {
+            face: rotation.face_before(turn.face),
+            power: turn.power,
+        });
+    }
+    let made = cleaned(renamed.as_slice(), &[], &[]);
+    if made.len() > MOST_MADE {
+        return None;
+    }
+    Some((made, then(rotation, left)))
+}
+
+/// Moves that undo those in brackets.
+fn undone(line: &Niss) -> ArrayVec<Token, 256> {
+    let mut moves = ArrayVec::new();
+    let mut rest = line.inverse();
+    while let Some((last, front)) = rest.split_last() {
+        moves.push(last.inverse());
+        rest = front;
+    }
+    moves
+}
+
+/// What each face is called after a rotation.
+fn names_after(rotation: Rotation) -> Names {
+    let mut names = [Face::U; 6];
+    for face in [Face::U, Face::D, Face::R, Face::L, Face::F, Face::B] {
+        names[rotation.face_before(face) as usize] = face;
+    }
+    names
+}
+
+/// Three sequences as one, if they aren't too many turns.
+fn joined(first: &[Turn], second: &[Turn], third: &[Turn]) -> Option<Faces> {
+    let mut all = Faces::new();
+    all.try_extend_from_slice(first).ok()?;
+    all.try_extend_from_slice(second).ok()?;
+    all.try_extend_from_slice(third).ok()?;
+    Some(all)
+}
+
+/// The cube of some turns.
+fn cube_of(turns: &Faces) -> Cube
+    ensures { SameMap (map_of result) (effect_of_turns turns.now.items) }
+{
+    let mut cube = Cube::solved();
+    cube.apply(turns.as_slice());
+    cube
+}
+
+/// What was made on the inverse, by what came before the scramble.
+fn undoing(before: &Faces) -> Faces
+    requires { length before.now.items ≤ 200 }
+    ensures { length result.items ≤ 200 }
+{
+    inverse_of(before.as_slice())
+}
+
+impl Start {
+    ghost use Rattle.std.specs.Prelude.{◌≡◌, ◌≤◌, length};
+    ghost use Rattle.niss_moves.specs.Effects.{effect_of_turns};
+    ghost use Rattle.niss_moves.specs.Places.{SameMap};
+    ghost use Rattle.niss_cube.specs.Map.{map_of};
+    ghost use Rattle.niss_cube.specs.Steps.{reached_mask};
+
+    /// The cube after a scramble and the moves so far; none if they are too many. Moves in brackets come before the
+    /// scramble, inverted; they name the faces as the moves outside brackets leave the cube.
+    pub fn after(scramble: &Niss, so_far: &Niss) -> Option<Start> {
+        let (scrambled, held) = to_faces(unniss(scramble).as_slice());
+        let (normal, held) = made_after(held, so_far.normal())?;
+        let (before, _) = made_after(held, undone(so_far).as_slice())?;
+        let line = joined(before.as_slice(), scrambled.as_slice(), normal.as_slice())?;
+        Some(Start {
+            cube: cube_of(&line),
+            line,
+            normal,
+            inverse: undoing(&before),
+            names: names_after(held),
+        })
+    }
+
+    /// The cube.
+    pub fn cube(&self) -> &Cube
+        ensures { result.now ≡ self.now.cube }
+    {
+        &self.cube
+    }
+
+    /// Turns that lead to it, by the names of the centres: the moves in brackets inverted, the scramble, and the others.
+    pub fn line(&self) -> &[Turn]
+        ensures value { result.now ≡ self.now.line }
+        ensures of_cube { SameMap (map_of self.now.cube) (effect_of_turns self.now.line) }
+    {
+        self.line.as_slice()
+    }
+
+    /// What was made on the normal side, cleaned, by the names of the centres.
+    pub fn normal(&self) -> &[Turn]
+        ensures value { result.now ≡ self.now.normal }
+        ensures few { length result.now ≤ 200 }
+    {
+        self.normal.as_slice()
+    }
+
+    /// What was made on the inverse, cleaned.
+    pub fn inverse(&self) -> &[Turn]
+        ensures value { result.now ≡ self.now.inverse }
+        ensures few { length result.now ≤ 200 }
+    {
+        self.inverse.as_slice()
+    }
+
+    /// What the faces are called as the cube is held.
+    pub fn names(&self) -> &Names
+        ensures value { result.now ≡ self.now.names }
+    {
+        &self.names
+    }
+}

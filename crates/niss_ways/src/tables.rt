@@ -1,0 +1,61 @@
+//! The tables of the nine steps on an axis.
+
+use niss_cube::{Axis, Step};
+use niss_search::Tables;
+use std::alloc::Allocator;
+
+/// The tables of the three orientations, and of the two reductions after each.
+#[derive(Drop)]
+pub struct WayTables<'a, A: Allocator> {
+    pub eofb: &'a Tables<A>,
+    pub eorl: &'a Tables<A>,
+    pub eoud: &'a Tables<A>,
+    pub drud_eofb: &'a Tables<A>,
+    pub drrl_eofb: &'a Tables<A>,
+    pub drud_eorl: &'a Tables<A>,
+    pub drfb_eorl: &'a Tables<A>,
+    pub drrl_eoud: &'a Tables<A>,
+    pub drfb_eoud: &'a Tables<A>,
+}
+
+impl<A: Allocator> WayTables<'_, A> {
+    /// Whether each is the table of its step.
+    pub fn are_right(&self) -> bool {
+        self.eofb.step() == Step::Eofb
+            && self.eorl.step() == Step::Eorl
+            && self.eoud.step() == Step::Eoud
+            && self.drud_eofb.step() == Step::DrudEofb
+            && self.drrl_eofb.step() == Step::DrrlEofb
+            && self.drud_eorl.step() == Step::DrudEorl
+            && self.drfb_eorl.step() == Step::DrfbEorl
+            && self.drrl_eoud.step() == Step::DrrlEoud
+            && self.drfb_eoud.step() == Step::DrfbEoud
+    }
+
+    /// Those of the orientation on an axis.
+    pub fn orientation(&self, axis: Axis) -> &Tables<A> {
+        match axis {
+            Axis::Fb => self.eofb,
+            Axis::Rl => self.eorl,
+            Axis::Ud => self.eoud,
+        }
+    }
+
+    /// Those of the first reduction after the orientation on an axis.
+    pub fn first_after(&self, axis: Axis) -> &Tables<A> {
+        match axis {
+            Axis::Fb => self.drud_eofb,
+            Axis::Rl => self.drud_eorl,
+            Axis::Ud => self.drrl_eoud,
+        }
+    }
+
+    /// Those of the second one.
+    pub fn second_after(&self, axis: Axis) -> &Tables<A> {
+        match axis {
+            Axis::Fb => self.drrl_eofb,
+            Axis::Rl => self.drfb_eorl,
+            Axis::Ud => self.drfb_eoud,
+        }
+    }
+}
