@@ -72,7 +72,7 @@ impl Cube {
         };
     }
 
-    /// Makes a turn before all that made the cube, as one on its inverse is: the inverse turn on the inverse side.
+    /// Makes a turn before all that made the cube. So a turn on the inverse of a scramble is its inverse turn, made before.
     pub fn turn_before(&mut self, turn: Turn)
         ensures { SameMap (map_of self.new) (λ q. map_of self.old (turned turn q)) }
     {

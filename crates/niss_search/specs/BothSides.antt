@@ -61,7 +61,7 @@ module _ (step : Step) (e : Place → Place) where
   abbrev pub reaches : Pair → Bool
   reaches p = reached step (after_all (cubes step) (after_all (inverse_side step) e p.inverse) p.normal)
 
-  -- Does it so after the first turns of a pair on each side, some or all, but not all on both?
+  -- Has it after the first turns of a pair on each side, from none to all of them, but not all on both?
   unfoldable pub begins_reached : Pair → Bool
   begins_reached p =
       list_any (λ j. list_any (λ i. nat_lt (i + j) (length p.normal + length p.inverse)

@@ -1,11 +1,12 @@
-//! The search over both sides: the shorter side of each pair is gone through without the tables, and after it the other side
-//! is searched by them.
+//! The search over both sides: the shorter side of each pair is gone through without the tables, and after it the other
+//! side is searched by them.
 ghost use Rattle.std.specs.Prelude.{◌≡◌, ◌+◌, ◌*◌, ◌≤◌, ◌^◌, min, IsTrue, IfOk, OnOk, OnErr};
 ghost use Rattle.niss_cube.specs.Map.{map_of};
 ghost use Rattle.niss_cube.specs.Steps.{may_start};
 ghost use Rattle.niss_search.specs.Budgets.{is_cut_in, HasSpent};
-ghost use Rattle.niss_search.specs.BothSides.{Pair, pair, HandsOut, pair_solutions, pair_looks, least_pair_length, first_pairs, looks_of_pairs};
-ghost use Rattle.niss_search.specs.BothSides.{fewest_normal, most_normal};
+ghost use Rattle.niss_search.specs.BothSides.{Pair, pair, HandsOut, fewest_normal, most_normal};
+ghost use Rattle.niss_search.specs.BothSides.{first_pairs, least_pair_length, pair_solutions};
+ghost use Rattle.niss_search.specs.BothSides.{looks_of_pairs, pair_looks};
 ghost use Rattle.niss_search.specs.BothWalk.{part_of_lengths};
 ghost use Rattle.niss_search.specs.declared.searching.both.Sides.TheVariants.{Both};
 
@@ -69,10 +70,10 @@ pub trait PairSink {
         ensures err { OnErr result (refused self.old (pair normal.now.turns inverse.now.turns) self.new) };
 }
 
-/// Hands each solution over both sides within the limit that is at most `slack` turns longer than the least to the sink,
-/// until the sink refuses one: pairs of turns on the cube and turns on its inverse that reach the step together, and whose
-/// first turns don't. They come by length, then by their turns on the normal side, fewer ones first, and then in turn order
-/// of the shorter side, and of the other. It makes at most `looks` looks, as `search_within`.
+/// Hands each solution over both sides within the limit that is at most `slack` turns longer than the least to the
+/// sink, until the sink refuses one: pairs of turns on the cube and turns on its inverse that reach the step together,
+/// and whose first turns don't. They come by length, then by their turns on the normal side, fewer ones first, and then
+/// in turn order of the shorter side, and of the other. It makes at most `looks` looks, as `search_within`.
 ///
 /// The step may start on the cube, and the meter is at most at 2^127. The meter rises by one for each look.
 pub fn search_both_within<K: PairSink>(
@@ -102,11 +103,11 @@ pub fn search_both_within<K: PairSink>(
     search.from_least(lengths, meter, sink)
 }
 
-/// Hands each pair of exactly so many turns on these sides that reaches the step, and whose first turns don't, to the sink,
-/// in the order of `search_both_within`. Returns how many they are: so a caller goes from length to length himself.
+/// Hands each pair of exactly so many turns on these sides that reaches the step, and whose first turns don't, to the
+/// sink, in the order of `search_both_within`. Returns how many they are: so a caller goes from length to length.
 ///
-/// The step may start on the cube, and the meter is at most at 2^127. The meter rises by one for each look, and by at most
-/// `looks`, as in `search_within`.
+/// The step may start on the cube, and the meter is at most at 2^127. The meter rises by one for each look, and by at
+/// most `looks`, as in `search_within`.
 pub fn search_pairs_of_length<K: PairSink>(
     tables: &Tables<impl Allocator>,
     cube: &Cube,
@@ -133,8 +134,8 @@ pub fn search_pairs_of_length<K: PairSink>(
     search.of_length(length.get(), meter, sink)
 }
 
-/// How far the meter may go by so many looks more. No search over both sides looks 2^126 times, so it may stay far below the
-/// greatest number.
+/// How far the meter may go by so many looks more. No search over both sides looks 2^126 times, so this may stay far
+/// below the greatest number.
 fn budget_of(meter: &Meter, looks: u128) -> UpTo
     ensures { result.bound ≡ min (meter.now + looks) (3 * 2 ^ 126) }
 {

@@ -46,7 +46,7 @@ impl<K: PairSink> Sink for Joined<'_, K> {
     }
 }
 
-/// Whether the step is reached after the first turns on each side, some or all, but not all on both.
+/// Whether the step is reached after the first turns on each side, from none to all of them, but not all on both.
 pub fn begins_reached(step: Step, cube: &Cube, normal: &[Turn], inverse: &[Turn]) -> bool
     ensures { result ≡ begins_reached step (map_of cube.now) (pair normal.now inverse.now) }
 {
@@ -62,7 +62,7 @@ pub fn begins_reached(step: Step, cube: &Cube, normal: &[Turn], inverse: &[Turn]
     reached_along(step, &here, normal)
 }
 
-/// Whether the cube after the first turns, some or all, has reached the step.
+/// Whether the cube has reached the step after the first turns, from none to all.
 fn reaches_by(step: Step, cube: &Cube, turns: &[Turn]) -> bool
     ensures { result ≡ (reached_along step (map_of cube.now) turns.now
         || reached step (after_all (cubes step) (map_of cube.now) turns.now)) }
@@ -73,7 +73,7 @@ fn reaches_by(step: Step, cube: &Cube, turns: &[Turn]) -> bool
     reached_along(step, cube, turns) || step.reached(&here)
 }
 
-/// Whether the cube after the first turns, but not all, has reached the step.
+/// Whether the cube has reached the step after the first turns, but not all.
 fn reached_along(step: Step, cube: &Cube, turns: &[Turn]) -> bool
     ensures { result ≡ reached_along step (map_of cube.now) turns.now }
 {

@@ -28,7 +28,7 @@ pub(super) enum Side {
     Inverse,
 }
 
-/// How the turns of a pair are split: so many of the head, which stands on one side, and so many of the tail on the other.
+/// How the turns of a pair are split: so many of the head, which stands on one side, and of the tail on the other.
 #[derive(Clone, Copy)]
 pub(super) struct Split {
     pub side: Side,
@@ -114,15 +114,18 @@ impl<A: Allocator> Walk<'_, A> {
         sink: &mut K,
     ) -> Result<u128, Stopped<K::Fault>>
         requires starts { IsTrue (may_start self.now.tables.now (map_of other.now)) }
-        requires other { IsOther self.now.tables.now self.now.side (map_of self.now.cube.now) head.old.turns (map_of other.now) }
+        requires other { IsOther self.now.tables.now self.now.side (map_of self.now.cube.now)
+            head.old.turns (map_of other.now) }
         requires few { self.now.tail ≤ 20 }
         requires room { length head.old.turns + left ≤ head.old.limit }
         requires budget { meter.old ≤ self.now.budget.now.bound }
         requires bound { self.now.budget.now.bound ≤ 3 * 2 ^ 126 }
         ensures head { head.new ≡ head.old }
         ensures solutions { HandsOut K.took K.refused
-            (after_heads self.now.tables.now (map_of self.now.cube.now) self.now.side self.now.tail head.old.turns left).pairs
-            (after_heads self.now.tables.now (map_of self.now.cube.now) self.now.side self.now.tail head.old.turns left).looks
+            (after_heads self.now.tables.now (map_of self.now.cube.now) self.now.side self.now.tail
+            head.old.turns left).pairs
+            (after_heads self.now.tables.now (map_of self.now.cube.now) self.now.side self.now.tail
+            head.old.turns left).looks
             meter.old meter.new sink.old sink.new is_cut_in self.now.budget.now.bound (λ count. count) result }
         ensures counted { IfOk result (λ count. meter.old + count ≤ meter.new) }
         ensures within { meter.new ≤ self.now.budget.now.bound }
@@ -158,7 +161,8 @@ impl<A: Allocator> Walk<'_, A> {
         sink: &mut K,
     ) -> Result<u128, Stopped<K::Fault>>
         requires starts { IsTrue (may_start self.now.tables.now (map_of other.now)) }
-        requires other { IsOther self.now.tables.now self.now.side (map_of self.now.cube.now) head.now.turns (map_of other.now) }
+        requires other { IsOther self.now.tables.now self.now.side (map_of self.now.cube.now)
+            head.now.turns (map_of other.now) }
         requires few { self.now.tail ≤ 20 }
         requires budget { meter.old ≤ self.now.budget.now.bound }
         requires bound { self.now.budget.now.bound ≤ 3 * 2 ^ 126 }
