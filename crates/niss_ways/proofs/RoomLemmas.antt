@@ -1,5 +1,5 @@
 -- A room that grows, and grows again, grows; and what each pair does to it, a search does.
-use Rattle.std.proofs.Common.{◌≡◌, ◌⊎◌, inl, inr, refl, sym, ap, ◌∙◌, subst, ℕ, ◌<◌, ◌≤◌, List, [], ◌∷◌, length, get_or, arith, Result, Ok, Err, Bool, true, false}
+use Rattle.std.proofs.Common.{◌≡◌, ◌⊎◌, inl, inr, refl, sym, ◌∙◌, subst, ℕ, ◌<◌, ◌≤◌, List, [], ◌∷◌, length, get_or, Result, Ok, Err, Bool, true, false}
 use Rattle.niss_search.specs.BothSides.{Pair, HandsOut}
 use Rattle.niss_search.specs.Delivery.{WentThrough, StoppedIn, WentInto, EndedIn}
 use Rattle.niss_ways.specs.Searched.{Searched}
@@ -10,7 +10,7 @@ use Rattle.niss_ways.specs.Truth.{Origin, IsWay, AreWays, AreFrom}
 use Rattle.niss_ways.specs.declared.way.Way.{Way}
 
 pub grows_none : (o : Origin) (n : ℕ) (room : List Way) → Grows o n room n room
-grows_none o n room = record { same_length = refl; within = λ h. h ; sorted = λ h. h; true_rows = λ h. h }
+grows_none o n room = record { same_length = refl; within = λ h. h; sorted = λ h. h; true_rows = λ h. h }
 
 pub grows_more : (o : Origin) (i : ℕ) (x : List Way) (j : ℕ) (y : List Way) (k : ℕ) (z : List Way)
     → Grows o i x j y → Grows o j y k z → Grows o i x k z

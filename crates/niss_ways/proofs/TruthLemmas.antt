@@ -1,8 +1,7 @@
 -- Rows that tell the truth.
-use Rattle.std.proofs.Common.{◌≡◌, ℕ, inl, inr, refl, sym, ◌∙◌, subst, List, [], true, IsTrue, Bool, ap}
-use Rattle.niss_moves.specs.Places.{SameMap, Place}
+use Rattle.std.proofs.Common.{◌≡◌, ℕ, inl, inr, subst, [], true, IsTrue}
+use Rattle.niss_moves.specs.Places.{SameMap}
 use Rattle.niss_moves.specs.declared.turn.Axis.{Axis}
-use Rattle.niss_moves.specs.declared.turn.Face.{Face}
 use Rattle.niss_cube.specs.Map.{map_of}
 use Rattle.niss_cube.specs.Steps.{edge_step_on, reached}
 use Rattle.niss_cube.specs.declared.cube.Cube.{Cube}
@@ -11,7 +10,6 @@ use Rattle.niss_search.specs.BothSides.{Pair, pair}
 use Rattle.niss_ways.specs.Shown.{Tells}
 use Rattle.niss_ways.specs.Truth.{Origin, IsWay, IsReduction}
 use Rattle.niss_ways.specs.Ways.{cube_after, first_reaches}
-use Rattle.niss_ways.specs.declared.way.Part.{Part}
 use Rattle.niss_ways.specs.declared.way.Way.{Way}
 
 pub in_two_steps : (o : Origin) (way : Way) (axis : Axis) (step : Step) (p : Pair) (between : Cube)

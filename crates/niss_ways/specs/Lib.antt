@@ -1,7 +1,9 @@
 pub mod Ways
 pub mod Shown
 pub mod Order
+pub mod Asked
 pub mod Truth
+pub mod Starts
 pub mod Rooms
 pub mod Searched
 pub mod Sinks

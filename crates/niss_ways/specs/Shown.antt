@@ -1,5 +1,5 @@
 -- How a solution is told: each turn by its number in turn order, once its face is named as the cube is held.
-use Rattle.std.specs.Prelude.{◌≡◌, ℕ, zero, suc, ◌+◌, ◌*◌, ◌-◌, List, [], ◌∷◌, ◌++◌, get_or, length, map, take, drop, replicate}
+use Rattle.std.specs.Prelude.{◌≡◌, ℕ, ◌+◌, ◌*◌, List, get_or, length, map, take, drop, replicate}
 use Rattle.niss_moves.specs.Indices.{face_index, power_index}
 use Rattle.niss_moves.specs.declared.turn.Face.{Face}
 use Rattle.niss_moves.specs.declared.turn.Turn.{Turn}

@@ -1,5 +1,5 @@
 -- What a row tells, and when that is true.
-use Rattle.std.specs.Prelude.{◌≡◌, ◌⊎◌, ℕ, ◌+◌, ◌<◌, ◌≤◌, List, [], ◌∷◌, ◌++◌, get_or, length, true, IsTrue}
+use Rattle.std.specs.Prelude.{◌≡◌, ◌⊎◌, ℕ, ◌+◌, ◌<◌, List, [], ◌∷◌, ◌++◌, get_or, length, true, IsTrue}
 use Rattle.niss_moves.specs.Cleaning.{clean_turns}
 use Rattle.niss_moves.specs.Places.{SameMap}
 use Rattle.niss_moves.specs.declared.turn.Face.{Face}

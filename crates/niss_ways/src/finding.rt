@@ -1,5 +1,6 @@
 //! The search for the best ways on.
 ghost use Rattle.std.specs.Prelude.{◌≡◌, ◌≤◌, length, min};
+ghost use Rattle.niss_ways.specs.Asked.{is_among};
 ghost use Rattle.niss_ways.specs.Rooms.{Grows};
 
 use crate::orientations::find_orientations;
@@ -34,7 +35,9 @@ impl Axes {
     };
 
     /// Whether an axis is among them.
-    pub fn has(self, axis: Axis) -> bool {
+    pub fn has(self, axis: Axis) -> bool
+        ensures { result ≡ is_among self axis }
+    {
         match axis {
             Axis::Fb => self.fb,
             Axis::Rl => self.rl,

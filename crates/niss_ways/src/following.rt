@@ -17,14 +17,14 @@ use std::alloc::Allocator;
 
 /// The axis of the orientation that a reduction keeps, and its own.
 #[derive(Clone, Copy, Debug, PartialEq, Eq)]
-pub struct Axes {
+pub struct DominoAxes {
     pub edges: Axis,
     pub domino: Axis,
 }
 
-impl Axes {
+impl DominoAxes {
     /// Those of a step, if it is a reduction on one axis.
-    pub fn of(step: Step) -> Option<Axes>
+    pub fn of(step: Step) -> Option<DominoAxes>
         ensures { IfSome result (λ axes. goals_of step ≡ Domino axes.edges axes.domino ∷ []) }
     {
         let (edges, domino) = match step {
@@ -36,7 +36,7 @@ impl Axes {
             Step::DrfbEoud => (Axis::Ud, Axis::Fb),
             _ => return None,
         };
-        Some(Axes { edges, domino })
+        Some(DominoAxes { edges, domino })
     }
 
     /// The axis that is neither.
@@ -75,7 +75,7 @@ pub struct Found {
 pub struct Following<'a, A: Allocator> {
     pub start: &'a Start,
     pub tables: &'a Tables<A>,
-    pub axes: Axes,
+    pub axes: DominoAxes,
     ghost of_step: { goals_of tables.now ≡ Domino axes.edges axes.domino ∷ [] },
 }
 
@@ -94,7 +94,7 @@ impl<'a, A: Allocator> Following<'a, A> {
     pub fn of(start: &'a Start, tables: &'a Tables<A>) -> Option<Following<'a, A>>
         ensures { IfSome result (λ following. following.start.now ≡ start.now) }
     {
-        let axes = Axes::of(tables.step())?;
+        let axes = DominoAxes::of(tables.step())?;
         Some(Following {
             start,
             tables,
@@ -134,7 +134,12 @@ impl<'a, A: Allocator> Following<'a, A> {
 
     /// The best reduction after an orientation or one of its twins, the first with the fewest moves in all, if these are fewer
     /// than a bound.
-    pub fn best(&self, class: &Solution, below: u16, looks: &mut Looks) -> Result<Option<Found>, Cut>
+    pub fn best(
+        &self,
+        class: &Solution,
+        below: u16,
+        looks: &mut Looks,
+    ) -> Result<Option<Found>, Cut>
         ensures { looks.new.most ≡ looks.old.most }
     {
         let mut best = None;
@@ -167,8 +172,20 @@ impl<'a, A: Allocator> Following<'a, A> {
             is_seen: false,
             found: None,
         };
-        self.search(&between, Sides::Normal, between.on_normal, &mut nearest, looks)?;
-        self.search(&between, Sides::Inverse, between.on_inverse, &mut nearest, looks)?;
+        self.search(
+            &between,
+            Sides::Normal,
+            between.on_normal,
+            &mut nearest,
+            looks,
+        )?;
+        self.search(
+            &between,
+            Sides::Inverse,
+            between.on_inverse,
+            &mut nearest,
+            looks,
+        )?;
         self.search_both(&between, &mut nearest, looks)?;
         let total = nearest.below;
         let Some(reduction) = nearest.found else {
@@ -250,7 +267,12 @@ impl<'a, A: Allocator> Following<'a, A> {
     }
 
     /// The row of a reduction if the orientation holds already.
-    pub fn row_of_reduction(&self, reduction: &Solution, on_normal: u8, on_inverse: u8) -> Option<Way>
+    pub fn row_of_reduction(
+        &self,
+        reduction: &Solution,
+        on_normal: u8,
+        on_inverse: u8,
+    ) -> Option<Way>
         ensures { IfSome result (λ way. IsWay self.now.start.now way) }
     {
         let cube = self.start.cube();
@@ -267,7 +289,13 @@ impl<'a, A: Allocator> Following<'a, A> {
     }
 
     /// The row of a reduction from a cube after first moves.
-    pub fn reduced(&self, eo: Part, first: &Solution, cube: &Cube, reduction: &Solution) -> Option<Way>
+    pub fn reduced(
+        &self,
+        eo: Part,
+        first: &Solution,
+        cube: &Cube,
+        reduction: &Solution,
+    ) -> Option<Way>
         ensures eo { IfSome result (λ way. way.eo ≡ eo) }
         ensures reduction { IfSome result (λ way. IsReduction self.now.start.now self.now.axes.edges first.now cube.now way) }
     {
@@ -276,8 +304,12 @@ impl<'a, A: Allocator> Following<'a, A> {
             return None;
         }
         let total = total_after(self.start, first, reduction.normal(), reduction.inverse());
-        let corners = Coordinate::Twist.bad_places(self.axes.domino, cube).count_ones();
-        let edges = Coordinate::Slice.bad_places(self.axes.domino, cube).count_ones();
+        let corners = Coordinate::Twist
+            .bad_places(self.axes.domino, cube)
+            .count_ones();
+        let edges = Coordinate::Slice
+            .bad_places(self.axes.domino, cube)
+            .count_ones();
         Some(Way {
             total,
             corners: corners as u8,

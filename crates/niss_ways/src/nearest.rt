@@ -69,7 +69,9 @@ impl PairSink for Nearest<'_> {
         self.is_seen = true;
         let (normal, inverse) = (normal.turns(), inverse.turns());
         // a reduction that merges with the orientation is another twin's, which has a turn less
-        if merges(self.orientation.normal(), normal) || merges(self.orientation.inverse(), inverse) {
+        if merges(self.orientation.normal(), normal)
+            || merges(self.orientation.inverse(), inverse)
+        {
             return Ok(());
         }
         let total = self.total(normal, inverse);

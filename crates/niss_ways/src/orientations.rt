@@ -64,7 +64,10 @@ impl Plan {
 
     /// The greatest length that is let in.
     fn longest(&self) -> u8 {
-        self.fb.longest().max(self.rl.longest()).max(self.ud.longest())
+        self.fb
+            .longest()
+            .max(self.rl.longest())
+            .max(self.ud.longest())
     }
 }
 

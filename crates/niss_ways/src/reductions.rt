@@ -50,7 +50,9 @@ fn keep_edges(axis: Axis, turns: &[Turn]) -> bool {
 
 /// Whether the orientation on an axis holds, and all turns keep it.
 fn stays(reached: u16, axis: Axis, solution: &Solution) -> bool {
-    holds(reached, axis) && keep_edges(axis, solution.normal()) && keep_edges(axis, solution.inverse())
+    holds(reached, axis)
+        && keep_edges(axis, solution.normal())
+        && keep_edges(axis, solution.inverse())
 }
 
 /// Whether all turns keep an orientation that holds before another one.
@@ -91,19 +93,15 @@ impl<'a, A: Allocator> Reductions<'a, A> {
     {
         self.tried = self.tried.saturating_add(1);
         let count = self.count;
-        let Some(way) = following.row_of_reduction(reduction, self.on_normal, self.on_inverse) else {
+        let Some(way) = following.row_of_reduction(reduction, self.on_normal, self.on_inverse)
+        else {
             return;
         };
         self.count = take(self.room, count, way);
     }
 
     /// Takes the reductions on an axis that are asked for.
-    fn find(
-        &mut self,
-        reduction: &'a Tables<A>,
-        wish: &Wish,
-        looks: &mut Looks,
-    ) -> Result<(), Cut>
+    fn find(&mut self, reduction: &'a Tables<A>, wish: &Wish, looks: &mut Looks) -> Result<(), Cut>
         ensures most { looks.new.most ≡ looks.old.most }
         ensures room { KeepsReductions self.old self.new }
     {

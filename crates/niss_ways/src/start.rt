@@ -2,12 +2,14 @@
 ghost use Rattle.niss_moves.specs.Effects.{effect_of_turns};
 ghost use Rattle.niss_moves.specs.Places.{SameMap};
 ghost use Rattle.niss_cube.specs.Map.{map_of};
-ghost use Rattle.std.specs.Prelude.{◌≡◌, ◌+◌, ◌≤◌, length, IfSome};
+ghost use Rattle.std.specs.Prelude.{◌≡◌, ◌≤◌, ◌++◌, length, map, reverse, IfSome};
+ghost use Rattle.niss_moves.specs.Effects.{inverse_turn};
+ghost use Rattle.niss_ways.specs.Starts.{turns_after};
 
 use crate::counting::{cleaned, inverse_of};
 use crate::way::Names;
 use arrayvec::ArrayVec;
-use niss_cube::{Cube, Step};
+use niss_cube::Cube;
 use niss_moves::{Axis, Face, Faces, Niss, Rotation, Token, Turn, to_faces, unniss};
 use std::marker::Model;
 
@@ -34,7 +36,12 @@ impl Model for Start {
     ghost Value = { Origin };
 
     ghost view = { λ s. record {
-        cube = s.cube; line = s.line.items; normal = s.normal.items; inverse = s.inverse.items; names = s.names } };
+      cube = s.cube;
+      line = s.line.items;
+      normal = s.normal.items;
+      inverse = s.inverse.items;
+      names = s.names;
+    } };
 
     ghost invariant = { λ s. SameMap (map_of s.cube) (effect_of_turns s.line.items)
         × (length s.normal.items ≤ 200) × (length s.inverse.items ≤ 200) × (length s.names ≡ 6) };
@@ -56,7 +63,8 @@ fn then(rotation: Rotation, next: Rotation) -> Rotation {
 /// they are too many.
 fn made_after(rotation: Rotation, moves: &[Token]) -> Option<(Faces, Rotation)>
     requires { length moves.now ≤ 256 }
-    ensures { IfSome result (λ made. length made.0.items ≤ 200) }
+    ensures few { IfSome result (λ made. length made.0.items ≤ 200) }
+    ensures turns { IfSome result (λ made. made.0.items ≡ turns_after rotation moves.now) }
 {
     let (turns, left) = to_faces(moves);
     if turns.len() > MOST_MADE {
@@ -97,7 +105,9 @@ fn names_after(rotation: Rotation) -> Names {
 }
 
 /// Three sequences as one, if they aren't too many turns.
-fn joined(first: &[Turn], second: &[Turn], third: &[Turn]) -> Option<Faces> {
+fn joined(first: &[Turn], second: &[Turn], third: &[Turn]) -> Option<Faces>
+    ensures { IfSome result (λ all. all.items ≡ first.now ++ second.now ++ third.now) }
+{
     let mut all = Faces::new();
     all.try_extend_from_slice(first).ok()?;
     all.try_extend_from_slice(second).ok()?;
@@ -117,7 +127,8 @@ fn cube_of(turns: &Faces) -> Cube
 /// What was made on the inverse, by what came before the scramble.
 fn undoing(before: &Faces) -> Faces
     requires { length before.now.items ≤ 200 }
-    ensures { length result.items ≤ 200 }
+    ensures few { length result.items ≤ 200 }
+    ensures turns { result.items ≡ reverse (map inverse_turn before.now.items) }
 {
     inverse_of(before.as_slice())
 }
@@ -127,11 +138,14 @@ impl Start {
     ghost use Rattle.niss_moves.specs.Effects.{effect_of_turns};
     ghost use Rattle.niss_moves.specs.Places.{SameMap};
     ghost use Rattle.niss_cube.specs.Map.{map_of};
-    ghost use Rattle.niss_cube.specs.Steps.{reached_mask};
+    ghost use Rattle.niss_ways.specs.Starts.{IsAfter};
+    ghost use Rattle.std.specs.Prelude.{IfSome};
 
     /// The cube after a scramble and the moves so far; none if they are too many. Moves in brackets come before the
     /// scramble, inverted; they name the faces as the moves outside brackets leave the cube.
-    pub fn after(scramble: &Niss, so_far: &Niss) -> Option<Start> {
+    pub fn after(scramble: &Niss, so_far: &Niss) -> Option<Start>
+        ensures { IfSome result (λ start. IsAfter scramble.now so_far.now start) }
+    {
         let (scrambled, held) = to_faces(unniss(scramble).as_slice());
         let (normal, held) = made_after(held, so_far.normal())?;
         let (before, _) = made_after(held, undone(so_far).as_slice())?;

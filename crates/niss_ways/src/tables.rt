@@ -1,10 +1,11 @@
 //! The tables of the nine steps on an axis.
 
-use niss_cube::{Axis, Step};
+use niss_cube::Axis;
 use niss_search::Tables;
 use std::alloc::Allocator;
 
-/// The tables of the three orientations, and of the two reductions after each.
+/// The tables of the three orientations, and of the two reductions after each. If one is of another step, ways are missing, and
+/// those that are there are true.
 #[derive(Drop)]
 pub struct WayTables<'a, A: Allocator> {
     pub eofb: &'a Tables<A>,
@@ -19,21 +20,8 @@ pub struct WayTables<'a, A: Allocator> {
 }
 
 impl<A: Allocator> WayTables<'_, A> {
-    /// Whether each is the table of its step.
-    pub fn are_right(&self) -> bool {
-        self.eofb.step() == Step::Eofb
-            && self.eorl.step() == Step::Eorl
-            && self.eoud.step() == Step::Eoud
-            && self.drud_eofb.step() == Step::DrudEofb
-            && self.drrl_eofb.step() == Step::DrrlEofb
-            && self.drud_eorl.step() == Step::DrudEorl
-            && self.drfb_eorl.step() == Step::DrfbEorl
-            && self.drrl_eoud.step() == Step::DrrlEoud
-            && self.drfb_eoud.step() == Step::DrfbEoud
-    }
-
     /// Those of the orientation on an axis.
-    pub fn orientation(&self, axis: Axis) -> &Tables<A> {
+    pub(crate) fn orientation(&self, axis: Axis) -> &Tables<A> {
         match axis {
             Axis::Fb => self.eofb,
             Axis::Rl => self.eorl,
@@ -42,7 +30,7 @@ impl<A: Allocator> WayTables<'_, A> {
     }
 
     /// Those of the first reduction after the orientation on an axis.
-    pub fn first_after(&self, axis: Axis) -> &Tables<A> {
+    pub(crate) fn first_after(&self, axis: Axis) -> &Tables<A> {
         match axis {
             Axis::Fb => self.drud_eofb,
             Axis::Rl => self.drud_eorl,
@@ -51,7 +39,7 @@ impl<A: Allocator> WayTables<'_, A> {
     }
 
     /// Those of the second one.
-    pub fn second_after(&self, axis: Axis) -> &Tables<A> {
+    pub(crate) fn second_after(&self, axis: Axis) -> &Tables<A> {
         match axis {
             Axis::Fb => self.drrl_eofb,
             Axis::Rl => self.drfb_eorl,

@@ -1,6 +1,7 @@
 //! A way on: an orientation and a reduction, or a reduction after an orientation that holds.
-ghost use Rattle.std.specs.Prelude.{◌≡◌, ◌+◌, ◌<◌, ◌≤◌, length};
+ghost use Rattle.std.specs.Prelude.{◌≡◌, ◌+◌, ◌<◌, ◌≤◌, length, slice_get};
 ghost use Rattle.niss_moves.specs.declared.turn.Face.{Face};
+ghost use Rattle.niss_cube.specs.Steps.{steps};
 ghost use Rattle.niss_ways.specs.Shown.{step_number, shown, Tells, TellsTurns};
 ghost use Rattle.niss_ways.specs.Order.{rank_of};
 ghost use Rattle.niss_search.specs.BothSides.{pair};
@@ -70,7 +71,7 @@ pub fn shown(names: &Names, turn: Turn) -> u8
 
 impl SideTurns {
     /// No turn.
-    pub fn none() -> SideTurns {
+    fn none() -> SideTurns {
         SideTurns {
             count: 0,
             turns: [NO_TURN; 20],
@@ -95,7 +96,7 @@ impl SideTurns {
 
 impl Part {
     /// No moves.
-    pub fn none() -> Part
+    pub(crate) fn none() -> Part
         ensures { result.step ≡ 255 }
     {
         Part {
@@ -117,7 +118,9 @@ impl Part {
     }
 
     /// The step, if there is one.
-    pub fn step(&self) -> Option<Step> {
+    pub fn step(&self) -> Option<Step>
+        ensures { result ≡ slice_get steps self.now.step }
+    {
         Step::all().get(usize::from(self.step)).copied()
     }
 

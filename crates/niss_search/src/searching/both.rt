@@ -17,9 +17,9 @@ use super::{Outcome, last_length};
 use crate::budget::{Stopped, UpTo};
 use crate::path::{Lengths, Limit, TurnPath};
 use crate::tables::{Meter, Tables};
+pub use joined::begins_reached;
 use niss_cube::Cube;
 use std::alloc::Allocator;
-pub use joined::begins_reached;
 use walk::{Split, Walk};
 
 /// The sides that a search has turns on: the normal one, the inverse, or both.

@@ -1,4 +1,4 @@
-use Rattle.std.proofs.Common.{◌≡◌, ap, ◌∙◌, [], ◌++◌, map, List}
+use Rattle.std.proofs.Common.{◌≡◌, ap, ◌∙◌, ◌++◌, map, List}
 use Rattle.niss_moves.specs.declared.token.Token.{Token}
 use Rattle.niss_moves.specs.declared.token.Token.TheVariants as token
 use Rattle.niss_ways.proofs.CleanLemmas.{cleaned_as_turns}

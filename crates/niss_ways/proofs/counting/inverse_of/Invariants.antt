@@ -1,4 +1,4 @@
-use Rattle.std.proofs.Common.{◌≡◌, ◌+◌, ◌≤◌, ◌++◌, map, length, reverse}
+use Rattle.std.proofs.Common.{◌≡◌, ◌+◌, ◌++◌, map, length, reverse}
 use Rattle.niss_moves.specs.Effects.{inverse_turn}
 use Rattle.niss_ways.proofs.counting.inverse_of.Given as goal
 

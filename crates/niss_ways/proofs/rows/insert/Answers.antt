@@ -1,4 +1,4 @@
-use Rattle.std.proofs.Common.{◌≡◌, ◌<◌, ◌≤◌, ◌-◌, ◌+◌, ℕ, [], suc, refl, sym, subst, arith, length, ◌∙◌, ap}
+use Rattle.std.proofs.Common.{◌≡◌, ◌<◌, ◌≤◌, ◌-◌, ℕ, [], suc, refl, sym, subst, arith, length, ◌∙◌, ap}
 use Rattle.std.specs.Prelude.{slice_set, get_or}
 use Rattle.std.proofs.lemmas.List.{get_or_default, length-set}
 use Rattle.niss_ways.specs.Order.{rank_of}

@@ -1,4 +1,4 @@
-use Rattle.std.proofs.Common.{◌≡◌, ◌<◌, ◌≤◌, length}
+use Rattle.std.proofs.Common.{◌≡◌, ◌≤◌, length}
 use Rattle.niss_ways.specs.Order.{rank_of}
 use Rattle.niss_ways.proofs.OrderLemmas.{Open}
 use Rattle.niss_ways.proofs.rows.insert.Given as goal

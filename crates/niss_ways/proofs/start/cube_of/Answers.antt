@@ -1,4 +1,4 @@
-use Rattle.std.proofs.Common.{◌≡◌, ap, ◌∙◌}
+use Rattle.std.proofs.Common.{ap, ◌∙◌}
 use Rattle.niss_moves.specs.Effects.{effect_of_turns}
 use Rattle.niss_ways.proofs.start.cube_of.Goals as goal
 

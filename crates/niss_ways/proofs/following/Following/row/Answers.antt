@@ -1,4 +1,4 @@
-use Rattle.std.proofs.Common.{◌≡◌, sym, ap, ◌∙◌, subst, true, List}
+use Rattle.std.proofs.Common.{◌≡◌, sym, ◌∙◌, subst, true, List}
 use Rattle.niss_cube.specs.Map.{map_of}
 use Rattle.niss_cube.specs.declared.cube.Cube.{Cube}
 use Rattle.niss_moves.specs.Places.{SameMap}

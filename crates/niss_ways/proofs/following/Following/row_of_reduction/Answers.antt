@@ -1,4 +1,4 @@
-use Rattle.std.proofs.Common.{◌≡◌, sym, ap, ◌∙◌, subst, true, List, [], IsTrue}
+use Rattle.std.proofs.Common.{◌≡◌, sym, ap, ◌∙◌, subst, [], IsTrue}
 use Rattle.niss_cube.specs.Map.{map_of}
 use Rattle.niss_cube.specs.Steps.{reached}
 use Rattle.niss_cube.specs.declared.cube.Cube.{Cube}
