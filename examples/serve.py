@@ -4,7 +4,7 @@
 
 With the port 0 the system chooses one. The port is printed once the server listens. A request is a GET, and the answer JSON:
 
-    /check?scramble=R U F2&solution=F2 (R U)    whether the solution solves the scramble, its moves, and those that are no WCA notation
+    /check?scramble=R U F2&solution=F2 (R U)    whether the solution solves the scramble, its moves, and the first that are no WCA notation
     /search?step=eofb&line=R U F&slack=1        how many solutions a step has, and the first ones; `cut` if there may be others
 """
 from __future__ import annotations
@@ -17,14 +17,14 @@ from urllib.parse import parse_qsl, urlsplit
 
 import nissy
 
-# the positions of a search, at most some tenths of a second, and the solutions that an answer shows
+# the positions of a search, at most some tenths of a second, and the solutions or places that an answer shows
 MOST_NODES, MOST_SHOWN = 1_000_000, 20
 Answer = Dict[str, Any]
 
 
 def foreign(line: str) -> List[Answer]:
-    """The moves and brackets of a line that are no WCA notation, each with its place in characters, from 1."""
-    return [{"text": it.text, "character": it.character} for it in nissy.form_places(line)]
+    """The first moves and brackets of a line that are no WCA notation, each with its place in characters, from 1."""
+    return [{"text": it.text, "character": it.character} for it in nissy.form_places(line)[:MOST_SHOWN]]
 
 
 def check(asked: Dict[str, str]) -> Answer:
@@ -46,11 +46,11 @@ CALLS: Dict[str, Callable[[Dict[str, str]], Answer]] = {"/check": check, "/searc
 
 def answer(address: str) -> Tuple[int, Answer]:
     """The status and the answer to a request."""
-    asked = urlsplit(address)
-    call = CALLS.get(asked.path)
-    if call is None:
-        return 404, {"error": f"there are {' and '.join(CALLS)}"}
     try:
+        asked = urlsplit(address)
+        call = CALLS.get(asked.path)
+        if call is None:
+            return 404, {"error": f"there are {' and '.join(CALLS)}"}
         return 200, call(dict(parse_qsl(asked.query, keep_blank_values=True)))
     except KeyError as missing:
         return 400, {"error": f"{missing.args[0]} is missing"}

@@ -31,7 +31,11 @@ typedef ssize_t transferred;
 typedef size_t piece;
 #endif
 
-enum { BLOCK = 4096, GATHERED = 2048, MOST_TURNS = 20, SOLUTION_ROOM = 65536 };
+enum { BLOCK = 4096, GATHERED = 2048, MOST_TURNS = 20 };
+
+/* the rooms for a piece of a list, for the moves of one solution, and for what takes no lines: 10,000 scrambles of
+ * 256 turns are the longest */
+enum { FOUND_ROOM = 65536, MOVES_ROOM = 65, RUN_ROOM = 8388608 };
 
 /* what the program says if it stops */
 struct stop {
@@ -97,8 +101,6 @@ static struct command {
     const char *step;
     uint8_t limit, slack;
     nissy_tables tables;
-    uint8_t *room; /* for solutions */
-    size_t room_length;
 } command;
 
 static bool stop_at(uint32_t number, uint8_t fault, uint32_t column) {
@@ -135,27 +137,40 @@ static bool count(const uint8_t *line, size_t length, uint32_t number) {
     return put_text(text);
 }
 
-static bool solve(const uint8_t *line, size_t length, uint32_t number) {
-    size_t written = 0;
-    for (;;) {
-        nissy_search_answer answer = nissy_solve(&command.tables, line, length, command.limit, command.slack, NISSY_ALL, NISSY_ALL,
-                                                 command.room, command.room_length);
-        if (answer.status == NISSY_FAULT) return stop_at(number, answer.fault, answer.column);
-        if (answer.status != NISSY_DONE && answer.status != NISSY_ROOM) return too_long();
-        if (!put(command.room + written, (size_t)answer.length - written)) return false;
-        written = (size_t)answer.length;
-        if (answer.status == NISSY_DONE) break;
-        /* what there was no room for is found again */
-        size_t wider = command.room_length <= SIZE_MAX / 8 ? 8 * command.room_length : 0;
-        uint8_t *room = wider == 0 ? NULL : realloc(command.room, wider);
-        if (room == NULL) return out_of_memory();
-        command.room = room;
-        command.room_length = wider;
-    }
-    if (written > 0) return put_text("\n");
+/* Copies the moves of the last of some solutions, without its count, and returns how many bytes they are. */
+static size_t moves_of_last(const uint8_t *found, size_t length, uint8_t *moves) {
+    const uint8_t *begin = found + length - 1;
+    while (begin > found && begin[-1] != '\n') begin -= 1;
+    const uint8_t *count = memchr(begin, '(', (size_t)(found + length - begin));
+    size_t with_blank = (size_t)(count - begin);
+    if (with_blank == 0) return 0;
+    memcpy(moves, begin, with_blank - 1);
+    return with_blank - 1;
+}
+
+static bool tell_none(void) {
     char text[64];
     snprintf(text, sizeof text, "no solution within %u moves\n\n", (unsigned)command.limit);
     return put_text(text);
+}
+
+/* Writes a list in pieces, each of which goes on behind the last solution of the one before. */
+static bool solve(const uint8_t *line, size_t length, uint32_t number) {
+    static uint8_t found[FOUND_ROOM];
+    const nissy_tables *tables = &command.tables;
+    uint8_t limit = command.limit, slack = command.slack, last[MOVES_ROOM];
+    nissy_search_answer answer =
+        nissy_solve(tables, line, length, limit, slack, NISSY_ALL, NISSY_ALL, found, sizeof found);
+    if (answer.status == NISSY_FAULT) return stop_at(number, answer.fault, answer.column);
+    if (answer.status != NISSY_DONE && answer.status != NISSY_ROOM) return too_long();
+    if (answer.solutions == 0) return tell_none();
+    while (put(found, (size_t)answer.length)) {
+        if (!answer.more) return put_text("\n");
+        size_t moves = moves_of_last(found, (size_t)answer.length, last);
+        answer = nissy_solve_after(tables, line, length, last, moves, limit, slack, NISSY_ALL, NISSY_ALL, found,
+                                   sizeof found);
+    }
+    return false;
 }
 
 static bool answer_line(const uint8_t *line, size_t length, uint32_t number) {
@@ -294,8 +309,6 @@ static uint8_t *joined(int count, char **words, char behind) {
 }
 
 static bool build(void) {
-    command.room_length = SOLUTION_ROOM;
-    if (!command.is_count && (command.room = malloc(command.room_length)) == NULL) return out_of_memory();
     return nissy_build(&command.tables, (const uint8_t *)command.step, strlen(command.step)) == NISSY_DONE || out_of_memory();
 }
 
@@ -313,25 +326,15 @@ static bool answer_words(int count, char **words) {
 
 /* Does what the words say that take no lines. */
 static bool run(int count, char **words) {
+    static uint8_t out[RUN_ROOM]; /* of which those pages alone are taken that are used */
+    uint8_t *text = joined(count, words, 0), err[NISSY_ERROR_ROOM];
+    if (text == NULL) return out_of_memory();
     size_t length = joined_length(count, words);
-    uint8_t *text = joined(count, words, 0), *out = NULL, err[NISSY_ERROR_ROOM];
-    bool done = text != NULL || out_of_memory();
-    for (size_t room = 65536; done; room *= 8) {
-        uint8_t *wider = realloc(out, room);
-        if (wider == NULL) {
-            done = out_of_memory();
-            break;
-        }
-        out = wider;
-        nissy_run_answer answer = nissy_run(text, length, NULL, 0, out, room, err, sizeof err - 1);
-        if (answer.out_too_small) continue;
-        err[answer.err_length] = 0;
-        done = put(out, (size_t)answer.out_length) && (answer.status == NISSY_DONE || stop(answer.status, (const char *)err));
-        break;
-    }
-    free(out);
+    nissy_run_answer answer = nissy_run(text, length, NULL, 0, out, sizeof out, err, sizeof err - 1);
     free(text);
-    return done;
+    err[answer.err_length] = 0;
+    if (!put(out, (size_t)answer.out_length)) return false;
+    return answer.status == NISSY_DONE || stop(answer.status, (const char *)err);
 }
 
 static bool obey(int count, char **words) {
@@ -348,7 +351,6 @@ static int ended(int count, char **words) {
     bool done = obey(count, words);
     /* answers before a fault are written before it is told, unless that is refused */
     if (!is_broken && !flush()) done = false;
-    free(command.room);
     if (done) return NISSY_DONE;
     (void)write_all(2, (const uint8_t *)stopped.text, strlen(stopped.text));
     return stopped.status;

@@ -9,7 +9,7 @@ cd "$(dirname "$0")/.." || exit 2
 . tests/shared
 if missing python3; then skips_all "there is no python3 here, so the pages are not held against the repository"; fi
 add python3 tests/documents/check.py
-typed tests/runs.py tests/called.py tests/documents/*.py
+typed tests/runs.py tests/called.py tests/long_list.py tests/documents/*.py
 typed examples/*.py
 typed tests/model/*.py tests/npm/*.py
 # shellcheck disable=SC2046 # no name of a tool has a blank

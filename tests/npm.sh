@@ -115,8 +115,9 @@ head -c 50000 "$room/kept.wasm" > "$package/nissy.wasm"
 answers 'a package whose module was cut' 0 '1\n' '' without_module
 mv "$room/kept.wasm" "$package/nissy.wasm"
 
-if missing python3; then skips "there is no python3 here, so nothing is compared with the model"; else
+if missing python3; then skips "there is no python3 here, so nothing is compared with the model or the program"; else
     add python3 tests/npm/drawn.py "$nissy" 1
+    add python3 tests/long_list.py "$program" "$nissy"
 fi
 
 holds "npm takes the package away" in_folder npm uninstall nissy

@@ -69,6 +69,7 @@ done
 
 # the program as the proved one is tried, and the same drawn runs by each compiler; what is slow by itself, or by an emulator, makes fewer
 add tests/program.sh "$room/gcc"
+add python3 tests/long_list.py "$program" "$room/gcc"
 add python3 tests/model/hostile.py "$room/gcc" 1 0.02 devices,growing,memory,gone,waiting,words,files
 others=() slow=()
 ran_by() { # LIST NAME [RUNNER]: adds the program of a compiler that was here, with what runs it

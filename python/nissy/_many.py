@@ -171,19 +171,37 @@ def _count_of(lines: Iterable[Text]) -> Optional[int]:
     return len(lines) if type(lines) in (list, tuple) else None  # type: ignore[arg-type]
 
 
+def _copied(line: Text) -> Text:
+    """Returns a line as it is now. What is no line is refused later, with its number."""
+    if isinstance(line, str):
+        return line
+    try:
+        return bytes_of(line, "the line")
+    except TypeError:
+        return line
+
+
+def _lasting(lines: Iterable[Text], each: Iterator[Text]) -> Iterator[Text]:
+    """Returns lines one by one, each as it is when it comes: an iterator may fill the same buffer anew for the next
+    one."""
+    if _count_of(lines) is not None:
+        return each
+    return (line if type(line) is str else _copied(line) for line in each)
+
+
 def in_pieces(lines: Iterable[Text], asking: Asking[Value], threads: int,
               progress: Optional[Progress]) -> Iterator[Value]:
     """Returns an iterator of the answers to lines, which are taken in pieces. The arguments are checked at once."""
     each = each_of(lines, "the lines")
     if number_of(threads, "threads", _MOST_THREADS, 1) == 1:
-        return _in_turn(_Taking(each, _SHORT), asking, _Telling(lines, progress))
+        return _in_turn(_Taking(_lasting(lines, each), _SHORT), asking, _Telling(lines, progress))
     return _by_threads(lines, each, asking, threads, progress)
 
 
 def _by_threads(lines: Iterable[Text], each: Iterator[Text], asking: Asking[Value], threads: int,
                 progress: Optional[Progress]) -> Iterator[Value]:
     """Returns an iterator of the answers to lines, which are given both as a whole and one by one."""
-    taking = _Taking(each, _SHORT_OF_THREADS, _count_of(lines) or 0, threads)
+    taking = _Taking(_lasting(lines, each), _SHORT_OF_THREADS, _count_of(lines) or 0, threads)
     return _side_by_side(taking, asking, _Telling(lines, progress), threads)
 
 

@@ -8,7 +8,9 @@ from __future__ import annotations
 import http.client
 import json
 import os
+import random
 import signal
+import socket
 import subprocess
 import sys
 import threading
@@ -52,6 +54,28 @@ def requests_are_answered(tally: Tally) -> None:
     for more in ({"slack": "21"}, {"slack": "-1"}, {"slack": "x"}, {"step": "eofx"}, {"step": ""}, {"step": "\0"}):
         status, told = serve.answer("/search?" + urlencode({"step": "eofb", "line": "F", **more}))
         tally.holds(f"{more} is refused", status == 400 and set(told) == {"error"})
+
+
+def any_address_is_answered(tally: Tally) -> None:
+    """Addresses that are none, and drawn ones, each of which has an answer of some kilobytes at most."""
+    draw, pieces = random.Random(72), ["http://", "[", "]", "//", "/check", "/search", "?", "&", "=", "scramble", "solution", "step", "line",
+                                       "eofb", "slack", "%", "%5B", "%ff", "#", ":", "@", "R", "(", ")", "\u00e9", "\u2100", "9" * 5000, ";", "\t"]
+    drawn = ["".join(draw.choices(pieces, k=draw.randrange(1, 12))) for _ in range(5000)]
+    for address in ("http://[", "//[", "http://\u2100/", "/check?scramble=R&solution=%5B", "*", "", *drawn):
+        status, told = serve.answer(address)
+        tally.holds(f"{address} has an answer", status in (200, 400, 404) and len(json.dumps(told)) < 30_000)
+    tally.equal("what is no address", serve.answer("http://[")[0], 400)
+    told = serve.answer("/check?" + urlencode({"scramble": "R", "solution": "()" * 16_000}))[1]
+    tally.equal("the first of many places", told["foreign"], [{"text": "()"[at % 2], "character": at + 1} for at in range(20)])
+
+
+def by_hand(tally: Tally, port: int) -> None:
+    """The server answers a request whose address is none."""
+    with socket.create_connection(("127.0.0.1", port), SECONDS) as client:
+        client.sendall(b"GET http://[ HTTP/1.1\r\nConnection: close\r\n\r\n")
+        with client.makefile("rb") as answer:
+            said = answer.read()
+    tally.holds(f"an address that is none: {said!r}", said.startswith(b"HTTP/1.1 400 ") and said.endswith(b"}"))
 
 
 def asked(port: int, path: str, wanted: Dict[str, str]) -> Tuple[int, Dict[str, object]]:
@@ -110,10 +134,12 @@ def main() -> None:
     """Asks the functions, and then a server of its own."""
     tally = Tally()
     requests_are_answered(tally)
+    any_address_is_answered(tally)
     environment = {**os.environ, "PYTHONPATH": str(TOP / "python")}
     with subprocess.Popen([sys.executable, str(TOP / "examples/serve.py"), "0"], env=environment, stdout=subprocess.PIPE, text=True) as server:
         assert server.stdout is not None
         port = int(server.stdout.readline())
+        by_hand(tally, port)
         searches_are_cut(tally, port)
         ends_amid_searches(tally, server, port)
     tally.end()

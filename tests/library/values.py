@@ -3,8 +3,9 @@
 
     tests/library/values.py
 
-The library is that of NISSY_LIBRARY. Forms of values, copies, rooms and threads are tried by module.py, text as solvers write it by written.py,
-drawn lines and the rows of `best` by tests/hosts. The last line is `N passed, M failed`, and the status is 1 where M isn't 0.
+The library is that of NISSY_LIBRARY. Forms of values, copies and rooms are tried by module.py, iterators and threads
+by many.py, text as solvers write it by written.py, drawn lines and the rows of `best` by tests/hosts. The last line is
+`N passed, M failed`, and the status is 1 where M isn't 0.
 """
 import array
 import ctypes

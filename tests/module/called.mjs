@@ -91,6 +91,10 @@ export async function tryEach(nissy) {
     if (first.length === 100) break;
   }
   same("the first of millions", first, [...(await nissy.solve("eo", "R U F2 L D R B", { slack: 14, most: 100 }))]);
+  const left = nissy.solutions("eofb", "F");
+  await left.next();
+  same("what its caller throws into it", await thrown(() => left.throw(new RangeError("enough"))), ["RangeError", "enough"]);
+  same("nothing comes then", (await left.next()).done, true);
   same("a line at fault", await thrown(() => gone("eofb", "R q")), ["NissyFault", "column 3: not a move"]);
   same("a step that can't begin", await thrown(() => gone("dr-eorl", "R")), ["NissyFault", "eorl does not hold"]);
   same("a step of another type", await thrown(() => nissy.solutions(3, "F")), ["TypeError", "the step is no string"]);
@@ -98,6 +102,10 @@ export async function tryEach(nissy) {
 }
 
 const BEYOND = " ".repeat(16_777_217);
+
+/** What says that it is an array of so many lines. */
+const posing = (length) => new Proxy([], { get: (_, name) => (name === "length" ? length : "F") });
+const NO_LENGTH = "the length of the array is no whole number from 0 to 67108864";
 
 // calls of many lines, and what they throw: of the call itself, which is judged though there is no line, and of a line, with its number
 const MANY = [
@@ -113,6 +121,11 @@ const MANY = [
   [["solveAll", "eofb", ["F", "R q"]], "NissyFault", "line 2, column 3: not a move"],
   [["countAll", "dr-eofb", ["", "R", "F"]], "NissyFault", "line 3: eofb does not hold"],
   [["run", [, "R"]], "TypeError", "word 1 is neither a string nor a Uint8Array"],
+  ...[2 ** 53, 67_108_865, Infinity, -1, Number.NaN].flatMap((length) => [
+    [["countAll", "eofb", posing(length)], "RangeError", NO_LENGTH],
+    [["factsAll", posing(length)], "RangeError", NO_LENGTH],
+    [["run", posing(length)], "RangeError", NO_LENGTH],
+  ]),
 ];
 
 /** A line of too many bytes among others, of which each has its answer, by `Nissy` or by what has the same calls as promises. */

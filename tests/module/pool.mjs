@@ -13,6 +13,7 @@ import { performance } from "node:perf_hooks";
 import { NissyPool, NissyWorker } from "../../web/module/node.js";
 import { Nissy } from "../../web/module/nissy.js";
 import { WorkerPool } from "../../web/module/pool.js";
+import { WorkerCalls } from "../../web/module/worker-calls.js";
 import { tryEach, tryOptions, tryReadOptions, tryRows, tryTooLong, tryWrongValues } from "./called.mjs";
 import { tryAttempts, tryBounds, tryChecks, tryMixed } from "./judged.mjs";
 import { TURNS, drawn, ended, moduleBytes, same, thrown } from "./tally.mjs";
@@ -230,6 +231,33 @@ async function tryDead() {
   same("the next call", next.map(({ text }) => text), ["here", "here"]);
 }
 
+/** Workers that answer at once, in place of threads. */
+const quick = (took) => ({
+  postMessage: (message) => "module" in message || setImmediate(() => took(faulty(message, 1))),
+  terminate: () => {},
+});
+
+/** Node has nothing to say of many workers that share a call, nor of many that have one signal of their caller. */
+async function tryManyWorkers() {
+  const said = [];
+  const hear = ({ message }) => said.push(message);
+  process.on("warning", hear);
+  const pool = new WorkerPool(40, moduleBytes, quick);
+  const lines = Array.from({ length: LINES }, () => "R");
+  same("forty workers share a call", (await pool.factsAll(lines, { faults: "value" })).length, LINES);
+  const stop = new AbortController();
+  const { signal } = stop;
+  const calls = Array.from({ length: 40 }, () => new WorkerCalls(moduleBytes, quick));
+  const given = calls.map((each) => thrown(() => each.factsAll(lines, { signal })));
+  same("one listens for forty of them", getEventListeners(signal, "abort").length, 1);
+  stop.abort(new RangeError("no more"));
+  same("each hears it", await Promise.all(given), Array.from({ length: 40 }, () => ["RangeError", "no more"]));
+  same("nobody listens then", getEventListeners(signal, "abort").length, 0);
+  await new Promise((done) => setImmediate(done));
+  process.off("warning", hear);
+  same("node warns of nothing", said, []);
+}
+
 /** A worker has a second piece of the same call while it works on a quick one, and none behind a slow one. */
 async function tryAhead() {
   const workers = [];
@@ -316,6 +344,7 @@ await trySingle(pool);
 await tryIdlest();
 await tryPromises(pool);
 await tryDead();
+await tryManyWorkers();
 await tryAhead();
 const alone = await NissyPool.start(1, moduleBytes);
 await tryFaults(alone);

@@ -6,6 +6,9 @@ import { Bytes, encoded, kindOf, lengthOf, ofArrays, putBytes, textIn, wide, wit
 /** The most bytes of a line or of an input. */
 export const MOST_INPUT = 16_777_216;
 
+/** The most lines or words of an array: a host ends the process if it fills an array of less than twice as many. */
+const MOST_VALUES = 67_108_864;
+
 /** The greatest number of 64 bits. */
 export const MOST_WIDE = 0xffff_ffff_ffff_ffffn;
 
@@ -31,9 +34,8 @@ export const isBytes = (value) => kindOf(value) === "Uint8Array";
 export function bytesOf(text, what) {
   if (typeof text === "string") return encoded(text);
   if (!isBytes(text)) throw new TypeError(`${what} is neither a string nor a Uint8Array`);
-  const bytes = new Bytes(lengthOf(text));
-  putBytes(bytes, text);
-  return bytes;
+  // at once, since another thread may make the caller's array longer meanwhile
+  return new Bytes(text);
 }
 
 /**
@@ -83,7 +85,7 @@ export function characterAt(line, column) {
 export function eachOf(values, make) {
   // what has no prototype keeps what it is given: a script may give all arrays a place of its own
   const made = withPrototype(/** @type {Made[]} */ ([]), null);
-  const { length } = values;
+  const length = wholeNumber(values.length, "the length of the array", MOST_VALUES);
   for (let index = 0; index < length; index += 1) made[index] = make(values[index], index);
   return withPrototype(made, ofArrays);
 }

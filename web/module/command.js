@@ -1,24 +1,29 @@
 // The command `nissy` in node: what the program does with its words, its streams and its status, by the module.
 import { readFileSync } from "node:fs";
 import process from "node:process";
+import { MOST_INPUT } from "./bytes.js";
 import { Engine } from "./engine.js";
 import { NoWebAssembly } from "./faults.js";
 import { InputLines, split } from "./input-lines.js";
+import { SOLUTION } from "./layout.js";
 import { textIn } from "./natives.js";
 import { hasValue, linesIn, STATUS } from "./replies.js";
 import { countRequest, runRequest, solveRequest, stepsRequest } from "./requests.js";
 import { Stop } from "./stop.js";
 import { readSome, writeAll } from "./streams.js";
 
-/** @typedef {import("./replies.js").CountReply} CountReply */
-/** @typedef {import("./replies.js").LineReply} LineReply */
-/** @typedef {import("./replies.js").SolveReply} SolveReply */
 /** @typedef {import("./replies.js").Answer} Answer */
-/** @typedef {Exclude<SolveReply | CountReply, import("./replies.js").NoValue>} Found */
+/** @typedef {import("./replies.js").CountReply} CountReply */
+/** @typedef {import("./replies.js").LineFault} LineFault */
+/** @typedef {import("./replies.js").LineReply} LineReply */
+/** @typedef {import("./replies.js").NoValue} NoValue */
+/** @typedef {import("./replies.js").SeenCount} SeenCount */
+/** @typedef {import("./replies.js").StartFault} StartFault */
+/** @typedef {SeenCount & {out: Uint8Array}} Piece some solutions of a list */
 
 /**
- * A search that is asked for each line.
- * @typedef {{command: "solve" | "count" | "near", step: string, limit: number, slack: number}} Search
+ * A search, and the words of the line that it is asked for: if there are none, it is asked for each line of the input.
+ * @typedef {{command: "solve" | "count" | "near", step: string, limit: number, slack: number, words: string[]}} Search
  */
 
 const INPUT = 0;
@@ -31,11 +36,17 @@ const NOTHING = new Uint8Array(0);
 const SEARCHES = { solve: 1, count: 1, near: 2 };
 const MOST_TURNS = 20;
 
-/** The rooms for the output of a run, one after the other: what an earlier one had no room for is found again. */
-const ROOMS = [262_144, 4 * 1_048_576, 64 * 1_048_576, 512 * 1_048_576];
+/** The room for the output of a run: none without a search is longer than 10,000 scrambles of 256 turns. */
+const RUN_ROOM = 8 * 1_048_576;
 
-/** So many solutions of a line are asked of the tables that stay. If there are more, a run writes them as they come. */
-const MOST_AT_ONCE = 60_000;
+/** So many solutions are asked for at once. */
+const MOST_OF_PIECE = 4_000;
+
+const LINE_FEED = "\n".charCodeAt(0);
+const BRACKET = "(".charCodeAt(0);
+
+/** A piece of a list, and a line feed. */
+const pieceRoom = new Uint8Array(MOST_OF_PIECE * SOLUTION + 1);
 
 const encoder = new TextEncoder();
 
@@ -48,6 +59,9 @@ function write(bytes) {
   }
 }
 
+/** @param {string} text */
+const writeText = (text) => write(encoder.encode(text));
+
 /** @param {Uint8Array} buffer */
 function read(buffer) {
   try {
@@ -58,97 +72,135 @@ function read(buffer) {
 }
 
 /**
- * Makes a run, and writes its output.
+ * Makes a run without a search, and writes its output.
  * @param {Engine} engine
- * @param {(string | Uint8Array)[]} words
+ * @param {string[]} words
  * @param {Uint8Array} input
  * @param {number} [first] the number of the input's first line
  * @returns {number} how many bytes it wrote
  */
 function run(engine, words, input, first = 1) {
-  let written = 0;
-  for (const room of ROOMS) {
-    const { status, out, err, full } = /** @type {Answer} */ (engine.answer(runRequest(words, input, room)));
-    write(out.subarray(written));
-    written = out.length;
-    if (full) continue;
-    if (status !== STATUS.done) throw new Stop(status, textIn(err)).after(first - 1);
-    return written;
-  }
-  throw Stop.outOfMemory();
+  const { status, out, err } = /** @type {Answer} */ (engine.answer(runRequest(words, input, RUN_ROOM)));
+  write(out);
+  if (status !== STATUS.done) throw new Stop(status, textIn(err)).after(first - 1);
+  return out.length;
 }
 
 /**
- * @param {Search} search
- * @param {Uint8Array} line
+ * What was found of a line, unless it is at fault.
+ * @template {SeenCount} Found
+ * @param {Found | NoValue} reply
+ * @param {number} number the line's
+ * @returns {Found}
  */
-function requestOf({ command, step, limit, slack }, line) {
-  if (command === "count") return countRequest(step, line, { limit });
-  return solveRequest(step, line, { limit, slack, most: MOST_AT_ONCE });
+function found(reply, number) {
+  if (reply.status === STATUS.fault) throw Stop.ofLine(number, /** @type {LineFault | StartFault} */ (reply));
+  if (!hasValue(reply.status)) throw Stop.outOfMemory();
+  return /** @type {Found} */ (reply);
 }
 
 /**
- * The answer to a line as the program writes it, or nothing if there are more solutions than were asked for.
- * @param {Search} search
- * @param {Found} reply
- * @returns {string | undefined}
- */
-function answerOf({ limit }, reply) {
-  if (!("out" in reply)) {
-    const { least, solutions, nodes } = reply;
-    return `length ${solutions === 0 ? "none" : least} solutions ${solutions} nodes ${nodes}\n`;
-  }
-  if (reply.more) return undefined;
-  return reply.out === "" ? `no solution within ${limit} moves\n\n` : `${reply.out}\n`;
-}
-
-/**
- * Answers a line of a search by the tables that stay.
+ * Writes how many solutions a line has.
  * @param {Engine} engine
- * @param {string[]} words
  * @param {Search} search
  * @param {Uint8Array} line
  * @param {number} number
  */
-function answerSearch(engine, words, search, line, number) {
-  const reply = /** @type {SolveReply | CountReply} */ (engine.answer(requestOf(search, line)));
-  if (reply.status === STATUS.fault) throw Stop.ofLine(number, reply);
-  if (!hasValue(reply.status)) throw Stop.outOfMemory();
-  const answer = answerOf(search, /** @type {Found} */ (reply));
-  if (answer === undefined) run(engine, [...words, line], NOTHING);
-  else write(encoder.encode(answer));
+function writeCount(engine, { step, limit }, line, number) {
+  const reply = /** @type {CountReply} */ (engine.answer(countRequest(step, line, { limit })));
+  const { least, solutions, nodes } = found(reply, number);
+  writeText(`length ${solutions === 0 ? "none" : least} solutions ${solutions} nodes ${nodes}\n`);
 }
 
 /**
- * The search over lines of the input that these words ask for, if they do.
+ * Writes a piece of a list, and an empty line behind the last one.
+ * @param {Piece} piece
+ */
+function writePiece({ out, more }) {
+  pieceRoom.set(out);
+  pieceRoom[out.length] = LINE_FEED;
+  write(pieceRoom.subarray(0, more ? out.length : out.length + 1));
+}
+
+/**
+ * The moves of the last of some solutions, of which each has a line such as `F B' (2)`, or `(0)` if no move is needed.
+ * @param {Uint8Array} out
+ */
+const lastMoves = (out) =>
+  textIn(out.subarray(out.lastIndexOf(LINE_FEED, out.length - 2) + 1, out.lastIndexOf(BRACKET))).trimEnd();
+
+/**
+ * Writes the solutions of a line in pieces, each of which goes on after the last solution of the one before.
+ * @param {Engine} engine
+ * @param {Search} search
+ * @param {Uint8Array} line
+ * @param {number} number
+ */
+function writeSolutions(engine, { step, limit, slack }, line, number) {
+  const request = solveRequest(step, line, { limit, slack, most: MOST_OF_PIECE });
+  let piece = found(engine.solutionBytes(request), number);
+  if (piece.solutions === 0) {
+    writeText(`no solution within ${limit} moves\n\n`);
+    return;
+  }
+  writePiece(piece);
+  while (piece.more) {
+    piece = found(engine.solutionBytes({ ...request, after: lastMoves(piece.out) }), number);
+    writePiece(piece);
+  }
+}
+
+/**
+ * The search that these words ask for, if they ask for one.
  * @param {Engine} engine
  * @param {string[]} words
  * @returns {Search | undefined}
  */
-function searchOf(engine, [command, step, ...numbers]) {
+function searchOf(engine, [command, step, ...rest]) {
   if (command !== "solve" && command !== "count" && command !== "near") return undefined;
   const steps = linesIn(/** @type {LineReply} */ (engine.answer(stepsRequest())));
+  const numbers = rest.slice(0, SEARCHES[command]);
   const areNumbers = numbers.every((word) => /^[0-9]+$/.test(word) && Number(word) <= MOST_TURNS);
   if (numbers.length !== SEARCHES[command] || !areNumbers || !steps.includes(step)) return undefined;
   const [limit, slack = 0] = numbers.map(Number);
-  return { command, step, limit, slack };
+  return { command, step, limit, slack, words: rest.slice(numbers.length) };
 }
 
 /**
- * Answers the lines of the input by the tables that stay. They are built before anything is read.
+ * Answers lines of a search by the tables that stay.
  * @param {Engine} engine
+ * @param {Search} search
+ * @param {Uint8Array} lines
+ * @param {number} first
+ */
+function searchLines(engine, search, lines, first) {
+  const writeFound = search.command === "count" ? writeCount : writeSolutions;
+  let number = first;
+  for (const line of split(lines)) {
+    writeFound(engine, search, line, number);
+    number += 1;
+  }
+}
+
+/**
+ * The words of a line as an input that has it.
  * @param {string[]} words
+ */
+function inputOf(words) {
+  const input = encoder.encode(`${words.join(" ")}\n`);
+  if (input.length > MOST_INPUT) throw Stop.tooLong();
+  return input;
+}
+
+/**
+ * Makes a search. Its tables are built before anything is read.
+ * @param {Engine} engine
  * @param {Search} search
  */
-function searchLines(engine, words, search) {
+function makeSearch(engine, search) {
   engine.answer(countRequest(search.step, "", { limit: 0 }));
-  new InputLines(read).answer((lines, first) => {
-    let number = first;
-    for (const line of split(lines)) {
-      answerSearch(engine, words, search, line, number);
-      number += 1;
-    }
-  });
+  if (search.words.length > 0) searchLines(engine, search, inputOf(search.words), 1);
+  else new InputLines(read).answer((lines, first) => searchLines(engine, search, lines, first));
 }
 
 /**
@@ -159,7 +211,7 @@ function searchLines(engine, words, search) {
  */
 function obey(engine, words) {
   const search = searchOf(engine, words);
-  if (search !== undefined) searchLines(engine, words, search);
+  if (search !== undefined) makeSearch(engine, search);
   else if (run(engine, words, NOTHING) === 0 && words[0] !== "scramble") {
     new InputLines(read).answer((lines, first) => run(engine, words, lines, first));
   }

@@ -1,7 +1,7 @@
 // The engine: requests are answered by an instance of the module, and by another one after a call that broke off.
 import { EngineMissing } from "./faults.js";
 import { Instance } from "./instance.js";
-import { checked, rewritten, written } from "./line-calls.js";
+import { checked, rewritten, solvedBytes, written } from "./line-calls.js";
 import { answerAll, answerLine } from "./many-lines.js";
 import { runIn } from "./runs.js";
 import { compiled } from "./source.js";
@@ -75,6 +75,17 @@ export class Engine {
   answer(request) {
     if (this.#instance.isBroken) this.#startAgain();
     return request.call === "all" ? answerAll(this.#instance, request) : answerOne(this.#instance, request);
+  }
+
+  /**
+   * A few solutions as bytes, which stand in the engine's memory until its next call: so a list that is gone through in
+   * pieces leaves nothing to be collected.
+   * @param {import("./requests.js").SolveRequest} request
+   * @returns {import("./replies.js").SolveBytesReply}
+   */
+  solutionBytes(request) {
+    if (this.#instance.isBroken) this.#startAgain();
+    return solvedBytes(this.#instance, request);
   }
 
   /** Takes another instance of the module in place of one that broke off. */

@@ -10,12 +10,15 @@ import { START, STATUS } from "./replies.js";
 /** @typedef {import("./bytes.js").Text} Text */
 /** @typedef {import("./instance.js").Exports} Exports */
 /** @typedef {import("./instance.js").Instance} Instance */
+/** @typedef {import("./memory.js").InstanceMemory} InstanceMemory */
 /** @typedef {import("./read-answers.js").Head} Head */
 /** @typedef {import("./replies.js").CheckReply} CheckReply */
 /** @typedef {import("./replies.js").CountReply} CountReply */
 /** @typedef {import("./replies.js").FactsReply} FactsReply */
 /** @typedef {import("./replies.js").LineReply} LineReply */
 /** @typedef {import("./replies.js").NoValue} NoValue */
+/** @typedef {import("./replies.js").SeenCount} SeenCount */
+/** @typedef {import("./replies.js").SolveBytesReply} SolveBytesReply */
 /** @typedef {import("./replies.js").SolveReply} SolveReply */
 /** @typedef {import("./requests.js").CheckRequest} CheckRequest */
 /** @typedef {import("./requests.js").CountRequest} CountRequest */
@@ -96,12 +99,14 @@ export function written(instance, write) {
 }
 
 /**
+ * @template Out
  * @param {Instance} instance
  * @param {SolveRequest} request
  * @param {number} room
- * @returns {SolveReply}
+ * @param {(memory: InstanceMemory, at: number, length: number) => Out} read what was written
+ * @returns {SeenCount & {out: Out} | NoValue}
  */
-function solvedIn(instance, { step, line, limit, slack, most, nodes, after }, room) {
+function solvedIn(instance, { step, line, limit, slack, most, nodes, after }, room, read) {
   const tables = instance.tablesOf(step);
   const { memory, answer, free } = instance;
   const behind = aligned(free + roomFor(line));
@@ -122,7 +127,7 @@ function solvedIn(instance, { step, line, limit, slack, most, nodes, after }, ro
       )));
   const head = headAt(memory, answer);
   if (head.status !== STATUS.done && head.status !== STATUS.cut) return refusal(instance, head, line, step);
-  return { ...countAt(memory, answer), out: memory.text(out, instance.answered(SEARCH_ANSWER.length)) };
+  return { ...countAt(memory, answer), out: read(memory, out, instance.answered(SEARCH_ANSWER.length)) };
 }
 
 /**
@@ -133,12 +138,23 @@ function solvedIn(instance, { step, line, limit, slack, most, nodes, after }, ro
 export function solved(instance, request) {
   const wanted = request.most * SOLUTION;
   const isLarger = (/** @type {number} */ next) => next < SOLUTION_ROOMS.length && SOLUTION_ROOMS[next - 1] < wanted;
-  let reply = solvedIn(instance, request, SOLUTION_ROOMS[0]);
+  const inRoom = (/** @type {number} */ room) =>
+    solvedIn(instance, request, room, (memory, at, length) => memory.text(at, length));
+  let reply = inRoom(SOLUTION_ROOMS[0]);
   for (let next = 1; reply.status === STATUS.room && isLarger(next); next += 1) {
-    reply = solvedIn(instance, request, SOLUTION_ROOMS[next]);
+    reply = inRoom(SOLUTION_ROOMS[next]);
   }
   return reply;
 }
+
+/**
+ * The same for a few solutions, as bytes that stand in the module's memory until its next call.
+ * @param {Instance} instance
+ * @param {SolveRequest} request
+ * @returns {SolveBytesReply}
+ */
+export const solvedBytes = (instance, request) =>
+  solvedIn(instance, request, request.most * SOLUTION, (memory, at, length) => memory.bytes(at, length));
 
 /**
  * @param {Instance} instance

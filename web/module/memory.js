@@ -130,6 +130,15 @@ export class InstanceMemory {
   /**
    * @param {number} at
    * @param {number} length
+   * @returns {Uint8Array} these bytes as they stand here, until something else is written in their place
+   */
+  bytes(at, length) {
+    return new Bytes(this.#buffer, at, length);
+  }
+
+  /**
+   * @param {number} at
+   * @param {number} length
    * @returns {Uint8Array} these bytes, of which nobody else has any
    */
   copy(at, length) {

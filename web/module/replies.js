@@ -60,6 +60,7 @@ import { formPlacesOf, tokensOf } from "./tokens.js";
  */
 /** @typedef {SeenCount | NoValue} CountReply */
 /** @typedef {SeenCount & {out: string} | NoValue} SolveReply */
+/** @typedef {SeenCount & {out: Uint8Array} | NoValue} SolveBytesReply */
 /** @typedef {SeenFacts | NoValue} FactsReply */
 /**
  * @typedef {SeenCheck | NoValue & {line: number}} CheckReply of which `line` is the line at fault: 1, the scramble, or

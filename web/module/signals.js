@@ -1,5 +1,5 @@
-// The signals by which callers give calls up, and what they are told of the progress. However many calls have the same
-// signal, a worker listens to it once.
+// The signals by which callers give calls up, and what they are told of the progress. However many calls and workers
+// have the same signal, one listener hears it for all of them: node takes more than ten for a leak.
 import { Stopped } from "./faults.js";
 import { optionOf } from "./requests.js";
 
@@ -75,12 +75,19 @@ export function signalOf(options = {}) {
 export const reasonOf = (signal) => signal.reason ?? new Stopped();
 
 /**
+ * What hears a signal: it has each of those who have calls of the signal give them up.
+ * @typedef {{callsOf: Map<Signals<any>, Set<any>>, heard: () => void}} Listened
+ */
+
+/** @type {WeakMap<AbortSignal, Listened>} */
+const heardSignals = new WeakMap();
+
+/**
  * The calls that each signal gives up.
  * @template Call
  */
 export class Signals {
   /** @type {(calls: Set<Call>, signal: AbortSignal) => void} */ #giveUp;
-  /** @type {Map<AbortSignal, {calls: Set<Call>, heard: () => void}>} */ #listened = new Map();
 
   /** @param {(calls: Set<Call>, signal: AbortSignal) => void} giveUp gives the calls of a signal up */
   constructor(giveUp) {
@@ -93,16 +100,10 @@ export class Signals {
    * @param {Call} call
    */
   add(signal, call) {
-    const listened = this.#listened.get(signal);
-    if (listened !== undefined) {
-      listened.calls.add(call);
-      return;
-    }
-    const calls = new Set([call]);
-    const heard = () => this.#giveUp(new Set(calls), signal);
-    // one that throws here isn't kept, so that the next call listens to it
-    signal.addEventListener("abort", heard);
-    this.#listened.set(signal, { calls, heard });
+    const { callsOf } = heardSignals.get(signal) ?? Signals.#listen(signal);
+    const calls = callsOf.get(this);
+    if (calls === undefined) callsOf.set(this, new Set([call]));
+    else calls.add(call);
   }
 
   /**
@@ -111,13 +112,33 @@ export class Signals {
    * @param {Call} call
    */
   remove(signal, call) {
-    const listened = this.#listened.get(signal);
-    if (listened === undefined || !listened.calls.delete(call) || listened.calls.size > 0) return;
-    this.#listened.delete(signal);
+    const listened = heardSignals.get(signal);
+    const calls = listened?.callsOf.get(this);
+    if (listened === undefined || !calls?.delete(call) || calls.size > 0) return;
+    listened.callsOf.delete(this);
+    if (listened.callsOf.size > 0) return;
+    heardSignals.delete(signal);
     try {
       signal.removeEventListener("abort", listened.heard);
     } catch {
       // it is heard no more, since none of its calls is left
     }
+  }
+
+  /**
+   * @param {AbortSignal} signal
+   * @returns {Listened}
+   */
+  static #listen(signal) {
+    /** @type {Listened["callsOf"]} */
+    const callsOf = new Map();
+    const heard = () => {
+      for (const [signals, calls] of [...callsOf]) signals.#giveUp(new Set(calls), signal);
+    };
+    // one that throws here isn't kept, so that the next call listens to it
+    signal.addEventListener("abort", heard);
+    const listened = { callsOf, heard };
+    heardSignals.set(signal, listened);
+    return listened;
   }
 }

@@ -54,7 +54,9 @@ class ListPieces {
  * @returns {Generator<Solution, void, undefined>}
  */
 export function* solutionsBy(request, ask) {
-  for (const pieces = new ListPieces(request); !pieces.isOver; ) yield* pieces.take(ask(pieces.request));
+  for (const pieces = new ListPieces(request); !pieces.isOver; ) {
+    for (const solution of pieces.take(ask(pieces.request))) yield solution;
+  }
 }
 
 /**
@@ -64,5 +66,7 @@ export function* solutionsBy(request, ask) {
  * @returns {AsyncGenerator<Solution, void, undefined>}
  */
 export async function* solutionsLaterBy(request, ask) {
-  for (const pieces = new ListPieces(request); !pieces.isOver; ) yield* pieces.take(await ask(pieces.request));
+  for (const pieces = new ListPieces(request); !pieces.isOver; ) {
+    for (const solution of pieces.take(await ask(pieces.request))) yield solution;
+  }
 }

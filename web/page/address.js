@@ -28,10 +28,13 @@ const SPLIT = /^split([12])$/;
 /** @returns {State} */
 export const emptyState = () => ({ scramble: "", parts: [], side: "normal", list: null, kept: [] });
 
+/** A text in which signs stand for lone halves of pairs, which no address has. */
+const wellFormed = (text) => text.replace(/[\uD800-\uDFFF]/gu, "\uFFFD");
+
 /** Moves as an address has them: `_` for a blank and `-` for an apostrophe, since some programs cut it there. */
 function escaped(text) {
   const plain = (sign) => `%${sign.charCodeAt(0).toString(16).toUpperCase()}`;
-  return encodeURIComponent(text.replace(/[\uD800-\uDFFF]/gu, "\uFFFD"))
+  return encodeURIComponent(wellFormed(text))
     .replace(/[-_()*!~.]/g, plain)
     .replace(/%20/g, "_")
     .replace(/'/g, "-");
@@ -40,7 +43,7 @@ function escaped(text) {
 /** @param {string} text @returns a text as the one line that the engine reads of it */
 const oneLine = (text) => text.replace(/[\r\n]/g, " ");
 
-const spelled = (text) => decodeURIComponent(text.replace(/_/g, "%20").replace(/-/g, "'"));
+const spelled = (text) => decodeURIComponent(wellFormed(text).replace(/_/g, "%20").replace(/-/g, "'"));
 
 /** @param {Part[]} parts */
 const writtenParts = (parts) => parts.map(({ side, moves }) => `${side}.${escaped(moves)}`).join("~");
