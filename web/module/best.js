@@ -5,8 +5,8 @@ import { BestRows } from "./best-rows.js";
 import { continuations } from "./best-search.js";
 import { NissyFault, SearchCut } from "./faults.js";
 import { movesIn } from "./merging.js";
-import { textIn } from "./natives.js";
 import { SIDES, bracketed, joined, movesOfSides } from "./sides.js";
+import { textIn } from "./utf8.js";
 import { afterPart, leastOf, totalWith } from "./ways.js";
 
 /** @typedef {import("./best-rows.js").Row} Row */

@@ -1,5 +1,5 @@
 // What callers hand over, checked: nothing of another type reaches the module, and nobody can change it later.
-import { Bytes, encoded, kindOf, lengthOf, ofArrays, putBytes, textIn, wide, withPrototype } from "./natives.js";
+import { encoded, textIn } from "./utf8.js";
 
 /** @typedef {string | Uint8Array} Text */
 
@@ -18,11 +18,14 @@ const END = 0;
 /** A string of so many units isn't worth an array of its own. */
 const SHORT = 4_096;
 
+/** The name of a typed array's kind, which no other object has, and which is the same in each realm. */
+const KIND = Object.getOwnPropertyDescriptor(Object.getPrototypeOf(Uint8Array.prototype), Symbol.toStringTag)?.get;
+
 /**
  * @param {unknown} value
  * @returns {value is Uint8Array}
  */
-export const isBytes = (value) => kindOf(value) === "Uint8Array";
+export const isBytes = (value) => KIND?.call(value) === "Uint8Array";
 
 /**
  * The bytes of a text: those of UTF-8 for a string, and of an array of bytes a copy. Anything else is refused: an
@@ -35,7 +38,7 @@ export function bytesOf(text, what) {
   if (typeof text === "string") return encoded(text);
   if (!isBytes(text)) throw new TypeError(`${what} is neither a string nor a Uint8Array`);
   // at once, since another thread may make the caller's array longer meanwhile
-  return new Bytes(text);
+  return new Uint8Array(text);
 }
 
 /**
@@ -50,7 +53,7 @@ export function readableLine(line, what) {
   if (isString && line.length <= SHORT) return line;
   // a unit of a string takes a byte at least
   const bytes = isString && line.length > MOST_INPUT ? null : bytesOf(line, what);
-  return bytes === null || lengthOf(bytes) > MOST_INPUT ? null : bytes;
+  return bytes === null || bytes.length > MOST_INPUT ? null : bytes;
 }
 
 /**
@@ -76,18 +79,15 @@ export function characterAt(line, column) {
 }
 
 /**
- * What is made of each value of an array, by their places: how arrays are gone through may be some script's own.
+ * What is made of each value of an array, by their places.
  * @template Value, Made
  * @param {readonly Value[]} values
  * @param {(value: Value, index: number) => Made} make
  * @returns {Made[]}
  */
 export function eachOf(values, make) {
-  // what has no prototype keeps what it is given: a script may give all arrays a place of its own
-  const made = withPrototype(/** @type {Made[]} */ ([]), null);
   const length = wholeNumber(values.length, "the length of the array", MOST_VALUES);
-  for (let index = 0; index < length; index += 1) made[index] = make(values[index], index);
-  return withPrototype(made, ofArrays);
+  return Array.from({ length }, (_, index) => make(values[index], index));
 }
 
 /**
@@ -97,12 +97,12 @@ export function eachOf(values, make) {
 export function joinedWords(words) {
   if (!Array.isArray(words)) throw new TypeError("the words are no array");
   const listed = eachOf(words, (word, index) => bytesOf(word, `word ${index + 1}`));
-  const bytes = new Bytes(listed.reduce((sum, word) => sum + lengthOf(word) + 1, 0));
+  const bytes = new Uint8Array(listed.reduce((sum, word) => sum + word.length + 1, 0));
   let at = 0;
   listed.forEach((word) => {
     if (word.includes(END)) throw new RangeError("a word holds a zero byte");
-    putBytes(bytes, word, at);
-    at += lengthOf(word) + 1;
+    bytes.set(word, at);
+    at += word.length + 1;
   });
   return bytes;
 }
@@ -136,7 +136,7 @@ export function wholeNumber(value, what, most) {
  * @returns {bigint} a whole number of 64 bits
  */
 export function wideNumber(value, what) {
-  if (typeof value === "number") return wide(wholeNumber(value, what, Number.MAX_SAFE_INTEGER));
+  if (typeof value === "number") return BigInt(wholeNumber(value, what, Number.MAX_SAFE_INTEGER));
   if (typeof value !== "bigint") throw new TypeError(`${what} is neither a number nor a bigint`);
   if (value < 0n || value > MOST_WIDE) throw new RangeError(`${what} is no whole number of 64 bits`);
   return value;

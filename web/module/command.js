@@ -1,4 +1,5 @@
 // The command `nissy` in node: what the program does with its words, its streams and its status, by the module.
+import { textIn } from "./utf8.js";
 import { readFileSync } from "node:fs";
 import process from "node:process";
 import { MOST_INPUT } from "./bytes.js";
@@ -6,7 +7,6 @@ import { Engine } from "./engine.js";
 import { NoWebAssembly } from "./faults.js";
 import { InputLines, split } from "./input-lines.js";
 import { SOLUTION } from "./layout.js";
-import { textIn } from "./natives.js";
 import { hasValue, linesIn, STATUS } from "./replies.js";
 import { countRequest, runRequest, solveRequest, stepsRequest } from "./requests.js";
 import { Stop } from "./stop.js";

@@ -1,16 +1,17 @@
 // What is told of lines without a search, as values: where the bad pieces of a cube stand, and whether a solution
 // solves a scramble.
-import { frozen } from "./natives.js";
 import { STEPS } from "./steps.js";
 
 /** The axes of the faces F and B, of R and L, and of U and D, in the module's order. */
-export const AXES = frozen(/** @type {const} */ (["fb", "rl", "ud"]));
+export const AXES = Object.freeze(/** @type {const} */ (["fb", "rl", "ud"]));
 
 /** The places of the edges and of the corners: place i is bit i of the module's masks. */
-export const EDGE_PLACES = frozen(/** @type {const} */ ([
+export const EDGE_PLACES = Object.freeze(/** @type {const} */ ([
   "UR", "UF", "UL", "UB", "DR", "DF", "DL", "DB", "FR", "FL", "BL", "BR",
 ]));
-export const CORNER_PLACES = frozen(/** @type {const} */ (["URF", "UFL", "ULB", "UBR", "DFR", "DLF", "DBL", "DRB"]));
+export const CORNER_PLACES = Object.freeze(/** @type {const} */ ([
+  "URF", "UFL", "ULB", "UBR", "DFR", "DLF", "DBL", "DRB",
+]));
 
 /** What forms of moves there are that the WCA's notation hasn't: form i is bit i of the module's mask. */
 export const FORMS = /** @type {const} */ (["slices", "lower-case", "brackets", "apostrophe", "half-prime"]);
@@ -78,7 +79,7 @@ export const FACTS_NUMBERS = 13;
 function maskReader(names) {
   /** @type {(readonly Name[] | undefined)[]} */
   const known = Array.from({ length: 1 << names.length });
-  return (mask) => (known[mask] ??= frozen(names.filter((_, at) => ((mask >> at) & 1) === 1)));
+  return (mask) => (known[mask] ??= Object.freeze(names.filter((_, at) => ((mask >> at) & 1) === 1)));
 }
 
 const edgesIn = maskReader(EDGE_PLACES);

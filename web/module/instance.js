@@ -2,7 +2,6 @@
 import { bytesOf } from "./bytes.js";
 import { ANSWER, LARGE_ROOM, LONG, ROOM, SMALL_ROOM, TABLES } from "./layout.js";
 import { InstanceMemory, aligned } from "./memory.js";
-import { lengthOf, wide } from "./natives.js";
 import { STATUS } from "./replies.js";
 
 /**
@@ -79,13 +78,13 @@ export class Instance {
     const large = aligned(small + SMALL_ROOM);
     const rooms = aligned(large + LARGE_ROOM);
     const nameAt = aligned(rooms + 2 * ROOM.bytes);
-    memory.reach(nameAt + lengthOf(name));
+    memory.reach(nameAt + name.length);
     memory.putNumber(tables, TABLES, 0);
     memory.putRoom(rooms, small, SMALL_ROOM);
     memory.putRoom(rooms + ROOM.bytes, large, LARGE_ROOM);
     const length = memory.putLine(nameAt, name);
     const status = this.call(({ nissy_build: build }) =>
-      build(wide(rooms), wide(rooms + ROOM.bytes), wide(tables), wide(nameAt), wide(length)));
+      build(BigInt(rooms), BigInt(rooms + ROOM.bytes), BigInt(tables), BigInt(nameAt), BigInt(length)));
     if (status === STATUS.usage) throw new RangeError(`there is no step of the name ${JSON.stringify(step)}`);
     // the module keeps both rooms
     this.free = aligned(large + LARGE_ROOM);

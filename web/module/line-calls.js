@@ -3,7 +3,6 @@
 import { MOST_WIDE, characterAt } from "./bytes.js";
 import { LINE_ANSWER, LINE_ROOM, SEARCH_ANSWER, SOLUTION } from "./layout.js";
 import { aligned, roomFor } from "./memory.js";
-import { wide } from "./natives.js";
 import { checkAt, countAt, factsAt, headAt } from "./read-answers.js";
 import { START, STATUS } from "./replies.js";
 
@@ -32,7 +31,7 @@ const SOLUTION_ROOMS = [65_536, 4 * 1_048_576, 256 * 1_048_576];
  * @param {number} most
  * @returns {bigint} the same for the module
  */
-export const bound = (most) => (most === Infinity ? MOST_WIDE : wide(most));
+export const bound = (most) => (most === Infinity ? MOST_WIDE : BigInt(most));
 
 /**
  * @param {LineReply} reply
@@ -80,7 +79,8 @@ export function rewritten(instance, name, line) {
   const out = aligned(free + roomFor(line));
   memory.reach(out + LINE_ROOM);
   const length = memory.putLine(free, line);
-  instance.call((exports) => exports[name](wide(answer), wide(free), wide(length), wide(out), wide(LINE_ROOM)));
+  instance.call((exports) =>
+    exports[name](BigInt(answer), BigInt(free), BigInt(length), BigInt(out), BigInt(LINE_ROOM)));
   return lineAt(instance, out, line);
 }
 
@@ -94,7 +94,7 @@ export function rewritten(instance, name, line) {
 export function written(instance, write) {
   const { memory, answer, free } = instance;
   memory.reach(free + LINE_ROOM);
-  instance.call((exports) => write(exports, wide(answer), wide(free), wide(LINE_ROOM)));
+  instance.call((exports) => write(exports, BigInt(answer), BigInt(free), BigInt(LINE_ROOM)));
   return lineAt(instance, free);
 }
 
@@ -118,12 +118,12 @@ function solvedIn(instance, { step, line, limit, slack, most, nodes, after }, ro
   instance.call(({ nissy_solve: solve, nissy_solve_after: solveAfter }) =>
     (after === undefined
       ? solve(
-        wide(answer), wide(tables), wide(free), wide(length), limit, slack, bound(most), bound(nodes), wide(out),
-        wide(room),
+        BigInt(answer), BigInt(tables), BigInt(free), BigInt(length), limit, slack, bound(most), bound(nodes),
+        BigInt(out), BigInt(room),
       )
       : solveAfter(
-        wide(answer), wide(tables), wide(free), wide(length), wide(behind), wide(afterLength), limit, slack,
-        bound(most), bound(nodes), wide(out), wide(room),
+        BigInt(answer), BigInt(tables), BigInt(free), BigInt(length), BigInt(behind), BigInt(afterLength), limit, slack,
+        bound(most), bound(nodes), BigInt(out), BigInt(room),
       )));
   const head = headAt(memory, answer);
   if (head.status !== STATUS.done && head.status !== STATUS.cut) return refusal(instance, head, line, step);
@@ -167,7 +167,7 @@ export function counted(instance, { step, line, limit, slack, most, nodes }) {
   memory.reach(free + roomFor(line));
   const length = memory.putLine(free, line);
   instance.call(({ nissy_count: count }) =>
-    count(wide(answer), wide(tables), wide(free), wide(length), limit, slack, bound(most), bound(nodes)));
+    count(BigInt(answer), BigInt(tables), BigInt(free), BigInt(length), limit, slack, bound(most), bound(nodes)));
   const head = headAt(memory, answer);
   const isCounted = head.status === STATUS.done || head.status === STATUS.cut;
   return isCounted ? countAt(memory, answer) : refusal(instance, head, line, step);
@@ -182,7 +182,7 @@ export function seen(instance, { line }) {
   const { memory, answer, free } = instance;
   memory.reach(free + roomFor(line));
   const length = memory.putLine(free, line);
-  instance.call(({ nissy_facts: facts }) => facts(wide(answer), wide(free), wide(length)));
+  instance.call(({ nissy_facts: facts }) => facts(BigInt(answer), BigInt(free), BigInt(length)));
   const head = headAt(memory, answer);
   return head.status === STATUS.done ? factsAt(memory, answer) : refusal(instance, head, line);
 }
@@ -199,7 +199,7 @@ export function checked(instance, { scramble, solution }) {
   const length = memory.putLine(free, scramble);
   const solutionLength = memory.putLine(behind, solution);
   instance.call(({ nissy_check: check }) =>
-    check(wide(answer), wide(free), wide(length), wide(behind), wide(solutionLength)));
+    check(BigInt(answer), BigInt(free), BigInt(length), BigInt(behind), BigInt(solutionLength)));
   const head = headAt(memory, answer);
   const { line, ...told } = checkAt(memory, answer);
   return head.status === STATUS.done ? told : { ...refusal(instance, head, line === 1 ? scramble : solution), line };

@@ -2,7 +2,6 @@
 import { FACTS_ANSWER, HEAD, LINES_ANSWER, SEARCH_ANSWER } from "./layout.js";
 import { bound, counted, refusal, seen, solved } from "./line-calls.js";
 import { aligned, roomFor } from "./memory.js";
-import { wide } from "./natives.js";
 import { countAt, factsAt, headAt } from "./read-answers.js";
 import { STATUS, endsAll, hasValue } from "./replies.js";
 
@@ -96,7 +95,7 @@ const countsBy = (tables, { limit, slack, most, nodes }) => ({
   read: countAt,
   ask: (exports, answer, text, length, answers, room) =>
     exports.nissy_count_lines(
-      answer, wide(tables), text, length, limit, slack, bound(most), bound(nodes), answers, room,
+      answer, BigInt(tables), text, length, limit, slack, bound(most), bound(nodes), answers, room,
     ),
 });
 
@@ -113,7 +112,8 @@ function answerPiece(instance, { bytes, read, ask }, lines, step) {
   const text = aligned(free + lines.length * bytes);
   memory.reach(lines.reduce((end, line) => end + roomFor(line) + roomFor("\n"), text));
   const length = putLines(memory, text, lines);
-  instance.call((exports) => ask(exports, wide(answer), wide(text), wide(length), wide(free), wide(lines.length)));
+  instance.call((exports) =>
+    ask(exports, BigInt(answer), BigInt(text), BigInt(length), BigInt(free), BigInt(lines.length)));
   const isWhole = instance.answered(LINES_ANSWER.lines) === lines.length;
   if (!isWhole) throw new Error("the module took other lines than it was given");
   const told = lines.map((_, at) => {

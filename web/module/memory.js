@@ -1,6 +1,6 @@
 // The memory of an instance of the module: where parts of it stand, and what is written and read there.
 import { LONG, ROOM } from "./layout.js";
-import { Bytes, bufferOf, encodedInto, growMemory, lengthOf, putBytes, textIn } from "./natives.js";
+import { encodedInto, textIn } from "./utf8.js";
 
 /** @typedef {import("./bytes.js").Text} Text */
 
@@ -31,7 +31,7 @@ export const aligned = (place) => place + ((ALIGNMENT - (place % ALIGNMENT)) % A
  * @param {Text} line
  * @returns {number} how many bytes it takes at most
  */
-export const roomFor = (line) => (typeof line === "string" ? UNIT * line.length : lengthOf(line));
+export const roomFor = (line) => (typeof line === "string" ? UNIT : 1) * line.length;
 
 export class InstanceMemory {
   /** @type {WebAssembly.Memory} */ #memory;
@@ -41,8 +41,8 @@ export class InstanceMemory {
   /** @param {WebAssembly.Memory} memory */
   constructor(memory) {
     this.#memory = memory;
-    this.#buffer = bufferOf(memory);
-    this.#bytes = new Bytes(this.#buffer);
+    this.#buffer = memory.buffer;
+    this.#bytes = new Uint8Array(this.#buffer);
   }
 
   /**
@@ -51,13 +51,13 @@ export class InstanceMemory {
    */
   reach(end) {
     if (end > MOST_BYTES) throw new RangeError("no memory has so many bytes");
-    const missing = Math.ceil((end - lengthOf(this.#bytes)) / PAGE);
-    if (missing > 0) growMemory(this.#memory, missing);
-    const buffer = bufferOf(this.#memory);
+    const missing = Math.ceil((end - this.#bytes.length) / PAGE);
+    if (missing > 0) this.#memory.grow(missing);
+    const buffer = this.#memory.buffer;
     if (buffer === this.#buffer) return;
     // one that grew is another one for JavaScript
     this.#buffer = buffer;
-    this.#bytes = new Bytes(buffer);
+    this.#bytes = new Uint8Array(buffer);
   }
 
   /**
@@ -113,9 +113,11 @@ export class InstanceMemory {
    * @returns {number} how many bytes it took
    */
   putLine(at, line) {
-    if (typeof line === "string") return encodedInto(line, new Bytes(this.#buffer, at, roomFor(line))).written ?? 0;
-    putBytes(this.#bytes, line, at);
-    return lengthOf(line);
+    if (typeof line === "string") {
+      return encodedInto(line, new Uint8Array(this.#buffer, at, roomFor(line))).written ?? 0;
+    }
+    this.#bytes.set(line, at);
+    return line.length;
   }
 
   /**
@@ -124,7 +126,7 @@ export class InstanceMemory {
    * @returns {string} the text that these bytes are in UTF-8
    */
   text(at, length) {
-    return textIn(new Bytes(this.#buffer, at, length));
+    return textIn(new Uint8Array(this.#buffer, at, length));
   }
 
   /**
@@ -133,7 +135,7 @@ export class InstanceMemory {
    * @returns {Uint8Array} these bytes as they stand here, until something else is written in their place
    */
   bytes(at, length) {
-    return new Bytes(this.#buffer, at, length);
+    return new Uint8Array(this.#buffer, at, length);
   }
 
   /**
@@ -142,8 +144,8 @@ export class InstanceMemory {
    * @returns {Uint8Array} these bytes, of which nobody else has any
    */
   copy(at, length) {
-    const copied = new Bytes(length);
-    putBytes(copied, new Bytes(this.#buffer, at, length));
+    const copied = new Uint8Array(length);
+    copied.set(new Uint8Array(this.#buffer, at, length));
     return copied;
   }
 }

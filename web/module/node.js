@@ -1,7 +1,6 @@
 // nissy in node: the module is a file, and a worker is a thread.
 import { readFile } from "node:fs/promises";
 import { Worker } from "node:worker_threads";
-import { hasOwn } from "./natives.js";
 import { Nissy } from "./nissy.js";
 import { WorkerPool } from "./pool.js";
 import { WorkerCalls } from "./worker-calls.js";
@@ -22,7 +21,7 @@ function newThread(took, failed) {
   let calls = 0;
   worker.on("message", (data) => {
     // the answer is still to come
-    if (!hasOwn(data, "progress")) calls -= 1;
+    if (!Object.hasOwn(data, "progress")) calls -= 1;
     if (calls === 0) worker.unref();
     took(data);
   });
@@ -30,7 +29,7 @@ function newThread(took, failed) {
   return {
     postMessage: (message) => {
       // what brings the module has no answer
-      if (hasOwn(/** @type {object} */ (message), "id")) calls += 1;
+      if (Object.hasOwn(/** @type {object} */ (message), "id")) calls += 1;
       worker.ref();
       worker.postMessage(message);
     },

@@ -2,8 +2,8 @@
 import { eachOf } from "./bytes.js";
 import { checkOf, factsFrom } from "./facts.js";
 import { NissyFault, SearchCut, cutOfAll } from "./faults.js";
-import { textIn } from "./natives.js";
 import { formPlacesOf, tokensOf } from "./tokens.js";
+import { textIn } from "./utf8.js";
 
 /**
  * What a run returns.

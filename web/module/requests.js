@@ -3,7 +3,6 @@ import { ORIENTATIONS } from "./best-steps.js";
 import {
   bytesOf, eachOf, joinedWords, readableLine, stringOf, takenLine, wholeNumber, wideNumber,
 } from "./bytes.js";
-import { hasOwn } from "./natives.js";
 
 /** @typedef {import("./bytes.js").Text} Text */
 /** @typedef {"invert" | "unniss" | "cleanup" | "facelets"} Rewriting what is made of a line */
@@ -90,7 +89,7 @@ const MOST_OF_TURN = 3;
  */
 export function optionOf(options, name, otherwise = undefined) {
   if (typeof options !== "object" || options === null) throw new TypeError("the options are no object");
-  const given = hasOwn(options, name) ? /** @type {any} */ (options)[name] : undefined;
+  const given = Object.hasOwn(options, name) ? /** @type {any} */ (options)[name] : undefined;
   return given === undefined ? otherwise : given;
 }
 

@@ -1,8 +1,8 @@
 // A run of the program by an instance of the module, made again with more as long as it had too little.
 import { ERROR_ROOM, HEAD, LONG, ROOM, RUN_ANSWER } from "./layout.js";
 import { aligned } from "./memory.js";
-import { lengthOf, textIn, wide } from "./natives.js";
 import { STATUS } from "./replies.js";
+import { textIn } from "./utf8.js";
 
 /** @typedef {import("./instance.js").Instance} Instance */
 /** @typedef {import("./replies.js").Answer} Answer */
@@ -58,17 +58,16 @@ function runOnce(instance, { words, input }, room, lent) {
   const err = aligned(lending + ROOM.bytes);
   const block = aligned(err + ERROR_ROOM);
   const wordsAt = aligned(block + lent);
-  const inputAt = aligned(wordsAt + lengthOf(words));
-  const out = aligned(inputAt + lengthOf(input));
+  const inputAt = aligned(wordsAt + words.length);
+  const out = aligned(inputAt + input.length);
   memory.reach(out + room);
   const wordsLength = memory.putLine(wordsAt, words);
   const inputLength = memory.putLine(inputAt, input);
   memory.putRoom(lending, block, lent);
   instance.call(({ nissy_run: run }) =>
     run(
-      wide(answer), wide(lending), wide(wordsAt), wide(wordsLength), wide(inputAt), wide(inputLength), wide(out),
-      wide(room),
-      wide(err), wide(ERROR_ROOM),
+      BigInt(answer), BigInt(lending), BigInt(wordsAt), BigInt(wordsLength), BigInt(inputAt), BigInt(inputLength),
+      BigInt(out), BigInt(room), BigInt(err), BigInt(ERROR_ROOM),
     ));
   if (memory.number(lending + ROOM.size, LONG) !== lent) {
     instance.break();
@@ -91,5 +90,5 @@ export function runIn(instance, request) {
   const withRoom = (/** @type {number} */ size) =>
     withEnough(FIRST_LENT, MOST_LENT, (lent) => runOnce(instance, request, size, lent), isRefusedMemory);
   if (request.room !== undefined) return withRoom(request.room);
-  return withEnough(FIRST_ROOM + 8 * lengthOf(request.input), MOST_ROOM, withRoom, (answer) => answer.full);
+  return withEnough(FIRST_ROOM + 8 * request.input.length, MOST_ROOM, withRoom, (answer) => answer.full);
 }

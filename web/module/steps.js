@@ -1,8 +1,7 @@
 // The steps by their names.
-import { frozen } from "./natives.js";
 
 /** All of them, in the module's order. */
-export const STEPS = frozen(/** @type {const} */ ([
+export const STEPS = Object.freeze(/** @type {const} */ ([
   "eofb", "eorl", "eoud",
   "drud-eofb", "drrl-eofb", "drud-eorl", "drfb-eorl", "drrl-eoud", "drfb-eoud",
   "eo", "dr-eofb", "dr-eorl", "dr-eoud",

@@ -1,7 +1,6 @@
 // Where the 54 letters of a cube stand in its net, for those who draw it, and which ones each piece has, for those who
 // mark pieces.
 import { CORNER_PLACES, EDGE_PLACES } from "./facts.js";
-import { frozen } from "./natives.js";
 
 /** @typedef {import("./facts.js").CornerPlace} CornerPlace */
 /** @typedef {import("./facts.js").EdgePlace} EdgePlace */
@@ -15,8 +14,8 @@ const FACES_IN_NET = [[0, 3], [3, 6], [3, 3], [6, 3], [3, 0], [3, 9]];
  * B in a row; D below F.
  * @type {readonly NetPlace[]}
  */
-export const NET = frozen(FACES_IN_NET.flatMap(([row, column]) =>
-  Array.from({ length: 9 }, (_, at) => frozen({ row: row + Math.floor(at / 3), column: column + (at % 3) }))));
+export const NET = Object.freeze(FACES_IN_NET.flatMap(([row, column]) =>
+  Array.from({ length: 9 }, (_, at) => Object.freeze({ row: row + Math.floor(at / 3), column: column + (at % 3) }))));
 
 /** The numbers of the letters of each place, from 0, in the order of the names. */
 const STICKERS_OF_EDGES = [

@@ -1,6 +1,5 @@
 // The moves of a line one by one, for those who draw or count them, and those that the WCA's notation hasn't.
 import { FORMS } from "./facts.js";
-import { frozen } from "./natives.js";
 
 /** @typedef {"x" | "y" | "z"} CubeAxis */
 
@@ -44,7 +43,7 @@ const SUFFIXES = new Map([[1, ""], [2, "2"], [-1, "'"]]);
  */
 function movesOfAxis(axis, near, far, { slice, way }) {
   const turned = (/** @type {number[]} */ layers, /** @type {1 | -1} */ ofLayers) =>
-    ({ axis, layers: frozen(layers), way: ofLayers });
+    ({ axis, layers: Object.freeze(layers), way: ofLayers });
   return [
     [near, turned([1], 1)], [far, turned([-1], -1)], [`${near}w`, turned([0, 1], 1)], [`${far}w`, turned([-1, 0], -1)],
     [slice, turned([0], way)], [axis, turned([-1, 0, 1], 1)],
@@ -112,7 +111,7 @@ export function formPlacesOf(line) {
   for (const { 0: text, index } of line.matchAll(ITEM)) {
     const forms = FORMS.filter((form) => HAS[form](text));
     const character = Number(index) + 1;
-    if (forms.length > 0) places.push({ text, forms: frozen(forms), column: character + further, character });
+    if (forms.length > 0) places.push({ text, forms: Object.freeze(forms), column: character + further, character });
     if (HAS.apostrophe(text)) further += FURTHER_BYTES;
   }
   return places;

@@ -2,9 +2,9 @@
 // and all moves with it, once those of each side are merged.
 import { FACES_OF, facesOnAxisOf, stepNamed } from "./best-steps.js";
 import { hasMore, mergersOf, movesIn } from "./merging.js";
-import { textIn } from "./natives.js";
 import { SIDES, joined, movesOn, otherSide } from "./sides.js";
 import { areOfOneAxis } from "./twins.js";
+import { textIn } from "./utf8.js";
 
 /** @typedef {import("./nissy.js").Nissy} Nissy */
 /** @typedef {import("./sides.js").Part} Part */

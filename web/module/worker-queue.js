@@ -1,7 +1,6 @@
 // The queue of a worker: what is asked of it, one after another. What runs is stopped by ending the worker, and the
 // next request starts another. Pieces of one call, which are given up together, are sent two at a time.
 import { EngineMissing, Stopped } from "./faults.js";
-import { hasOwn } from "./natives.js";
 import { Signals, reasonOf, signalOf } from "./signals.js";
 
 /** @typedef {import("./requests.js").Asked} Asked */
@@ -210,13 +209,13 @@ export class WorkerQueue {
   #hear(data) {
     const call = this.#sent[0];
     if (call?.id !== data.id) return;
-    if (hasOwn(data, "progress")) {
+    if (Object.hasOwn(data, "progress")) {
       this.#follow(call, /** @type {Progressed} */ (data).progress);
       return;
     }
     this.#sent.shift();
     // not by `in`, since some script may have given an error to all objects
-    if (hasOwn(data, "error")) call.refused(errorOf(/** @type {Unanswered} */ (data).error));
+    if (Object.hasOwn(data, "error")) call.refused(errorOf(/** @type {Unanswered} */ (data).error));
     else call.answered(/** @type {Answered} */ (data).reply);
     this.#sendNext();
   }
