@@ -1,6 +1,8 @@
 //! The reductions after orientations.
 ghost use Rattle.std.specs.Prelude.{◌≡◌, ◌≤◌, [], ◌∷◌, IfSome, IfOk, OnOk};
+ghost use Rattle.niss_cube.specs.BadPlaces.{bad_count};
 ghost use Rattle.niss_cube.specs.Map.{map_of};
+ghost use Rattle.niss_cube.specs.declared.cube.coordinate.Coordinate.TheVariants.{Twist, Slice};
 ghost use Rattle.niss_cube.specs.Steps.{goals_of, edge_step_on};
 ghost use Rattle.niss_cube.specs.declared.step.Goal.TheVariants.{Domino};
 ghost use Rattle.niss_ways.specs.Truth.{IsWay, IsReduction};
@@ -10,7 +12,7 @@ use crate::made::Made;
 use crate::nearest::{Nearest, total_after};
 use crate::solution::Solution;
 use crate::start::Start;
-use crate::way::{Part, Way};
+use crate::way::{Part, Way, rank_by};
 use niss_cube::{Axis, Coordinate, Cube, Step};
 use niss_search::{Limit, Sides, Stopped, Tables};
 use std::alloc::Allocator;
@@ -47,6 +49,18 @@ impl DominoAxes {
             _ => Axis::Fb,
         }
     }
+}
+
+/// The case of a reduction on an axis: the bad corners, and the edges on the wrong side of the slice.
+fn case_of(axis: Axis, cube: &Cube) -> (u16, u16)
+    ensures corners { result.0 ≡ bad_count Twist axis (map_of cube.now) }
+    ensures edges { result.1 ≡ bad_count Slice axis (map_of cube.now) }
+    ensures few_corners { result.0 ≤ 12 }
+    ensures few_edges { result.1 ≤ 12 }
+{
+    let corners = Coordinate::Twist.bad_places(axis, cube).count_ones();
+    let edges = Coordinate::Slice.bad_places(axis, cube).count_ones();
+    (corners as u16, edges as u16)
 }
 
 /// The step that orients the edges on an axis.
@@ -116,6 +130,14 @@ impl<'a, A: Allocator> Following<'a, A> {
             on_normal,
             on_inverse,
         })
+    }
+
+    /// The place in the order of a way with so many moves in all that begins with an orientation or one of its twins.
+    pub fn rank_with(&self, total: u16, class: &Solution) -> u64 {
+        let cube = class.cube_after(self.start.cube());
+        let (corners, edges) = case_of(self.axes.domino, &cube);
+        let step = edge_step_on(self.axes.edges) as u8;
+        rank_by(total, u16::from(class.len()), corners + edges, step)
     }
 
     /// At most so many moves there are in all with the best reduction after an orientation or one of its twins.
@@ -304,12 +326,7 @@ impl<'a, A: Allocator> Following<'a, A> {
             return None;
         }
         let total = total_after(self.start, first, reduction.normal(), reduction.inverse());
-        let corners = Coordinate::Twist
-            .bad_places(self.axes.domino, cube)
-            .count_ones();
-        let edges = Coordinate::Slice
-            .bad_places(self.axes.domino, cube)
-            .count_ones();
+        let (corners, edges) = case_of(self.axes.domino, cube);
         Some(Way {
             total,
             corners: corners as u8,

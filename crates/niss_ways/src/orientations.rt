@@ -146,8 +146,8 @@ impl<A: Allocator> Orientations<'_, A> {
         Ok(())
     }
 
-    /// So many moves in all no way has that may still come into the room.
-    fn too_many(&self) -> u16 {
+    /// So many moves in all no way has that may still come into the room, of those that begin with these orientations.
+    fn too_many(&self, following: &Following<A>, class: &Solution) -> u16 {
         let places = self.room.len();
         if self.count < places {
             return u16::MAX;
@@ -155,7 +155,9 @@ impl<A: Allocator> Orientations<'_, A> {
         if places == 0 {
             return 0;
         }
-        self.room[places - 1].total.saturating_add(1)
+        let last = self.room[places - 1];
+        let is_better = following.rank_with(last.total, class) < last.rank();
+        last.total.saturating_add(u16::from(is_better))
     }
 
     /// Takes the best way on by a reduction, if it comes into the room.
@@ -165,7 +167,7 @@ impl<A: Allocator> Orientations<'_, A> {
     {
         self.tried = self.tried.saturating_add(1);
         let count = self.count;
-        let below = self.below.min(self.too_many());
+        let below = self.below.min(self.too_many(following, class));
         let Some(found) = following.best(class, below, &mut self.looks)? else {
             return Ok(());
         };

@@ -1,5 +1,5 @@
 //! A way on: an orientation and a reduction, or a reduction after an orientation that holds.
-ghost use Rattle.std.specs.Prelude.{◌≡◌, ◌+◌, ◌<◌, ◌≤◌, length, slice_get};
+ghost use Rattle.std.specs.Prelude.{◌≡◌, ◌+◌, ◌*◌, ◌<◌, ◌≤◌, length, slice_get};
 ghost use Rattle.niss_moves.specs.declared.turn.Face.{Face};
 ghost use Rattle.niss_cube.specs.Steps.{steps};
 ghost use Rattle.niss_ways.specs.Shown.{step_number, shown, Tells, TellsTurns};
@@ -67,6 +67,13 @@ pub fn shown(names: &Names, turn: Turn) -> u8
     let face = names[turn.face as usize];
     let power = turn.power;
     Token::Face(Turn { face, power }).index() as u8
+}
+
+/// What ways are put in order by, as one number: all moves, those of the first step, the pieces of the case, and the first step.
+pub fn rank_by(total: u16, length: u16, pieces: u16, step: u8) -> u64
+    ensures { result ≡ ((total * 512 + length) * 512 + pieces) * 256 + step }
+{
+    ((u64::from(total) * 512 + u64::from(length)) * 512 + u64::from(pieces)) * 256 + u64::from(step)
 }
 
 impl SideTurns {
@@ -157,8 +164,7 @@ impl Way {
         } else {
             &self.eo
         };
-        let pieces = u64::from(self.corners) + u64::from(self.edges);
-        let step = u64::from(first.step);
-        ((u64::from(self.total) * 512 + u64::from(first.turns())) * 512 + pieces) * 256 + step
+        let pieces = u16::from(self.corners) + u16::from(self.edges);
+        rank_by(self.total, first.turns(), pieces, first.step)
     }
 }
