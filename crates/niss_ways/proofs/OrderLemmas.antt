@@ -11,7 +11,8 @@ module _ {X : Type 0} (f : X → ℕ) where
   abbrev pub Sorted : ℕ → List X → Type 0
   Sorted n xs = (i j : ℕ) (d : X) → i < j → j < n → f (get_or xs i d) ≤ f (get_or xs j d)
 
-  -- Of n and one places one is free. In the others stand the first n of a list, those behind the free one have more than r.
+  -- Of n and one places one is free. In the others stand the first n of a list, those behind the free one have more
+  -- than r.
   pub record Open (old : List X) (n r at : ℕ) (xs : List X) : Type 0 where
     pub from : (k : ℕ) (d : X) → k < n + 1 → k ≢ at → (j : ℕ) × (j < n) × (get_or xs k d ≡ get_or old j d)
     pub sorted : Sorted n old → (i j : ℕ) (d : X) → i < j → j < n + 1 → i ≢ at → j ≢ at → f (get_or xs i d) ≤ f (get_or xs j d)

@@ -4,6 +4,7 @@ pub mod Order
 pub mod Asked
 pub mod Truth
 pub mod Starts
+pub mod Definition
 pub mod Rooms
 pub mod Searched
 pub mod Sinks

@@ -11,8 +11,8 @@ first_part w = if w.eo.step == 255 then w.dr else w.eo
 abbrev pub part_length : Part → ℕ
 part_length p = p.normal.count + p.inverse.count
 
--- What ways are put in order by: all moves, then those of the first step, then the pieces of the case, then the first step, in the
--- order of the steps.
+-- What ways are put in order by: all moves, then those of the first step, then the pieces of the case, then the first
+-- step, in the order of the steps.
 unfoldable pub rank_of : Way → ℕ
 rank_of w =
     ((w.total * 512 + part_length (first_part w)) * 512 + (w.corners + w.edges)) * 256 + (first_part w).step

@@ -4,8 +4,8 @@ use Rattle.niss_ways.specs.Order.{IsSorted}
 use Rattle.niss_ways.specs.Truth.{Origin, AreWays}
 use Rattle.niss_ways.specs.declared.way.Way.{Way}
 
--- Rows came into a room, which is as long as before: if what stood in it was in order, so is what stands there, and if that told the
--- truth, so does this.
+-- Rows came into a room, which is as long as before: if what stood in it was in order, so is what stands there, and if
+-- that told the truth, so does this.
 pub record Grows (o : Origin) (old_count : ℕ) (old : List Way) (new_count : ℕ) (new : List Way) : Type 0 where
   pub same_length : length new ≡ length old
   pub within : old_count ≤ length old → new_count ≤ length new

@@ -13,8 +13,8 @@ use Rattle.niss_ways.specs.Truth.{Origin}
 abbrev pub turns_after : Rotation → List Token → List Turn
 turns_after held s = clean_turns (map (renamed_turn (face_before held)) (faces s))
 
--- The line has turns before the scramble, the scramble's, and those that were made on the normal side, as the cube is held after the
--- scramble. What was made on the inverse undoes what comes before the scramble.
+-- The line has turns before the scramble, the scramble's, and those that were made on the normal side, as the cube is
+-- held after the scramble. What was made on the inverse undoes what comes before the scramble.
 pub record IsAfter (scramble so_far : Moves) (o : Origin) : Type 0 where
   pub held : Rotation
   pub of_scramble : IsRotationOf (joined_moves scramble) held

@@ -17,8 +17,8 @@ use Rattle.niss_ways.specs.Shown.{Tells}
 use Rattle.niss_ways.specs.Ways.{cube_after, first_reaches}
 use Rattle.niss_ways.specs.declared.way.Way.{Way}
 
--- Where one stands: the cube after a scramble and the moves so far, a line of turns that leads to it, what was made on each side,
--- and what the faces are called as the cube is held.
+-- Where one stands: the cube after a scramble and the moves so far, a line of turns that leads to it, what was made on
+-- each side, and what the faces are called as the cube is held.
 pub record Origin : Type 0 where
   pub cube : Cube
   pub line : List Turn
@@ -31,8 +31,8 @@ abbrev pub total_after : Origin → (first then : Pair) → ℕ
 total_after o p q =
     length (clean_turns (o.normal ++ p.normal ++ q.normal)) + length (clean_turns (o.inverse ++ p.inverse ++ q.inverse))
 
--- A reduction is told that is one from a cube after first moves, and its case is that of the cube: its bad corners, and its edges on
--- the wrong side of the slice.
+-- A reduction is told that is one from a cube after first moves, and its case is that of the cube: its bad corners, and
+-- its edges on the wrong side of the slice.
 pub record IsReduction (o : Origin) (edges : Axis) (first : Pair) (cube : Cube) (way : Way) : Type 0 where
   pub step : Step
   pub axis : Axis

@@ -6,8 +6,8 @@ use niss_cube::Cube;
 use niss_search::{Limit, PairSink, Sides, Tables, TurnPath};
 use std::alloc::Allocator;
 
-/// The least lengths of a step's solutions, on the scramble alone, on its inverse alone and over both, or 21; and by how many
-/// turns those are longer at most that are let in.
+/// The least lengths of a step's solutions, on the scramble alone, on its inverse alone and over both, or 21; and by
+/// how many turns those are longer at most that are let in.
 #[derive(Clone, Copy, Debug)]
 pub struct Admitted {
     pub normal: u8,
@@ -113,8 +113,8 @@ impl Admitted {
         least <= length && length <= self.last(least)
     }
 
-    /// Whether the solutions of a length are asked for on these sides: if it is let in over both, there alone, else on each one on
-    /// which it is let in.
+    /// Whether the solutions of a length are asked for on these sides: if it is let in over both, there alone, else on
+    /// each one on which it is let in.
     pub fn asks(&self, sides: Sides, length: u8) -> bool {
         let both = self.lets(self.both, length);
         match sides {

@@ -49,8 +49,8 @@ impl Axes {
 /// What is looked for.
 #[derive(Clone, Copy, Debug, PartialEq, Eq)]
 pub struct Wish {
-    /// By how many turns the first step is longer at most than its least length of a kind: on the scramble alone, on its
-    /// inverse alone, or over both.
+    /// By how many turns the first step is longer at most than its least length of a kind: on the scramble alone, on
+    /// its inverse alone, or over both.
     pub slack: Limit,
     /// On which axes the orientation is.
     pub axes: Axes,
@@ -106,8 +106,8 @@ impl FoundWays {
     }
 }
 
-/// Finds the best ways on, and puts them in their order into the room, in which some may stand already at the front: those
-/// of other axes and lengths.
+/// Finds the best ways on, and puts them in their order into the room, in which some may stand already at the front:
+/// those of other axes and lengths.
 pub fn find_ways<A: Allocator>(
     tables: &WayTables<A>,
     start: &Start,

@@ -154,8 +154,8 @@ impl<'a, A: Allocator> Following<'a, A> {
         Ok(least)
     }
 
-    /// The best reduction after an orientation or one of its twins, the first with the fewest moves in all, if these are fewer
-    /// than a bound.
+    /// The best reduction after an orientation or one of its twins, the first with the fewest moves in all, if these
+    /// are fewer than a bound.
     pub fn best(
         &self,
         class: &Solution,
@@ -247,8 +247,8 @@ impl<'a, A: Allocator> Following<'a, A> {
         }
     }
 
-    /// Searches for the shortest reductions over both sides. If nothing merges, those that have all turns on one side were
-    /// searched for already.
+    /// Searches for the shortest reductions over both sides. If nothing merges, those that have all turns on one side
+    /// were searched for already.
     fn search_both(
         &self,
         between: &Between,
@@ -268,8 +268,8 @@ impl<'a, A: Allocator> Following<'a, A> {
         Ok(())
     }
 
-    /// The row of an orientation and a reduction that were found. What it tells is tested once more, so a row is true whatever
-    /// came before.
+    /// The row of an orientation and a reduction that were found. What it tells is tested once more, so a row is true
+    /// whatever came before.
     pub fn row(&self, found: &Found) -> Option<Way>
         ensures { IfSome result (λ way. IsWay self.now.start.now way) }
     {

@@ -43,8 +43,8 @@ pub fn twin_count(axis: Axis, turns: &[Turn]) -> u8
     }
 }
 
-/// Whether a sequence stands for its twins: if it has turns, its last ones on the axis are quarter turns clockwise, one at
-/// least.
+/// Whether a sequence stands for its twins: if it has turns, its last ones on the axis are quarter turns clockwise, one
+/// at least.
 pub fn stands_for_twins(axis: Axis, turns: &[Turn]) -> bool {
     let Some((last, front)) = turns.split_last() else {
         return true;

@@ -72,8 +72,8 @@ impl Looks {
         Ok(tables.look(&tables.position(cube), &mut self.meter))
     }
 
-    /// Hands out the solutions of exactly so many turns on these sides, and returns how many they are: none if the step may not
-    /// start on the cube.
+    /// Hands out the solutions of exactly so many turns on these sides, and returns how many they are: none if the step
+    /// may not start on the cube.
     pub fn search<K: PairSink, A: Allocator>(
         &mut self,
         tables: &Tables<A>,

@@ -13,7 +13,8 @@ use niss_search::{PairSink, TurnPath};
 #[derive(Clone, Copy, Debug, PartialEq, Eq)]
 pub struct Enough;
 
-/// Takes reductions after an orientation, and keeps the first with the fewest moves in all, if these are fewer than a bound.
+/// Takes reductions after an orientation, and keeps the first with the fewest moves in all, if these are fewer than a
+/// bound.
 #[derive(Drop)]
 pub struct Nearest<'a> {
     pub start: &'a Start,

@@ -231,8 +231,8 @@ impl<A: Allocator> Orientations<'_, A> {
         }
     }
 
-    /// Goes through all of them for a task with at most so many looks, of which `each` are kept for the search for orientations.
-    /// Returns how many are left, and whether it was cut.
+    /// Goes through all of them for a task with at most so many looks, of which `each` are kept for the search for
+    /// orientations. Returns how many are left, and whether it was cut.
     fn go_within(&mut self, task: Task, wish: &Wish, each: u64, left: u64) -> (u64, bool)
         requires { each ≤ left }
         ensures left { result.0 ≤ left }
@@ -245,8 +245,9 @@ impl<A: Allocator> Orientations<'_, A> {
         (left - outer.count() - self.looks.count(), cut)
     }
 
-    /// Goes through all of them three times: it counts the looks of the search for orientations, and the moves in all that each comes
-    /// to at most, which gives a bound early, and then takes the ways on. Returns how many looks are left, and whether it was cut.
+    /// Goes through all of them three times: it counts the looks of the search for orientations, and the moves in all
+    /// that each comes to at most, which gives a bound early, and then takes the ways on. Returns how many looks are
+    /// left, and whether it was cut.
     fn find(&mut self, wish: &Wish, left: u64) -> (u64, bool)
         ensures left { result.0 ≤ left }
         ensures room { KeepsRows self.old self.new }

@@ -5,8 +5,8 @@ ghost use Rattle.niss_ways.specs.Truth.{AreFrom};
 
 use crate::way::Way;
 
-/// Takes a way among the first ones of the room: it stands behind those that are as good, if there is place. Returns how many
-/// stand there now.
+/// Takes a way among the first ones of the room: it stands behind those that are as good, if there is place. Returns
+/// how many stand there now.
 pub fn take(room: &mut [Way], count: usize, way: Way) -> usize
     ensures from { AreFrom way count room.old result room.new }
     ensures sorted { IsSorted count room.old → IsSorted result room.new }

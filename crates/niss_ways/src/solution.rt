@@ -67,7 +67,8 @@ impl Solution {
         (self.normal().len() + self.inverse().len()) as u8
     }
 
-    /// Whether it stands for its twins: on each side that has turns the last ones on the axis are quarter turns clockwise.
+    /// Whether it stands for its twins: on each side that has turns the last ones on the axis are quarter turns
+    /// clockwise.
     pub fn stands_for_twins(&self, axis: Axis) -> bool {
         stands_for_twins(axis, self.normal()) && stands_for_twins(axis, self.inverse())
     }

@@ -166,7 +166,8 @@ impl Start {
         &self.cube
     }
 
-    /// Turns that lead to it, by the names of the centres: the moves in brackets inverted, the scramble, and the others.
+    /// Turns that lead to it, by the names of the centres: the moves in brackets inverted, the scramble, and the
+    /// others.
     pub fn line(&self) -> &[Turn]
         ensures value { result.now ≡ self.now.line }
         ensures of_cube { SameMap (map_of self.now.cube) (effect_of_turns self.now.line) }

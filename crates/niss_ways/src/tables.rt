@@ -4,8 +4,8 @@ use niss_cube::Axis;
 use niss_search::Tables;
 use std::alloc::Allocator;
 
-/// The tables of the three orientations, and of the two reductions after each. If one is of another step, ways are missing, and
-/// those that are there are true.
+/// The tables of the three orientations, and of the two reductions after each. If one is of another step, ways are
+/// missing, and those that are there are true.
 #[derive(Drop)]
 pub struct WayTables<'a, A: Allocator> {
     pub eofb: &'a Tables<A>,

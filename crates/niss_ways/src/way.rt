@@ -69,7 +69,8 @@ pub fn shown(names: &Names, turn: Turn) -> u8
     Token::Face(Turn { face, power }).index() as u8
 }
 
-/// What ways are put in order by, as one number: all moves, those of the first step, the pieces of the case, and the first step.
+/// What ways are put in order by, as one number: all moves, those of the first step, the pieces of the case, and the
+/// first step.
 pub fn rank_by(total: u16, length: u16, pieces: u16, step: u8) -> u64
     ensures { result ≡ ((total * 512 + length) * 512 + pieces) * 256 + step }
 {
@@ -154,7 +155,8 @@ impl Default for Way {
 }
 
 impl Way {
-    /// What it is put in order by: all moves, those of the first step, the pieces of the case, and the axis of the orientation.
+    /// What it is put in order by: all moves, those of the first step, the pieces of the case, and the axis of the
+    /// orientation.
     #[tactic(auto, unfolding(crate::specs::Order::rank_of))]
     pub(crate) fn rank(&self) -> u64
         ensures { result ≡ rank_of self.now }
