@@ -2,7 +2,7 @@
 //! alone, with its own cube and tables.
 use crate::searches::tables_of;
 use niss_cube::Step;
-use niss_moves::read;
+use niss_moves::{Niss, read};
 use niss_search::{Limit, Meter};
 use niss_ways::{Axes, SideTurns, Start, Way, WayTables, Wish, find_ways};
 use std::alloc::Global;
@@ -143,6 +143,9 @@ const QUESTIONS: &[Question] = &[
     },
 ];
 
+/// No line of a question is longer.
+const MOST_BYTES: usize = 1_000;
+
 /// Checks the turns of a side.
 fn check_turns(rt: &impl Abort, turns: &SideTurns, wanted: &[u8]) {
     let told = turns.turns.get(..usize::from(turns.count));
@@ -160,10 +163,16 @@ fn check_row(rt: &impl Abort, way: &Way, row: &Row) {
     check_turns(rt, &way.dr.inverse, fourth);
 }
 
+/// What is read of a line.
+fn line_of(rt: &impl Abort, bytes: &[u8]) -> Niss {
+    assert!(rt; bytes.len() <= MOST_BYTES);
+    read(bytes).expect(rt, "a line")
+}
+
 /// Where one stands after the lines of a question.
 fn start_of(rt: &impl Abort, question: &Question) -> Start {
-    let scramble = read(question.scramble).expect(rt, "a scramble");
-    let so_far = read(question.so_far).expect(rt, "moves");
+    let scramble = line_of(rt, question.scramble);
+    let so_far = line_of(rt, question.so_far);
     Start::after(&scramble, &so_far).expect(rt, "few moves")
 }
 
