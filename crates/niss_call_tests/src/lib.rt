@@ -1,4 +1,4 @@
-//! Tests of calls of the three lower libraries, of what no contract says: values from outside, counts of looks and tries, and
+//! Tests of calls of the lower libraries, of what no contract says: values from outside, counts of looks and tries, and
 //! memory that is refused.
 #![tactic(auto)]
 
@@ -36,3 +36,5 @@ mod searches;
 mod shown_cubes;
 #[cfg(test)]
 mod steps;
+#[cfg(test)]
+mod ways;
