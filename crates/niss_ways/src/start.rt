@@ -160,7 +160,7 @@ impl Start {
     }
 
     /// The cube.
-    pub fn cube(&self) -> &Cube
+    pub(crate) fn cube(&self) -> &Cube
         ensures { result.now ≡ self.now.cube }
     {
         &self.cube
@@ -192,7 +192,7 @@ impl Start {
     }
 
     /// What the faces are called as the cube is held.
-    pub fn names(&self) -> &Names
+    pub(crate) fn names(&self) -> &Names
         ensures value { result.now ≡ self.now.names }
     {
         &self.names
