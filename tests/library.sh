@@ -60,12 +60,12 @@ tried() { # NAME: the test in C of this name
         # Searches alone, since a run takes it seconds.
         threads) valgrinds --tool=helgrind "$made/$name" 0 10 ;;
         # It makes each byte thirty times as slow. Its own malloc takes no wraps, and a handler's small stack isn't for it.
-        calls) valgrinds --leak-check=full "$made/calls" few ;;
-        facts) valgrinds --leak-check=full "$made/facts" ;;
+        calls | ways | sides) valgrinds --leak-check=full "$made/$name" few ;;
+        facts) valgrinds --leak-check=full "$made/$name" ;;
     esac
     ended
 }
-for name in calls pieces facts threads fuzz memory handlers; do part tried $name; done
+for name in calls pieces facts ways sides threads fuzz memory handlers; do part tried $name; done
 
 # the headers in C++, by each compiler that is here
 compiled_by() { # COMPILER PROGRAM WORD..: compiles the test in C++, with these words too

@@ -1,17 +1,21 @@
 //! The library for C: what other programs call. `include/nissy.h` says the same in the words of C.
 #![tactic(auto)]
 
+mod best_call;
 mod check_calls;
 mod run_call;
 mod table_calls;
 mod text_calls;
 mod version;
 
+pub use best_call::{nissy_best, nissy_line_after, nissy_solve_sides};
 pub use check_calls::{nissy_check, nissy_facts, nissy_facts_lines};
 pub use niss_embed::{
-    Answer, AxisFacts, CheckAnswer, FactsAnswer, LineAnswer, LinesAnswer, SearchAnswer,
+    Answer, AxisFacts, CheckAnswer, FactsAnswer, LineAfterAnswer, LineAnswer, LinesAnswer,
+    SearchAnswer, WaysAnswer, WaysWanted,
 };
 pub use niss_kept::Held;
+pub use niss_ways::{Part, SideTurns, Way};
 pub use run_call::nissy_run;
 pub use table_calls::{
     nissy_build, nissy_count, nissy_count_lines, nissy_solve, nissy_solve_after,
