@@ -1,16 +1,16 @@
 -- Turns that keep what each goal of a step keeps: they leave the step reached or not.
 use Rattle.niss_cube.proofs.Words.{Fact, Yes, When, Turns, Holds, holds, ◌≡◌, refl, ◌∙◌, ap, sym, Bool, true}
 use Rattle.niss_cube.proofs.Words.{◌&&◌, ◌||◌, List, []}
-use Rattle.niss_cube.proofs.Words.{◌∷◌, IsTrue, Place, SameMap, turned, inverse_turn, Axis, Ud, Rl, Fb}
+use Rattle.niss_cube.proofs.Words.{◌∷◌, Place, SameMap, turned, inverse_turn, Axis, Ud, Rl, Fb}
 use Rattle.niss_cube.proofs.Words.{Coordinate, Flip, Twist, Slice}
 use Rattle.niss_cube.proofs.Words.{Turn, Step, Kept, is_kept, set_of, flip_set, twist_set, slice_set, goals_of}
 use Rattle.niss_cube.proofs.Words.{reached, is_idle, Goal}
 use Rattle.niss_cube.proofs.Words.{Domino, list_all, list_any, same_truth, every_turn, every_face, every_power}
 use Rattle.niss_cube.proofs.Words.{and_left, and_right}
-use Rattle.niss_cube.proofs.Words.{Token, inverse_after}
+use Rattle.niss_cube.proofs.Words.{inverse_after}
 use Rattle.niss_cube.specs.Names.{Edges}
 use Rattle.niss_cube.specs.Steps.{holds as goal_holds}
-use Rattle.niss_cube.specs.StepLaws.{LeavesStep, IdleTurnsLeaveSteps}
+use Rattle.niss_cube.specs.StepLaws.{IdleTurnsLeaveSteps}
 use Rattle.niss_moves.specs.declared.token.Token.TheVariants as token
 use Rattle.niss_cube.proofs.Codes.{kept_is_tested, sets_are_places}
 use Rattle.niss_cube.proofs.StepLemmas.{holds_same, is_kept_same}

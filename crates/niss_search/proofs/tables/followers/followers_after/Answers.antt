@@ -29,9 +29,9 @@ loop-column-preserved c =
             end = refl;
             kept = map_push (λ (f : Follower). f.turn) c.loop-column.list.items new ∙ ap (λ (ts : List Turn). ts ++ t ∷ []) inv.kept ∙ sym (more ∙ ap kept yes);
             columns = All-push (IsFollower c.args.step) c.loop-column.list.items new inv.columns (
-                omega (arith, c.loop-column-test.true, ap (length {A = Turn}) c.turns-turns.ensures),
-                ap (λ (ts : List Turn). get_or ts i no_turn) (sym c.turns-turns.ensures),
-                w.is_idle.ensures,
+              omega (arith, c.loop-column-test.true, ap (length {A = Turn}) c.turns-turns.ensures),
+              ap (λ (ts : List Turn). get_or ts i no_turn) (sym c.turns-turns.ensures),
+              w.is_idle.ensures,
             );
             long = omega (arith, inv.long, ap (length {A = Follower}) w.push.ensures.items, w.push.ensures.len);
           })
