@@ -40,7 +40,8 @@ ReachedStepsSeePlaces = (d e : Place → Place) → SameMap d e → reached_mask
 abbrev pub InverseHasSteps : Type 0
 InverseHasSteps = (c d : Cube) → TakesBack c d → SameSteps (map_of c) (map_of d)
 
--- A turn leaves a step reached or not, after all that made the cube and on the inverse, where it is taken back before all that.
+-- A turn leaves a step reached or not, after all that made the cube, and on the inverse, where it is taken back before all
+-- that.
 pub record LeavesStep (s : Step) (t : Turn) : Type 0 where
   pub after : (e : Place → Place) → reached s (λ q. turned t (e q)) ≡ reached s e
   pub on_inverse : (e : Place → Place) → reached s (λ q. e (turned (inverse_turn t) q)) ≡ reached s e

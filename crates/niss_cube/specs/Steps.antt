@@ -4,7 +4,8 @@ use Rattle.std.specs.List.{list_any, list_all}
 use lib.Lanes.{mask_l}
 use Rattle.std.specs.Option.{option_map_or, option_map}
 use Rattle.niss_moves.specs.Canonical.{face_order, powers, same_face}
-use Rattle.niss_cube.specs.Names.{Place, turned, Axis, Ud, Rl, Fb, Face, U, D, R, L, F, B, Power, Half, Turn, Goal, Edges, Domino, Step, Eofb, Eorl}
+use Rattle.niss_cube.specs.Names.{turned}
+use Rattle.niss_cube.specs.Names.{Place, Axis, Ud, Rl, Fb, Face, U, D, R, L, F, B, Power, Half, Turn, Goal, Edges, Domino, Step, Eofb, Eorl}
 use Rattle.niss_cube.specs.Names.{Eoud, DrudEofb, DrrlEofb, DrudEorl, DrfbEorl, DrrlEoud, DrfbEoud, Eo, DrEofb, DrEorl, DrEoud}
 use Rattle.niss_cube.specs.Sets.{flip_set, twist_set, slice_set, is_kept, Kept}
 

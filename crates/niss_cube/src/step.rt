@@ -4,7 +4,8 @@ ghost use Rattle.std.specs.List.{Any, list_all};
 ghost use Rattle.std.specs.Option.{option_copied};
 ghost use Rattle.niss_cube.specs.Map.{map_of};
 ghost use Rattle.niss_cube.specs.Steps.{steps, name_of, start_of, start_name_of, goals_of};
-ghost use Rattle.niss_cube.specs.Steps.{turns_of, holds, may_start, reached, reached_mask, is_idle, KeepsGoal, KeepsStart};
+ghost use Rattle.niss_cube.specs.Steps.{turns_of, holds, may_start, reached, reached_mask, KeepsGoal, KeepsStart};
+ghost use Rattle.niss_cube.specs.Steps.{is_idle};
 ghost use Rattle.niss_cube.specs.declared.step.Step.{Step};
 
 use crate::cube::Cube;
@@ -218,7 +219,8 @@ impl Step {
         self.goals().iter().any(|goal| goal.holds(cube))
     }
 
-    /// Whether a turn is idle in the step: it keeps what each of its goals keeps, and so leaves the step reached or not.
+    /// Whether a turn is idle in the step: it keeps what each of its goals keeps. So it leaves the step reached, or not
+    /// reached.
     pub fn is_idle(self, turn: Turn) -> bool
         ensures { result ≡ is_idle self turn }
     {

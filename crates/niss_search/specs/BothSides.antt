@@ -1,5 +1,6 @@
 -- Solutions over both sides: turns on the normal side, and turns on the inverse.
-use Rattle.std.specs.Prelude.{◌≡◌, ℕ, ◌+◌, ◌-◌, ◌≤◌, ◌<◌, nat_le, nat_lt, Bool, true, false, not, ◌&&◌, if◌then◌else◌, Result, Ok, Err}
+use Rattle.std.specs.Prelude.{◌≡◌, ℕ, ◌+◌, ◌-◌, ◌≤◌, ◌<◌, nat_le, nat_lt, Bool, true, false, not, ◌&&◌}
+use Rattle.std.specs.Prelude.{if◌then◌else◌, Result, Ok, Err}
 use Rattle.std.specs.Prelude.{List, length, take, map, filter, flat_map, sum_by, Option}
 use Rattle.std.specs.List.{list_any, range_with_len}
 use Rattle.niss_moves.specs.Places.{Place}
@@ -88,7 +89,8 @@ module _ (step : Step) (e : Place → Place) where
   -- searched exactly as deep as it is long; but after none that ends in an idle turn.
   abbrev pub looks_after : (from to : Space (turns_of step) (Place → Place)) → (i j : ℕ) → ℕ
   looks_after from to i j =
-      sum_by (λ s. if ends_idle step s then 0 else looks to (distance to) (after_all from e s) j) (all_canonical (turns_of step) i)
+      sum_by (λ s. if ends_idle step s then 0 else looks to (distance to) (after_all from e s) j)
+      (all_canonical (turns_of step) i)
 
   abbrev pub looks_of_lengths : (i j : ℕ) → ℕ
   looks_of_lengths i j =

@@ -56,7 +56,8 @@ module _ (step : Step) (e : Place → Place) (side : Side) (tail : ℕ) where
   -- what is done after a head: the search for its tails, or nothing if it ends in an idle turn
   abbrev pub after_head : List Turn → PairPart
   after_head head = let here = after_all (on_side side step) e head in record {
-    pairs = if ends_idle step head then [] else kept step e (map (join side head) (reaching (on_other side step) here tail));
+    pairs = if ends_idle step head
+        then [] else kept step e (map (join side head) (reaching (on_other side step) here tail));
     looks = if ends_idle step head then 0 else looks (on_other side step) (distance (on_other side step)) here tail;
   }
 

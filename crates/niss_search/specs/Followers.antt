@@ -8,7 +8,8 @@ use Rattle.niss_search.specs.Positions.{position_after, distance_at}
 
 -- The turn stands in its column, and it is known whether it is idle.
 abbrev pub IsFollower : Step → Follower → Type 0
-IsFollower step f = (f.column < length (turns_of step)) × (turn_at step f.column ≡ f.turn) × (f.is_idle ≡ is_idle step f.turn)
+IsFollower step f =
+    (f.column < length (turns_of step)) × (turn_at step f.column ≡ f.turn) × (f.is_idle ≡ is_idle step f.turn)
 
 -- Those of the step's turns that may follow, in turn order.
 pub record AreFollowers (step : Step) (may : Turn → Bool) (list : List Follower) : Type 0 where

@@ -112,8 +112,8 @@ impl<A: Allocator> Walk<'_, A> {
         }
     }
 
-    /// Goes on below a head with `left` turns more, which ends in no idle turn if there are none. `other` is the cube of the
-    /// other side after it.
+    /// Goes on below a head with `left` turns more. If there are none, it ends in no idle turn. `other` is the cube of
+    /// the other side after it.
     #[cycle(heads)]
     fn go_on<K: PairSink>(
         &self,
@@ -152,8 +152,8 @@ impl<A: Allocator> Walk<'_, A> {
         Ok(count)
     }
 
-    /// Goes on below a head and one turn more with `left` turns after that: with none not after an idle turn, before which
-    /// the step is reached or isn't after it, so that no pair is handed out.
+    /// Goes on below a head and one turn more with `left` turns after that. If there are none, it leaves out an idle turn:
+    /// a pair that reaches the step by it reaches it before.
     #[cycle(heads)]
     fn follow<K: PairSink>(
         &self,
