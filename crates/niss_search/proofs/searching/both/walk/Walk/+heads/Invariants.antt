@@ -1,14 +1,17 @@
-use Rattle.niss_search.proofs.Words.{◌≡◌, ◌+◌, ◌≤◌, ◌-◌, take, map_of}
+use Rattle.niss_search.proofs.Words.{◌≡◌, ◌+◌, ◌*◌, ◌≤◌, ◌-◌, take, map_of}
 use Rattle.niss_search.proofs.BothLemmas.{next_heads}
 use Rattle.niss_search.specs.BothSides.{HandedOut}
 use Rattle.niss_search.specs.BothWalk.{parts}
-use Rattle.niss_search.proofs.searching.both.walk.Walk.+go_on.Given as goal
+use Rattle.niss_search.proofs.searching.both.walk.Walk.+heads.Given as goal
 
 abbrev pub decreases-go_on : goal.decreases-go_on
-decreases-go_on g l = l.left
+decreases-go_on g l = 2 * l.left
 
-abbrev pub invariant-loop-follower : goal.invariant-loop-follower
-invariant-loop-follower g l =
+abbrev pub decreases-follow : goal.decreases-follow
+decreases-follow g l = 2 * l.left + 1
+
+abbrev pub invariant-go_on-loop-follower : goal.invariant-go_on-loop-follower
+invariant-go_on-loop-follower g l =
     let done = parts (next_heads l.self.tables.now (map_of l.self.cube.now) l.self.side l.self.tail l.fn.head.turns (l.left - 1)) (take l.follower-index l.follower-items) in record {
       head : l.head ≡ l.fn.head;
       within : l.meter ≤ l.self.budget.now.bound;
