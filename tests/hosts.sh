@@ -35,7 +35,7 @@ part python3 tests/hosts/net.py python "${others[@]}"
 if missing g++; then skips "the best ways on, since there is no g++ for their model"; else
     holds "the model of the best ways on compiles" g++ -std=c++17 -O3 -Wall -Wextra -Werror -o "$room/ways" tests/model/ways.cpp
     part python3 tests/hosts/best.py 1 30 0 "$room/ways" 6 "${others[@]}"
-    part python3 tests/hosts/best.py 2 6 1 "$room/ways" 1 "${others[@]}"
+    part python3 tests/hosts/best.py 2 5 1 "$room/ways" 2 "${others[@]}"
     part python3 tests/hosts/best.py 3 2 2 "$room/ways" 0 "${others[@]}"
 fi
 parts_end

@@ -32,6 +32,7 @@ from ._lines import cleanup, facelets, invert, scramble, steps, unniss, version
 from ._places import start_of
 from ._runs import run, scrambles
 from ._searches import Tables, count, count_all, near, solutions, solve, solve_all
+from ._sides import Sides as Sides
 from ._stickers import AXES, CORNER_PLACES, EDGE_PLACES, NET, Axis as Axis, stickers_of
 from ._tokens import FormPlace, Token, form_places, tokens
 from ._values import Answer, Count, Cut, Fault, LineFault, Solution, Solutions, StartFault, raising

@@ -99,7 +99,7 @@ def main() -> None:
     stopped(tally, [host for host in hosts if host.name != "JavaScript"], python, slack)
     for host in hosts:
         tally.equal(f"{host.name} ends, and has said no more", host.end(), 0)
-    tally.holds("some have rows, some have none, and some are cut", sum(";" in it for it in wanted) > count / 2 and "" in wanted and CUT in wanted)
+    tally.holds("some have rows, some have none, and some are cut", any(";" in it for it in wanted) and "" in wanted and CUT in wanted)
     tally.end()
 
 
