@@ -53,7 +53,7 @@ def of_many(tally: Tally, browser: Browser) -> None:
     browser.script("document.getElementById('best-options').open = true")
     top = browser.script(place)
     browser.choose("best-side", "inverse")
-    left = re.match(r"[0-9,]+ of [0-9,]+ EOs? tried. ([0-9,]+) of", browser.text("best-note"))
+    left = re.match(r"([0-9,]+) of ", browser.text("best-note"))
     tally.equal("as many are seen", len(browser.texts("#best-body tr")), min(count, int(left[1].replace(",", "")) if left else 0))
     tally.holds(f"and not as few as at first: {count}", len(browser.texts("#best-body tr")) > 6)
     tally.equal("the filters stay", browser.script(place), top)

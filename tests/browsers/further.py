@@ -22,7 +22,7 @@ const said = (text, button) => {
   [note.textContent, found.textContent, found.hidden] = [text, button, button === ""];
   return Math.round(rows.getBoundingClientRect().top);
 };
-const tried = "Up to 2 longer: 184,508 of 244,538 EOs tried. The best 10,000 rows.";
+const tried = "Up to 2 longer: the best 200 of 1,244,538 rows.";
 return [said("", ""), said(tried, ""), said(tried, "120 new rows: 10 moves"), said(`Stopped. ${tried}`, "120 new rows: 10 moves")];
 """
 WIDTHS = (1920, 1440, 1180, 1024, 960, 900, 768, 640, 601, 600, 430, 390, 360, 320)
@@ -65,8 +65,6 @@ def goes_on(tally: Tally, browser: Browser) -> None:
     tally.holds("and those of two", browser.until(f"return {NOTE}.startsWith('Up to 2 longer: ')"))
     tally.holds("to their end", browser.until(ENDED))
     tally.equal("to the end", (browser.script(KEYS), browser.script(FIRST_ROW), browser.script(height)), (keys, top, before))
-    done, all_of_them = re.findall("[0-9,]+", browser.text("best-note").removeprefix("Up to 2 longer"))[:2]
-    tally.equal("all are tried", done, all_of_them)
     shows_found(tally, browser, first, top)
 
 
@@ -134,7 +132,7 @@ def three_moves(tally: Tally, browser: Browser) -> None:
     browser.choose("best-slack", "3")
     browser.wait_best()
     note = browser.text("best-note")
-    tally.holds(f"three moves more: {note}", note != before and "tried" in note)
+    tally.holds(f"three moves more: {note}", note != before and "rows" in note)
 
 
 def has_room(tally: Tally, browser: Browser) -> None:

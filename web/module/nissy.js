@@ -10,8 +10,6 @@
  * one.
  */
 import { attemptChecksBy } from "./attempt-checks.js";
-import { bestTold, lineAfterTold } from "./best.js";
-import { Bounded } from "./bounded.js";
 import { stringOf } from "./bytes.js";
 import { Engine } from "./engine.js";
 import { NoWebAssembly } from "./faults.js";
@@ -36,10 +34,10 @@ export { placeOf, plainLine } from "./written.js";
 /** @typedef {import("./bytes.js").Text} Text */
 /** @typedef {import("./source.js").ModuleSource} ModuleSource */
 /** @typedef {import("./best.js").Best} Best */
-/** @typedef {import("./best.js").BestOrientation} BestOrientation */
 /** @typedef {import("./best.js").BestProgress} BestProgress */
-/** @typedef {import("./best.js").BestReduction} BestReduction */
-/** @typedef {import("./best.js").BestRow} BestRow */
+/** @typedef {import("./ways.js").BestReduction} BestReduction */
+/** @typedef {import("./ways.js").BestRow} BestRow */
+/** @typedef {import("./ways.js").BestStep} BestStep */
 /** @typedef {import("./requests.js").BestWanted} BestWanted */
 /** @typedef {import("./signals.js").Followed} Followed */
 /** @typedef {import("./replies.js").Answer} Answer */
@@ -98,9 +96,9 @@ export const NoWideMemory = NoWebAssembly;
  * call that broke off the next one starts the module anew, or throws `EngineMissing` if that can't be done.
  */
 export class Nissy {
-  /** @type {import("./bounded.js").Answering} */ #engine;
+  /** @type {import("./engine.js").Answering} */ #engine;
 
-  /** @param {import("./bounded.js").Answering} engine */
+  /** @param {import("./engine.js").Answering} engine */
   constructor(engine) {
     this.#engine = engine;
   }
@@ -274,20 +272,28 @@ export class Nissy {
    * @param {Text} scramble @param {Text} [soFar] @returns {string}
    */
   lineAfter(scramble, soFar) {
-    return lineAfterIn(lineAfterTold(this, lineAfterRequest(scramble, soFar)));
+    return lineAfterIn(this.#answer(lineAfterRequest(scramble, soFar)));
   }
 
   /**
-   * What may follow a scramble and the moves so far, the best first: each shortest orientation on either side with each
-   * reduction that may follow it, or the reductions, if an orientation holds. There are none after a reduction. A fault
-   * is told as `check` tells it.
+   * What may follow a scramble and the moves so far, the best first: each shortest orientation over both sides with the
+   * best reduction on each axis that may follow it, over both sides too, or the reductions, if an orientation holds.
+   * There are none after a reduction. A fault is told as `check` tells it.
    * @param {Text} scramble @param {BestWanted & Followed} [options] @returns {Best}
    */
   best(scramble, options) {
     const request = bestRequest(scramble, options);
-    const bounded = new Bounded(this.#engine, request.nodes);
-    const told = bestTold(new Nissy(bounded), request, progressOf(options));
-    return bestIn({ ...told, nodes: bounded.looked }, request);
+    return bestIn(this.#engine.answer(request, progressOf(options)), request);
+  }
+
+  /**
+   * The same of many scrambles, up to the first fault, which says in which; or with each fault in its place.
+   * @template {OnFaults} [Faults="throw"]
+   * @param {readonly Text[]} scrambles @param {BestWanted & Many<Faults>} [options] @returns {Told<Best, Faults>[]}
+   */
+  bestAll(scrambles, options) {
+    const request = allRequest(() => bestRequest("", options), scrambles, options);
+    return allOf(this.#answer(request), request, (/** @type {any} */ reply) => bestIn(reply, request.each));
   }
 
   /**

@@ -4,6 +4,7 @@ import { checkOf, factsFrom } from "./facts.js";
 import { NissyFault, SearchCut, cutOfAll } from "./faults.js";
 import { formPlacesOf, tokensOf } from "./tokens.js";
 import { textIn } from "./utf8.js";
+import { waysIn } from "./ways.js";
 
 /**
  * What a run returns.
@@ -66,9 +67,12 @@ import { textIn } from "./utf8.js";
  * @typedef {SeenCheck | NoValue & {line: number}} CheckReply of which `line` is the line at fault: 1, the scramble, or
  * 2, the solution
  */
-/** @typedef {Answer | LineReply | CountReply | SolveReply | FactsReply | CheckReply} OneReply */
-/** @typedef {import("./best.js").LineAfterReply} LineAfterReply */
-/** @typedef {OneReply | OneReply[] | import("./best.js").BestReply | LineAfterReply} Reply */
+/** @typedef {LineReply & {line?: number}} LineAfterReply of which a fault has the number of its line */
+/** @typedef {import("./best.js").BestReply} BestReply */
+/**
+ * @typedef {Answer | LineReply | CountReply | SolveReply | FactsReply | CheckReply | BestReply | LineAfterReply} OneReply
+ */
+/** @typedef {OneReply | OneReply[]} Reply */
 
 /** What the lines are called of calls that take two. */
 const OF_CHECK = ["scramble", "solution"];
@@ -206,24 +210,24 @@ export function checkIn(reply) {
 
 /**
  * What is thrown of a scramble or of the moves so far.
- * @param {import("./faults.js").FaultParts} fault
+ * @param {NoValue} reply
+ * @param {number} line of which it is
  */
-const faultOfBest = (fault) => new NissyFault(fault.text, fault, OF_BEST[Number(fault.line) - 1]);
+const errorOfBest = (reply, line) => inLine(errorIn(reply), line, OF_BEST[line - 1]);
 
 /** @param {LineAfterReply} reply @returns {string} */
 export function lineAfterIn(reply) {
-  if ("fault" in reply) throw faultOfBest(reply.fault);
-  return reply.line;
+  if (reply.status === STATUS.done) return reply.out;
+  throw errorOfBest(reply, Number(reply.line));
 }
 
-/** @param {import("./best.js").BestReply} reply @param {{cut: Telling}} asked @returns {import("./best.js").Best} */
+/** @param {BestReply} reply @param {{cut: Telling}} asked @returns {import("./best.js").Best} */
 export function bestIn(reply, { cut }) {
-  if ("fault" in reply) throw faultOfBest(reply.fault);
+  if (!("ways" in reply)) throw errorOfBest(reply, reply.line);
+  if (reply.status === STATUS.cut && cut === "throw") throw cutOfAll(reply.nodes);
   /** @type {import("./best.js").Best} */
-  const best = reply.rows.map(({ shown }) => shown);
-  if (!reply.isCut) return best;
-  if (cut === "throw") throw cutOfAll(reply.nodes);
-  best.cut = true;
+  const best = Object.assign(waysIn(reply.ways), { nodes: reply.nodes });
+  if (reply.status === STATUS.cut) best.cut = true;
   return best;
 }
 

@@ -20,7 +20,6 @@ import { solutionsLaterBy } from "./solutions.js";
 /** @typedef {import("./replies.js").Count} Count */
 /** @typedef {import("./replies.js").Solution} Solution */
 /** @typedef {import("./replies.js").Solutions} Solutions */
-/** @typedef {import("./requests.js").LineAfterRequest} LineAfterRequest */
 /** @typedef {import("./requests.js").OneRequest} OneRequest */
 /** @typedef {import("./requests.js").Wanted} Wanted */
 /** @typedef {import("./signals.js").Stoppable} Stoppable */
@@ -33,10 +32,7 @@ import { solutionsLaterBy } from "./solutions.js";
  * @typedef {import("./steps.js").StepName<Name>} StepName
  */
 
-/**
- * @typedef {(request: OneRequest | LineAfterRequest, options?: Stoppable) => Promise<any>} Ask returns what the engine
- * does
- */
+/** @typedef {(request: OneRequest, options?: Stoppable) => Promise<any>} Ask returns what the engine does */
 
 /**
  * The calls of `Nissy` that are one request each, and those made of them. What these throw, the promises are rejected

@@ -110,6 +110,17 @@ export class WorkerCalls extends SingleCalls {
     return bestIn(reply, request);
   }
 
+  /**
+   * @template {OnFaults} [Faults="throw"]
+   * @param {readonly Text[]} scrambles @param {BestWanted & Many<Faults> & Stoppable} [options]
+   * @returns {Promise<Told<Best, Faults>[]>}
+   */
+  async bestAll(scrambles, options) {
+    const request = allRequest(() => bestRequest("", options), scrambles, options);
+    const replies = await this.#queue.answer(request, options);
+    return allOf(replies, request, (/** @type {any} */ reply) => bestIn(reply, request.each));
+  }
+
   /** Gives up the calls that wait for their turn; one that runs goes on. */
   drop() {
     this.#queue.drop();

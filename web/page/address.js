@@ -1,12 +1,13 @@
 // The state of the page in its address, after the #, so that it can be kept and sent. What an address says is checked
 // piece by piece: each piece becomes a part of the state, or is left out and named.
-import { REDUCTIONS, isSide, stepNamed } from "./steps.js";
+import { REDUCTIONS, SIDES, isSide, stepNamed } from "./steps.js";
 
 /** @typedef {import("./steps.js").Part} Part */
-/** @typedef {{step: string, side: import("./steps.js").Side, slack: number, isAll: boolean, split?: number}} List
+/** @typedef {{step: string, side: Side, slack: number, isAll: boolean, split?: number}} List
  * `split`: how many moves its solutions begin with on the other side */
 /** @typedef {{parts: Part[], note: string, next: string}} Candidate `next`: the reduction it was kept with, or "" */
-/** @typedef {{scramble: string, parts: Part[], side: Part["side"], list: List | null, kept: Candidate[]}} State */
+/** @typedef {import("./steps.js").Side} Side */
+/** @typedef {{scramble: string, parts: Part[], side: Side, list: List | null, kept: Candidate[]}} State */
 
 const LONGEST_ADDRESS = 20000;
 // 256 moves, each of as many signs as one may have and in brackets, are half of it
@@ -45,8 +46,12 @@ const oneLine = (text) => text.replace(/[\r\n]/g, " ");
 
 const spelled = (text) => decodeURIComponent(wellFormed(text).replace(/_/g, "%20").replace(/-/g, "'"));
 
+/** @param {Part} part @returns its sides, each with its moves, such as `normal.R_U.inverse.F` */
+const writtenPart = (part) => SIDES.filter((side) => part[side] !== "").map((side) => `${side}.${escaped(part[side])}`)
+  .join(".");
+
 /** @param {Part[]} parts */
-const writtenParts = (parts) => parts.map(({ side, moves }) => `${side}.${escaped(moves)}`).join("~");
+const writtenParts = (parts) => parts.map(writtenPart).join("~");
 
 /** @param {Candidate} candidate */
 const writtenCandidate = ({ parts, note, next }) =>
@@ -76,10 +81,15 @@ export const hasLines = ({ parts, kept }) => parts.length + kept.length > 0;
 
 /** @param {string} text @returns {Part} */
 function readPart(text) {
-  const [side, moves, ...rest] = text.split(".");
-  const plain = spelled(moves ?? "");
-  if (!isSide(side) || rest.length > 0 || !MOVES.test(plain)) throw new Error("not steps");
-  return { side, moves: plain };
+  const pieces = text.split(".");
+  /** @type {Part} */
+  const part = { normal: "", inverse: "" };
+  for (let at = 0; at < pieces.length; at += 2) {
+    const [side, moves] = [pieces[at], spelled(pieces[at + 1] ?? "")];
+    if (!isSide(side) || part[side] !== "" || !MOVES.test(moves)) throw new Error("not steps");
+    part[side] = moves;
+  }
+  return part;
 }
 
 /** Splits a text into at most so many pieces.

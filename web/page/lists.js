@@ -1,18 +1,17 @@
 // The rows of a list, by the engine at hand: a step's solutions, twins as one, each with the cases after it; or a step
 // split over both sides, a few moves on one and the rest on the other, the fewest moves in all first.
-import { facesOnAxisOf, stepNamed } from "../module/best-steps.js";
-import { turnsOfFace } from "../module/merging.js";
-import { mayBegin, mergeTwins, reachedBy, withoutEarlier } from "../module/twins.js";
-import { afterPart, countOf, totalsWith } from "../module/ways.js";
-import { joined, otherSide } from "./steps.js";
+import { FACES_OF, facesOnAxisOf, stepNamed } from "./axes.js";
+import { positionAfter, totalsWith } from "./cubes.js";
+import { joined, otherSide, partOn } from "./steps.js";
+import { mergeTwins, withoutEarlier } from "./twins.js";
 
 /** @typedef {import("../module/nissy.js").Nissy} Nissy */
 /** @typedef {import("./address.js").List} List */
-/** @typedef {import("../module/ways.js").Position} Position */
-/** @typedef {import("../module/twins.js").Twins & {total?: number, cases?: Record<string, string>, begin?:
- * import("./steps.js").Part, line?: string, reached?: string | null}} Entry a solution, with all moves and cases if
- * these are known; if it is split `length` counts all its moves, `begin` are those on the other side, and `line` is the
- * cube after these; `reached`: with which beginning the step is reached, if it goes on after that */
+/** @typedef {import("./cubes.js").Position} Position */
+/** @typedef {import("./steps.js").Part} Part */
+/** @typedef {import("./twins.js").Twins & {total?: number, cases?: Record<string, string>, begin?: string,
+ * line?: string}} Entry a solution, with all moves and cases if these are known; if it is split `length` counts all its
+ * moves, `begin` are those on the other side, and `line` is the cube after these */
 /** @typedef {{entries: Entry[], all: number, left: number, whole: boolean}} Rows `all`: how many there are, and `left`:
  * without those that reach the step before their last move */
 
@@ -32,6 +31,14 @@ function mayFollow(last, turn) {
   return !faces.includes(turn[0]) || faces.indexOf(last[0]) < faces.indexOf(turn[0]);
 }
 
+/** The turns of a face that keep what a step starts from: a reduction keeps its orientation, so the two faces of that
+ * have half turns alone.
+ * @param {string} face @param {import("./axes.js").StepOnAxis} step */
+function turnsOfFace(face, { needs }) {
+  const halves = needs === null ? "" : FACES_OF[stepNamed(needs).axis];
+  return (halves.includes(face) ? ["2"] : ["", "2", "'"]).map((power) => face + power);
+}
+
 /** @param {string} step its name @param {number} count @returns {string[][]} its beginnings with so many moves */
 function beginningsWith(step, count) {
   if (count === 0) return [[]];
@@ -44,8 +51,8 @@ function beginningsWith(step, count) {
  * @param {Nissy} nissy @param {List} list @param {Position["lines"]} now the cube
  * @returns {{solutions: Entry[], whole: boolean}} */
 function splitSolutions(nissy, { step, side, slack, split }, now) {
-  const beginnings = beginningsWith(step, split).map((turns) => turns.join(" ")).map((moves) => (
-    { begin: { side: otherSide(side), moves }, line: joined(nissy.invert(moves), now[side]) }));
+  const beginnings = beginningsWith(step, split).map((turns) => turns.join(" ")).map((begin) => (
+    { begin, line: joined(nissy.invert(begin), now[side]) }));
   const lines = beginnings.map(({ line }) => line);
   const least = Math.min(...nissy.countAll(step, lines, { most: 1 }).map(({ length }) => length ?? LONGEST_AFTER));
   const limit = Math.min(LONGEST_AFTER, least + slack);
@@ -61,22 +68,21 @@ function splitSolutions(nissy, { step, side, slack, split }, now) {
 /** The solutions of a step on one side that are at most so many moves longer, and whether these are all.
  * @param {Nissy} nissy @param {List} list @param {Position["lines"]} now the cube
  * @returns {{solutions: Entry[], whole: boolean}} */
-function ownSolutions(nissy, { step, side, slack, isAll }, now) {
+function ownSolutions(nissy, { step, side, slack }, now) {
   const found = nissy.solve(step, now[side], { slack, most: MOST_LISTED + 1 });
-  const known = mayBegin(isAll ? found : []);
-  const solutions = found.slice(0, MOST_LISTED).map(({ moves, length }) => (
-    { moves, length, others: [], reached: reachedBy(moves, known) }));
+  const solutions = found.slice(0, MOST_LISTED).map((each) => ({ ...each, others: [] }));
   return { solutions, whole: found.length <= MOST_LISTED };
 }
 
 /** Tells of solutions all moves with each, if moves were made before, and puts those with the fewest first.
- * @param {Nissy} nissy @param {Entry[]} solutions @param {Position} position @param {List} list */
-function withTotals(nissy, solutions, position, { side, split = 0 }) {
-  if (countOf(position) === 0 || solutions.length > MOST_WITH_CASES) return solutions;
+ * @param {Nissy} nissy @param {Entry[]} solutions @param {Asked} asked */
+function withTotals(nissy, solutions, { list: { side, split = 0 }, scramble, parts }) {
+  if (parts.length === 0 || solutions.length > MOST_WITH_CASES) return solutions;
   const beginnings = [...new Set(solutions.map(({ begin }) => begin))];
   const counted = beginnings.flatMap((begin) => {
     const entries = solutions.filter((each) => each.begin === begin);
-    const before = begin === undefined ? position : afterPart(nissy, position, begin);
+    const added = begin === undefined ? [] : [partOn(otherSide(side), begin)];
+    const before = positionAfter(nissy, scramble, [...parts, ...added]);
     const own = entries.map(({ moves, length }) => ({ moves, length: length - split }));
     const totals = totalsWith(nissy, before, side, own);
     return entries.map((each, at) => ({ ...each, total: totals[at] }));
@@ -84,14 +90,17 @@ function withTotals(nissy, solutions, position, { side, split = 0 }) {
   return counted.sort((one, other) => one.total - other.total || one.length - other.length);
 }
 
-/** @param {Nissy} nissy @param {{list: List, position: Position}} asked @returns {Rows} */
-export function rowsOfList(nissy, { list, position }) {
-  const now = position.lines;
+/** @typedef {{list: List, scramble: string, parts: Part[]}} Asked */
+
+/** @param {Nissy} nissy @param {Asked} asked @returns {Rows} */
+export function rowsOfList(nissy, asked) {
+  const { list } = asked;
+  const { lines: now } = positionAfter(nissy, asked.scramble, asked.parts);
   const isSplit = list.split > 0;
   const { solutions, whole } = (isSplit ? splitSolutions : ownSolutions)(nissy, list, now);
   const wanted = list.isAll || isSplit ? solutions : withoutEarlier(solutions);
-  const left = withTotals(nissy, wanted, position, list);
-  const entries = list.isAll ? left : mergeTwins(left, list.step, ({ begin }) => begin?.moves ?? "");
+  const left = withTotals(nissy, wanted, asked);
+  const entries = list.isAll ? left : mergeTwins(left, list.step, ({ begin }) => begin ?? "");
   if (stepNamed(list.step).needs === null) {
     const first = entries.slice(0, MOST_WITH_CASES);
     const facts = nissy.factsAll(first.map(({ moves, line = now[list.side] }) => joined(line, moves)));

@@ -7,7 +7,10 @@ import {
   Filters, NOT_MOVES, caseAtMost, chosen, offerChoices, offerLastTurns, offerMoves, withTurns,
 } from "./filter.js";
 import { addRows, named, roveWithin, showRows, starButton, takeButton, takeNamed } from "./rows.js";
-import { axisName, barred, bracketed, reductionsAfter, sizeOfCase, stateOf, stepNamed, titleOf } from "./steps.js";
+import {
+  axisName, bracketed, otherSide, partOn, reductionsAfter, sizeOfCase, stateOf, stepNamed, titleOf,
+} from "./steps.js";
+import { withTwins } from "./twins.js";
 import { isNarrow } from "./view.js";
 
 /** @typedef {import("./address.js").List} List */
@@ -22,12 +25,12 @@ const MOST_SHOWN = 200;
 const LOOKING = "Looking …";
 
 /** @param {Entry} entry @returns what a solution is known by */
-const keyOf = ({ moves, begin }) => (begin === undefined ? moves : `${begin.moves}, ${moves}`);
+const keyOf = ({ moves, begin }) => (begin === undefined ? moves : `${begin}, ${moves}`);
 
 /** How many signs a solution has as it is shown.
  * @param {Entry} entry @param {import("./steps.js").Side} side */
 const signsOf = ({ moves, begin }, side) =>
-  (begin === undefined ? moves.length + (side === "inverse" ? 2 : 0) : moves.length + begin.moves.length + 3);
+  (begin === undefined ? moves.length + (side === "inverse" ? 2 : 0) : moves.length + begin.length + 3);
 
 /** What is said of a list.
  * @param {import("./lists.js").Rows} rows @param {number} matching how many are left @param {number} shown */
@@ -58,9 +61,9 @@ export class SolutionList {
   #ordered = [];
   #shown = MOST_SHOWN;
   #filters = new Filters("list", part("solutions-note"), [[
-    withTurns("filter", "last-turn", (entry) => entry),
+    withTurns("filter", "last-turn", ({ moves, others }) => withTwins(moves, others)),
     caseAtMost("most", (entry) => this.#casesOf(entry).map(({ name }) => name)),
-    chosen("list-begin", [], ({ begin }, moves) => begin.moves === moves),
+    chosen("list-begin", [], ({ begin }, moves) => begin === moves),
   ]], () => this.#filtered());
   #groups = part("solutions-groups");
 
@@ -96,13 +99,13 @@ export class SolutionList {
   /** Looks for a list, or shows that none is open; one that is shown already stays. Says whether it is shown in the
    * end.
    * @param {string} name what tells it from others @param {List | null} list
-   * @param {import("../module/ways.js").Position | null} position */
-  async show(name, list, position) {
+   * @param {{scramble: string, parts: Part[]} | null} line */
+  async show(name, list, line) {
     if (name === this.#name) return false;
     this.#name = name;
     this.#calls.stop();
     // the engine searches while the card is drawn; what is wrong is said where it is waited for
-    const asked = list && this.#calls.ask("rowsOfList", { list, position });
+    const asked = list && this.#calls.ask("rowsOfList", { list, ...line });
     asked?.catch(() => {});
     this.#open(list);
     if (!list) return false;
@@ -161,7 +164,7 @@ export class SolutionList {
     this.#rows = rows;
     offerLastTurns("last-turn", rows.entries.map(({ moves }) => moves));
     // the best first, as the rows are
-    offerChoices("list-begin", [...new Set(rows.entries.flatMap(({ begin }) => begin?.moves ?? []))]);
+    offerChoices("list-begin", [...new Set(rows.entries.flatMap(({ begin }) => begin ?? []))]);
     this.#setWorking(false);
     this.#order();
     const { step, side } = this.#list;
@@ -250,7 +253,7 @@ export class SolutionList {
     for (const entry of matching) {
       const inAll = entry.total === undefined ? "" : `, ${entry.total} in all`;
       const name = nearest.get(entry)?.name ?? counted(entry.length, "move") + inAll;
-      const begin = order === "beginning" ? bracketed([entry.begin]) : "";
+      const begin = order === "beginning" ? bracketed([partOn(otherSide(this.#list.side), entry.begin)]) : "";
       const group = groups.get(begin || name)
         ?? { name: begin === "" ? name : `${begin} first, from ${name}`, entries: [], longest: 0, list: null };
       groups.set(begin || name, group);
@@ -289,25 +292,22 @@ export class SolutionList {
     addRows(group.list, entries.slice(group.list.children.length, count).map((entry) => this.#item(entry)));
   }
 
-  /** @param {Entry} entry @returns {Part[]} the steps that a solution is: where it is split two */
-  #partsOf({ moves, begin }) {
-    const own = { side: this.#list.side, moves };
-    return begin === undefined ? [own] : [begin, own];
+  /** @param {Entry} entry @returns {Part} the step that a solution is */
+  #partOf({ moves, begin = "" }) {
+    return { ...partOn(otherSide(this.#list.side), begin), [this.#list.side]: moves };
   }
 
   /** @param {Entry} entry */
   #item(entry) {
     const { moves, others } = entry;
     if (moves === "") return element("li", { class: "reached" }, "no moves: it is reached");
-    const [added, key, cases] = [this.#partsOf(entry), keyOf(entry), this.#casesOf(entry)];
+    const [added, key, cases] = [[this.#partOf(entry)], keyOf(entry), this.#casesOf(entry)];
     const text = bracketed(added);
-    const shown = bracketed(added.with(-1, barred(added.at(-1), entry.reached)));
     const twins = others.map((other) => `or ${spoken(other)}`);
-    const step = stateOf(stepNamed(this.#list.step)).slice(0, 2);
-    const said = { cases: cases.map(({ axis, name }) => `${axis} ${name}`), twins, step };
+    const said = { cases: cases.map(({ axis, name }) => `${axis} ${name}`), twins };
     const copy = { class: "copy", ...named(`Copy ${spoken(text)}`, "Copy the covered moves") };
     return element("li", {},
-      takeButton(shown, { key, isSeen: this.#acts.isSeen(added), ...said }, () => this.#acts.take(added, key)),
+      takeButton(text, { key, isSeen: this.#acts.isSeen(added), ...said }, () => this.#acts.take(added, key)),
       ...(others.length === 0 ? [] : [element("small", { class: "twins" }, `/ ${others.join(" / ")}`)]),
       ...(cases.length === 0 ? [] : [element("span", { class: "cases" }, ...cases.map(({ axis, name, state }) =>
         element("span", { class: "case", "data-marks": state }, `${axis} ${name}`)))]),

@@ -1,9 +1,8 @@
 // Twins: solutions of one step that differ in the direction of their last quarter turns alone. The same holds after
 // each, and all have one case. And solutions in which the step was reached before their last move.
-import { FACES_OF, facesOnAxisOf, lastAxisOf, stepNamed } from "./best-steps.js";
-import { joined } from "./sides.js";
+import { FACES_OF, facesOnAxisOf, lastAxisOf, stepNamed } from "./axes.js";
 
-/** @typedef {import("./replies.js").Solution} Solution */
+/** @typedef {import("../module/replies.js").Solution} Solution */
 /** @typedef {Solution & {others: string[]}} Twins a solution, with the last moves of its twins */
 
 /**
@@ -29,7 +28,7 @@ const startOfTwin = (moves, step) => startOfLast(moves, FACES_OF[lastAxisOf(step
  * @param {string} moves
  * @param {string} step its name
  */
-export function twinKey(moves, step) {
+function twinKey(moves, step) {
   const start = startOfTwin(moves, step);
   return moves.slice(0, start) + moves.slice(start).replaceAll("'", "");
 }
@@ -39,22 +38,7 @@ export function twinKey(moves, step) {
  * @param {string} moves
  * @param {string} step its name
  */
-export const lastTurnsOf = (moves, step) => moves.slice(startOfTwin(moves, step));
-
-/**
- * Some moves and all their twins, in an order that is the same for each of them.
- * @param {string} moves
- * @param {string} step its name
- */
-export function allTwins(moves, step) {
-  const start = startOfTwin(moves, step);
-  const turns = moves.slice(start).match(/[A-Z]2?/g) ?? [];
-  return turns.reduce((begun, turn) => {
-    // a quarter turn may go either way
-    const ways = turn.endsWith("2") ? [turn] : [turn, `${turn}'`];
-    return begun.flatMap((each) => ways.map((way) => joined(each, way)));
-  }, [moves.slice(0, start).trimEnd()]);
-}
+const lastTurnsOf = (moves, step) => moves.slice(startOfTwin(moves, step));
 
 /**
  * Some moves, and those of their twins.
@@ -91,7 +75,7 @@ export function mergeTwins(solutions, step, before = () => "") {
  * @param {string} one
  * @param {string} other
  */
-export const areOfOneAxis = (one, other) => facesOnAxisOf(one).includes(other);
+const areOfOneAxis = (one, other) => facesOnAxisOf(one).includes(other);
 
 /**
  * The beginnings of a line that have fewer moves, but at least so many; of two turns of opposite faces, which may
@@ -117,32 +101,18 @@ function* beginningsOf(moves, length, least) {
  * @param {readonly Solution[]} solutions all, from the shortest on
  * @returns {ReadonlySet<string>}
  */
-export function mayBegin(solutions) {
+function mayBegin(solutions) {
   const isEven = solutions[0]?.length === solutions[solutions.length - 1]?.length;
   return new Set(isEven ? [] : solutions.map(({ moves }) => moves));
 }
 
 /**
- * The shortest beginning of a solution, as it is written, from which on the step holds; null if that is all of it.
- * @param {string} moves
- * @param {ReadonlySet<string>} known
- */
-export function reachedBy(moves, known) {
-  let cut = moves.length;
-  for (let next = known.size === 0 ? -1 : moves.lastIndexOf(" "); next > 0 && known.has(moves.slice(0, next)); ) {
-    cut = next;
-    next = moves.lastIndexOf(" ", cut - 1);
-  }
-  return cut === moves.length ? null : moves.slice(0, cut);
-}
-
-/**
  * What tells of each of some solutions with which shorter ones it begins, the longest first.
  * @param {readonly Solution[]} solutions all, from the shortest on
- * @param {ReadonlySet<string>} known
  * @returns {(solution: Solution) => readonly string[]}
  */
-export function shorterAmong(solutions, known = mayBegin(solutions)) {
+function shorterAmong(solutions) {
+  const known = mayBegin(solutions);
   const least = solutions[0]?.length ?? 0;
   if (known.size === 0) return () => [];
   return ({ moves, length }) => [...beginningsOf(moves, length, least)].filter((each) => known.has(each));
