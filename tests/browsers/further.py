@@ -97,7 +97,9 @@ def pauses(tally: Tally, browser: Browser) -> None:
     asked = "return window.asked.filter((each) => each === 'best').length"
     count = browser.script(asked)
     browser.script(TURN, True)
-    browser.until(f"return {NOTE}.startsWith('Up to 2 longer: ')")
+    browser.until(f"return {NOTE}.startsWith('Up to 1 longer: ')")
+    # those of two moves more
+    browser.until(f"return window.asked.filter((each) => each === 'best').length > {count + 3}")
     workers = browser.workers()
     browser.script(TURN, False)
     end = time.monotonic() + 10
@@ -111,7 +113,7 @@ def pauses(tally: Tally, browser: Browser) -> None:
     tally.holds("it goes on", browser.until(f"return window.asked.filter((each) => each === 'best').length > {left[0]}"))
     browser.click("#best-stop")
     note = browser.text("best-note")
-    tally.holds(f"a stop says how far it came: {note}", note.startswith("Stopped. Up to 2 longer: "))
+    tally.holds(f"a stop says how far it came: {note}", note.startswith("Stopped. Up to 1 longer: "))
     count = browser.script(asked)
     time.sleep(LONGER_THAN_REST)
     tally.equal("and ends it", (browser.script(asked), browser.script(ENDED)), (count, True))

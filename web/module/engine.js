@@ -42,6 +42,7 @@ function answerOne(instance, request, tell) {
     case "run":
       return runIn(instance, request);
     case "solve":
+    case "solveSides":
     case "count":
     case "facts":
       return answerLine(instance, request);

@@ -3,6 +3,7 @@ import { bestOf } from "./best.js";
 import { FACTS_ANSWER, HEAD, LINES_ANSWER, SEARCH_ANSWER } from "./layout.js";
 import { bound, counted, refusal, seen, solved } from "./line-calls.js";
 import { aligned, roomFor } from "./memory.js";
+import { solvedOverSides } from "./over-sides.js";
 import { countAt, factsAt, headAt } from "./read-answers.js";
 import { STATUS, endsAll, hasValue } from "./replies.js";
 
@@ -140,6 +141,8 @@ export function answerLine(instance, request) {
       return solved(instance, request);
     case "count":
       return counted(instance, request);
+    case "solveSides":
+      return solvedOverSides(instance, request);
     case "best":
       return bestOf(instance, request, () => {});
     default:

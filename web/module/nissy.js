@@ -18,8 +18,8 @@ import {
   tokensIn,
 } from "./replies.js";
 import {
-  allRequest, bestRequest, checkRequest, countRequest, factsRequest, lineAfterRequest, lineRequest, runRequest,
-  scrambleRequest, scramblesRequest, solutionsRequest, solveRequest, stepsRequest,
+  allRequest, bestRequest, checkRequest, countRequest, factsRequest, lineAfterRequest, lineRequest, listRequest,
+  runRequest, scrambleRequest, scramblesRequest, solutionsRequest, stepsRequest,
 } from "./requests.js";
 import { progressOf } from "./signals.js";
 import { solutionsBy } from "./solutions.js";
@@ -52,7 +52,9 @@ export { placeOf, plainLine } from "./written.js";
 /** @typedef {import("./replies.js").Solutions} Solutions */
 /** @typedef {import("./tokens.js").FormPlace} FormPlace */
 /** @typedef {import("./tokens.js").Token} Token */
+/** @typedef {import("./replies.js").SideSolutions} SideSolutions */
 /** @typedef {import("./requests.js").OnFaults} OnFaults */
+/** @typedef {import("./requests.js").Sides} Sides */
 /** @typedef {import("./requests.js").Request} Request */
 /** @typedef {import("./requests.js").Wanted} Wanted */
 /** @typedef {import("./requests.js").Within} Within */
@@ -79,6 +81,16 @@ export const NoWideMemory = NoWebAssembly;
 /**
  * @template {OnFaults} [Faults=OnFaults]
  * @typedef {import("./requests.js").Many<Faults>} Many
+ */
+
+/**
+ * @template {Sides | undefined} [On=Sides | undefined]
+ * @typedef {import("./requests.js").OnSides<On>} OnSides
+ */
+
+/**
+ * @template {Sides | undefined} On
+ * @typedef {import("./replies.js").SolutionsOn<On>} SolutionsOn
  */
 
 /**
@@ -173,12 +185,14 @@ export class Nissy {
   }
 
   /**
-   * The solutions of a step after a line's moves, by length and then in turn order.
+   * The solutions of a step after a line's moves, by length and then in turn order; with `sides` those on these sides
+   * of the line, each with its moves on both.
    * @template {string} Name
-   * @param {StepName<Name>} step @param {Text} line @param {Wanted} [options] @returns {Solutions}
+   * @template {Sides | undefined} [On=undefined]
+   * @param {StepName<Name>} step @param {Text} line @param {Wanted & OnSides<On>} [options] @returns {SolutionsOn<On>}
    */
   solve(step, line, options) {
-    const request = solveRequest(step, line, options);
+    const request = listRequest(step, line, options);
     return solutionsIn(this.#answer(request), request);
   }
 
@@ -196,11 +210,12 @@ export class Nissy {
    * The same of many lines, up to the first fault, which says in which; or with each fault in its place.
    * @template {string} Name
    * @template {OnFaults} [Faults="throw"]
-   * @param {StepName<Name>} step @param {readonly Text[]} lines @param {Wanted & Many<Faults>} [options]
-   * @returns {Told<Solutions, Faults>[]}
+   * @template {Sides | undefined} [On=undefined]
+   * @param {StepName<Name>} step @param {readonly Text[]} lines @param {Wanted & OnSides<On> & Many<Faults>} [options]
+   * @returns {Told<SolutionsOn<On>, Faults>[]}
    */
   solveAll(step, lines, options) {
-    const request = allRequest(() => solveRequest(step, "", options), lines, options);
+    const request = allRequest(() => listRequest(step, "", options), lines, options);
     return allOf(this.#answer(request), request, (/** @type {any} */ reply) => solutionsIn(reply, request.each));
   }
 

@@ -4,7 +4,7 @@ import { wholeNumber } from "./bytes.js";
 import { Stopped } from "./faults.js";
 import { Pieces } from "./pieces.js";
 import { STATUS, bestIn, countIn, factsIn, solutionsIn } from "./replies.js";
-import { allRequest, bestRequest, countRequest, factsRequest, solveRequest } from "./requests.js";
+import { allRequest, bestRequest, countRequest, factsRequest, listRequest } from "./requests.js";
 import { Signals, Telling, reasonOf, signalOf } from "./signals.js";
 import { SingleCalls } from "./single-calls.js";
 import { compiled } from "./source.js";
@@ -29,6 +29,18 @@ import { WorkerQueue } from "./worker-queue.js";
 /** @typedef {import("./source.js").ModuleSource} ModuleSource */
 /** @typedef {import("./worker-queue.js").NewWorker} NewWorker */
 /** @typedef {import("./worker-queue.js").SentModule} SentModule */
+
+/** @typedef {import("./requests.js").Sides} Sides */
+
+/**
+ * @template {Sides | undefined} [On=Sides | undefined]
+ * @typedef {import("./requests.js").OnSides<On>} OnSides
+ */
+
+/**
+ * @template {Sides | undefined} On
+ * @typedef {import("./replies.js").SolutionsOn<On>} SolutionsOn
+ */
 
 /**
  * @template {string} Name
@@ -176,11 +188,12 @@ export class WorkerPool extends SingleCalls {
    * @template {string} Name
    * @template {OnFaults} [Faults="throw"]
    * @param {StepName<Name>} step @param {readonly Text[]} lines
-   * @param {Wanted & Many<Faults> & Followed & Stoppable} [options]
-   * @returns {Promise<Told<Solutions, Faults>[]>}
+   * @template {Sides | undefined} [On=undefined]
+   * @param {Wanted & OnSides<On> & Many<Faults> & Followed & Stoppable} [options]
+   * @returns {Promise<Told<SolutionsOn<On>, Faults>[]>}
    */
   async solveAll(step, lines, options) {
-    const request = allRequest(() => solveRequest(step, "", options), lines, options);
+    const request = allRequest(() => listRequest(step, "", options), lines, options);
     return this.#answerAll(request, options, (reply) => solutionsIn(reply, request.each));
   }
 

@@ -4,7 +4,7 @@ import { checkOf, factsFrom } from "./facts.js";
 import { NissyFault, SearchCut, cutOfAll } from "./faults.js";
 import { formPlacesOf, tokensOf } from "./tokens.js";
 import { textIn } from "./utf8.js";
-import { waysIn } from "./ways.js";
+import { bothSidesIn, waysIn } from "./ways.js";
 
 /**
  * What a run returns.
@@ -29,6 +29,17 @@ import { waysIn } from "./ways.js";
 /**
  * Solutions. Those of a search that was cut begin its list, and `cut` is there.
  * @typedef {Solution[] & {cut?: true}} Solutions
+ */
+
+/**
+ * Those over both sides.
+ * @typedef {import("./ways.js").BestStep[] & {cut?: true}} SideSolutions
+ */
+
+/**
+ * What `solve` tells, whether sides are asked for or not.
+ * @template {import("./requests.js").Sides | undefined} On
+ * @typedef {On extends string ? SideSolutions : Solutions} SolutionsOn
  */
 
 /**
@@ -61,6 +72,7 @@ import { waysIn } from "./ways.js";
  */
 /** @typedef {SeenCount | NoValue} CountReply */
 /** @typedef {SeenCount & {out: string} | NoValue} SolveReply */
+/** @typedef {import("./over-sides.js").SeenParts | NoValue} SidesReply */
 /** @typedef {SeenCount & {out: Uint8Array} | NoValue} SolveBytesReply */
 /** @typedef {SeenFacts | NoValue} FactsReply */
 /**
@@ -70,7 +82,8 @@ import { waysIn } from "./ways.js";
 /** @typedef {LineReply & {line?: number}} LineAfterReply of which a fault has the number of its line */
 /** @typedef {import("./best.js").BestReply} BestReply */
 /**
- * @typedef {Answer | LineReply | CountReply | SolveReply | FactsReply | CheckReply | BestReply | LineAfterReply} OneReply
+ * @typedef {Answer | LineReply | CountReply | SolveReply | FactsReply | CheckReply | SidesReply | BestReply |
+ * LineAfterReply} OneReply
  */
 /** @typedef {OneReply | OneReply[]} Reply */
 
@@ -121,7 +134,7 @@ function errorIn(reply) {
 }
 
 /**
- * @template {LineReply | CountReply | SolveReply | FactsReply | CheckReply} Reply
+ * @template {LineReply | CountReply | SolveReply | SidesReply | FactsReply | CheckReply} Reply
  * @param {Reply} reply
  * @returns {Exclude<Reply, NoValue>} the same, which has a value
  */
@@ -182,12 +195,23 @@ const countSeen = ({ least, solutions, nodes }) => ({ length: solutions === 0 ? 
 /** @param {SeenCount} seen whose cut isn't thrown @returns {Count} */
 export const countTold = (seen) => (seen.status === STATUS.cut ? { ...countSeen(seen), cut: true } : countSeen(seen));
 
-/** @param {SolveReply} reply @param {{cut: Telling}} asked @returns {Solutions} */
+/**
+ * @param {SeenCount & {out: string} | import("./over-sides.js").SeenParts} seen
+ * @returns {{solutions: Solutions | SideSolutions, count: Count}}
+ */
+function solutionsSeen(seen) {
+  if ("out" in seen) return { solutions: solutionsFrom(seen.out), count: countSeen(seen) };
+  const solutions = bothSidesIn(seen.parts);
+  const count = { length: solutions[0]?.length ?? null, solutions: solutions.length, nodes: seen.nodes };
+  return { solutions, count };
+}
+
+/** @param {SolveReply | SidesReply} reply @param {{cut: Telling}} asked @returns {any} its solutions */
 export function solutionsIn(reply, { cut }) {
   const seen = withValue(reply);
-  const solutions = solutionsFrom(seen.out);
+  const { solutions, count } = solutionsSeen(seen);
   if (seen.status === STATUS.done) return solutions;
-  if (cut === "throw") throw new SearchCut(countSeen(seen), solutions);
+  if (cut === "throw") throw new SearchCut(count, solutions);
   solutions.cut = true;
   return solutions;
 }

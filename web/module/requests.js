@@ -15,6 +15,8 @@ import {
 /**
  * @typedef {Search & {call: "solve", after?: string}} SolveRequest `after`: the solution behind which the list begins
  */
+/** @typedef {"normal" | "inverse" | "both"} Sides on which the moves of a solution may be */
+/** @typedef {Search & {call: "solveSides", sides: Sides}} SidesRequest */
 /** @typedef {{call: "facts", line: Text}} FactsRequest */
 /** @typedef {{call: "check", scramble: Text, solution: Text}} CheckRequest */
 /** @typedef {{slack: number, most: number, nodes: number, cut: Telling, axes: readonly number[]}} BestWithin */
@@ -22,7 +24,9 @@ import {
 /** @typedef {{call: "lineAfter", scramble: Text, soFar: Text}} LineAfterRequest */
 /** @typedef {{call: "scramble", state: bigint, stream: bigint, length: number}} ScrambleRequest */
 /** @typedef {{call: "steps"}} StepsRequest */
-/** @typedef {CountRequest | SolveRequest | FactsRequest | BestRequest} OfEach what many lines may be asked */
+/**
+ * @typedef {CountRequest | SolveRequest | SidesRequest | FactsRequest | BestRequest} OfEach what many lines may be asked
+ */
 /**
  * @typedef {RunRequest | LineRequest | OfEach | CheckRequest | LineAfterRequest | ScrambleRequest | StepsRequest}
  * OneRequest
@@ -42,6 +46,13 @@ import {
  * isn't given, or what was found until then returned.
  * @typedef {{limit?: number | undefined, slack?: number | undefined, most?: number | undefined,
  * nodes?: number | undefined, cut?: Telling | undefined}} Wanted
+ */
+
+/**
+ * On which sides the moves of solutions may be: on the line alone, as they are if it isn't given, on its inverse alone,
+ * or on both; each solution then says its moves on both.
+ * @template {Sides | undefined} [On=Sides | undefined]
+ * @typedef {{sides?: On}} OnSides
  */
 
 /** @typedef {Wanted} Within what `Wanted` was called for counts while they had fewer options */
@@ -144,6 +155,24 @@ export const countRequest = (step, line, options = {}) => ({ call: "count", ...s
 
 /** @param {unknown} step @param {unknown} line @param {unknown} [options] @returns {SolveRequest} */
 export const solveRequest = (step, line, options = {}) => ({ call: "solve", ...searchOf(step, line, options) });
+
+/** @type {readonly unknown[]} */
+const SIDES_OF_LISTS = ["normal", "inverse", "both"];
+
+/**
+ * The same, or on the sides that are asked for.
+ * @param {unknown} step
+ * @param {unknown} line
+ * @param {unknown} [options]
+ * @returns {SolveRequest | SidesRequest}
+ */
+export function listRequest(step, line, options = {}) {
+  const sides = optionOf(options, "sides");
+  if (sides === undefined) return solveRequest(step, line, options);
+  if (typeof sides !== "string") throw new TypeError("the option sides is no string");
+  if (!SIDES_OF_LISTS.includes(sides)) throw new RangeError('the option sides is none of "normal", "inverse", "both"');
+  return { call: "solveSides", sides: /** @type {Sides} */ (sides), ...searchOf(step, line, options) };
+}
 
 /**
  * @param {unknown} step

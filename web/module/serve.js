@@ -23,7 +23,8 @@ import { packed } from "./packing.js";
  * The buffers of an answer, which needs them no longer here.
  * @param {Reply} reply
  */
-const buffersOf = (reply) => ["out", "err", "ways"].flatMap((name) => /** @type {any} */ (reply)[name]?.buffer ?? []);
+const buffersOf = (reply) => ["out", "err", "ways", "parts"]
+  .flatMap((name) => /** @type {any} */ (reply)[name]?.buffer ?? []);
 
 /**
  * Answers what comes through a port, once the first message has brought the module.

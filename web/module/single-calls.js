@@ -6,8 +6,8 @@ import {
   checkIn, countIn, factsIn, formPlacesIn, lineAfterIn, lineIn, linesIn, outputLinesIn, solutionsIn, tokensIn,
 } from "./replies.js";
 import {
-  checkRequest, countRequest, factsRequest, lineAfterRequest, lineRequest, optionOf, runRequest, scrambleRequest,
-  scramblesRequest, solutionsRequest, solveRequest, stepsRequest,
+  checkRequest, countRequest, factsRequest, lineAfterRequest, lineRequest, listRequest, optionOf, runRequest,
+  scrambleRequest, scramblesRequest, solutionsRequest, stepsRequest,
 } from "./requests.js";
 import { signalOf } from "./signals.js";
 import { solutionsLaterBy } from "./solutions.js";
@@ -26,6 +26,18 @@ import { solutionsLaterBy } from "./solutions.js";
 /** @typedef {import("./steps.js").Step} Step */
 /** @typedef {import("./tokens.js").FormPlace} FormPlace */
 /** @typedef {import("./tokens.js").Token} Token */
+
+/** @typedef {import("./requests.js").Sides} Sides */
+
+/**
+ * @template {Sides | undefined} [On=Sides | undefined]
+ * @typedef {import("./requests.js").OnSides<On>} OnSides
+ */
+
+/**
+ * @template {Sides | undefined} On
+ * @typedef {import("./replies.js").SolutionsOn<On>} SolutionsOn
+ */
 
 /**
  * @template {string} Name
@@ -82,10 +94,12 @@ export class SingleCalls {
 
   /**
    * @template {string} Name
-   * @param {StepName<Name>} step @param {Text} line @param {Wanted & Stoppable} [options] @returns {Promise<Solutions>}
+   * @template {Sides | undefined} [On=undefined]
+   * @param {StepName<Name>} step @param {Text} line @param {Wanted & OnSides<On> & Stoppable} [options]
+   * @returns {Promise<SolutionsOn<On>>}
    */
   async solve(step, line, options) {
-    const request = solveRequest(step, line, options);
+    const request = listRequest(step, line, options);
     return solutionsIn(await this.#ask(request, options), request);
   }
 

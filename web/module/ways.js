@@ -1,4 +1,4 @@
-// The best ways on as values, read from the rows that the module leaves of them.
+// The best ways on, and steps over both sides, as values, read from the rows that the module leaves of them.
 import { SIDE_TURNS, WAY, WAY_PART } from "./layout.js";
 import { SIDES, bracketed, joined } from "./sides.js";
 import { STEPS } from "./steps.js";
@@ -111,6 +111,13 @@ export function wayAt(bytes, at) {
  */
 export const waysIn = (bytes) =>
   Array.from({ length: bytes.length / WAY.bytes }, (_, row) => wayAt(bytes, row * WAY.bytes));
+
+/**
+ * The moves of a step, one way to make it behind the other.
+ * @param {Uint8Array} bytes
+ */
+export const bothSidesIn = (bytes) => Array.from({ length: bytes.length / WAY_PART.bytes }, (_, at) =>
+  /** @type {BestStep} */ (stepAt(bytes, at * WAY_PART.bytes)));
 
 /**
  * The order of ways on of different axes, which no two of these have in common: by all moves, the length of the first
