@@ -20,11 +20,9 @@ const drawnParts = () => Array.from({ length: drawn(4) }, () => one([
   { normal: drawnMoves(), inverse: "" }, { normal: "", inverse: drawnMoves() }, { normal: drawnMoves(), inverse: drawnMoves() },
 ]));
 
-/** A list, of which `split` is there if its solutions begin on the other side. */
-function drawnList() {
-  const list = { step: one([...ORIENTATIONS, ...REDUCTIONS]).name, side: one(SIDES), slack: drawn(4), isAll: drawn(2) === 0 };
-  return drawn(2) === 0 ? list : { ...list, split: 1 + drawn(2) };
-}
+const drawnList = () => ({
+  step: one([...ORIENTATIONS, ...REDUCTIONS]).name, side: one([...SIDES, "both"]), slack: drawn(4), isAll: drawn(2) === 0,
+});
 
 const drawnState = () => ({
   scramble: some(SIGNS, 20).join("").trim(),

@@ -25,9 +25,10 @@ function cell(name, attributes, ...children) {
  * @param {boolean} isBeside whether they stand beside the moves on a narrow page */
 function movesCell(take, line, twins, isBeside) {
   // as solvers write it: the last turn may be the one or the other
-  const either = twins.length === 1 ? ` / ${twins[0].replace(/[()]/g, "")}` : ` or ${twins.length} twins`;
-  const twin = twins.length === 0 ? "" : either;
-  const beside = twin === "" ? [] : [element("small", { class: "twins" }, twin)];
+  const [either, word] = twins.length === 1 ? [` / ${twins[0].replace(/[()]/g, "")}`, ""]
+    : [` or ${twins.length}`, " twins"];
+  const twin = twins.length === 0 ? "" : either + word;
+  const beside = twin === "" ? [] : [element("small", { class: "twins" }, either, element("span", {}, word))];
   const made = cell("td", {}, element("span", { class: "ends" }, take, ...beside));
   const seen = take.classList.contains("seen") ? SEEN_SIGNS : 0;
   const [own, more] = [line.length + seen, SIGN_OF_TWIN * twin.length];

@@ -29,6 +29,11 @@ export function positionAfter(nissy, scramble, parts) {
 /** @param {Position} position @returns how many moves were made */
 export const countOf = ({ made }) => made.normal.length + made.inverse.length;
 
+/** All moves with a step that may follow on both sides.
+ * @param {Nissy} nissy @param {Position} position @param {Part} part */
+export const totalWith = (nissy, { made }, part) => SIDES.reduce((sum, side) =>
+  sum + turnsIn(nissy.cleanup(joined(made[side].join(" "), part[side]))).length, 0);
+
 /** All moves with each of some solutions that may follow on a side.
  * @param {Nissy} nissy @param {Position} position @param {Side} side @param {readonly Solution[]} solutions
  * @returns {number[]} */

@@ -123,7 +123,7 @@ export class KeptCandidates {
   #way = new WayTo(part("bar-kept"), part("kept"), part("kept-heading"));
 
   /** @param {import("./calls.js").Calls} calls of its own
-   * @param {{goOn: (parts: Part[], next: {step: string, side: import("./steps.js").Side} | null) => void,
+   * @param {{goOn: (parts: Part[], next: {step: string, side: import("./address.js").List["side"]} | null) => void,
    * change: (kept: Candidate[]) => void}} acts */
   constructor(calls, acts) {
     this.#calls = calls;

@@ -315,9 +315,8 @@ export class Page {
     const { list } = this.#state;
     if (list && !this.#cube) return;
     if (!list) this.#nets.follow("");
-    const name = list ? [this.#turn, list.step, list.side, list.slack, list.isAll, list.split ?? 0].join(" ") : "";
-    const line = list && { scramble: this.#cube.scramble, parts: this.#cube.parts };
-    const isShown = await this.#list.show(name, list, line);
+    const name = list ? [this.#turn, list.step, list.side, list.slack, list.isAll].join(" ") : "";
+    const isShown = await this.#list.show(name, list, this.#cube);
     if (!isShown || !name.startsWith(`${this.#turn} `)) return;
     part("choices").inert = false;
     if (this.#nextFocus.take("list")) this.#list.focus();
@@ -377,9 +376,8 @@ export class Page {
   #goOn({ part: taken, next, key }) {
     if (!next) return this.#take([taken], key);
     this.#seen.add(this.#state, [taken], key, next.step);
-    const side = sideToward(next);
-    const list = { step: next.step, side, slack: 0, isAll: false };
-    this.#change({ parts: [...this.#state.parts, taken], side, list }, { focusNext: "list" });
+    const list = { step: next.step, side: sideToward(next.part), slack: 0, isAll: false };
+    this.#change({ parts: [...this.#state.parts, taken], side: lastSideOf(next.part), list }, { focusNext: "list" });
   }
 
   /** @param {Error} fault why there is no answer */

@@ -4,7 +4,7 @@ import { NissyFault } from "../module/faults.js";
 import { countOf, positionAfter, totalsWith } from "./cubes.js";
 import { readScramble } from "./lines.js";
 import {
-  SIDES, bracketed, inGroups, isReduced, offeredAmong, openSteps, partOn, stateOf, stepNamed, turnsOfStep,
+  SIDES, bracketed, inGroups, isReduced, offeredAmong, openSteps, partOn, sideToward, stateOf, stepNamed, turnsOfStep,
 } from "./steps.js";
 
 /** @typedef {import("../module/facts.js").Facts} Facts */
@@ -98,9 +98,9 @@ export function examine(nissy, typed, tell) {
   for (const steps of inGroups(openSteps(reached.at(-1)))) tell(steps.map((step) => offerOf(nissy, step, now)));
 }
 
-/** @typedef {{state: string, case: string, lengths: (number | null)[], total: number, side: Side, first: Part | null}}
- * Next `lengths`: on each side; `total`: the fewest moves in all, over both; `side`: the one on which it is shorter;
- * `first`: the first with that, if it has moves */
+/** @typedef {{state: string, case: string, lengths: (number | null)[], total: number, side: Side | "both",
+ * first: Part | null}} Next `lengths`: on each side; `total`: the fewest moves in all, over both; `first`: the first
+ * with that, if it has moves; `side`: where these are */
 /** @typedef {Walk & {next: Next | null}} KeptWalk */
 
 /** What is said of a reduction that follows a line.
@@ -112,7 +112,7 @@ function nextOf(nissy, { scramble, parts }, step) {
   const row = rows.find(({ dr }) => stepNamed(dr.step).axis === step.axis);
   if (row === undefined) return null;
   const { normal, inverse, lengths, moves } = row.dr;
-  const side = (lengths.inverse ?? Infinity) < (lengths.normal ?? Infinity) ? "inverse" : "normal";
+  const side = sideToward({ normal, inverse });
   const first = moves === "" ? null : { normal, inverse };
   const onSides = SIDES.map((each) => lengths[each]);
   return { state: stateOf(step), case: row.case, lengths: onSides, total: row.total, side, first };

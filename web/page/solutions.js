@@ -1,16 +1,14 @@
 // The list of a step's solutions: grouped by length or by case, filtered by turns and by case, and cut if it is long. A
 // list that is looked for gives way to another one, and can be stopped.
 import { Stopped } from "../module/faults.js";
-import { GREATEST_SLACK, MOST_SPLIT } from "./address.js";
+import { GREATEST_SLACK } from "./address.js";
 import { announce, announceLater, button, counted, element, part, setBusy, spoken, tell } from "./element.js";
 import {
   Filters, NOT_MOVES, caseAtMost, chosen, offerChoices, offerLastTurns, offerMoves, withTurns,
 } from "./filter.js";
 import { addRows, named, roveWithin, showRows, starButton, takeButton, takeNamed } from "./rows.js";
-import {
-  axisName, bracketed, otherSide, partOn, reductionsAfter, sizeOfCase, stateOf, stepNamed, titleOf,
-} from "./steps.js";
-import { withTwins } from "./twins.js";
+import { axisName, bracketed, reductionsAfter, sizeOfCase, stateOf, stepNamed, titleOf } from "./steps.js";
+import { sidesOfTwins, withTwins } from "./twins.js";
 import { isNarrow } from "./view.js";
 
 /** @typedef {import("./address.js").List} List */
@@ -24,13 +22,10 @@ const LONG_LINE = 18;
 const MOST_SHOWN = 200;
 const LOOKING = "Looking …";
 
-/** @param {Entry} entry @returns what a solution is known by */
-const keyOf = ({ moves, begin }) => (begin === undefined ? moves : `${begin}, ${moves}`);
-
-/** How many signs a solution has as it is shown.
- * @param {Entry} entry @param {import("./steps.js").Side} side */
-const signsOf = ({ moves, begin }, side) =>
-  (begin === undefined ? moves.length + (side === "inverse" ? 2 : 0) : moves.length + begin.length + 3);
+/** What a list is called.
+ * @param {List} list */
+const nameOfList = ({ step, side }) =>
+  `${titleOf(stepNamed(step))}, ${side === "both" ? "both sides" : `${side} side`}`;
 
 /** What is said of a list.
  * @param {import("./lists.js").Rows} rows @param {number} matching how many are left @param {number} shown */
@@ -61,9 +56,9 @@ export class SolutionList {
   #ordered = [];
   #shown = MOST_SHOWN;
   #filters = new Filters("list", part("solutions-note"), [[
-    withTurns("filter", "last-turn", ({ moves, others }) => withTwins(moves, others)),
+    withTurns("filter", "last-turn", ({ moves, others, part: own, twins }) =>
+      (twins === undefined ? withTwins(moves, others) : sidesOfTwins(own, twins))),
     caseAtMost("most", (entry) => this.#casesOf(entry).map(({ name }) => name)),
-    chosen("list-begin", [], ({ begin }, moves) => begin === moves),
   ]], () => this.#filtered());
   #groups = part("solutions-groups");
 
@@ -75,11 +70,8 @@ export class SolutionList {
     this.#calls = calls;
     this.#acts = acts;
     offerMoves("slack", GREATEST_SLACK);
-    offerMoves("split", MOST_SPLIT);
-    for (const name of ["slack", "split"]) {
-      const field = part(name);
-      field.addEventListener("change", () => acts.change({ [name]: Number(field.value) }));
-    }
+    part("slack").addEventListener("change", () => acts.change({ slack: Number(part("slack").value) }));
+    part("list-side").addEventListener("change", () => acts.change({ side: part("list-side").value }));
     part("twins").addEventListener("change", () => acts.change({ isAll: part("twins").checked }));
     part("solutions-stop").addEventListener("click", () => calls.stop());
     part("solutions-close").addEventListener("click", () => acts.change(null));
@@ -105,7 +97,7 @@ export class SolutionList {
     this.#name = name;
     this.#calls.stop();
     // the engine searches while the card is drawn; what is wrong is said where it is waited for
-    const asked = list && this.#calls.ask("rowsOfList", { list, ...line });
+    const asked = list && this.#calls.ask("rowsOfList", { list, scramble: line.scramble, parts: line.parts });
     asked?.catch(() => {});
     this.#open(list);
     if (!list) return false;
@@ -145,31 +137,28 @@ export class SolutionList {
   }
 
   /** @param {List} list */
-  #describe({ step, side, slack, isAll, split = 0 }) {
-    part("solutions-heading").textContent = `${titleOf(stepNamed(step))}, ${side} side`;
+  #describe(list) {
+    const { step, side, slack, isAll } = list;
+    part("solutions-heading").textContent = nameOfList(list);
     part("solutions").dataset.marks = stateOf(stepNamed(step));
     part("slack").value = String(slack);
-    part("split").value = String(split);
+    part("list-side").value = side;
     part("twins").checked = isAll;
-    const orders = { case: stepNamed(step).needs === null, beginning: split > 0 };
-    part("case-filters").hidden = !orders.case;
-    part("begin-filter").hidden = !orders.beginning;
-    offerChoices("list-sort", Object.keys(orders).filter((order) => orders[order]), "length");
-    part("list-order").hidden = !orders.case && !orders.beginning;
+    const hasCases = stepNamed(step).needs === null;
+    part("case-filters").hidden = !hasCases;
+    offerChoices("list-sort", hasCases ? ["case"] : [], "length");
+    part("list-order").hidden = !hasCases;
     tell(part("solutions-note"), LOOKING);
   }
 
   /** @param {import("./lists.js").Rows} rows of the open list */
   #take(rows) {
     this.#rows = rows;
-    offerLastTurns("last-turn", rows.entries.map(({ moves }) => moves));
-    // the best first, as the rows are
-    offerChoices("list-begin", [...new Set(rows.entries.flatMap(({ begin }) => begin ?? []))]);
+    offerLastTurns("last-turn", rows.entries.flatMap(({ part: { normal, inverse } }) => [normal, inverse]));
     this.#setWorking(false);
     this.#order();
-    const { step, side } = this.#list;
     const all = `${rows.whole ? "" : "more than "}${counted(rows.all, "solution")}`;
-    announce(`${titleOf(stepNamed(step))}, ${side} side: ${all}.`);
+    announce(`${nameOfList(this.#list)}: ${all}.`);
   }
 
   /** Puts the focus on the field of the filter, also where the filters are folded. */
@@ -187,7 +176,7 @@ export class SolutionList {
   /** Makes the row of some moves seen, and returns its button, or null.
    * @param {string} key */
   reveal(key) {
-    const at = this.#rows === null ? -1 : this.#matching.findIndex((entry) => keyOf(entry) === key);
+    const at = this.#rows === null ? -1 : this.#matching.findIndex(({ moves }) => moves === key);
     if (at >= this.#shown) {
       this.#shown = at + 1;
       this.#draw();
@@ -215,7 +204,7 @@ export class SolutionList {
     const next = this.#matching[this.#shown];
     this.#shown += MOST_SHOWN;
     this.#draw();
-    takeNamed(this.#groups, keyOf(next))?.focus();
+    takeNamed(this.#groups, next.moves)?.focus();
   }
 
   /** @param {Entry} entry @returns the names of the cases after a solution, for each reduction that may follow */
@@ -243,8 +232,7 @@ export class SolutionList {
 
   /** @param {Entry[]} matching @returns {Group[]} in the order of their rows */
   #grouped(matching) {
-    const order = part("list-sort").value;
-    const byCase = order === "case";
+    const byCase = part("list-sort").value === "case";
     const nearest = new Map(byCase ? matching.map((entry) => [entry, this.#nearest(entry)]) : []);
     const farOf = (entry) => nearest.get(entry)?.far ?? 0;
     if (byCase) matching.sort((one, other) => farOf(one) - farOf(other) || one.length - other.length);
@@ -253,12 +241,10 @@ export class SolutionList {
     for (const entry of matching) {
       const inAll = entry.total === undefined ? "" : `, ${entry.total} in all`;
       const name = nearest.get(entry)?.name ?? counted(entry.length, "move") + inAll;
-      const begin = order === "beginning" ? bracketed([partOn(otherSide(this.#list.side), entry.begin)]) : "";
-      const group = groups.get(begin || name)
-        ?? { name: begin === "" ? name : `${begin} first, from ${name}`, entries: [], longest: 0, list: null };
-      groups.set(begin || name, group);
+      const group = groups.get(name) ?? { name, entries: [], longest: 0, list: null };
+      groups.set(name, group);
       group.entries.push(entry);
-      group.longest = Math.max(group.longest, signsOf(entry, this.#list.side));
+      group.longest = Math.max(group.longest, bracketed([entry.part]).length);
     }
     return [...groups.values()];
   }
@@ -292,16 +278,11 @@ export class SolutionList {
     addRows(group.list, entries.slice(group.list.children.length, count).map((entry) => this.#item(entry)));
   }
 
-  /** @param {Entry} entry @returns {Part} the step that a solution is */
-  #partOf({ moves, begin = "" }) {
-    return { ...partOn(otherSide(this.#list.side), begin), [this.#list.side]: moves };
-  }
-
   /** @param {Entry} entry */
   #item(entry) {
-    const { moves, others } = entry;
+    const { moves, others, part: own } = entry;
     if (moves === "") return element("li", { class: "reached" }, "no moves: it is reached");
-    const [added, key, cases] = [[this.#partOf(entry)], keyOf(entry), this.#casesOf(entry)];
+    const [added, key, cases] = [[own], moves, this.#casesOf(entry)];
     const text = bracketed(added);
     const twins = others.map((other) => `or ${spoken(other)}`);
     const said = { cases: cases.map(({ axis, name }) => `${axis} ${name}`), twins };

@@ -78,12 +78,10 @@ export function sidesOf(parts) {
   return inverse ? "inverse" : "normal";
 }
 
-/** @param {{part: Part, lengths: Record<Side, number | null>}} next a reduction @returns {Side} on which its list is
- * opened: its own, or if it has moves on both the one on which it is shorter alone */
-export function sideToward({ part, lengths: { normal, inverse } }) {
+/** @param {Part} part a reduction @returns {Side | "both"} on which its list is opened: where it has moves */
+export function sideToward(part) {
   const where = sidesOf([part]);
-  if (where !== "both sides") return where;
-  return (inverse ?? Infinity) < (normal ?? Infinity) ? "inverse" : "normal";
+  return where === "both sides" ? "both" : where;
 }
 
 /** @param {Part} part @returns {Side} the side on which a step ends */

@@ -1,5 +1,6 @@
 // Twins: solutions of one step that differ in the direction of their last quarter turns alone. The same holds after
 // each, and all have one case. And solutions in which the step was reached before their last move.
+import { SIDES } from "../module/sides.js";
 import { FACES_OF, facesOnAxisOf, lastAxisOf, stepNamed } from "./axes.js";
 
 /** @typedef {import("../module/replies.js").Solution} Solution */
@@ -51,21 +52,56 @@ export function withTwins(moves, others) {
 }
 
 /**
+ * The moves on each side of a step, and of its twins.
+ * @param {import("../module/sides.js").Moves} part
+ * @param {readonly string[]} twins their last turns on both sides
+ */
+export const sidesOfTwins = (part, twins) => SIDES.flatMap((side, at) => (part[side] === "" ? []
+  : withTwins(part[side], [...new Set(twins.flatMap((twin) => endsOnSides(twin)[at] || []))])));
+
+/**
  * Puts twins together, each under the first of them.
  * @template {Solution} Each
  * @param {readonly Each[]} solutions
  * @param {string} step its name
- * @param {(solution: Each) => string} [before] what tells apart solutions of other cubes
  * @returns {(Each & Twins)[]}
  */
-export function mergeTwins(solutions, step, before = () => "") {
+export function mergeTwins(solutions, step) {
   /** @type {Map<string, Each & Twins>} */
   const merged = new Map();
   for (const each of solutions) {
-    const key = [before(each), twinKey(each.moves, step)].join();
+    const key = twinKey(each.moves, step);
     const first = merged.get(key);
     if (first) first.others.push(lastTurnsOf(each.moves, step));
     else merged.set(key, { ...each, others: [] });
+  }
+  return [...merged.values()];
+}
+
+/** @param {string} twin last turns on both sides @returns {string[]} those on each */
+export const endsOnSides = (twin) => twin.replace(")", "").split(/ ?\(/);
+
+/**
+ * What twins over both sides have in common.
+ * @param {import("./lists.js").Entry} entry
+ */
+const keyOfBoth = ({ part, twins: [twin = ""] = [] }) => SIDES.map((side, at) => {
+  const turns = part[side].split(" ");
+  const count = turns.length - (endsOnSides(twin)[at] || "").split(" ").filter(Boolean).length;
+  return turns.map((turn, place) => (place < count ? turn : turn.replace("'", ""))).join(" ");
+}).join();
+
+/**
+ * The same of solutions over both sides.
+ * @param {readonly import("./lists.js").Entry[]} solutions
+ * @returns {import("./lists.js").Entry[]}
+ */
+export function mergeTwinsOfBoth(solutions) {
+  /** @type {Map<string, import("./lists.js").Entry>} */
+  const merged = new Map();
+  for (const each of solutions) {
+    const key = keyOfBoth(each);
+    if (!merged.has(key)) merged.set(key, { ...each, others: each.twins ?? [] });
   }
   return [...merged.values()];
 }

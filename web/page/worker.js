@@ -11,7 +11,7 @@ import { readAddressed, readByHand, readWritten } from "./lines.js";
 import { rowsOfList } from "./lists.js";
 import { countsAfter, examine, framesOf, walkKept } from "./position.js";
 import { bracketed, sizeOfCase, stateOf, stepNamed } from "./steps.js";
-import { withTwins } from "./twins.js";
+import { sidesOfTwins } from "./twins.js";
 
 /** @typedef {import("../module/steps.js").Step} Step */
 /** @typedef {import("../module/ways.js").BestRow} BestRow */
@@ -22,14 +22,6 @@ const STREAM = 1;
 /** @param {Nissy} nissy @param {{seed: string}} asked @returns the scramble of a seed, or null if it is none */
 const scrambleOf = (nissy, { seed }) => (/^\d+$/.test(seed) && BigInt(seed) < 2n ** 64n
   ? nissy.scramble(BigInt(seed), STREAM, SCRAMBLE_TURNS) : null);
-
-/** The moves on each side of a step, and of its twins.
- * @param {import("../module/ways.js").BestStep} step */
-function sidesOfTwins({ normal, inverse, twins }) {
-  const ends = twins.map((twin) => twin.replace(")", "").split(/ ?\(/));
-  return [normal, inverse].flatMap((moves, side) =>
-    (moves === "" ? [] : withTwins(moves, [...new Set(ends.flatMap((end) => end[side] || []))])));
-}
 
 /** What rows are put in order by, as one number: all moves, those of the first step, the pieces of the case, the step.
  * @param {number} total @param {import("../module/ways.js").BestStep} first @param {number} far */
@@ -45,7 +37,8 @@ function rowInWords({ total, eo, dr, case: name }) {
   const next = eo && { step, part: partOf(dr), length, marks: stateOf(stepNamed(step)), case: name, lengths };
   return {
     total, part: partOf(first), state: stateOf(stepNamed(first.step)), twins: first.twins, far, next,
-    lines: eo ? [] : sidesOfTwins(dr), key: [first.step, first.moves, step].join(" "), rank: rankOf(total, first, far),
+    lines: eo ? [] : sidesOfTwins(dr, dr.twins), key: [first.step, first.moves, step].join(" "),
+    rank: rankOf(total, first, far),
   };
 }
 
