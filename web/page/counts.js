@@ -1,18 +1,19 @@
-// The reductions after the rows of the best that are seen: how many of the shortest there are on each side, and the
-// first with which the row has its moves in all. They are asked for once a row is seen: thousands never are.
-import { tellReductions } from "./best-row.js";
+// How many of the shortest reductions there are on each side after the rows of the best that are seen. They are asked
+// for once a row is seen: thousands never are.
+import { tellCounts } from "./best-row.js";
 import { setBusy } from "./element.js";
 import { takeNamed } from "./rows.js";
 
 /** @typedef {import("./finder.js").Row} Row */
-/** @typedef {import("../module/ways.js").Position} Position */
+/** @typedef {import("./finder.js").Question} Question */
+/** @typedef {import("../module/sides.js").OnSides<number | null>} Counts */
 
-export class ShownReductions {
+export class ShownCounts {
   #calls;
   #body;
-  /** @type {Position | null} */
-  #position = null;
-  /** @type {Map<string, import("./position.js").Reductions | null>} by the keys of rows; null while it is asked for */
+  /** @type {Question | null} */
+  #question = null;
+  /** @type {Map<string, Counts | null>} by the keys of rows; null while it is asked for */
   #known = new Map();
   /** @type {Map<Element, Row>} the rows that may come into view, by their elements */
   #unseen = new Map();
@@ -39,15 +40,15 @@ export class ShownReductions {
     setBusy(this.#body.id, false);
   }
 
-  /** @param {Position} position the cube @param {Row[]} shown the rows of the table, in their order */
-  tell(position, shown) {
-    this.#position = position;
+  /** @param {Question} question @param {Row[]} shown the rows of the table, in their order */
+  tell(question, shown) {
+    this.#question = question;
     for (const [at, row] of shown.entries()) {
       const element = this.#body.children[at];
       if (this.#told.has(element)) continue;
       this.#told.add(element);
-      const reductions = this.#known.get(row.key);
-      if (reductions) tellReductions(element, reductions);
+      const counts = this.#known.get(row.key);
+      if (counts) tellCounts(element, counts);
       if (row.next === null || this.#known.has(row.key)) continue;
       this.#unseen.set(element, row);
       this.#observer.observe(element);
@@ -80,10 +81,12 @@ export class ShownReductions {
   async #ask(row) {
     const known = this.#known;
     // what the rows are chosen by is there without it
-    const found = await this.#calls.ask("reductionsOf", { row, position: this.#position }).catch(() => null);
+    const { scramble, parts } = this.#question;
+    const asked = { scramble, parts: [...parts, row.part], step: row.next.step };
+    const found = await this.#calls.ask("countsAfter", asked).catch(() => null);
     if (known !== this.#known || found === null) return;
     known.set(row.key, found);
     const shown = takeNamed(this.#body, row.key)?.closest("tr");
-    if (shown) tellReductions(shown, found);
+    if (shown) tellCounts(shown, found);
   }
 }

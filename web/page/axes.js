@@ -1,9 +1,9 @@
 // The steps that lead to a domino reduction: an orientation of the edges on an axis, and after it a reduction on one of
 // the other two.
-import { AXES } from "./facts.js";
+import { AXES } from "../module/facts.js";
 
-/** @typedef {import("./facts.js").Axis} Axis */
-/** @typedef {import("./steps.js").Step} Step */
+/** @typedef {import("../module/facts.js").Axis} Axis */
+/** @typedef {import("../module/steps.js").Step} Step */
 /**
  * @typedef {{name: Step, axis: Axis, needs: Step | null}} StepOnAxis of a reduction `needs` is the orientation that it
  * keeps

@@ -1,9 +1,9 @@
 // Twins: solutions of one step that differ in the direction of their last quarter turns alone. The same holds after
 // each, and all have one case. And solutions in which the step was reached before their last move.
-import { FACES_OF, facesOnAxisOf, lastAxisOf, stepNamed } from "./best-steps.js";
-import { joined } from "./sides.js";
+import { SIDES } from "../module/sides.js";
+import { FACES_OF, facesOnAxisOf, lastAxisOf, stepNamed } from "./axes.js";
 
-/** @typedef {import("./replies.js").Solution} Solution */
+/** @typedef {import("../module/replies.js").Solution} Solution */
 /** @typedef {Solution & {others: string[]}} Twins a solution, with the last moves of its twins */
 
 /**
@@ -29,7 +29,7 @@ const startOfTwin = (moves, step) => startOfLast(moves, FACES_OF[lastAxisOf(step
  * @param {string} moves
  * @param {string} step its name
  */
-export function twinKey(moves, step) {
+function twinKey(moves, step) {
   const start = startOfTwin(moves, step);
   return moves.slice(0, start) + moves.slice(start).replaceAll("'", "");
 }
@@ -39,22 +39,7 @@ export function twinKey(moves, step) {
  * @param {string} moves
  * @param {string} step its name
  */
-export const lastTurnsOf = (moves, step) => moves.slice(startOfTwin(moves, step));
-
-/**
- * Some moves and all their twins, in an order that is the same for each of them.
- * @param {string} moves
- * @param {string} step its name
- */
-export function allTwins(moves, step) {
-  const start = startOfTwin(moves, step);
-  const turns = moves.slice(start).match(/[A-Z]2?/g) ?? [];
-  return turns.reduce((begun, turn) => {
-    // a quarter turn may go either way
-    const ways = turn.endsWith("2") ? [turn] : [turn, `${turn}'`];
-    return begun.flatMap((each) => ways.map((way) => joined(each, way)));
-  }, [moves.slice(0, start).trimEnd()]);
-}
+const lastTurnsOf = (moves, step) => moves.slice(startOfTwin(moves, step));
 
 /**
  * Some moves, and those of their twins.
@@ -67,21 +52,56 @@ export function withTwins(moves, others) {
 }
 
 /**
+ * The moves on each side of a step, and of its twins.
+ * @param {import("../module/sides.js").Moves} part
+ * @param {readonly string[]} twins their last turns on both sides
+ */
+export const sidesOfTwins = (part, twins) => SIDES.flatMap((side, at) => (part[side] === "" ? []
+  : withTwins(part[side], [...new Set(twins.flatMap((twin) => endsOnSides(twin)[at] || []))])));
+
+/**
  * Puts twins together, each under the first of them.
  * @template {Solution} Each
  * @param {readonly Each[]} solutions
  * @param {string} step its name
- * @param {(solution: Each) => string} [before] what tells apart solutions of other cubes
  * @returns {(Each & Twins)[]}
  */
-export function mergeTwins(solutions, step, before = () => "") {
+export function mergeTwins(solutions, step) {
   /** @type {Map<string, Each & Twins>} */
   const merged = new Map();
   for (const each of solutions) {
-    const key = [before(each), twinKey(each.moves, step)].join();
+    const key = twinKey(each.moves, step);
     const first = merged.get(key);
     if (first) first.others.push(lastTurnsOf(each.moves, step));
     else merged.set(key, { ...each, others: [] });
+  }
+  return [...merged.values()];
+}
+
+/** @param {string} twin last turns on both sides @returns {string[]} those on each */
+export const endsOnSides = (twin) => twin.replace(")", "").split(/ ?\(/);
+
+/**
+ * What twins over both sides have in common.
+ * @param {import("./lists.js").Entry} entry
+ */
+const keyOfBoth = ({ part, twins: [twin = ""] = [] }) => SIDES.map((side, at) => {
+  const turns = part[side].split(" ");
+  const count = turns.length - (endsOnSides(twin)[at] || "").split(" ").filter(Boolean).length;
+  return turns.map((turn, place) => (place < count ? turn : turn.replace("'", ""))).join(" ");
+}).join();
+
+/**
+ * The same of solutions over both sides.
+ * @param {readonly import("./lists.js").Entry[]} solutions
+ * @returns {import("./lists.js").Entry[]}
+ */
+export function mergeTwinsOfBoth(solutions) {
+  /** @type {Map<string, import("./lists.js").Entry>} */
+  const merged = new Map();
+  for (const each of solutions) {
+    const key = keyOfBoth(each);
+    if (!merged.has(key)) merged.set(key, { ...each, others: each.twins ?? [] });
   }
   return [...merged.values()];
 }
@@ -91,7 +111,7 @@ export function mergeTwins(solutions, step, before = () => "") {
  * @param {string} one
  * @param {string} other
  */
-export const areOfOneAxis = (one, other) => facesOnAxisOf(one).includes(other);
+const areOfOneAxis = (one, other) => facesOnAxisOf(one).includes(other);
 
 /**
  * The beginnings of a line that have fewer moves, but at least so many; of two turns of opposite faces, which may
@@ -117,32 +137,18 @@ function* beginningsOf(moves, length, least) {
  * @param {readonly Solution[]} solutions all, from the shortest on
  * @returns {ReadonlySet<string>}
  */
-export function mayBegin(solutions) {
+function mayBegin(solutions) {
   const isEven = solutions[0]?.length === solutions[solutions.length - 1]?.length;
   return new Set(isEven ? [] : solutions.map(({ moves }) => moves));
 }
 
 /**
- * The shortest beginning of a solution, as it is written, from which on the step holds; null if that is all of it.
- * @param {string} moves
- * @param {ReadonlySet<string>} known
- */
-export function reachedBy(moves, known) {
-  let cut = moves.length;
-  for (let next = known.size === 0 ? -1 : moves.lastIndexOf(" "); next > 0 && known.has(moves.slice(0, next)); ) {
-    cut = next;
-    next = moves.lastIndexOf(" ", cut - 1);
-  }
-  return cut === moves.length ? null : moves.slice(0, cut);
-}
-
-/**
  * What tells of each of some solutions with which shorter ones it begins, the longest first.
  * @param {readonly Solution[]} solutions all, from the shortest on
- * @param {ReadonlySet<string>} known
  * @returns {(solution: Solution) => readonly string[]}
  */
-export function shorterAmong(solutions, known = mayBegin(solutions)) {
+function shorterAmong(solutions) {
+  const known = mayBegin(solutions);
   const least = solutions[0]?.length ?? 0;
   if (known.size === 0) return () => [];
   return ({ moves, length }) => [...beginningsOf(moves, length, least)].filter((each) => known.has(each));
