@@ -139,7 +139,7 @@ public:
     std::size_t tried = 0;
 
 private:
-    static constexpr std::uint64_t FIRST_ROWS = 10000;
+    static constexpr std::uint64_t FIRST_ROWS = 256;
 
     void ask() {
         said = nissy_best(all_tables(), detail::bytes(scramble_), scramble_.size(), detail::bytes(so_far_), so_far_.size(), &wanted_, room_.data(),
