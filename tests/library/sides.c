@@ -32,12 +32,14 @@ static nissy_sides_answer listed(const nissy_tables *of_step, const char *scramb
 
 /* --- solutions as text, `on the scramble | on the inverse` --- */
 
-typedef char pair_text[64];
+/* two sides of some turns each */
+enum { SIDE_TEXT = 64, PAIR_TEXT = 2 * SIDE_TEXT + 4 };
+typedef char pair_text[PAIR_TEXT];
 
 static void add_turn(char *text, int turn) { sprintf(text + strlen(text), "%s%c%s", *text ? " " : "", "UDRLFB"[turn / 3], &"\0\0002\0'"[turn % 3 * 2]); }
 
 static void write_pair(pair_text out, const nissy_way_part *part) {
-    pair_text normal = "", inverse = "";
+    char normal[SIDE_TEXT] = "", inverse[SIDE_TEXT] = "";
     for (int at = 0; at < part->normal.count; at++) add_turn(normal, part->normal.turns[at]);
     for (int at = 0; at < part->inverse.count; at++) add_turn(inverse, part->inverse.turns[at]);
     sprintf(out, "%s | %s", normal, inverse);
@@ -52,8 +54,7 @@ static int is_oriented(const char *scramble, int axis, const char *normal, const
     sprintf(so_far, *inverse ? "%s (%s)" : "%s", normal, inverse);
     nissy_line_after_answer after = nissy_line_after((const uint8_t *)scramble, strlen(scramble), (const uint8_t *)so_far, strlen(so_far), line, sizeof line);
     nissy_facts_answer facts = nissy_facts(line, after.length);
-    const nissy_axis_facts *of_axis[] = {&facts.fb, &facts.rl, &facts.ud};
-    return of_axis[axis]->bad_edges == 0;
+    return facts.axes[axis].bad_edges == 0;
 }
 
 /* The sequences of at most two turns that are canonical, in turn order by length: no face turns twice, and of opposite ones the first in turn order
@@ -107,7 +108,7 @@ static int pairs_of(pair_text *out, const char *scramble, int axis, int sides, i
     return count;
 }
 
-static int are_written(const nissy_way_part *parts, const pair_text *texts, uint64_t count, int step) {
+static int are_written(const nissy_way_part *parts, pair_text *texts, uint64_t count, int step) {
     for (uint64_t at = 0; at < count; at++) {
         pair_text text;
         write_pair(text, &parts[at]);
