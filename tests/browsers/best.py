@@ -57,7 +57,7 @@ def best(tally: Tally, browser: Browser) -> None:
     browser.settle("return document.activeElement.closest('#solutions-groups') !== null")
     tally.equal("one over both sides is taken as one step", (browser.text("bracketed"), browser.look("steps")), (line, 1))
     shown = browser.listed()
-    tally.holds("and the shortest reductions of a side are listed", shown and str(len(shown[0].split())) in rows[at][4:])
+    tally.equal("and the reductions are listed where its own is", len(shown[0].split()) if shown else 0, len(line_of(found[at].dr).split()))
     tally.holds("of its axis", browser.text("solutions-heading").startswith(f"{reached} after"))
     browser.submit("own", line_of(found[at].dr))
     browser.settle("return all('#line-list li').length === 2")

@@ -9,7 +9,7 @@ import { TURNS, ended, moduleBytes, same, thrown } from "./tally.mjs";
 const nissy = await Nissy.load(moduleBytes);
 const OPPOSITE = { U: "D", D: "U", R: "L", L: "R", F: "B", B: "F" };
 // orientations of few turns, on each side and on both
-const SCRAMBLES = ["R U F", "F R", "R F U' R", "F R' (U)", "y R U F x"];
+const SCRAMBLES = ["R U F", "F R", "R F U' R", "F R' (U)"];
 
 /** Whether a turn may follow another one: not of the same face, and of opposite ones in turn order alone. */
 const mayFollow = (last, turn) => last === undefined || (last[0] !== turn[0] && !(OPPOSITE[last[0]] === turn[0] && "DLB".includes(last[0])));
@@ -67,11 +67,18 @@ function tryOneSide(line, step) {
     const plain = nissy.solve(step, on).map(({ moves }) => (sides === "normal" ? moves : `(${moves})`));
     same(`${step} after ${line}, ${sides}`, solutions.map(({ moves }) => moves), plain);
   }
-  const both = nissy.solve(step, line, { sides: "both", slack: 1 });
+  const both = nissy.solve(step, line, { sides: "both", slack: 2 });
   same(`${step}: both is no longer`, both[0].length <= Math.min(...[line, nissy.invert(line)].map((each) => nissy.count(step, each, { most: 1 }).length)), true);
   // more than come at once
   same(`${step}: each once`, new Set(both.map(({ moves }) => moves)).size, both.length);
   return both.length;
+}
+
+/** The moves name the faces as a cube is held that the line turned. */
+function tryTurned(line) {
+  const solutions = nissy.solve("eofb", line, { sides: "both", slack: 1 });
+  const reach = solutions.filter(({ moves }) => nissy.facts(nissy.lineAfter(line, moves)).holds.includes("eofb"));
+  same(`after ${line} each reaches it`, [reach.length > 2, reach.length], [true, solutions.length]);
 }
 
 /** What is cut, of many lines, in workers, and what no call takes. */
@@ -105,5 +112,6 @@ same("enough pairs", tried.reduce((sum, each) => sum + each) > 20, true);
 const scramble = nissy.scramble(20261127, 1, 25);
 const counts = ["eofb", "eorl", "eoud"].map((step) => tryOneSide(scramble, step));
 same("more than come at once", Math.max(...counts) > 4_096, true);
+tryTurned("y R U F x");
 await tryRest();
 ended();

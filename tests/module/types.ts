@@ -2,7 +2,7 @@
 import {
   AXES, isStep, loadNissy, NET, Nissy, NissyFault, NissyPool, NissyWorker, placeOf, plainLine, readAttempts, SearchCut, startOf, stickersOf,
   VERSION, type Attempt, type AttemptCheck, type Axis, type Best, type BestRow, type BestStep, type Check, type Count, type EdgePlace, type Facts, type Form,
-  type FormInText, type FormPlace, type NetPlace, type PlainLine, type Solution, type Solutions, type Step, type TextPlace, type Token,
+  type FormInText, type FormPlace, type NetPlace, type PlainLine, type SideSolutions, type Solution, type Solutions, type Step, type TextPlace, type Token,
 } from "./node.js";
 import { NissyPool as NissyPoolOfBrowsers, NissyWorker as NissyWorkerOfBrowsers } from "./browser.js";
 import type { CountReply, LineFault, LineReply, StartFault } from "./replies.js";
@@ -109,8 +109,10 @@ export async function followed(nissy: Nissy, worker: NissyWorker, bytes: Uint8Ar
   const best: Best = await pools[1].best("R U F", { slack: 1, nodes: 1_000, cut: "value" });
   const each: (Best | NissyFault | RangeError)[] = await pools[0].bestAll(["R U F"], { faults: "value", most: 3, signal, onProgress });
   const step: BestStep | null = nissy.bestAll(["R U F"])[0][0].eo;
+  const overBoth: SideSolutions = await pools[0].solve("eofb", "R U F", { sides: "both", slack: 1, signal });
+  const inverse: string = nissy.solveAll("eofb", ["R U F"], { sides: "inverse" })[0][0].inverse + overBoth[0].normal;
   for (const pool of pools) pool.end();
-  return [rows, total, eo?.moves, step?.inverse, each.length, best.nodes, lengths, tokens.map(({ layers }) => layers[0]), counts, facts, solutions, best, solved, pools[0].size, ...after].join(" ");
+  return [rows, total, eo?.moves, step?.inverse, inverse, each.length, best.nodes, lengths, tokens.map(({ layers }) => layers[0]), counts, facts, solutions, best, solved, pools[0].size, ...after].join(" ");
 }
 
 export async function oneByOne(nissy: Nissy, worker: NissyWorker, signal: AbortSignal): Promise<string> {
@@ -180,6 +182,10 @@ export function wrong(nissy: Nissy, worker: NissyWorker): void {
   startOf("dr-eofb").trim();
   // @ts-expect-error a cut is told in one of two ways
   nissy.solve("eofb", "R", { cut: "values" });
+  // @ts-expect-error a solution says both sides only if they are asked for
+  nissy.solve("eofb", "R")[0].inverse.trim();
+  // @ts-expect-error there are two sides
+  nissy.solve("eofb", "R", { sides: "left" });
   // @ts-expect-error also that of the best
   nissy.best("R", { cut: true });
   // @ts-expect-error faults in the place of counts are told by the type
