@@ -133,7 +133,7 @@ static void pairs_are_all_that_there_are(void) {
                     all += got.solutions;
                     let_go(room);
                 }
-    holds(all > 40, "there are some", "pairs");
+    holds(all > (is_quick ? 10u : 40u), "there are some", "pairs");
 }
 
 /* --- those on one side, beside the list of it --- */
