@@ -1,0 +1,3 @@
+pub mod SignLemmas
+pub mod PlainLemmas
+pub mod LineLemmas
