@@ -1,7 +1,8 @@
 -- The lines of a text, one behind another, and where their parts stand.
 use Rattle.std.specs.Prelude.{◌≡◌, ℕ, ◌==◌, ◌+◌, ◌<◌, ◌≤◌, ◌&&◌, false, if◌then◌else◌, List, [], ◌∷◌, slice_index}
 use Rattle.niss_text.specs.Signs.{ends_line}
-use Rattle.niss_text.specs.declared.attempts.TextLine.{TextLine}
+use Rattle.niss_text.specs.Doubts.{IsDoubted}
+use Rattle.niss_text.specs.declared.text_line.TextLine.{TextLine}
 
 -- A line that begins there. Its parts stand in this order, and none overlaps another.
 pub record IsLine (from : ℕ) (line : TextLine) : Type 0 where
@@ -25,8 +26,9 @@ end_size text at = end_of (slice_index text at) (slice_index text (at + 1))
 abbrev pub IsUnbroken : List ℕ → ℕ → ℕ → Type 0
 IsUnbroken text from size = (k : ℕ) → k < size → ends_line (slice_index text (from + k)) ≡ false
 
--- The lines of a text from one place to another: each of bytes that don't end it, and behind it what does.
+-- The lines of a text from one place to another: each of bytes that don't end it, and behind it what does. What makes one
+-- doubt a line is told of it.
 unfoldable pub Covers : List ℕ → ℕ → List TextLine → ℕ → Type 0
 Covers text from [] to = from ≡ to
 Covers text from (line ∷ lines) to =
-    IsLine from line × ((size : ℕ) × (line.end ≡ from + size) × IsUnbroken text from size × Covers text (line.end + end_size text line.end) lines to)
+    IsLine from line × (IsDoubted text line × ((size : ℕ) × (line.end ≡ from + size) × IsUnbroken text from size × Covers text (line.end + end_size text line.end) lines to))

@@ -2,34 +2,11 @@
 ghost use Rattle.std.specs.Prelude.{◌≡◌, ◌≤◌, ◌<◌, ◌+◌, length, take, drop, set};
 ghost use Rattle.niss_text.specs.Lines.{IsLine, Covers};
 
+use crate::doubts::judged;
 use crate::forms::{is_parted, trimmed};
 use crate::groups::{Group, Solutions};
 use crate::line::{Head, Line, Numbers, cut_line, first_line, whole_length};
-
-/// A line of a text, and what it is there. Places are in bytes of the text.
-#[repr(C)]
-#[derive(Clone, Copy, Debug, PartialEq, Eq)]
-pub struct TextLine {
-    /// 0 a blank line, 1 prose before a scramble, 2 one of a scramble, 3 a step, 4 a note.
-    pub kind: u8,
-    /// It is in the group that is the solution.
-    pub is_solution: bool,
-    /// A head stands before `head_end`: the first one of an attempt is its name.
-    pub is_headed: bool,
-    /// Its label says that the solution follows.
-    pub says_solution: bool,
-    /// Which attempt, from 0.
-    pub attempt: usize,
-    /// Which group after the scramble: 0 of the lines directly under it.
-    pub group: usize,
-    pub begin: usize,
-    pub head_end: usize,
-    pub label_begin: usize,
-    pub label_end: usize,
-    pub moves: usize,
-    pub comment: usize,
-    pub end: usize,
-}
+use crate::text_line::{Role, TextLine, told_line};
 
 /// What `text_lines` returns.
 #[repr(C)]
@@ -77,10 +54,15 @@ fn stretch_length(text: &[u8]) -> usize
         if has_moves && line.head_kind == Head::Word {
             return text.len() - rest.len();
         }
-        has_moves = has_moves || line.is_moves;
+        has_moves = has_moves || is_open(&line);
         rest = &rest[whole_length(rest)..];
     }
     text.len()
+}
+
+/// Whether a line has moves that a scramble may follow only in another attempt: a solution may stand before its scramble.
+fn is_open(line: &Line) -> bool {
+    line.is_moves && !line.is_solution
 }
 
 /// Whether a number has a sign that no list has.
@@ -131,25 +113,59 @@ fn numbers_of(text: &[u8], has_extras: bool) -> Numbers {
     }
 }
 
-/// How many bytes the first attempt of a stretch has: up to the next head behind moves.
+/// What a line behind the moves of an attempt says of the next one.
+#[derive(Clone, Copy, PartialEq, Eq)]
+enum Next {
+    /// It begins there.
+    Begins,
+    /// It begins at a number alone before, if there is one.
+    HasMoves,
+    /// It may begin there.
+    MayBegin,
+    Nothing,
+}
+
+/// What a line says of the next attempt. A whole scramble begins one, whatever stands before it. A number alone does only
+/// if moves without one follow: it may be a result.
+fn next_at(line: &Line) -> Next {
+    if line.head_kind == Head::Number && line.is_head_alone {
+        Next::MayBegin
+    } else if is_head(line) || (line.is_whole && line.is_moves) {
+        Next::Begins
+    } else if line.is_moves {
+        Next::HasMoves
+    } else {
+        Next::Nothing
+    }
+}
+
+/// How many bytes the first attempt of a stretch has: up to the next head or whole scramble behind moves.
 fn attempt_length(text: &[u8], numbers: Numbers) -> usize
     ensures within { result ≤ length text.now }
     ensures some { 0 < length text.now → 0 < result }
 {
     let mut rest = text;
     let mut has_moves = false;
+    let mut number = 0;
     while !rest.is_empty() {
         let line = first_line(rest, numbers);
-        if has_moves && is_head(&line) {
-            return text.len() - rest.len();
+        let at = text.len() - rest.len();
+        if has_moves {
+            match next_at(&line) {
+                Next::Begins => return at,
+                Next::HasMoves if number > 0 => return number,
+                Next::MayBegin if number == 0 => number = at,
+                _ => {}
+            }
         }
-        has_moves = has_moves || line.is_moves;
+        has_moves = has_moves || is_open(&line);
         rest = &rest[whole_length(rest)..];
     }
     text.len()
 }
 
-/// Where the first line of moves begins, and the end if there is none; and whether a head stands in it or before it.
+/// Where the first line of moves begins, and the end if there is none; and whether prose before it is told from it: if a
+/// head stands in it or before it, or if it is a whole scramble.
 fn first_moves(text: &[u8], numbers: Numbers) -> (usize, bool)
     ensures { result.0 ≤ length text.now }
 {
@@ -159,7 +175,7 @@ fn first_moves(text: &[u8], numbers: Numbers) -> (usize, bool)
         let line = first_line(rest, numbers);
         has_head = has_head || is_head(&line);
         if line.is_moves {
-            return (text.len() - rest.len(), has_head);
+            return (text.len() - rest.len(), has_head || line.is_whole);
         }
         rest = &rest[whole_length(rest)..];
     }
@@ -258,27 +274,14 @@ impl Attempt {
     }
 }
 
-/// A line of an attempt in the text, which begins there.
-fn text_line(attempt: &Attempt, line: &Line, group: usize, at: usize, begin: usize) -> TextLine
-    requires { begin + line.now.length ≤ usize.MAX }
-    ensures is { IsLine begin result }
-    ensures ends { result.end ≡ begin + line.now.length }
-{
-    let kind = attempt.kind_at(at, line);
-    TextLine {
+/// What a line of an attempt is there, of this kind and in this group.
+fn role_of(attempt: &Attempt, line: &Line, kind: u8, group: usize) -> Role {
+    Role {
         kind,
         is_solution: kind > 2 && attempt.solution == Some(group),
         is_headed: is_head(line),
-        says_solution: line.is_solution,
         attempt: attempt.number,
         group,
-        begin,
-        head_end: begin + line.head,
-        label_begin: begin + line.label_begin,
-        label_end: begin + line.label_end,
-        moves: begin + line.moves,
-        comment: begin + line.comment,
-        end: begin + line.length,
     }
 }
 
@@ -318,7 +321,9 @@ fn put_attempt(
         if at >= attempt.scramble_end {
             group = group.after(&line);
         }
-        let told = text_line(attempt, &line, group.number, at, begin + at);
+        let role = role_of(attempt, &line, attempt.kind_at(at, &line), group.number);
+        let told = told_line(&role, &line, begin + at);
+        let told = judged(text, told, &line, attempt.solution.is_some());
         put_line(lines, count, told);
         count += 1;
         at += whole;

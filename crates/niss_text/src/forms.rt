@@ -270,7 +270,7 @@ fn has_other_side(words: &[u8]) -> bool {
 }
 
 /// Whether moves of a line stand in brackets, before its comment.
-fn has_bracket(line: &[u8]) -> bool {
+pub fn has_bracket(line: &[u8]) -> bool {
     let mut rest = line;
     while !rest.is_empty() {
         if begins_comment(rest) {

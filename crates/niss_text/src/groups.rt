@@ -11,6 +11,8 @@ pub struct Group {
     has_moves: bool,
     has_label: bool,
     is_ended: bool,
+    /// It is a solution on one line, of which nothing more is said.
+    is_line: bool,
 }
 
 impl Group {
@@ -21,21 +23,30 @@ impl Group {
             has_moves: false,
             has_label: false,
             is_ended: false,
+            is_line: false,
         }
     }
 
-    /// Behind one more line. A blank line ends a group, but one of a label alone, which belongs to what follows it; the
-    /// label of a solution begins one.
+    /// Whether a line begins a group: behind one that is ended, with the label of a solution behind moves, or with moves
+    /// that are told behind a solution that isn't.
+    fn is_ended_by(&self, line: &Line) -> bool {
+        self.is_ended
+            || (self.has_moves && line.is_solution)
+            || (self.is_line && line.is_told && line.is_moves)
+    }
+
+    /// Behind one more line. A blank line ends a group, but one of a label alone, which belongs to what follows it.
     pub fn after(self, line: &Line) -> Group {
         let mut group = self;
         if line.is_blank {
             group.is_ended = self.is_ended || self.has_moves || !self.has_label;
             return group;
         }
-        if self.is_ended || (self.has_moves && line.is_solution) {
+        if self.is_ended_by(line) {
             group = Group::first();
             group.number = self.number.saturating_add(1);
         }
+        group.is_line = group.is_line || (line.is_solution && line.is_moves && !line.has_comment());
         group.has_moves = group.has_moves || line.is_moves;
         group.has_label = group.has_label || line.is_solution;
         group

@@ -4,13 +4,18 @@
 
 mod attempts;
 mod body;
+mod doubts;
 mod forms;
 mod groups;
 mod line;
 mod piece;
 mod plain;
 mod sign;
+mod span;
+mod text_line;
+mod word;
 mod words;
 
-pub use attempts::{TextAnswer, TextLine, text_lines};
+pub use attempts::{TextAnswer, text_lines};
 pub use plain::{PlainAnswer, plain_line};
+pub use text_line::TextLine;

@@ -8,7 +8,8 @@ use crate::forms::{
     begins_comment, head_length, label_of, line_length, listed_length, number_length, trimmed,
 };
 use crate::sign::{Class, first_sign, length_of};
-use crate::words::{is_step_name, is_word};
+use crate::span::span_of;
+use crate::words::{Wanted, is_word, says};
 
 /// Which numbers may stand before a scramble.
 #[derive(Clone, Copy, PartialEq, Eq)]
@@ -30,7 +31,7 @@ pub enum Head {
 }
 
 /// What is seen of a line: how many bytes its head has, where the words of its label begin and end, where its moves and
-/// its comment begin, and what these say.
+/// what is said behind them begin, where slashes begin a comment, and what these say.
 #[derive(Clone, Copy)]
 pub struct Line {
     pub head_kind: Head,
@@ -39,6 +40,9 @@ pub struct Line {
     pub label_end: usize,
     pub moves: usize,
     pub comment: usize,
+    /// Where the first name stands that is no move, but spelled by them; at the slashes if there is none.
+    pub name: usize,
+    pub slashes: usize,
     pub length: usize,
     pub is_blank: bool,
     pub is_head_alone: bool,
@@ -52,7 +56,16 @@ pub struct Line {
     ghost label_in: { label_begin ≤ label_end },
     ghost words_in: { label_end ≤ moves },
     ghost moves_in: { moves ≤ comment },
-    ghost comment_in: { comment ≤ length },
+    ghost comment_in: { comment ≤ slashes },
+    ghost name_in: { name ≤ slashes },
+    ghost slashes_in: { slashes ≤ length },
+}
+
+impl Line {
+    /// Whether something is said behind its moves.
+    pub fn has_comment(&self) -> bool {
+        self.comment < self.length
+    }
 }
 
 /// How many bytes stand before the comment of a line.
@@ -80,29 +93,12 @@ fn blanks(line: &[u8]) -> usize
 fn has_word(words: &[u8], word: &[u8]) -> bool {
     let mut rest = trimmed(words);
     while !rest.is_empty() {
-        let length = length_of(rest, Class::NoBlanks);
-        if length == 0 || is_word(&rest[..length], word) {
-            return length > 0;
-        }
-        rest = trimmed(&rest[length..]);
-    }
-    false
-}
-
-/// Whether a text names a step.
-fn names_step(text: &[u8]) -> bool {
-    let mut rest = text;
-    while !rest.is_empty() {
-        let letters = length_of(rest, Class::Letters);
-        if is_step_name(&rest[..letters]) {
+        let length = length_of(rest, Class::Word);
+        if length > 0 && is_word(&rest[..length], word) {
             return true;
         }
-        rest = &rest[letters..];
-        let others = length_of(rest, Class::NoLetters);
-        if letters == 0 && others == 0 {
-            return false;
-        }
-        rest = &rest[others..];
+        let sign = if length == 0 { first_sign(rest).length } else { length };
+        rest = trimmed(&rest[sign..]);
     }
     false
 }
@@ -124,6 +120,50 @@ fn head_of(line: &[u8], numbers: Numbers) -> (Head, usize)
     (Head::Number, listed)
 }
 
+/// Where the parts of a line are: its label, its moves, and what is said behind them.
+#[derive(Clone, Copy)]
+struct Parts {
+    label_begin: usize,
+    label_end: usize,
+    moves: usize,
+    comment: usize,
+    name: usize,
+    slashes: usize,
+    ghost label_in: { label_begin ≤ label_end },
+    ghost words_in: { label_end ≤ moves },
+    ghost moves_in: { moves ≤ comment },
+    ghost comment_in: { comment ≤ slashes },
+    ghost name_in: { name ≤ slashes },
+}
+
+/// Where the parts of a line are behind its head, which has so many bytes.
+fn parts_of(line: &[u8], head: usize) -> Parts
+    requires { head ≤ length line.now }
+    ensures head { head ≤ result.label_begin }
+    ensures fits { result.slashes ≤ length line.now }
+{
+    let slashes = head + comment_at(&line[head..]);
+    let number_begin = head + blanks(&line[head..slashes]);
+    let number_end = number_begin + number_length(&line[number_begin..slashes]);
+    let begin = number_end + blanks(&line[number_end..slashes]);
+    let (words, title) = match label_of(&line[begin..slashes]) {
+        Some(label) => (label.words, label.length),
+        None => (0, 0),
+    };
+    let body = begin + title;
+    let span = span_of(&line[body..slashes]);
+    let comment = body + span.end;
+    let lead = body + span.begin;
+    Parts {
+        label_begin: begin,
+        label_end: if words == 0 { lead } else { begin + words },
+        moves: lead + blanks(&line[lead..comment]),
+        comment,
+        name: body + span.name,
+        slashes,
+    }
+}
+
 /// The line without what stands in front of it, which has so many bytes.
 fn line_behind(line: &[u8], head_kind: Head, head: usize) -> Line
     requires { head ≤ length line.now }
@@ -131,32 +171,28 @@ fn line_behind(line: &[u8], head_kind: Head, head: usize) -> Line
     ensures kind { result.head_kind ≡ head_kind }
     ensures length { result.length ≡ length line.now }
 {
-    let comment = head + comment_at(&line[head..]);
-    let number_begin = head + blanks(&line[head..comment]);
-    let number_end = number_begin + number_length(&line[number_begin..comment]);
-    let begin = number_end + blanks(&line[number_end..comment]);
-    let (words, title) = match label_of(&line[begin..comment]) {
-        Some(label) => (label.words, label.length),
-        None => (0, 0),
-    };
-    let label = &line[begin..begin + words];
-    let body = &line[begin + title..comment];
+    let parts = parts_of(line, head);
+    let label = &line[parts.label_begin..parts.label_end];
+    let body = &line[parts.moves..parts.comment];
     let is_solution = has_word(label, b"solution");
+    let is_told = parts.label_begin < parts.label_end || parts.comment < line.len();
     Line {
         head_kind,
         head,
-        label_begin: begin,
-        label_end: begin + words,
-        moves: begin + title,
-        comment,
+        label_begin: parts.label_begin,
+        label_end: parts.label_end,
+        moves: parts.moves,
+        comment: parts.comment,
+        name: parts.name,
+        slashes: parts.slashes,
         length: line.len(),
         is_blank: blanks(line) == line.len(),
         is_head_alone: head_kind != Head::None && blanks(&line[head..]) == line.len() - head,
         is_moves: is_moves(body),
-        is_told: words > 0 || comment < line.len(),
+        is_told: is_told || head_kind == Head::Word,
         is_solution,
         is_final: is_solution && has_word(label, b"final"),
-        is_step: names_step(label) || names_step(&line[comment..]),
+        is_step: says(label, Wanted::Step) || says(&line[parts.comment..], Wanted::Step),
         is_whole: is_whole_scramble(body),
     }
 }

@@ -18,7 +18,7 @@ pub enum Kind {
     Prime,
     /// `:`, or that of Chinese.
     Colon,
-    /// `-` or U+2013.
+    /// `-`, U+2013 or U+2014.
     Dash,
     Slash,
     Open,
@@ -86,7 +86,7 @@ fn kind_of_punctuation(third: u8) -> Option<Kind>
     match third {
         0x80..=0x8a | 0xa8 | 0xa9 | 0xaf => Some(Kind::Blank),
         0x8b..=0x8d => Some(Kind::Unseen),
-        0x93 => Some(Kind::Dash),
+        0x93 | 0x94 => Some(Kind::Dash),
         0x98 | 0xb2 => Some(Kind::Apostrophe),
         0x99 => Some(Kind::Prime),
         _ => None,
