@@ -2,6 +2,7 @@
 #![tactic(auto)]
 
 mod check_calls;
+mod reading_calls;
 mod run_call;
 mod table_calls;
 mod text_calls;
@@ -12,6 +13,7 @@ pub use niss_embed::{
     Answer, AxisFacts, CheckAnswer, FactsAnswer, LineAnswer, LinesAnswer, SearchAnswer,
 };
 pub use niss_kept::Held;
+pub use reading_calls::{nissy_plain, nissy_text_lines};
 pub use run_call::nissy_run;
 pub use table_calls::{
     nissy_build, nissy_count, nissy_count_lines, nissy_solve, nissy_solve_after,

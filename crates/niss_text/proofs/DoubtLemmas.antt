@@ -18,6 +18,7 @@ none_parted text from to prime none after before primed = record {
   apart = λ j far near seen k. absurd (false≢true (sym (none j (omega (arith, far)) near) ∙ seen));
   unprimed = λ unseen k. absurd (false≢true (sym (unseen prime after before) ∙ primed));
 }
+
 pub is_nothing : (d : Doubt) → number_of d ≡ 0 → d ≡ Nothing
 is_nothing Nothing h = refl
 is_nothing AnotherScramble h = absurd (omega arith)

@@ -137,7 +137,11 @@ fn letters_at(text: &[u8], from: usize, to: usize) -> usize
     let joined = first_seen(text, from + 1, to, Sight::Joined);
     let parted = first_seen(text, from + 1, to, Sight::Parted);
     let prime = first_seen(text, from, to, Sight::Prime);
-    if parted < to || prime == to { joined } else { to }
+    if parted < to || prime == to {
+        joined
+    } else {
+        to
+    }
 }
 
 /// Where a side is named in a part of a text, or the part's end: by a word of its own, or by the inverse in another.
@@ -198,7 +202,11 @@ fn doubt_of_moves(text: &[u8], told: &TextLine, line: &Line, has_solution: bool)
         return (Doubt::Letters, name);
     }
     if told.kind != 2 {
-        let doubt = if has_solution { Doubt::Nothing } else { Doubt::SeveralSolutions };
+        let doubt = if has_solution {
+            Doubt::Nothing
+        } else {
+            Doubt::SeveralSolutions
+        };
         return (doubt, told.moves);
     }
     let small = first_seen(text, told.moves, told.comment, Sight::Small);
@@ -248,10 +256,7 @@ fn is_inverse(text: &[u8], told: &TextLine) -> bool
     let comment = &text[told.comment..told.end];
     let is_named = says(label, Wanted::Inverse) || says(comment, Wanted::Inverse);
     let is_switched = says(label, Wanted::Switch) || says(comment, Wanted::Switch);
-    told.kind == 3
-        && is_named
-        && !is_switched
-        && !has_bracket(&text[told.moves..told.comment])
+    told.kind == 3 && is_named && !is_switched && !has_bracket(&text[told.moves..told.comment])
 }
 
 /// A line of a text with what makes one doubt it. `has_solution`: a group of its attempt is the solution.

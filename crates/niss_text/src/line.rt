@@ -97,7 +97,11 @@ fn has_word(words: &[u8], word: &[u8]) -> bool {
         if length > 0 && is_word(&rest[..length], word) {
             return true;
         }
-        let sign = if length == 0 { first_sign(rest).length } else { length };
+        let sign = if length == 0 {
+            first_sign(rest).length
+        } else {
+            length
+        };
         rest = trimmed(&rest[sign..]);
     }
     false

@@ -177,7 +177,11 @@ impl Frame {
                 name: length,
             };
         }
-        let end = if self.has_tail && self.tail < length { self.tail } else { length };
+        let end = if self.has_tail && self.tail < length {
+            self.tail
+        } else {
+            length
+        };
         Span {
             begin: self.lead.min(end),
             end,
