@@ -1,6 +1,6 @@
 -- A text as far as it is read, and one more piece of it.
-use Rattle.std.proofs.Common.{◌≡◌, ℕ, ◌+◌, ◌-◌, ◌*◌, ◌<◌, ◌≤◌, List, [], ◌∷◌, ◌++◌, length, take, drop, replicate, get_or, refl, sym, ap, ◌∙◌, subst, append_assoc, add_assoc, add-zero, zero-add, arith, length-append}
-use Rattle.std.proofs.lemmas.List.{append-nil, take-append-drop, length-drop, length-take-le, drop-drop}
+use Rattle.std.proofs.Common.{◌≡◌, ℕ, ◌+◌, ◌-◌, ◌<◌, List, [], ◌∷◌, ◌++◌, length, take, drop, replicate, refl, sym, ap, ◌∙◌, append_assoc, add-zero, arith, length-append}
+use Rattle.std.proofs.lemmas.List.{append-nil, take-append-drop, length-take-le, drop-drop}
 use Rattle.niss_text.specs.declared.piece.Piece.{Piece}
 use Rattle.niss_text.specs.Pieces.{Part, part, IsPiece, IsFirst, IsPlain, written}
 unfoldable use Rattle.niss_text.specs.Pieces.{text_of, line_of, places_of, ArePieces}

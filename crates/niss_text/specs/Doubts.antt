@@ -2,7 +2,7 @@
 use Rattle.std.specs.Prelude.{◌≡◌, ℕ, ◌==◌, ◌-◌, ◌<◌, ◌≤◌, ◌&&◌, ◌||◌, Bool, true, false, not, List, slice_index}
 use Rattle.niss_text.specs.Signs.{is_digit, is_within}
 use Rattle.niss_text.specs.declared.doubts.Doubt.{Doubt}
-use Rattle.niss_text.specs.declared.doubts.Doubt.TheVariants.{Nothing, AnotherScramble, SeveralSolutions, Side, Letters, SmallLetters}
+use Rattle.niss_text.specs.declared.doubts.Doubt.TheVariants.{Nothing, AnotherScramble, SeveralSolutions, Side, Letters, SmallLetters, Comment}
 use Rattle.niss_text.specs.declared.doubts.Sight.{Sight}
 use Rattle.niss_text.specs.declared.doubts.Sight.TheVariants.{Small, Joined, Parted, Prime}
 use Rattle.niss_text.specs.declared.text_line.TextLine.{TextLine}
@@ -14,6 +14,7 @@ number_of SeveralSolutions = 2
 number_of Side = 3
 number_of Letters = 4
 number_of SmallLetters = 5
+number_of Comment = 6
 
 -- a letter of ASCII
 abbrev pub is_letter : ℕ → Bool

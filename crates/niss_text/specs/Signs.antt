@@ -1,5 +1,5 @@
 -- What the signs and the forms of a text are made of.
-use Rattle.std.specs.Prelude.{◌≡◌, ℕ, ◌==◌, Bool, true, false, ◌||◌, ◌&&◌, nat_le, List}
+use Rattle.std.specs.Prelude.{◌≡◌, ℕ, ◌==◌, Bool, false, ◌||◌, ◌&&◌, nat_le, List}
 use Rattle.std.specs.List.{list_any}
 use Rattle.niss_text.specs.declared.sign.Kind.{Kind}
 use Rattle.niss_text.specs.declared.sign.Kind.TheVariants.{LineEnd, Blank, Unseen, Comma, Apostrophe, Prime, Colon, Dash, Slash, Open, Close, Digit, Capital, Small, Beyond, Inner, Other}

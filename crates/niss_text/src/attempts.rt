@@ -5,7 +5,7 @@ ghost use Rattle.niss_text.specs.Lines.{IsLine, Covers};
 use crate::doubts::judged;
 use crate::forms::{is_parted, trimmed};
 use crate::groups::{Group, Solutions};
-use crate::line::{Head, Line, Numbers, cut_line, first_line, whole_length};
+use crate::line::{Head, Line, Numbers, begins_with_head, cut_line, first_line, whole_length};
 use crate::text_line::{Role, TextLine, told_line};
 
 /// What `text_lines` returns.
@@ -50,11 +50,14 @@ fn stretch_length(text: &[u8]) -> usize
     let mut rest = text;
     let mut has_moves = false;
     while !rest.is_empty() {
-        let line = first_line(rest, Numbers::OfLines);
-        if has_moves && line.head_kind == Head::Word {
-            return text.len() - rest.len();
+        // behind moves nothing but heads counts
+        if !has_moves || begins_with_head(rest) {
+            let line = first_line(rest, Numbers::OfLines);
+            if has_moves && line.head_kind == Head::Word {
+                return text.len() - rest.len();
+            }
+            has_moves = has_moves || is_open(&line);
         }
-        has_moves = has_moves || is_open(&line);
         rest = &rest[whole_length(rest)..];
     }
     text.len()

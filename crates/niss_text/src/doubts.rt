@@ -1,5 +1,5 @@
 //! What makes one doubt that a line is read as it was meant.
-ghost use Rattle.std.specs.Prelude.{◌≡◌, ◌≤◌, ◌<◌, ◌-◌, ◌+◌, ℕ, true, false, length, slice_index};
+ghost use Rattle.std.specs.Prelude.{◌≡◌, ◌≤◌, ◌<◌, ◌+◌, ℕ, true, false, length};
 ghost use Rattle.niss_text.specs.Doubts.{IsDoubted, IsAsWritten, number_of, is_small, is_prime, is_seen, is_letter, ends_move, sees};
 ghost use Rattle.niss_text.specs.Lines.{IsLine};
 ghost use Rattle.niss_text.specs.declared.doubts.Doubt.TheVariants.{Nothing, Letters, SmallLetters};
@@ -9,6 +9,7 @@ use crate::body::goes_on_behind_scramble;
 use crate::forms::has_bracket;
 use crate::line::Line;
 use crate::text_line::TextLine;
+use crate::word::has_three_moves;
 use crate::words::{Wanted, begins_side, says, word_length};
 
 /// A reason for a doubt.
@@ -25,6 +26,8 @@ pub enum Doubt {
     Letters,
     /// A scramble has a move in a small letter.
     SmallLetters,
+    /// Moves stand behind the slashes of a comment.
+    Comment,
 }
 
 impl Doubt {
@@ -39,6 +42,7 @@ impl Doubt {
             Doubt::Side => 3,
             Doubt::Letters => 4,
             Doubt::SmallLetters => 5,
+            Doubt::Comment => 6,
         }
     }
 }
@@ -180,6 +184,23 @@ fn side_at(text: &[u8], told: &TextLine) -> usize
     first_side(text, told.comment, told.end)
 }
 
+/// What makes one doubt a step beside its letters, and where. Its comment begins at the slashes.
+fn doubt_of_step(text: &[u8], told: &TextLine, slashes: usize, has_solution: bool) -> (Doubt, usize)
+    requires line { IsLine told.now.begin told.now }
+    requires fits { told.now.end ≤ length text.now }
+    requires slashes { (told.now.begin ≤ slashes) × (slashes ≤ told.now.end) }
+    ensures place { (told.now.begin ≤ result.1) × (result.1 ≤ told.now.end) }
+    ensures others { (number_of result.0 ≡ 4 → ⊥) × (number_of result.0 ≡ 5 → ⊥) }
+{
+    if has_three_moves(&text[slashes..told.end]) {
+        return (Doubt::Comment, slashes);
+    }
+    if !has_solution {
+        return (Doubt::SeveralSolutions, told.moves);
+    }
+    (Doubt::Nothing, told.end)
+}
+
 /// What makes one doubt a line of moves, and where.
 fn doubt_of_moves(text: &[u8], told: &TextLine, line: &Line, has_solution: bool) -> (Doubt, usize)
     requires line { IsLine told.now.begin told.now }
@@ -202,12 +223,7 @@ fn doubt_of_moves(text: &[u8], told: &TextLine, line: &Line, has_solution: bool)
         return (Doubt::Letters, name);
     }
     if told.kind != 2 {
-        let doubt = if has_solution {
-            Doubt::Nothing
-        } else {
-            Doubt::SeveralSolutions
-        };
-        return (doubt, told.moves);
+        return doubt_of_step(text, told, slashes, has_solution);
     }
     let small = first_seen(text, told.moves, told.comment, Sight::Small);
     if small < told.comment {

@@ -259,6 +259,12 @@ pub fn whole_length(text: &[u8]) -> usize
     line + first_sign(&text[line..]).length
 }
 
+/// Whether the first line of a text begins with the word that stands before a scramble.
+pub fn begins_with_head(text: &[u8]) -> bool {
+    let line = &text[..line_length(text)];
+    head_of(&line[blanks(line)..], Numbers::OfLines).0 == Head::Word
+}
+
 /// The first line of a text.
 pub fn first_line(text: &[u8], numbers: Numbers) -> Line
     ensures { result.length ≤ length text.now }

@@ -3,7 +3,7 @@ ghost use Rattle.std.specs.Prelude.{◌≡◌, ◌≤◌, ◌<◌, length, true}
 
 use crate::word::{Word, first_word};
 
-/// Where the moves of a line begin and end, and where the first name stands that is left out, such as `DR`: their end if
+/// Where the moves of a line begin and end, and where the first name stands that may be moves, such as `LL`: the end if
 /// there is none.
 #[derive(Clone, Copy)]
 pub struct Span {
@@ -23,7 +23,7 @@ struct Frame {
     tail: usize,
     has_tail: bool,
     /// Where a bracket was opened.
-    open: usize,
+    bracket: usize,
     is_open: bool,
     /// The bracket has moves in it.
     is_of_moves: bool,
@@ -35,14 +35,14 @@ struct Frame {
 
 impl Frame {
     fn nothing() -> Frame
-        ensures { (result.lead ≤ 0) × (result.tail ≤ 0) × (result.open ≤ 0) × (result.name ≤ 0) }
+        ensures { (result.lead ≤ 0) × (result.tail ≤ 0) × (result.bracket ≤ 0) × (result.name ≤ 0) }
     {
         Frame {
             lead: 0,
             is_lead: true,
             tail: 0,
             has_tail: false,
-            open: 0,
+            bracket: 0,
             is_open: false,
             is_of_moves: false,
             name: 0,
@@ -55,7 +55,7 @@ impl Frame {
     fn with_moves(self) -> Frame
         ensures lead { result.lead ≤ self.lead }
         ensures tail { result.tail ≤ self.tail }
-        ensures open { result.open ≤ self.open }
+        ensures bracket { result.bracket ≤ self.bracket }
         ensures name { result.name ≤ self.name }
     {
         let mut frame = self;
@@ -70,8 +70,8 @@ impl Frame {
     fn with_words(self, begin: usize, end: usize) -> Frame
         requires { begin ≤ end }
         ensures lead { self.lead ≤ begin → result.lead ≤ end }
-        ensures tail { self.tail ≤ begin → self.open ≤ begin → result.tail ≤ end }
-        ensures open { result.open ≤ self.open }
+        ensures tail { self.tail ≤ begin → self.bracket ≤ begin → result.tail ≤ end }
+        ensures bracket { result.bracket ≤ self.bracket }
         ensures name { result.name ≤ self.name }
     {
         let mut frame = self;
@@ -79,7 +79,7 @@ impl Frame {
             frame.lead = end;
         } else if !self.has_tail && !self.is_of_moves {
             frame.has_tail = true;
-            frame.tail = if self.is_open { self.open } else { begin };
+            frame.tail = if self.is_open { self.bracket } else { begin };
         }
         frame
     }
@@ -88,7 +88,7 @@ impl Frame {
     fn with_name(self, begin: usize) -> Frame
         ensures lead { result.lead ≤ self.lead }
         ensures tail { result.tail ≤ self.tail }
-        ensures open { result.open ≤ self.open }
+        ensures bracket { result.bracket ≤ self.bracket }
         ensures name { self.name ≤ begin → result.name ≤ begin }
     {
         let mut frame = self;
@@ -103,13 +103,13 @@ impl Frame {
     fn opened(self, begin: usize) -> Frame
         ensures lead { result.lead ≤ self.lead }
         ensures tail { result.tail ≤ self.tail }
-        ensures open { self.open ≤ begin → result.open ≤ begin }
+        ensures bracket { self.bracket ≤ begin → result.bracket ≤ begin }
         ensures name { result.name ≤ self.name }
     {
         let mut frame = self;
         if !self.has_tail {
             frame.is_open = true;
-            frame.open = begin;
+            frame.bracket = begin;
             frame.is_of_moves = false;
         }
         frame
@@ -119,7 +119,7 @@ impl Frame {
     fn closed(self, end: usize) -> Frame
         ensures lead { self.lead ≤ end → result.lead ≤ end }
         ensures tail { result.tail ≤ self.tail }
-        ensures open { result.open ≤ self.open }
+        ensures bracket { result.bracket ≤ self.bracket }
         ensures name { result.name ≤ self.name }
     {
         let mut frame = self;
@@ -135,8 +135,8 @@ impl Frame {
     fn after(self, word: Word, begin: usize, end: usize) -> Frame
         requires { begin ≤ end }
         ensures lead { self.lead ≤ begin → result.lead ≤ end }
-        ensures tail { self.tail ≤ begin → self.open ≤ begin → result.tail ≤ end }
-        ensures open { self.open ≤ begin → result.open ≤ end }
+        ensures tail { self.tail ≤ begin → self.bracket ≤ begin → result.tail ≤ end }
+        ensures bracket { self.bracket ≤ begin → result.bracket ≤ end }
         ensures name { self.name ≤ begin → result.name ≤ end }
     {
         match word {
@@ -155,7 +155,7 @@ impl Frame {
     fn without_lead(self) -> Frame
         ensures lead { result.lead ≤ self.lead }
         ensures tail { result.tail ≤ self.tail }
-        ensures open { result.open ≤ self.open }
+        ensures bracket { result.bracket ≤ self.bracket }
         ensures name { result.name ≤ self.name }
     {
         let mut frame = self;

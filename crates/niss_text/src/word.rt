@@ -3,6 +3,7 @@ ghost use Rattle.std.specs.Prelude.{◌≤◌, ◌<◌, length};
 
 use crate::forms::count_length;
 use crate::sign::{Kind, first_sign};
+use crate::words::is_step_name;
 
 /// What a word of a line is.
 #[derive(Clone, Copy, PartialEq, Eq)]
@@ -15,9 +16,9 @@ pub enum Word {
     Move,
     /// Moves in one word, as `RUR'`.
     Moves,
-    /// Letters that spell moves, but stand together as those of a name do, such as `DR`.
+    /// Letters that spell moves, but stand together as those of a name do, such as `LL`.
     Name,
-    /// Letters that stand together and spell none.
+    /// Letters that stand together and spell none, or the name of a step, such as `DR`.
     Said,
     /// Signs without letters and digits, such as `->`.
     Mark,
@@ -27,6 +28,17 @@ pub enum Word {
     Number,
     /// A letter that spells no move, such as `Q` or `Ri`.
     Other,
+}
+
+impl Word {
+    /// The same of a name that solvers give a step.
+    fn or_step(self, text: &[u8]) -> Word {
+        if self == Word::Name && is_step_name(text) {
+            Word::Said
+        } else {
+            self
+        }
+    }
 }
 
 /// How far a word spells moves.
@@ -130,7 +142,7 @@ struct Seen {
     has_digit: bool,
     has_mark: bool,
     is_beyond: bool,
-    /// Its first letter is a capital of a move, and its second a small one: a slip rather than a name.
+    /// Its first letter is a capital of a move, and its second a small one or beyond ASCII: a slip rather than a name.
     is_slip: bool,
 }
 
@@ -157,7 +169,9 @@ impl Seen {
         }
         let mut seen = self;
         seen.is_slip = self.is_slip
-            || (self.signs == 1 && self.spelling == Spelling::Letter && kind == Kind::Small);
+            || (self.signs == 1
+                && self.spelling == Spelling::Letter
+                && (kind == Kind::Small || kind == Kind::Beyond));
         seen.is_beyond = self.is_beyond || (self.signs == 0 && kind == Kind::Beyond);
         seen.signs = up_to_three(self.signs);
         seen.spelling = self.spelling.with(kind, byte);
@@ -266,7 +280,26 @@ pub fn first_word(text: &[u8]) -> (Word, usize)
         Kind::Blank | Kind::Comma | Kind::LineEnd | Kind::Unseen => (Word::Parting, sign.length),
         _ => {
             let (seen, length) = spelled_word(text);
-            (seen.word(), length)
+            (seen.word().or_step(&text[..length]), length)
         }
     }
+}
+
+/// Whether three moves stand in a text, one after another.
+pub fn has_three_moves(text: &[u8]) -> bool {
+    let mut moves = 0u8;
+    let mut rest = text;
+    while !rest.is_empty() {
+        let (word, length) = first_word(rest);
+        moves = match word {
+            Word::Move => up_to_three(moves),
+            Word::Parting => moves,
+            _ => 0,
+        };
+        if moves == 3 {
+            return true;
+        }
+        rest = &rest[length..];
+    }
+    false
 }

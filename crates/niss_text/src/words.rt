@@ -71,7 +71,7 @@ impl Wanted {
 }
 
 /// Whether solvers call a step so.
-fn is_step_name(word: &[u8]) -> bool {
+pub fn is_step_name(word: &[u8]) -> bool {
     is_word(word, b"eo")
         || is_word(word, b"dr")
         || is_word(word, b"htr")

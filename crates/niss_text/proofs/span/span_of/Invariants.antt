@@ -6,7 +6,7 @@ invariant-loop-rest l = record {
   left : length l.rest ≤ length l.line;
   lead : l.frame.lead ≤ length l.line - length l.rest;
   tail : l.frame.tail ≤ length l.line - length l.rest;
-  opened : l.frame.open ≤ length l.line - length l.rest;
+  opened : l.frame.bracket ≤ length l.line - length l.rest;
   name : l.frame.name ≤ length l.line - length l.rest;
 }
 

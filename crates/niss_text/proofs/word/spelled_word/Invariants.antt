@@ -1,4 +1,4 @@
-use Rattle.std.proofs.Common.{◌≤◌, ◌<◌, length}
+use Rattle.std.proofs.Common.{◌<◌, length}
 use Rattle.niss_text.proofs.word.spelled_word.Given as goal
 
 abbrev pub invariant-loop-sign : goal.invariant-loop-sign
