@@ -36,14 +36,14 @@ enum nissy_line_kind {
     NISSY_BLANK_LINE = 0,    /* blanks, or a head alone */
     NISSY_LINE_BEFORE = 1,   /* prose before a scramble */
     NISSY_SCRAMBLE_LINE = 2, /* of a scramble */
-    NISSY_STEP_LINE = 3,     /* moves behind it */
-    NISSY_NOTE_LINE = 4      /* prose behind it */
+    NISSY_STEP_LINE = 3,     /* moves after it */
+    NISSY_NOTE_LINE = 4      /* prose after it */
 };
 
 /* What makes one doubt that a line is read as it was meant. */
 enum nissy_doubt {
     NISSY_NO_DOUBT = 0,
-    NISSY_ANOTHER_SCRAMBLE = 1,  /* behind all of a scramble the line goes on */
+    NISSY_ANOTHER_SCRAMBLE = 1,  /* after all of a scramble the line goes on */
     NISSY_SEVERAL_SOLUTIONS = 2, /* which of several groups is the solution can't be told */
     NISSY_SIDE = 3,              /* a side is named, such as the inverse, and the moves have no brackets */
     NISSY_LETTERS = 4,           /* letters stand together as moves don't elsewhere in the line, such as F2L or xD */

@@ -51,7 +51,7 @@ same_behind_line lines first count line far =
 pub same_behind_none : (lines first : List TextLine) (count : ℕ) → drop count lines ≡ drop count first → drop (count + 1) lines ≡ drop (count + 1) first
 same_behind_none lines first count far = sym (drop-drop 1 count lines) ∙ ap (λ v. drop 1 v) far ∙ drop-drop 1 count first
 
--- what is the same behind some lines is so behind more of them
+-- what is the same after some lines is so after more of them
 pub more_behind : (lines first : List TextLine) (count more : ℕ) → count ≤ more → drop count lines ≡ drop count first → drop more lines ≡ drop more first
 more_behind lines first count more le far =
     let split : count + (more - count) ≡ more = omega arith in

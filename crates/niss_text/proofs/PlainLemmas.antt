@@ -81,6 +81,6 @@ so_far_is text rest line places rest' line' places' r l p far = record {
   places_are = far.places_are ∙ sym p;
 }
 
--- what is behind more of a list that is the same behind some
+-- what is after more of a list that is the same after some
 pub same_behind : (m n : ℕ) (old now first : List ℕ) → drop (n + m) now ≡ drop (n + m) old → drop n old ≡ drop n first → drop (n + m) now ≡ drop (n + m) first
 same_behind m n old now first new far = new ∙ sym (drop-drop m n old) ∙ ap (λ v. drop m v) far ∙ drop-drop m n first

@@ -32,19 +32,19 @@ ends_move b = is_letter b || (is_digit b || is_prime b)
 abbrev pub is_small : ℕ → Bool
 is_small b = (b == 117) || ((b == 100) || ((b == 114) || ((b == 108) || ((b == 102) || (b == 98)))))
 
--- What is seen of a byte, and of the one before it: a small letter, a letter right behind the sign of a move (but the w
--- of a wide turn), a letter behind something else, or an apostrophe.
+-- What is seen of a byte, and of the one before it: a small letter, a letter right after the sign of a move (but the w
+-- of a wide turn), a letter after something else, or an apostrophe.
 abbrev pub is_seen : Sight → (before byte : ℕ) → Bool
 is_seen Small before byte = is_small byte
 is_seen Joined before byte = ends_move before && (is_letter byte && not (byte == 119))
 is_seen Parted before byte = not (ends_move before) && is_letter byte
 is_seen Prime before byte = is_prime byte
 
--- something is seen at a place of a text, behind the first one of a part of it
+-- something is seen at a place of a text, after the first one of a part of it
 unfoldable pub sees : List ℕ → Sight → ℕ → Bool
 sees text sight k = is_seen sight (slice_index text (k - 1)) (slice_index text k)
 
--- no letter of a part of a text stands right behind the sign of a move
+-- no letter of a part of a text stands right after the sign of a move
 abbrev pub IsParted : List ℕ → ℕ → ℕ → Type 0
 IsParted text from to = (k : ℕ) → from < k → k < to → sees text Joined k ≡ false
 

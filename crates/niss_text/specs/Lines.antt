@@ -1,4 +1,4 @@
--- The lines of a text, one behind another, and where their parts stand.
+-- The lines of a text, one after another, and where their parts stand.
 use Rattle.std.specs.Prelude.{◌≡◌, ℕ, ◌==◌, ◌+◌, ◌<◌, ◌≤◌, ◌&&◌, false, if◌then◌else◌, List, [], ◌∷◌, slice_index}
 use Rattle.niss_text.specs.Signs.{ends_line}
 use Rattle.niss_text.specs.Doubts.{IsDoubted}
@@ -22,12 +22,12 @@ end_of a b = if ends_line a then (if (a == 13) && (b == 10) then 2 else 1) else 
 abbrev pub end_size : List ℕ → ℕ → ℕ
 end_size text at = end_of (slice_index text at) (slice_index text (at + 1))
 
--- so many bytes of a text from there on don't end a line
+-- that many bytes of a text from there on don't end a line
 abbrev pub IsUnbroken : List ℕ → ℕ → ℕ → Type 0
 IsUnbroken text from size = (k : ℕ) → k < size → ends_line (slice_index text (from + k)) ≡ false
 
--- The lines of a text from one place to another: each of bytes that don't end it, and behind it what does. What makes one
--- doubt a line is told of it.
+-- The lines of a text from one place to another: each of bytes that don't end it, and after it what does. What makes
+-- one doubt a line is told of it.
 unfoldable pub Covers : List ℕ → ℕ → List TextLine → ℕ → Type 0
 Covers text from [] to = from ≡ to
 Covers text from (line ∷ lines) to =

@@ -1,4 +1,4 @@
--- What a text is read as: pieces, one behind another, of which each is written in its place or left out.
+-- What a text is read as: pieces, one after another, of which each is written in its place or left out.
 use Rattle.std.specs.Prelude.{◌≡◌, ℕ, ◌+◌, ◌<◌, ◌≤◌, true, false, List, [], ◌∷◌, ◌++◌, length, replicate, take, slice_index}
 use Rattle.niss_text.specs.declared.piece.Piece.{Piece}
 use Rattle.niss_text.specs.declared.piece.Piece.TheVariants.{Kept, Blank, LineEnd, Comma, Apostrophe, Unseen, Label, LineNumber, MoveCount, Comment}
@@ -16,8 +16,8 @@ part kind bytes = record { kind = kind; bytes = bytes }
 abbrev pub IsWithinLine : List ℕ → Type 0
 IsWithinLine bytes = (k : ℕ) → k < length bytes → ends_line (slice_index bytes k) ≡ false
 
--- What each kind of piece may be: what isn't written as it stands has no byte of moves, or begins as no moves do. A label
--- begins with a letter, as moves may. None of these goes on behind its line.
+-- What each kind of piece may be: what isn't written as it stands has no byte of moves, or begins as no moves do. A
+-- label begins with a letter, as moves may. None of these goes on after its line.
 abbrev pub IsPiece : Piece → List ℕ → Type 0
 IsPiece Kept bytes = length bytes ≡ 1
 IsPiece Blank bytes = HasNoMoves bytes
@@ -30,7 +30,7 @@ IsPiece LineNumber bytes = (begins_number (slice_index bytes 0) ≡ true) × IsW
 IsPiece MoveCount bytes = begins_count (slice_index bytes 0) (slice_index bytes 1) ≡ true
 IsPiece Comment bytes = (slice_index bytes 0 ≡ 47) × (slice_index bytes 1 ≡ 47) × IsWithinLine bytes
 
--- The first bytes of a text, so many and at least one, are such a piece.
+-- The first bytes of a text, that many and at least one, are such a piece.
 pub record IsFirst (text : List ℕ) (kind : Piece) (count : ℕ) : Type 0 where
   pub some : 0 < count
   pub fits : count ≤ length text
@@ -49,7 +49,7 @@ written LineNumber bytes = []
 written MoveCount bytes = []
 written Comment bytes = []
 
--- the text that pieces make, one behind another
+-- the text that pieces make, one after another
 unfoldable pub text_of : List Part → List ℕ
 text_of [] = []
 text_of (p ∷ ps) = p.bytes ++ text_of ps

@@ -5,7 +5,9 @@ ghost use Rattle.niss_text.specs.Lines.{IsLine, Covers};
 use crate::doubts::judged;
 use crate::forms::{is_parted, trimmed};
 use crate::groups::{Group, Solutions};
-use crate::line::{Head, Line, Numbers, begins_with_head, cut_line, first_line, whole_length};
+use crate::line::{
+    Head, Line, Numbers, begins_with_head, cut_line, first_line, may_begin, whole_length,
+};
 use crate::text_line::{Role, TextLine, told_line};
 
 /// What `text_lines` returns.
@@ -42,7 +44,7 @@ fn begins_extras(line: &[u8]) -> bool {
     line.len() > 1 && line[0] == b'E' && line[1] == b'1' && is_parted(&line[2..])
 }
 
-/// The text up to the next word that is the head of a scramble, behind moves.
+/// The text up to the next word that is the head of a scramble, after moves.
 fn stretch_length(text: &[u8]) -> usize
     ensures within { result ≤ length text.now }
     ensures some { 0 < length text.now → 0 < result }
@@ -50,7 +52,7 @@ fn stretch_length(text: &[u8]) -> usize
     let mut rest = text;
     let mut has_moves = false;
     while !rest.is_empty() {
-        // behind moves nothing but heads counts
+        // after moves nothing but heads counts
         if !has_moves || begins_with_head(rest) {
             let line = first_line(rest, Numbers::OfLines);
             if has_moves && line.head_kind == Head::Word {
@@ -63,7 +65,8 @@ fn stretch_length(text: &[u8]) -> usize
     text.len()
 }
 
-/// Whether a line has moves that a scramble may follow only in another attempt: a solution may stand before its scramble.
+/// Whether a line has moves that a scramble may follow only in another attempt: a solution may stand before its
+/// scramble.
 fn is_open(line: &Line) -> bool {
     line.is_moves && !line.is_solution
 }
@@ -116,7 +119,7 @@ fn numbers_of(text: &[u8], has_extras: bool) -> Numbers {
     }
 }
 
-/// What a line behind the moves of an attempt says of the next one.
+/// What a line after the moves of an attempt says of the next one.
 #[derive(Clone, Copy, PartialEq, Eq)]
 enum Next {
     /// It begins there.
@@ -128,12 +131,17 @@ enum Next {
     Nothing,
 }
 
-/// What a line says of the next attempt. A whole scramble begins one, whatever stands before it. A number alone does only
-/// if moves without one follow: it may be a result.
-fn next_at(line: &Line) -> Next {
+/// What the first line of a text says of the next attempt. A whole scramble begins one, whatever stands before it. A
+/// number alone does only if moves without one follow: it may be a result. Without such a number before it, a line counts
+/// only if it may begin one.
+fn next_at(text: &[u8], numbers: Numbers, is_numbered: bool) -> Next {
+    if !is_numbered && !may_begin(text, numbers) {
+        return Next::Nothing;
+    }
+    let line = first_line(text, numbers);
     if line.head_kind == Head::Number && line.is_head_alone {
         Next::MayBegin
-    } else if is_head(line) || (line.is_whole && line.is_moves) {
+    } else if is_head(&line) || (line.is_whole && line.is_moves) {
         Next::Begins
     } else if line.is_moves {
         Next::HasMoves
@@ -142,7 +150,7 @@ fn next_at(line: &Line) -> Next {
     }
 }
 
-/// How many bytes the first attempt of a stretch has: up to the next head or whole scramble behind moves.
+/// How many bytes the first attempt of a stretch has: up to the next head or whole scramble after moves.
 fn attempt_length(text: &[u8], numbers: Numbers) -> usize
     ensures within { result ≤ length text.now }
     ensures some { 0 < length text.now → 0 < result }
@@ -151,24 +159,23 @@ fn attempt_length(text: &[u8], numbers: Numbers) -> usize
     let mut has_moves = false;
     let mut number = 0;
     while !rest.is_empty() {
-        let line = first_line(rest, numbers);
-        let at = text.len() - rest.len();
         if has_moves {
-            match next_at(&line) {
-                Next::Begins => return at,
+            match next_at(rest, numbers, number > 0) {
+                Next::Begins => return text.len() - rest.len(),
                 Next::HasMoves if number > 0 => return number,
-                Next::MayBegin if number == 0 => number = at,
+                Next::MayBegin if number == 0 => number = text.len() - rest.len(),
                 _ => {}
             }
+        } else {
+            has_moves = is_open(&first_line(rest, numbers));
         }
-        has_moves = has_moves || is_open(&line);
         rest = &rest[whole_length(rest)..];
     }
     text.len()
 }
 
-/// Where the first line of moves begins, and the end if there is none; and whether prose before it is told from it: if a
-/// head stands in it or before it, or if it is a whole scramble.
+/// Where the first line of moves begins, and the end if there is none; and whether prose before it is told from it: if
+/// a head stands in it or before it, or if it is a whole scramble.
 fn first_moves(text: &[u8], numbers: Numbers) -> (usize, bool)
     ensures { result.0 ≤ length text.now }
 {
@@ -288,7 +295,7 @@ fn role_of(attempt: &Attempt, line: &Line, kind: u8, group: usize) -> Role {
     }
 }
 
-/// Writes a line behind so many others, if there is room.
+/// Writes a line after that many others, if there is room.
 fn put_line(lines: &mut [TextLine], count: usize, line: TextLine)
     ensures { lines.new ≡ set lines.old count line }
 {
@@ -297,8 +304,8 @@ fn put_line(lines: &mut [TextLine], count: usize, line: TextLine)
     }
 }
 
-/// Writes the lines of an attempt behind so many others, as long as there is room, and returns how many these are then, and
-/// where the last one ends.
+/// Writes the lines of an attempt after that many others, as long as there is room, and returns how many these are
+/// then, and where the last one ends.
 fn put_attempt(
     text: &[u8],
     begin: usize,

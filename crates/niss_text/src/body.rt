@@ -5,8 +5,8 @@ use crate::forms::trimmed;
 use crate::sign::{Kind, first_kind, first_sign};
 use crate::word::{Word, first_word};
 
-/// Whether what stands in a line is moves, behind its label and before its comment. What they are is to be read. A line of
-/// words alone that spell none is a sentence, and one without letters is none either.
+/// Whether what stands in a line is moves, after its label and before its comment. What they are is to be read. A line
+/// of words alone that spell none is a sentence, and one without letters is none either.
 pub fn is_moves(body: &[u8]) -> bool {
     let mut has_words = false;
     let mut has_others = false;
@@ -24,7 +24,7 @@ pub fn is_moves(body: &[u8]) -> bool {
     has_others && !has_words
 }
 
-/// What is behind a letter with an apostrophe and blanks in front of a text, if they are there.
+/// What is after a letter with an apostrophe and blanks in front of a text, if they are there.
 fn behind_primed(text: &[u8], letter: u8) -> Option<&[u8]>
     ensures { IfSome result (λ rest. length rest.now < length text.now) }
 {
@@ -43,7 +43,7 @@ fn behind_primed(text: &[u8], letter: u8) -> Option<&[u8]>
     }
 }
 
-/// What is behind R' U' F in front of a text, if they are there.
+/// What is after R' U' F in front of a text, if they are there.
 fn behind_frame(text: &[u8]) -> Option<&[u8]>
     ensures { IfSome result (λ rest. length rest.now < length text.now) }
 {
@@ -86,7 +86,7 @@ pub fn is_whole_scramble(body: &[u8]) -> bool {
 }
 
 /// Whether R' U' F stands somewhere in a text.
-fn has_frame(text: &[u8]) -> bool {
+pub fn has_frame(text: &[u8]) -> bool {
     let mut rest = text;
     while !rest.is_empty() {
         if behind_frame(rest).is_some() {
@@ -97,7 +97,7 @@ fn has_frame(text: &[u8]) -> bool {
     false
 }
 
-/// Whether a line begins as all of a scramble does, and goes on behind its end.
+/// Whether a line begins as all of a scramble does, and goes on after its end.
 pub fn goes_on_behind_scramble(body: &[u8]) -> bool {
     match behind_frame(trimmed(body)) {
         Some(rest) => has_frame(rest) && !ends_with_frame(rest),

@@ -16,7 +16,7 @@ use crate::words::{Wanted, begins_side, says, word_length};
 #[derive(Clone, Copy, PartialEq, Eq)]
 pub enum Doubt {
     Nothing,
-    /// Behind all of a scramble the line goes on.
+    /// After all of a scramble the line goes on.
     AnotherScramble,
     /// Which of several groups is the solution can't be told.
     SeveralSolutions,
@@ -26,7 +26,7 @@ pub enum Doubt {
     Letters,
     /// A scramble has a move in a small letter.
     SmallLetters,
-    /// Moves stand behind the slashes of a comment.
+    /// Moves stand after the slashes of a comment.
     Comment,
 }
 
@@ -52,9 +52,9 @@ impl Doubt {
 enum Sight {
     /// A small letter of an outer turn.
     Small,
-    /// A letter right behind the sign of a move.
+    /// A letter right after the sign of a move.
     Joined,
-    /// A letter behind something else.
+    /// A letter after something else.
     Parted,
     /// An apostrophe.
     Prime,
@@ -89,7 +89,7 @@ fn is_small(byte: u8) -> bool
 }
 
 impl Sight {
-    /// Whether it is seen at a byte behind another.
+    /// Whether it is seen at a byte after another.
     fn is_seen(self, before: u8, byte: u8) -> bool
         ensures { result ≡ is_seen self before byte }
     {
@@ -126,8 +126,8 @@ fn first_seen(text: &[u8], from: usize, to: usize, sight: Sight) -> usize
     to
 }
 
-/// Where letters stand together in the moves of a line as moves don't elsewhere in it, or where the moves end: not if all
-/// stand so, and one has an apostrophe.
+/// Where letters stand together in the moves of a line as moves don't elsewhere in it, or where the moves end: not if
+/// all stand so, and one has an apostrophe.
 #[tactic(auto, using(crate::proofs::DoubtLemmas::none_joined, crate::proofs::DoubtLemmas::none_parted))]
 fn letters_at(text: &[u8], from: usize, to: usize) -> usize
     requires { (from ≤ to) × (to ≤ length text.now) }
@@ -164,7 +164,7 @@ fn first_side(text: &[u8], from: usize, to: usize) -> usize
     to
 }
 
-/// Where a line of no brackets names a side, in its label or behind its moves; of a line without moves anywhere.
+/// Where a line of no brackets names a side, in its label or after its moves; of a line without moves anywhere.
 fn side_at(text: &[u8], told: &TextLine) -> usize
     requires line { IsLine told.now.begin told.now }
     requires fits { told.now.end ≤ length text.now }

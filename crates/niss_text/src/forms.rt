@@ -160,14 +160,14 @@ pub fn listed_length(line: &[u8], has_extras: bool) -> usize
     }
 }
 
-/// What is behind the blanks in front of a line.
+/// What is after the blanks in front of a line.
 pub fn trimmed(line: &[u8]) -> &[u8]
     ensures { length result.now ≤ length line.now }
 {
     behind(line, Class::Skipped)
 }
 
-/// What is behind "of 3" or "/3" in front of a line, or the line itself.
+/// What is after "of 3" or "/3" in front of a line, or the line itself.
 fn behind_total(line: &[u8]) -> &[u8]
     ensures { length result.now ≤ length line.now }
 {
@@ -186,7 +186,7 @@ fn behind_total(line: &[u8]) -> &[u8]
     }
 }
 
-/// What is behind the sign that ends a head, or the line itself.
+/// What is after the sign that ends a head, or the line itself.
 fn behind_end(line: &[u8]) -> &[u8]
     ensures { length result.now ≤ length line.now }
 {
@@ -233,7 +233,7 @@ pub fn head_length(line: &[u8]) -> usize
     }
 }
 
-/// Whether a word may be a move, so that a colon behind it is at fault.
+/// Whether a word may be a move, so that a colon after it is at fault.
 fn is_like_move(word: &[u8]) -> bool {
     if word.is_empty() || !is_letter(first_kind(word)) {
         return false;
@@ -311,7 +311,7 @@ fn words_before_colon(line: &[u8]) -> (usize, usize)
     (words, line.len() - rest.len() + colon)
 }
 
-/// The label in front of a line, unless its words may be moves, or the moves behind it belong to the inverse and don't
+/// The label in front of a line, unless its words may be moves, or the moves after it belong to the inverse and don't
 /// say so themselves.
 pub fn label_of(line: &[u8]) -> Option<Label>
     ensures { IfSome result (λ label. label.length ≤ length line.now) }

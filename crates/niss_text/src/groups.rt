@@ -27,15 +27,15 @@ impl Group {
         }
     }
 
-    /// Whether a line begins a group: behind one that is ended, with the label of a solution behind moves, or with moves
-    /// that are told behind a solution that isn't.
+    /// Whether a line begins a group: after one that is ended, with the label of a solution after moves, or with moves
+    /// that are told after a solution that isn't.
     fn is_ended_by(&self, line: &Line) -> bool {
         self.is_ended
             || (self.has_moves && line.is_solution)
             || (self.is_line && line.is_told && line.is_moves)
     }
 
-    /// Behind one more line. A blank line ends a group, but one of a label alone, which belongs to what follows it.
+    /// After one more line. A blank line ends a group, but one of a label alone, which belongs to what follows it.
     pub fn after(self, line: &Line) -> Group {
         let mut group = self;
         if line.is_blank {
@@ -63,8 +63,8 @@ pub struct Solutions {
     /// How many groups after the first have moves, two at most, and the last of them.
     listed: u8,
     last_listed: usize,
-    /// How many lines say that the solution follows, two at most, and of the last which group it is in, and whether it is
-    /// the final one.
+    /// How many lines say that the solution follows, two at most, and of the last which group it is in, and whether it
+    /// is the final one.
     told: u8,
     last_told: usize,
     is_final: bool,
@@ -85,7 +85,7 @@ impl Solutions {
         }
     }
 
-    /// Behind one more line.
+    /// After one more line.
     pub fn after(self, line: &Line) -> Solutions {
         let mut seen = self;
         seen.group = self.group.after(line);

@@ -1,5 +1,5 @@
-//! Text as solvers write it: which bytes of it are moves, and which of its lines are scrambles, steps and notes. It knows
-//! nothing of what moves do: what isn't told apart here is at fault where it is read as a line.
+//! Text as solvers write it: which bytes of it are moves, and which of its lines are scrambles, steps and notes. It
+//! knows nothing of what moves do: what isn't told apart here is at fault where it is read as a line.
 #![tactic(auto)]
 
 mod attempts;

@@ -3,7 +3,7 @@ ghost use Rattle.std.specs.Prelude.{◌≡◌, ◌≤◌, ◌<◌, ◌+◌, true
 ghost use Rattle.niss_text.specs.Signs.{ends_line};
 ghost use Rattle.niss_text.specs.Lines.{IsUnbroken, end_of, end_size};
 
-use crate::body::{is_moves, is_whole_scramble};
+use crate::body::{has_frame, is_moves, is_whole_scramble};
 use crate::forms::{
     begins_comment, head_length, label_of, line_length, listed_length, number_length, trimmed,
 };
@@ -31,7 +31,7 @@ pub enum Head {
 }
 
 /// What is seen of a line: how many bytes its head has, where the words of its label begin and end, where its moves and
-/// what is said behind them begin, where slashes begin a comment, and what these say.
+/// what is said after them begin, where slashes begin a comment, and what these say.
 #[derive(Clone, Copy)]
 pub struct Line {
     pub head_kind: Head,
@@ -62,7 +62,7 @@ pub struct Line {
 }
 
 impl Line {
-    /// Whether something is said behind its moves.
+    /// Whether something is said after its moves.
     pub fn has_comment(&self) -> bool {
         self.comment < self.length
     }
@@ -124,7 +124,7 @@ fn head_of(line: &[u8], numbers: Numbers) -> (Head, usize)
     (Head::Number, listed)
 }
 
-/// Where the parts of a line are: its label, its moves, and what is said behind them.
+/// Where the parts of a line are: its label, its moves, and what is said after them.
 #[derive(Clone, Copy)]
 struct Parts {
     label_begin: usize,
@@ -140,7 +140,7 @@ struct Parts {
     ghost name_in: { name ≤ slashes },
 }
 
-/// Where the parts of a line are behind its head, which has so many bytes.
+/// Where the parts of a line are after its head, which has that many bytes.
 fn parts_of(line: &[u8], head: usize) -> Parts
     requires { head ≤ length line.now }
     ensures head { head ≤ result.label_begin }
@@ -168,7 +168,7 @@ fn parts_of(line: &[u8], head: usize) -> Parts
     }
 }
 
-/// The line without what stands in front of it, which has so many bytes.
+/// The line without what stands in front of it, which has that many bytes.
 fn line_behind(line: &[u8], head_kind: Head, head: usize) -> Line
     requires { head ≤ length line.now }
     ensures head { result.head ≡ head }
@@ -201,7 +201,7 @@ fn line_behind(line: &[u8], head_kind: Head, head: usize) -> Line
     }
 }
 
-/// What is seen of a line. One that goes on with prose behind its head has none.
+/// What is seen of a line. One that goes on with prose after its head has none.
 pub fn line_of(line: &[u8], numbers: Numbers) -> Line
     ensures { result.length ≡ length line.now }
 {
@@ -263,6 +263,12 @@ pub fn whole_length(text: &[u8]) -> usize
 pub fn begins_with_head(text: &[u8]) -> bool {
     let line = &text[..line_length(text)];
     head_of(&line[blanks(line)..], Numbers::OfLines).0 == Head::Word
+}
+
+/// Whether the first line of a text may begin an attempt: by a head, or as a whole scramble.
+pub fn may_begin(text: &[u8], numbers: Numbers) -> bool {
+    let line = &text[..line_length(text)];
+    head_of(&line[blanks(line)..], numbers).0 != Head::None || has_frame(line)
 }
 
 /// The first line of a text.

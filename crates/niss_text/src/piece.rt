@@ -1,4 +1,4 @@
-//! The pieces of a text, one behind another: single bytes of moves, and what is read otherwise or left out.
+//! The pieces of a text, one after another: single bytes of moves, and what is read otherwise or left out.
 ghost use Rattle.std.specs.Prelude.{◌≡◌, ◌<◌, ◌≤◌, length, IfSome};
 ghost use Rattle.niss_text.specs.Pieces.{IsFirst};
 ghost use Rattle.niss_text.specs.Signs.{begins_number, begins_count};
@@ -30,14 +30,14 @@ pub enum Piece {
 pub enum Place {
     /// Before its number.
     Begin,
-    /// Behind its number, before a label.
+    /// After its number, before a label.
     Numbered,
-    /// Behind what may be a label.
+    /// After what may be a label.
     Moves,
 }
 
 impl Place {
-    /// Where one is behind a piece.
+    /// Where one is after a piece.
     pub fn after(self, piece: Piece) -> Place {
         match piece {
             Piece::LineEnd => Place::Begin,
@@ -72,7 +72,8 @@ fn begins_count(first: u8, second: u8) -> bool
     (first == b'(' || first == b'[') && is_digit_byte(second)
 }
 
-/// What has a form of its own in front of a text among its moves, and how many bytes it has: a comment or a number of moves.
+/// What has a form of its own in front of a text among its moves, and how many bytes it has: a comment or a number of
+/// moves.
 fn form_of_moves(text: &[u8]) -> Option<(Piece, usize)>
     ensures { IfSome result (λ first. IsFirst text.now first.0 first.1) }
 {

@@ -42,7 +42,7 @@ fn written(piece: Piece, first: u8) -> ([u8; 3], usize)
     }
 }
 
-/// What is behind so many bytes of a text.
+/// What is after that many bytes of a text.
 fn behind_piece(text: &[u8], size: usize) -> &[u8]
     requires { size ≤ length text.now }
     ensures { result.now ≡ drop size text.now }
@@ -50,7 +50,7 @@ fn behind_piece(text: &[u8], size: usize) -> &[u8]
     &text[size..]
 }
 
-/// Writes so many of some bytes there.
+/// Writes that many of some bytes there.
 fn put_bytes(bytes: &[u8], count: usize, out: &mut [u8], at: usize)
     requires some { count ≤ length bytes.now }
     requires room { at + count ≤ length out.old }
@@ -60,7 +60,7 @@ fn put_bytes(bytes: &[u8], count: usize, out: &mut [u8], at: usize)
     out[at..at + count].copy_from_slice(&bytes[..count]);
 }
 
-/// Writes so many times the same place there.
+/// Writes that many times the same place there.
 fn put_places(place: u64, count: usize, places: &mut [u64], at: usize)
     requires { at + count ≤ length places.old }
     ensures written { take (at + count) places.new ≡ take at places.old ++ replicate count place }
@@ -69,8 +69,8 @@ fn put_places(place: u64, count: usize, places: &mut [u64], at: usize)
     places[at..at + count].fill(place);
 }
 
-/// Writes a text as one line: without labels, comments, and numbers of lines and moves. Each byte that is written has its
-/// place in the text. Three bytes for each of the text are room enough.
+/// Writes a text as one line: without labels, comments, and numbers of lines and moves. Each byte that is written has
+/// its place in the text. Three bytes for each of the text are room enough.
 pub fn plain_line(text: &[u8], out: &mut [u8], places: &mut [u64]) -> PlainAnswer
     ensures reads { result.status ≡ 0 → IsPlain text.now (take result.length out.new) (take result.length places.new) }
     ensures room { 3 * length text.now ≤ length out.old → 3 * length text.now ≤ length places.old → result.status ≡ 0 }

@@ -206,7 +206,7 @@ impl Class {
     }
 }
 
-/// What is behind the signs of a class in front of a text.
+/// What is after the signs of a class in front of a text.
 pub fn behind(text: &[u8], class: Class) -> &[u8]
     ensures { length result.now ≤ length text.now }
 {

@@ -1,4 +1,4 @@
-//! Where the moves of a line begin and end: behind words in front of them that are none, and before those behind them.
+//! Where the moves of a line begin and end: after words in front of them that are none, and before those after them.
 ghost use Rattle.std.specs.Prelude.{◌≡◌, ◌≤◌, ◌<◌, length, true};
 
 use crate::word::{Word, first_word};
@@ -19,7 +19,7 @@ struct Frame {
     /// The end of the words before the moves.
     lead: usize,
     is_lead: bool,
-    /// Where the words behind the moves begin.
+    /// Where the words after the moves begin.
     tail: usize,
     has_tail: bool,
     /// Where a bracket was opened.
@@ -51,7 +51,7 @@ impl Frame {
         }
     }
 
-    /// Behind moves.
+    /// After moves.
     fn with_moves(self) -> Frame
         ensures lead { result.lead ≤ self.lead }
         ensures tail { result.tail ≤ self.tail }
@@ -66,7 +66,7 @@ impl Frame {
         frame
     }
 
-    /// Behind a word that is no move, from there to there.
+    /// After a word that is no move, from there to there.
     fn with_words(self, begin: usize, end: usize) -> Frame
         requires { begin ≤ end }
         ensures lead { self.lead ≤ begin → result.lead ≤ end }
@@ -99,7 +99,7 @@ impl Frame {
         frame
     }
 
-    /// Behind a bracket that opens there.
+    /// After a bracket that opens there.
     fn opened(self, begin: usize) -> Frame
         ensures lead { result.lead ≤ self.lead }
         ensures tail { result.tail ≤ self.tail }
@@ -115,7 +115,7 @@ impl Frame {
         frame
     }
 
-    /// Behind a bracket that closes there.
+    /// After a bracket that closes there.
     fn closed(self, end: usize) -> Frame
         ensures lead { self.lead ≤ end → result.lead ≤ end }
         ensures tail { result.tail ≤ self.tail }
@@ -131,7 +131,7 @@ impl Frame {
         frame
     }
 
-    /// Behind a word from there to there.
+    /// After a word from there to there.
     fn after(self, word: Word, begin: usize, end: usize) -> Frame
         requires { begin ≤ end }
         ensures lead { self.lead ≤ begin → result.lead ≤ end }
@@ -151,7 +151,7 @@ impl Frame {
         }
     }
 
-    /// Behind what is at fault where the moves are read.
+    /// After what is at fault where the moves are read.
     fn without_lead(self) -> Frame
         ensures lead { result.lead ≤ self.lead }
         ensures tail { result.tail ≤ self.tail }
@@ -163,7 +163,7 @@ impl Frame {
         frame
     }
 
-    /// Where the moves of a line are that has so many bytes. Words are told from moves only beside two moves.
+    /// Where the moves of a line are that has that many bytes. Words are told from moves only beside two moves.
     fn span(self, length: usize) -> Span
         requires { self.name ≤ length }
         ensures fits { result.end ≤ length }

@@ -18,8 +18,8 @@ pub struct TextLine {
     pub says_solution: bool,
     /// What is said of it has its moves on the inverse, and they have no brackets.
     pub is_inverse: bool,
-    /// What makes one doubt that it is read as it was meant, if its attempt isn't solved: the number of a `Doubt`, 0 for
-    /// nothing.
+    /// What makes one doubt that it is read as it was meant, if its attempt isn't solved: the number of a `Doubt`, 0
+    /// for nothing.
     pub doubt: u8,
     /// Which attempt, from 0.
     pub attempt: usize,

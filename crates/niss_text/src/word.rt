@@ -101,7 +101,7 @@ fn is_small_move(byte: u8) -> bool {
     )
 }
 
-/// Whether a sign may stand behind the letter of a move.
+/// Whether a sign may stand after the letter of a move.
 fn is_suffix(kind: Kind, byte: u8) -> bool {
     byte == b'2' || is_prime(kind)
 }
