@@ -72,21 +72,10 @@ class LinesAnswer(ctypes.Structure):
     _fields_ = [("status", ctypes.c_uint8), ("lines", ctypes.c_uint64), ("bytes", ctypes.c_uint64)]
 
 
-class PlainAnswer(ctypes.Structure):
-    """`nissy_plain_answer` of nissy_text.h."""
-    _fields_ = [("status", ctypes.c_uint8), ("left_out", ctypes.c_uint8), ("length", ctypes.c_uint64)]
-
-
-class TextAnswer(ctypes.Structure):
-    """`nissy_text_answer` of nissy_text.h."""
-    _fields_ = [("status", ctypes.c_uint8), ("lines", ctypes.c_uint64), ("attempts", ctypes.c_uint64)]
-
-
-# The fields of structs that come in great number, in the order of the header: ctypes would take as
+# The fields of two structs that come in great number, in the order of the header: ctypes would take as
 # long to read them as the search.
 SEARCH_ANSWER = struct.Struct("=4BI3Q")
 FACTS_ANSWER = struct.Struct("=3BxI3H" + 3 * "3H3Bx")
-TEXT_LINE = struct.Struct("=B4?B2x10Q")
 
 _NAME = {"win32": "nissy.dll", "cygwin": "nissy.dll", "darwin": "libnissy.2.dylib"}.get(sys.platform, "libnissy.so.2")
 """What the library is called on this system."""
@@ -206,8 +195,6 @@ nissy_count_lines = _call("nissy_count_lines", LinesAnswer, _PLACE, *_READ, _BYT
 nissy_facts = _call("nissy_facts", FactsAnswer, *_READ)
 nissy_facts_lines = _call("nissy_facts_lines", LinesAnswer, *_READ, *_WRITTEN)
 nissy_check = _call("nissy_check", CheckAnswer, *_READ, *_READ)
-nissy_plain = _call("nissy_plain", PlainAnswer, *_READ, *_WRITTEN, *_WRITTEN)
-nissy_text_lines = _call("nissy_text_lines", TextAnswer, *_READ, *_WRITTEN)
 nissy_scramble = _call("nissy_scramble", LineAnswer, _LONG, _LONG, _HALF, *_WRITTEN)
 nissy_steps = _call("nissy_steps", LineAnswer, *_WRITTEN)
 nissy_start = _call("nissy_start", LineAnswer, *_READ, *_WRITTEN)
