@@ -35,7 +35,9 @@ def check(asked: Dict[str, str]) -> Answer:
 
 def search(asked: Dict[str, str]) -> Answer:
     """The solutions of a step, as far as the bounds let them be found."""
-    step, line, slack = cast(nissy.Step, asked["step"]), asked["line"], int(asked.get("slack", 0))
+    step, line, digits = cast(nissy.Step, asked["step"]), asked["line"], asked.get("slack", "0")
+    # of what is no number `count` says so, as of one out of its range
+    slack = int(digits) if digits.isdecimal() and len(digits) < 3 else -1
     count = nissy.count(step, line, slack=slack, nodes=MOST_NODES, partial=True)
     first = nissy.solve(step, line, slack=slack, most=MOST_SHOWN, nodes=MOST_NODES, partial=True)
     return {"cut": count.cut, "first": first, "solutions": count.solutions}

@@ -2,15 +2,16 @@
  *
  * Memory. The caller owns every buffer: no call keeps a pointer to one after it returned. A pointer comes with the bytes that it may
  * reach: so many bytes (below 2^63) are there, and if these are 0, it may be null. Bytes need no alignment; `tables` and `answers` need
- * that of their types. Buffers that are written (`out`, `err`, `answers`) overlap no other buffer of the call; those that are read may
- * overlap each other. No text ends with a zero byte. Bytes may be anything: none makes a call crash, or reach beyond a buffer. A pointer to
+ * that of their types. Buffers that are written (`out`, `err`, `answers`, `room`) overlap no other buffer of the call; those that are
+ * read may overlap each other. No text ends with a zero byte. Bytes may be anything: none makes a call crash, or reach beyond a buffer. A pointer to
  * a nissy_tables isn't null.
  *
  * Threads. The one state between calls is that of the tables which a caller has built (nissy_tables below). Any threads may call at the
  * same time, with written buffers of their own.
  *
  * Stack and signals. nissy_run and nissy_build need 64 KiB of stack and take memory: neither is to be called from a signal handler, or in a
- * forked child of a process with threads. All other calls need 16 KiB and take none, and may be called there too.
+ * forked child of a process with threads. nissy_best, nissy_solve_sides and nissy_line_after need 64 KiB too, but take no memory. All other
+ * calls need 16 KiB and take none, and may be called there too.
  *
  * Answers. Each is a struct of numbers of 8, 16, 32 or 64 bits, so that it lies the same on every machine that aligns these to their size,
  * as those of 64 bits do, and begins with `status`. If a line may have a fault, `fault` is the second byte and `column` the second four
@@ -253,6 +254,126 @@ nissy_lines_answer nissy_count_lines(const nissy_tables *tables, const uint8_t *
 
 /* What nissy_facts returns of each line of a text. It takes no memory. */
 nissy_lines_answer nissy_facts_lines(const uint8_t *text, size_t text_length, nissy_facts_answer *answers, size_t room);
+
+/* Turns on a side. */
+typedef struct nissy_side_turns {
+    uint8_t count;     /* how many they are */
+    uint8_t free;      /* how many at the end may go either way: if one of them is a quarter turn, its other direction reaches the step too */
+    uint8_t turns[20]; /* each by its number in turn order, as it is written: 0 U, 1 U2, 2 U', 3 D, .. 17 B'; 255 after them */
+} nissy_side_turns;
+
+/* The moves of a step, on both sides. */
+typedef struct nissy_way_part {
+    uint8_t step;             /* its number as nissy_steps lists them, from 0; or NISSY_NO_STEP: then there are none */
+    nissy_side_turns normal;  /* those on the scramble */
+    nissy_side_turns inverse; /* those on the inverse scramble: they stand in brackets */
+} nissy_way_part;
+
+/* No step, of a way from a cube whose orientation holds already. */
+#define NISSY_NO_STEP 255
+
+/* A way on to a domino reduction. */
+typedef struct nissy_way {
+    uint16_t total;     /* all moves, those so far too: the turns of both sides, once each is cleaned */
+    uint8_t corners;    /* the case of the reduction before its moves: 4 and 4 are 4c4e */
+    uint8_t edges;
+    uint8_t on_normal;  /* the least length of the reduction there on the scramble alone, and on the inverse alone; 21 if it is more than */
+    uint8_t on_inverse; /* 20 */
+    nissy_way_part eo;  /* the orientation, none if one holds already */
+    nissy_way_part dr;  /* the reduction */
+} nissy_way;
+
+/* All axes. */
+#define NISSY_ALL_AXES 7
+
+/* What is asked of nissy_best. */
+typedef struct nissy_ways_wanted {
+    uint8_t slack;       /* by how many turns, 0 to 20, the first step may be longer than the shortest: on the scramble alone, on the inverse
+                            alone, or over both */
+    uint8_t axes;        /* on which axes the orientation is: 1 F and B, 2 R and L, 4 U and D, added; NISSY_ALL_AXES are all */
+    uint8_t from;        /* how many turns the first step has on both sides together, from and to: 0 and 20 are all */
+    uint8_t to;
+    uint64_t most_nodes; /* at how many positions it may look */
+    uint64_t there;      /* how many ways stand in the room already, in order, from an earlier call */
+} nissy_ways_wanted;
+
+/* What nissy_best returns. */
+typedef struct nissy_ways_answer {
+    uint8_t status;  /* NISSY_DONE, NISSY_FAULT, NISSY_USAGE, NISSY_STOPPED or NISSY_CUT */
+    uint8_t fault;   /* after NISSY_FAULT one of nissy_fault, never NISSY_START */
+    uint8_t line;    /* after NISSY_FAULT and NISSY_STOPPED which line has it: 1 the scramble, 2 the moves so far; the first one is told */
+    uint8_t next;    /* after NISSY_DONE: the slack lets in first steps on these axes that are longer than `to` */
+    uint32_t column; /* after NISSY_FAULT the place of the fault in bytes, from 1; 0 if both lines have too many moves together */
+    uint64_t rows;   /* after NISSY_DONE and NISSY_CUT how many ways stand in the room */
+    uint64_t tried;  /* after these how many ways it tried */
+    uint64_t nodes;  /* after these at how many positions it looked */
+} nissy_ways_answer;
+
+/* Puts the best ways on from a scramble and the moves so far into the room, the best first: each edge orientation over both sides, and after
+ * it the reduction on each of two axes with the fewest moves in all, over both sides too; of a cube that is oriented the reductions; of one
+ * that is reduced nothing. EMBEDDING.md says which ways there are, and in what order. Moves of both lines in brackets are made on the inverse
+ * scramble; those so far, and the ways, name the faces as the moves outside brackets leave the cube.
+ *
+ * `tables` are nine, in the order of nissy_steps: eofb, eorl, eoud, drud-eofb, drrl-eofb, drud-eorl, drfb-eorl, drrl-eoud, drfb-eoud. `wanted`
+ * may name some axes and lengths only: so a search goes in parts, between which a caller tells how far it is, or ends it. The ways of all
+ * parts come into one room, if each call is told how many are there: the best of them stay, as many as have place, whatever the order of the
+ * parts. It looks at no more than `most_nodes` positions: before it would look at more it ends with NISSY_CUT, and the ways are the best of
+ * those that it tried.
+ *
+ * It takes no memory, but 64 KiB of stack. NISSY_USAGE: the tables aren't those of the nine steps in this order, a number is out of its range,
+ * or `there` is more than the room. NISSY_STOPPED, NISSY_FAULT: as of nissy_check; NISSY_TOO_LONG of line 2 without a column if both lines
+ * have too many moves together. After these three the room is as it was. */
+nissy_ways_answer nissy_best(const nissy_tables *tables, const uint8_t *scramble, size_t scramble_length, const uint8_t *so_far,
+                             size_t so_far_length, const nissy_ways_wanted *wanted, nissy_way *room, size_t room_length);
+
+/* On which sides the moves of a solution are: on the scramble, on its inverse, or on both or either. */
+enum nissy_sides { NISSY_NORMAL = 1, NISSY_INVERSE = 2, NISSY_BOTH = 3 };
+
+/* What is asked of nissy_solve_sides. */
+typedef struct nissy_sides_wanted {
+    uint8_t sides;       /* one of nissy_sides */
+    uint8_t length;      /* how many turns each solution has on both sides together, 0 to 20 */
+    uint8_t counts;      /* 1: those that have no place in the room are counted; 0: the search ends before the first of them */
+    uint64_t passed;     /* how many of the first ones are passed over */
+    uint64_t most_nodes; /* at how many positions it may look */
+} nissy_sides_wanted;
+
+/* What nissy_solve_sides returns. */
+typedef struct nissy_sides_answer {
+    uint8_t status;     /* NISSY_DONE, NISSY_FAULT, NISSY_USAGE, NISSY_STOPPED or NISSY_CUT */
+    uint8_t fault;      /* after NISSY_FAULT one of nissy_fault; NISSY_START without a line or column */
+    uint8_t line;       /* after NISSY_FAULT and NISSY_STOPPED which line has it, as of nissy_best */
+    uint8_t more;       /* the room is full, and there are more, which weren't counted */
+    uint32_t column;    /* after NISSY_FAULT the place of the fault in bytes, from 1; 0 if both lines have too many moves together */
+    uint64_t rows;      /* after NISSY_DONE and NISSY_CUT how many solutions stand in the room */
+    uint64_t solutions; /* after these how many came, with those that were passed over */
+    uint64_t nodes;     /* after these at how many positions it looked */
+} nissy_sides_answer;
+
+/* Puts the solutions of the step whose tables these are into the room, from a scramble and the moves so far: pairs of turns on the scramble
+ * and on its inverse, together of exactly so many turns, which reach the step, and whose first turns don't. They come by their turns on the
+ * scramble, fewer ones first, and then in turn order of the shorter side, and of the other. So a caller goes from length to length, the
+ * shortest from 0 on, and through a long list in parts, by those that are passed over. Lines and names are those of nissy_best.
+ *
+ * It takes no memory, but 64 KiB of stack. NISSY_USAGE: there are no tables, or a number is out of its range. NISSY_CUT: it would look at more
+ * than `most_nodes` positions. */
+nissy_sides_answer nissy_solve_sides(const nissy_tables *tables, const uint8_t *scramble, size_t scramble_length, const uint8_t *so_far,
+                                     size_t so_far_length, const nissy_sides_wanted *wanted, nissy_way_part *room, size_t room_length);
+
+/* What nissy_line_after returns. */
+typedef struct nissy_line_after_answer {
+    uint8_t status;  /* NISSY_DONE, NISSY_FAULT, NISSY_STOPPED or NISSY_ROOM */
+    uint8_t fault;   /* after NISSY_FAULT one of nissy_fault, never NISSY_START */
+    uint8_t line;    /* after NISSY_FAULT and NISSY_STOPPED which line has it, as of nissy_best */
+    uint32_t column; /* after NISSY_FAULT the place of the fault in bytes, from 1; 0 if both lines have too many moves together */
+    uint64_t length; /* after NISSY_DONE the bytes written, after NISSY_ROOM the bytes that there are to write */
+} nissy_line_after_answer;
+
+/* Writes the line of the cube at which a solver stands after a scramble and the moves so far, for the calls on one line: face turns, named by
+ * the centres, with the moves in brackets inverted before the scramble. nissy_invert makes it that of the inverse side. NISSY_LINE_ROOM is
+ * enough. It takes no memory; 64 KiB of stack. Both lines have too many moves together also if the line would have more than 256. */
+nissy_line_after_answer nissy_line_after(const uint8_t *scramble, size_t scramble_length, const uint8_t *so_far, size_t so_far_length,
+                                         uint8_t *out, size_t out_room);
 
 /* The calls below write to `out` as those on one line do, and take no memory. They return NISSY_DONE or NISSY_ROOM, or NISSY_USAGE with a
  * length of 0; NISSY_LINE_ROOM is enough for each. */

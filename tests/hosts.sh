@@ -1,6 +1,6 @@
 #!/usr/bin/env bash
-# Asks Python, C++ and JavaScript by drawn calls, over the library and the module that were built, beside PROGRAM and the independent model; and for
-# the best continuations, of which what Python says is counted anew:
+# Asks Python, C++ and JavaScript by drawn calls, over the library and the module that were built, beside PROGRAM and the independent models; and for
+# the best ways on, which C's own calls and the model of tests/model/ways.cpp have the same:
 #
 #     tests/hosts.sh [PROGRAM [FOLDER]]
 #
@@ -30,9 +30,13 @@ if missing node || [ ! -e "$folder/nissy.wasm" ]; then skips "JavaScript, since 
 fi
 part python3 tests/hosts/drawn.py "$program" 1 0.12 python "${others[@]}"
 part python3 tests/hosts/after.py 1 600 python "${others[@]}"
-part python3 tests/hosts/best.py 1 24 "${others[@]}"
 part python3 tests/hosts/plain.py 1 2000 python "${others[@]}"
 part python3 tests/hosts/net.py python "${others[@]}"
-part python3 tests/hosts/counted.py "$program" 1 10
+if missing g++; then skips "the best ways on, since there is no g++ for their model"; else
+    holds "the model of the best ways on compiles" g++ -std=c++17 -O3 -Wall -Wextra -Werror -o "$room/ways" tests/model/ways.cpp
+    part python3 tests/hosts/best.py 1 30 0 "$room/ways" 6 "${others[@]}"
+    part python3 tests/hosts/best.py 2 5 1 "$room/ways" 2 "${others[@]}"
+    part python3 tests/hosts/best.py 3 2 2 "$room/ways" 0 "${others[@]}"
+fi
 parts_end
 ended

@@ -60,12 +60,12 @@ tried() { # NAME: the test in C of this name
         # Searches alone, since a run takes it seconds.
         threads) valgrinds --tool=helgrind "$made/$name" 0 10 ;;
         # It makes each byte thirty times as slow. Its own malloc takes no wraps, and a handler's small stack isn't for it.
-        calls) valgrinds --leak-check=full "$made/calls" few ;;
-        facts) valgrinds --leak-check=full "$made/facts" ;;
+        calls | ways | sides) valgrinds --leak-check=full "$made/$name" few ;;
+        facts) valgrinds --leak-check=full "$made/$name" ;;
     esac
     ended
 }
-for name in calls pieces facts text threads fuzz memory handlers; do part tried $name; done
+for name in calls pieces facts ways sides text threads fuzz memory handlers; do part tried $name; done
 
 # the headers in C++, by each compiler that is here
 compiled_by() { # COMPILER PROGRAM WORD..: compiles the test in C++, with these words too
@@ -155,9 +155,9 @@ if missing qemu-x86_64; then skips "qemu-user isn't installed, so no other proce
 
 if missing python3; then skips "there is no python3 here"; else
     typed tests/library/*.py
-    for trial in processes values module many written service; do part python3 tests/library/$trial.py; done
+    for trial in processes values module many both_sides written service shown; do part python3 tests/library/$trial.py; done
     if python3.7 -c "import ctypes" 2> /dev/null; then
-        for trial in module many values written processes; do part python3.7 tests/library/$trial.py; done
+        for trial in module many values both_sides written processes shown; do part python3.7 tests/library/$trial.py; done
     else
         skips "Python 3.7, the oldest that the package is for, isn't installed"
     fi

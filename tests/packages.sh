@@ -84,6 +84,7 @@ else
     holds "it isn't of Python alone" says "Root-Is-Purelib: false"
     for platform in manylinux_2_17 manylinux2014; do holds "it is for $platform" says "Tag: py3-none-${platform}_x86_64"; done
     holds "its module finds the library beside it" test "$(in_venv -c 'import nissy; print(nissy.invert("R U"), nissy.__version__)')" = "U' R' $version"
+    holds "and prints the best ways on" test "$(in_venv -m nissy "R U F" --most 1 | cut -d , -f 1)" = "2 moves: eofb F"
     if missing mypy; then skips "mypy isn't installed"; else
         printf 'import nissy\n\nlength: int = nissy.solve("eofb", "R U F")[0].length\n' > "$room/typed.py"
         holds "its types are found" env -C / mypy --strict --cache-dir "$room/mypy" --python-executable "$room/venv/bin/python" "$room/typed.py"
@@ -147,6 +148,7 @@ else
     holds "the Python package in C is installed" pip install -q --no-index "$source_package"
     says_all='import nissy; print(nissy.invert("R U"), nissy.__version__, nissy.count("eofb", "R U F").solutions, nissy.run(["steps"]).status)'
     holds "its module finds the library that was compiled" test "$(in_venv -c "$says_all")" = "U' R' $version 2 0"
+    holds "and prints the best ways on" test "$(in_venv -m nissy "R U F" --most 1 | cut -d , -f 1)" = "2 moves: eofb F"
     library=$(find "$room/venv" -name libnissy.so.2)
     for trial in module values written; do add env NISSY_LIBRARY="$library" python3 "$top/tests/library/$trial.py"; done
     holds "it is taken away" pip uninstall -q -y nissy
@@ -202,6 +204,8 @@ if ! ls "$made"/*.deb > /dev/null 2>&1; then skips "the Debian packages, which w
     holds "their library is stripped" refuses grep -q '\.symtab' <(readelf -SW "$libraries/libnissy.so.2")
     holds "their module is found" test "$(cd / && LD_LIBRARY_PATH=$libraries PYTHONPATH=$root/usr/lib/python3/dist-packages \
         /usr/bin/python3 -B -c 'import nissy; print(nissy.invert("R U"))')" = "U' R'"
+    holds "and prints the best ways on" test "$(cd / && LD_LIBRARY_PATH=$libraries PYTHONPATH=$root/usr/lib/python3/dist-packages \
+        /usr/bin/python3 -B -m nissy "R U F" --most 1 | cut -d , -f 1)" = "2 moves: eofb F"
     compiled() {
         write_caller "$room/one.c" &&
             cc -I "$root/usr/include" -o "$room/one" "$room/one.c" -L "$libraries" -lnissy && LD_LIBRARY_PATH=$libraries "$room/one"

@@ -1,18 +1,10 @@
 """How a line goes on to a domino reduction. Types stand here as they are and not as texts, for those who ask a
 class of the package for them."""
-import sys
 from dataclasses import asdict, dataclass
 from typing import Any, Dict, List, Optional, Tuple
 
 from ._facts import Case
 from ._given import Step
-
-if sys.version_info >= (3, 8):
-    from typing import Literal
-
-    Side = Literal["normal", "inverse"]
-else:
-    Side = str
 
 
 @dataclass(frozen=True)
@@ -20,16 +12,21 @@ class Orientation:
     """The edge orientation of a continuation."""
 
     step: Step
-    side: Side
     moves: str
+    """All its moves, as a solver writes them: those on the inverse side stand in brackets, after the others."""
+    normal: str
+    """Those on the normal side."""
+    inverse: str
+    """Those on the inverse side, without brackets."""
     length: int
+    """How many turns they are, on both sides together."""
     twins: Tuple[str, ...]
-    """The last turns of its twins: the orientations that differ in the direction of these alone."""
+    """The last turns of its twins, written as `moves`: they differ in the direction of these alone."""
 
 
 @dataclass(frozen=True)
 class Lengths:
-    """A reduction's least length on each side, or None if it has none of at most 20 turns there."""
+    """A reduction's least length on each side alone, or None if it has none of at most 20 turns there."""
 
     normal: Optional[int]
     inverse: Optional[int]
@@ -37,14 +34,15 @@ class Lengths:
 
 @dataclass(frozen=True)
 class Reduction:
-    """The domino reduction of a continuation."""
+    """The domino reduction of a continuation; its moves are told as those of an Orientation."""
 
     step: Step
-    side: Side
     moves: str
+    normal: str
+    inverse: str
     length: int
     twins: Tuple[str, ...]
-    """The last turns of its twins; () behind an orientation."""
+    """The last turns of its twins; () after an orientation."""
     lengths: Lengths
 
 
@@ -69,10 +67,12 @@ class Continuation:
 class Continuations(List[Continuation]):
     """The continuations of a line, the best first, as a list."""
 
+    nodes: int = 0
+    """How many positions the search looked at."""
     cut: bool = False
-    """Whether the searches ended at their bound, or were stopped: then these are the best of what was tried until then.
-    Each is a row of the whole list, in its order, and others may be missing, better ones too."""
+    """Whether the search ended at its bound, or was stopped: then these are the best of what was tried until then. Each
+    is true, and others may be missing, better ones too."""
 
     def as_dict(self) -> Dict[str, Any]:
-        """The list as `rows`, each by `dataclasses.asdict`, and `cut`, as json.dumps takes it."""
-        return {"rows": [asdict(row) for row in self], "cut": self.cut}
+        """The list as `rows`, each by `dataclasses.asdict`, and what is said of it, as json.dumps takes it."""
+        return {"rows": [asdict(row) for row in self], "nodes": self.nodes, "cut": self.cut}

@@ -72,10 +72,45 @@ class LinesAnswer(ctypes.Structure):
     _fields_ = [("status", ctypes.c_uint8), ("lines", ctypes.c_uint64), ("bytes", ctypes.c_uint64)]
 
 
-# The fields of two structs that come in great number, in the order of the header: ctypes would take as
-# long to read them as the search.
+class WaysWanted(ctypes.Structure):
+    """`nissy_ways_wanted` of nissy.h."""
+    _fields_ = [("slack", ctypes.c_uint8), ("axes", ctypes.c_uint8), ("least", ctypes.c_uint8),
+                ("most", ctypes.c_uint8), ("most_nodes", ctypes.c_uint64), ("there", ctypes.c_uint64)]
+
+
+class WaysAnswer(ctypes.Structure):
+    """`nissy_ways_answer` of nissy.h."""
+    _fields_ = [("status", ctypes.c_uint8), ("fault", ctypes.c_uint8), ("line", ctypes.c_uint8),
+                ("next", ctypes.c_uint8), ("column", ctypes.c_uint32), ("rows", ctypes.c_uint64),
+                ("tried", ctypes.c_uint64), ("nodes", ctypes.c_uint64)]
+
+
+class SidesWanted(ctypes.Structure):
+    """`nissy_sides_wanted` of nissy.h."""
+    _fields_ = [("sides", ctypes.c_uint8), ("length", ctypes.c_uint8), ("counts", ctypes.c_uint8),
+                ("passed", ctypes.c_uint64), ("most_nodes", ctypes.c_uint64)]
+
+
+class SidesAnswer(ctypes.Structure):
+    """`nissy_sides_answer` of nissy.h."""
+    _fields_ = [("status", ctypes.c_uint8), ("fault", ctypes.c_uint8), ("line", ctypes.c_uint8),
+                ("more", ctypes.c_uint8), ("column", ctypes.c_uint32), ("rows", ctypes.c_uint64),
+                ("solutions", ctypes.c_uint64), ("nodes", ctypes.c_uint64)]
+
+
+class LineAfterAnswer(ctypes.Structure):
+    """`nissy_line_after_answer` of nissy.h."""
+    _fields_ = [("status", ctypes.c_uint8), ("fault", ctypes.c_uint8), ("line", ctypes.c_uint8),
+                ("column", ctypes.c_uint32), ("length", ctypes.c_uint64)]
+
+
+# The fields of structs that come in great number, in the order of the header: ctypes would take as
+# long to read them as the search. Of a part these are the number of the step, and of each side the count, how many are
+# free, and the turns; of a way its own, and those of two parts.
 SEARCH_ANSWER = struct.Struct("=4BI3Q")
 FACTS_ANSWER = struct.Struct("=3BxI3H" + 3 * "3H3Bx")
+PART = struct.Struct("=B" + 2 * "2B20s")
+WAY = struct.Struct("=H4B" + 2 * PART.format[1:])
 
 _NAME = {"win32": "nissy.dll", "cygwin": "nissy.dll", "darwin": "libnissy.2.dylib"}.get(sys.platform, "libnissy.so.2")
 """What the library is called on this system."""
@@ -195,6 +230,9 @@ nissy_count_lines = _call("nissy_count_lines", LinesAnswer, _PLACE, *_READ, _BYT
 nissy_facts = _call("nissy_facts", FactsAnswer, *_READ)
 nissy_facts_lines = _call("nissy_facts_lines", LinesAnswer, *_READ, *_WRITTEN)
 nissy_check = _call("nissy_check", CheckAnswer, *_READ, *_READ)
+nissy_best = _call("nissy_best", WaysAnswer, _PLACE, *_READ, *_READ, _PLACE, *_WRITTEN)
+nissy_solve_sides = _call("nissy_solve_sides", SidesAnswer, _PLACE, *_READ, *_READ, _PLACE, *_WRITTEN)
+nissy_line_after = _call("nissy_line_after", LineAfterAnswer, *_READ, *_READ, *_WRITTEN)
 nissy_scramble = _call("nissy_scramble", LineAnswer, _LONG, _LONG, _HALF, *_WRITTEN)
 nissy_steps = _call("nissy_steps", LineAnswer, *_WRITTEN)
 nissy_start = _call("nissy_start", LineAnswer, *_READ, *_WRITTEN)

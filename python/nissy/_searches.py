@@ -11,6 +11,7 @@ from ._library import CUT, DONE, FAULT, NOT_START, ROOM, SEARCH_ANSWER
 from ._lines import MOST_WORD, fault_of, fault_text, start_of
 from ._many import Asking, Piece, in_pieces, one_by_one
 from ._places import place_of
+from ._sides import Sides, sides_of, solve_sides
 from ._values import Count, Cut, Fault, Solution, Solutions, StartFault
 
 MOST_TURNS = 20
@@ -58,9 +59,10 @@ class Tables:
         return type(self), (self.step,)
 
     def solve(self, line: Text, limit: int = 20, slack: int = 0, most: Optional[int] = None,
-              nodes: Optional[int] = None, partial: bool = False) -> Solutions:
+              nodes: Optional[int] = None, partial: bool = False, *, sides: Optional[Sides] = None) -> Solutions:
         """The solutions of a line, as the function `solve` returns them."""
-        return self._solve(_numbers(limit, slack, most, nodes), partial, bytes_of(line, "the line"))
+        numbers, data = _numbers(limit, slack, most, nodes), bytes_of(line, "the line")
+        return self._solve(numbers, partial, data) if sides is None else self._on(sides, numbers, partial, data)
 
     def solutions(self, line: Text, limit: int = 20, slack: int = 0) -> Iterator[Solution]:
         """The solutions of a line one after another, as the function `solutions` returns them."""
@@ -154,6 +156,15 @@ class Tables:
             found.more, found.cut = True, status == CUT
             if status and not partial:
                 raise Cut(Count(answer.least if found else None, len(found), found.nodes, True), found)
+        return found
+
+    def _on(self, sides: Sides, numbers: _Numbers, partial: bool, data: bytes) -> Solutions:
+        """Returns the solutions of a line on some sides."""
+        found, answer = solve_sides(self._tables, sides_of(sides), numbers, data)
+        if answer.status not in (DONE, CUT):
+            raise self._fault(answer.status, answer.fault, answer.column, data)
+        if found.cut and not partial:
+            raise Cut(Count(found[0].length if found else None, len(found), found.nodes, True), found)
         return found
 
     def _pieces(self, limit: int, slack: int, data: bytes) -> Iterator[Solutions]:
@@ -255,14 +266,18 @@ def _tables(step: Step) -> Tables:
 
 
 def solve(step: Step, line: Text, limit: int = 20, slack: int = 0, most: Optional[int] = None,
-          nodes: Optional[int] = None, partial: bool = False) -> Solutions:
+          nodes: Optional[int] = None, partial: bool = False, *, sides: Optional[Sides] = None) -> Solutions:
     """The solutions of a line: those that have at most `limit` turns and at most `slack` more than the shortest, by
     length and then in turn order, as `nissy near` writes them (`nissy solve` with slack 0). With `most` no more
     than so many of them, and the search ends there. With `nodes` the search looks at no more than so many
     positions: if it would look at more, Cut is raised, or with `partial` what was found until then is returned.
+
+    With `sides` "inverse" or "both" they are on the inverse of the line, or over both: those on the inverse stand in
+    brackets, such as "R U (F)", and of `length` both count. These, and those of "normal", are the ones whose first
+    turns don't reach the step, by length, then by how many turns are outside brackets, then in turn order.
     Raises LineFault, StartFault and Cut.
     """
-    return _tables(step).solve(line, limit, slack, most, nodes, partial)
+    return _tables(step).solve(line, limit, slack, most, nodes, partial, sides=sides)
 
 
 def near(step: Step, line: Text, limit: int, slack: int, most: Optional[int] = None, nodes: Optional[int] = None,

@@ -1,265 +1,159 @@
-"""A cube on both sides, and the ways from it to a reduction: how many moves there are in all, once those of a step are
-merged with those that were made before them on the same side."""
+"""Searches for the best ways on from a scramble and the moves so far, by calls of the library, and their rows as
+values."""
 from __future__ import annotations
 
-import re
-from heapq import heappush, heappushpop
-from typing import Callable, Dict, Iterable, Iterator, List, NamedTuple, Optional, Sequence, Tuple
+import ctypes
+from functools import lru_cache
+from itertools import product
+from typing import Any, List, NamedTuple, Tuple
 
-from ._facts import facts
+from . import _library, _rooms
+from ._continuations import Continuation, Continuations, Lengths, Orientation, Reduction
+from ._facts import Case
 from ._given import Progress, Step, Stop
-from ._lines import cleanup, invert, unniss
-from ._searches import MOST_TURNS, Tables, count_all, solve
-from ._twins import FACES
-from ._values import Count, Cut, Solution, Solutions, raising
+from ._library import CUT, DONE, FAULT, WAY, KeptTables, WaysWanted
+from ._lines import fault_of, fault_text, steps
+from ._places import place_of
+from ._values import Fault, named
 
-NORMAL, INVERSE = SIDES = (0, 1)
-NEVER = 10_000
-"""More moves than there can be in all."""
+MOST_TURNS = 20
+_AXES, _NO_STEP = (1, 2, 4), 255
+_TURNS = tuple(face + power for face in "UDRLFB" for power in ("", "2", "'"))
+_STEPS = steps()[:9]
+# what faults call the two lines
+_NAMES = ("scramble", "moves so far")
+Lines = Tuple[bytes, bytes]
+"""A scramble and the moves so far."""
 
 
 class Wanted(NamedTuple):
-    """A step's least length on a line, if it is no more than a limit."""
+    """What is asked of a search, in numbers that were checked."""
 
-    step: Step
-    line: str
-    limit: int
-
-
-class Searches:
-    """The searches of a call: how many positions they may look at together, any number if it is None, who is told how
-    far the call is, and who is asked before each whether it is to end."""
-
-    __slots__ = ("_looked", "_nodes", "_told", "_stop", "_done", "_all", "are_cut")
-
-    def __init__(self, nodes: Optional[int], told: Optional[Progress], stop: Optional[Stop]) -> None:
-        self._nodes, self._told, self._stop = nodes, told, stop
-        self._looked = self._done = 0
-        self._all: Optional[int] = None
-        self.are_cut = False
-
-    def are_bounded(self) -> bool:
-        """Returns whether they may be cut."""
-        return self._nodes is not None or self._stop is not None
-
-    def begin_last(self, count: int) -> None:
-        """Tells how many there are, of which so many aren't done."""
-        self._all = self._done + count
-        self.go_on(0)
-
-    def go_on(self, count: int) -> None:
-        """Tells that so many more are done."""
-        self._done += count
-        if self._told is not None:
-            self._told(self._done, self._all)
-
-    def solve(self, step: Step, line: str, slack: int = 0) -> Solutions:
-        """Returns a step's solutions."""
-        self.go_on(0)
-        left = self._left()
-        try:
-            found = solve(step, line, slack=slack, nodes=left)
-        except Cut as cut:
-            raise self._cut(cut.count.nodes) from None
-        self._looked += found.nodes
-        return found
-
-    def least_lengths(self, wanted: Sequence[Wanted]) -> List[Optional[int]]:
-        """Returns each least length that is wanted, or None if it is more than the limit."""
-        found: List[Optional[int]] = [None] * len(wanted)
-        alike: Dict[Tuple[Step, int], List[int]] = {}
-        for at, (step, _, limit) in enumerate(wanted):
-            if limit >= 0:
-                alike.setdefault((step, limit), []).append(at)
-        for (step, limit), places in alike.items():
-            for at, count in zip(places, self._first_counts(step, limit, [wanted[at].line for at in places])):
-                found[at] = count.length
-        return found
-
-    def _first_counts(self, step: Step, limit: int, lines: List[str]) -> Iterator[Count]:
-        """Returns the counts of lines up to their first solutions. If they may be cut, each is asked for by itself: the
-        next one may look at what it leaves."""
-        if not self.are_bounded():
-            return raising(count_all(step, lines, limit, most=1))
-        return map(self._first_of(Tables(step), limit), lines)
-
-    def _first_of(self, tables: Tables, limit: int) -> Callable[[str], Count]:
-        """Returns what counts until the first solution of a line."""
-        def count_first(line: str) -> Count:
-            count = tables.count(line, limit, most=1, nodes=self._left(), partial=True)
-            if count.cut:
-                raise self._cut(count.nodes)
-            self._looked += count.nodes
-            return count
-
-        return count_first
-
-    def _left(self) -> Optional[int]:
-        """Returns at how many positions the next search may look. Raises Cut if there is to be none."""
-        if self._stop is not None and self._stop():
-            raise self._cut(0)
-        return None if self._nodes is None else self._nodes - self._looked
-
-    def _cut(self, last: int) -> Cut:
-        """Returns the cut of them all, after the last one looked at so many positions."""
-        self.are_cut = True
-        return Cut(Count(None, 0, self._looked + last, True))
-
-
-class Cube(NamedTuple):
-    """A cube as a line of face turns on each side, and the clean turns that a solver made on each to come to it."""
-
-    lines: Tuple[str, str]
-    made: Tuple[str, str]
-
-    def count_made(self) -> int:
-        """Returns how many turns are made."""
-        return turns_of(self.made[NORMAL]) + turns_of(self.made[INVERSE])
-
-    def after(self, side: int, moves: str) -> Cube:
-        """Returns the cube after a solution on a side."""
-        line, made = f"{self.lines[side]} {moves}", self.made[side]
-        # a solution is clean
-        made = cleanup(f"{made} {moves}") if made else str(moves)
-        return Cube(_on(side, line, invert(line)), _on(side, made, self.made[1 - side]))
-
-
-class Start(NamedTuple):
-    """The cube after a scramble and the moves so far, and what the faces are called for whoever holds it as these moves
-    leave it."""
-
-    cube: Cube
-    names: Dict[int, str]
-
-    def named(self, moves: str) -> str:
-        """Returns moves as they are written behind the moves so far."""
-        return moves.translate(self.names)
-
-
-def _on(side: int, own: str, other: str) -> Tuple[str, str]:
-    """Returns what belongs to each side, by what belongs to one and to the other."""
-    return (own, other) if side == NORMAL else (other, own)
-
-
-def turns_of(line: str) -> int:
-    """Returns how many turns a line has, between any two of which a blank stands."""
-    return line.count(" ") + 1 if line else 0
-
-
-def _home(line: str) -> Tuple[str, str]:
-    """Returns a line's face turns, clean and named by the centres, and the rotation that is left behind them."""
-    moves = cleanup(line).split()
-    turns = " ".join(move for move in moves if move[0] not in "xyz")
-    return turns, " ".join(move for move in moves if move[0] in "xyz")
-
-
-def read(scramble: str, so_far: str) -> Start:
-    """Returns where a search begins after a scramble and the moves so far, both of which spell moves. Moves on the
-    inverse side come before the scramble, inverted: a line has them behind the others, so they name the faces as these
-    leave the cube. Raises LineFault if they are too many together."""
-    # inside brackets is each second part
-    parts, whole = re.split("[()]", so_far), unniss(scramble)
-    normal, rotation = _home(f"{_home(whole)[1]} {' '.join(parts[::2])}")
-    names = {face: _home(invert(f"{face} {rotation}"))[0][0] for face in "UDRLFB"} if rotation else {}
-    faces = str.maketrans({name: face for face, name in names.items()})
-    before = _home(invert(" ".join(parts[1::2])))[0].translate(faces)
-    line = f"{_home(f'{before} {whole}')[0]} {normal}".strip()
-    return Start(Cube((line, invert(line)), (normal, invert(before))), str.maketrans(names))
-
-
-def _most_saved(made: str, step: Step) -> int:
-    """Returns how many moves a reduction can save at most since its first turns merge with the last ones that are made
-    on its side, or take them back."""
-    halves, turns, saved = FACES[step[-2:]], made.split(), 0
-    while turns:
-        faces = next(faces for faces in FACES.values() if turns[-1][0] in faces)
-        last = turns[-2:] if len(turns) > 1 and turns[-2][0] in faces else turns[-1:]
-        back = [turn for turn in last if turn[0] not in halves or turn.endswith("2")]
-        saved += len(last) + len(back)
-        if len(back) < len(last):
-            break
-        del turns[-len(last):]
-    return saved
-
-
-class Bounds(NamedTuple):
-    """The least and the most that all moves can be."""
-
-    least: int
+    slack: int
     most: int
+    nodes: int
 
 
-def bounds_of(every: Sequence[Bounds]) -> Bounds:
-    """Returns the bounds of the best of some ways."""
-    return Bounds(min(each.least for each in every), min(each.most for each in every))
+@lru_cache(maxsize=None)
+def _tables() -> ctypes.Array[KeptTables]:
+    """Returns the tables of the steps, one after the other."""
+    return (KeptTables * len(_STEPS))(*(place_of(step).built() for step in _STEPS))
 
 
-class Sought(NamedTuple):
-    """A line on which a reduction is looked for, how many moves are made before it, and
-    how many it can save at most."""
-
-    line: str
-    made: int
-    saved: int
-
-    def wanted(self, step: Step, most: int) -> Wanted:
-        """Returns what is wanted of a reduction, for no more moves in all than `most`."""
-        return Wanted(step, self.line, min(most - self.made + self.saved, MOST_TURNS))
-
-    def bounds(self, length: Optional[int]) -> Bounds:
-        """Returns the bounds of all moves with a reduction of this length."""
-        if length is None:
-            return Bounds(NEVER, NEVER)
-        return Bounds(self.made + length - self.saved, self.made + length)
+def _line(turns: Tuple[int, ...]) -> str:
+    """Returns turns as moves."""
+    return " ".join(_TURNS[turn] for turn in turns)
 
 
-def sought_on(before: Cube, after: Cube, side: int, step: Step) -> Sought:
-    """Returns on what a reduction is looked for after an orientation on a side. If it merges with the orientation
-    alone, a twin of that or a shorter one has it without that, so this isn't looked at."""
-    saved = _most_saved(after.made[side], step) if before.made[side] else 0
-    return Sought(after.lines[side], after.count_made(), saved)
+def _written(normal: str, inverse: str) -> str:
+    """Returns the moves of both sides as a solver writes them."""
+    return f"{normal} ({inverse})".strip() if inverse else normal
 
 
-class LeastUntilNow:
-    """The least of some numbers until now: as many as are asked for, of which the greatest bounds the next ones."""
-
-    __slots__ = ("_most", "_negated")
-
-    def __init__(self, most: int) -> None:
-        self._most = most
-        self._negated: List[int] = []
-
-    def add(self, numbers: Iterable[int]) -> None:
-        """Takes those of some numbers that are less than NEVER."""
-        for number in numbers:
-            if number < NEVER:
-                (heappushpop if len(self._negated) >= self._most else heappush)(self._negated, -number)
-
-    def enough(self) -> int:
-        """Returns the greatest of them, NEVER while there are fewer than are asked for, or -1 if none is."""
-        if len(self._negated) < self._most:
-            return NEVER
-        return -self._negated[0] if self._negated else -1
+def moves_of(*sides: Any) -> str:
+    """Returns the moves of a part, by the fields of its sides."""
+    return _written(*(_line(turns[:count]) for count, _, turns in (sides[:3], sides[3:])))
 
 
-def totals(cube: Cube, side: int, solutions: Sequence[Solution]) -> List[int]:
-    """Returns how many moves there are in all with each solution on a side of a cube."""
-    made, others = cube.made[side], turns_of(cube.made[1 - side])
-    if not made:
-        return [others + moves.length for moves in solutions]
-    return [others + facts(f"{made} {moves}").clean_moves for moves in solutions]
+def _ends(turns: bytes, free: int) -> List[str]:
+    """Returns the last turns of a side, of which each quarter turn may go either way: first as they are."""
+    ways = [(turn,) if turn % 3 == 1 else (turn, turn + 2 - 2 * (turn % 3)) for turn in turns[len(turns) - free:]]
+    return [_line(end) for end in product(*ways)]
 
 
-class Way(NamedTuple):
-    """A step on a side: how many moves there are in all with it, and its own, if it has any solution."""
+def _part(is_first: bool, step: int, *sides: Any) -> Tuple[Step, str, str, str, int, Tuple[str, ...]]:
+    """Returns what an orientation and a reduction have in common, by the fields of a step: the first one with its
+    twins."""
+    (normal, normal_free), (inverse, inverse_free) = (
+        (turns[:count], free) for count, free, turns in (sides[:3], sides[3:]))
+    moves = _line(normal), _line(inverse)
+    ends = product(_ends(normal, normal_free), _ends(inverse, inverse_free)) if is_first else ()
+    twins = tuple(_written(*end) for end in ends)[1:]
+    return (_STEPS[step], _written(*moves), *moves, len(normal) + len(inverse), twins)
 
-    total: int
-    length: Optional[int]
-    moves: str
+
+def _continuation(way: Tuple[Any, ...]) -> Continuation:
+    """Returns what the fields of a way say."""
+    total, corners, edges, *lengths = way[:5]
+    eo = None if way[5] == _NO_STEP else Orientation(*_part(True, *way[5:12]))
+    dr = Reduction(*_part(eo is None, *way[12:]), Lengths(*(None if each > MOST_TURNS else each for each in lengths)))
+    line = f"{eo.moves if eo else ''} {dr.moves}".strip().replace(") (", " ")
+    return Continuation(total, line, eo, dr, Case(f"{corners}c{edges}e"))
 
 
-def best_way(searches: Searches, cube: Cube, side: int, step: Step) -> Way:
-    """Returns the first of a step's shortest solutions on a side with which there are fewest moves in all."""
-    solutions = searches.solve(step, cube.lines[side])
-    ways = [Way(total, moves.length, moves) for total, moves in zip(totals(cube, side, solutions), solutions)]
-    return min(ways, key=lambda way: way.total, default=Way(NEVER, None, ""))
+def fault_on(answer: Any, lines: Lines) -> Fault:
+    """Returns what is wrong with one of the lines, or with both together, which has no column."""
+    line = answer.line
+    if answer.status == FAULT and not answer.column:
+        return named(Fault(fault_text(answer.fault), line), _NAMES[line - 1])
+    return named(fault_of(answer.status, answer.fault, answer.column, lines[line - 1], line), _NAMES[line - 1])
+
+
+class _Search:
+    """A search whose rows come into a room."""
+
+    def __init__(self, lines: Lines, wanted: Wanted) -> None:
+        self._lines, self._most, self._room = lines, wanted.most, _rooms.take()
+        self._asked = WaysWanted(wanted.slack, 0, 0, 0, wanted.nodes, 0)
+        self.tried = self.nodes = 0
+        self.cut = False
+
+    def _places(self) -> int:
+        """Returns how many rows have place."""
+        return min(self._most, self._room.size // WAY.size)
+
+    def _rows(self) -> bytes:
+        """Returns the rows that are there."""
+        return self._room.memory[:self._asked.there * WAY.size]
+
+    def _answer(self) -> Any:
+        """Returns what the library tells of what is asked. Raises Fault."""
+        scramble, so_far = self._lines
+        answer = _library.nissy_best(
+            ctypes.addressof(_tables()), scramble, len(scramble), so_far, len(so_far), ctypes.addressof(self._asked),
+            self._room.address, self._places())
+        if answer.status not in (DONE, CUT):
+            raise fault_on(answer, self._lines)
+        return answer
+
+    def look(self, axis: int, length: int) -> bool:
+        """Looks for ways whose first steps have this axis and this length. Returns whether longer ones are let in."""
+        asked = self._asked
+        asked.axes, asked.least, asked.most = axis, length, length
+        before = self._rows() if self._places() < self._most else b""
+        answer = self._answer()
+        # there may be more than have place
+        while answer.rows == self._places() < self._most:
+            self._room = _rooms.larger(self._room)
+            self._room.memory[:len(before)] = before
+            answer = self._answer()
+        asked.there, asked.most_nodes = answer.rows, asked.most_nodes - answer.nodes
+        self.tried, self.nodes, self.cut = self.tried + answer.tried, self.nodes + answer.nodes, answer.status == CUT
+        return bool(answer.next)
+
+    def found(self) -> Continuations:
+        """Returns the rows as values, and gives the room back."""
+        rows = Continuations(map(_continuation, WAY.iter_unpack(self._rows())))
+        rows.nodes, rows.cut = self.nodes, self.cut
+        if self._room.size == _rooms.ORDINARY:
+            _rooms.put_back(self._room)
+        return rows
+
+
+def found(lines: Lines, wanted: Wanted, progress: Progress, stop: Stop) -> Continuations:
+    """Returns what a search finds, which goes in pieces: of each length of the first step, on each axis, as far as
+    there are longer ones. Raises Fault."""
+    search, axes, length = _Search(lines, wanted), list(_AXES), 0
+    while axes and not search.cut:
+        for axis in tuple(axes):
+            progress(search.tried, None)
+            if stop():
+                search.cut = True
+            elif not search.look(axis, length):
+                axes.remove(axis)
+            if search.cut:
+                break
+        length += 1
+    if not search.cut:
+        progress(search.tried, search.tried)
+    return search.found()

@@ -1,41 +1,25 @@
-"""What a candidate leads to: how many reductions follow it on each side, with the first of them in its row, rows with few moves in all, and
-steps split over both sides."""
-from itertools import product
-
-from best import DETAILS, LONGER, MORE, ROWS, SCRAMBLE, address_of, program_answers, program_lists
+"""What a candidate leads to: how many reductions follow it on each side, rows with few moves in all, and lists over both sides."""
+from best import DETAILS, LONGER, MORE, ROWS, SCRAMBLE, address_of
 from browser import Browser
+from program import program_answers, program_lists
 from tally import Tally
-from wanted import SIDES, TITLES, Position, merged_count
+from wanted import SIDES, Position, twin_key
+from ways import line_of, ways
 
 TURNS = [face + power for face in "UDRLFB" for power in ("", "2", "'")]
-STEP_OF = {title: name for name, title in TITLES.items()}
-
-
-def reductions_after(program: str, scramble: str, step: str, made: dict[str, str]) -> dict[str, list[str]]:
-    """The shortest reductions on each side after moves on both, by the built program."""
-    position = Position(scramble, made["normal"], made["inverse"])
-    return {side: program_lists(program, ["solve", step, "20"], [position.lines[side]])[0] for side in SIDES}
 
 
 def counts_reductions(tally: Tally, browser: Browser) -> None:
-    """Each row has the number of its shortest reductions on both sides, after its moves, and the first that makes as many moves as the
-    row says."""
+    """Each row has the number of its shortest reductions on each side alone, after its moves."""
     for scramble in (SCRAMBLE, LONGER):
         browser.go(address_of(scramble))
         browser.wait_best()
-        for row, (first, *times) in zip(browser.script(ROWS), browser.script(DETAILS), strict=True):
-            total, moves, orientation, reduction, *lengths = row
-            step, own = STEP_OF[f"{reduction} after {orientation}"], moves.strip("()")
-            side = "inverse" if moves.startswith("(") else "normal"
-            made = {"normal": "", "inverse": ""} | {side: own}
-            found = reductions_after(browser.program, scramble, step, made)
-            wanted = [(str(len(found[each][0].split())), f"×{len(found[each]):,}") for each in SIDES]
-            tally.equal(f"{moves}, {reduction}: how many there are", [*zip(lengths, times)], wanted)
-            line = first.removeprefix("then ")
-            beside = "inverse" if line.startswith("(") else "normal"
-            tally.holds(f"{line} is one of them", line.strip("()") in found[beside])
-            rest = merged_count(f"{made[beside]} {line.strip('()')}") + len(made[SIDES[beside == "normal"]].split())
-            tally.equal(f"{moves} {line}: all moves", rest, int(total))
+        found = ways(f"0 ; {scramble} ; ;")
+        for way, row, (_, *times) in zip(found, browser.script(ROWS), browser.script(DETAILS)):
+            lines = Position(scramble, *way.eo).lines
+            lists = [program_lists(browser.program, ["solve", way.step, "20"], [lines[side]])[0] for side in SIDES]
+            wanted = [(str(len(each[0].split())), f"×{len(each):,}") for each in lists]
+            tally.equal(f"{row[1]}, {row[3]}: how many there are", [*zip(row[4:], times)], wanted)
 
 
 def leaves_few(tally: Tally, browser: Browser) -> None:
@@ -62,21 +46,36 @@ def beginnings(count: int) -> list[str]:
     return [" ".join(line) for line in lines]
 
 
-def splits(tally: Tally, browser: Browser) -> None:
-    """A step with one or two moves on the other side: the list has all with the fewest moves in all, as the built program finds them."""
-    for side, count in product(SIDES, (1, 2)):
-        browser.go(address_of(LONGER) + f"&list=eofb.{side}.0.all.split{count}")
-        begun = beginnings(count)
-        inverted = program_answers(browser.program, ["invert"], begun)
-        lines = [f"{each} {Position(LONGER).lines[side]}" for each in inverted]
-        found = program_lists(browser.program, ["solve", "eofb", "20"], lines)
-        least = min(len(each[0].split()) for each in found)
-        wanted = sorted(f"({begin}) {moves}" if side == "normal" else f"{begin} ({moves})"
-            for begin, each in zip(begun, found) for moves in each if len(moves.split()) == least and moves)
-        while browser.text("solutions-more"):
-            browser.act("#solutions-more")
-        listed = browser.texts("#solutions-groups .take")
-        tally.equal(f"{side}, {count} on the other side", sorted(listed), wanted)
-        browser.walk(tally, "one is taken, as two steps", ("wait", {"split=": str(count)}),
-            ("act", "#solutions-groups .take", {"bracketed": listed[0], "steps": 2}))
-        tally.holds("and reaches its step", "EO F/B" in browser.texts("#line-list .reaches"))
+def pairs_of(program: str, scramble: str, step: str, length: int) -> set[tuple[str, str]]:
+    """All solutions of a step with so many moves on both sides, the least: each way to begin on a side, gone on with on the other."""
+    found: set[tuple[str, str]] = set()
+    for side, other, counts in (("normal", "inverse", (0, 1, 2)), ("inverse", "normal", (0, 1))):
+        begun = [line for count in counts for line in beginnings(count)]
+        inverted = program_answers(program, ["invert"], begun)
+        lists = program_lists(program, ["solve", step, "20"], [f"{each} {Position(scramble).lines[side]}" for each in inverted])
+        for begin, each in zip(begun, lists, strict=True):
+            ways = ({side: moves, other: begin} for moves in each if len(moves.split()) + len(begin.split()) == length)
+            found |= {(way["normal"], way["inverse"]) for way in ways}
+    return found
+
+
+def over_both(tally: Tally, browser: Browser) -> None:
+    """A list over both sides has all with the fewest moves in all, as the built program finds them; a row is taken as one step."""
+    length = 4
+    pairs = pairs_of(browser.program, LONGER, "eofb", length)
+    browser.go(address_of(LONGER) + "&list=eofb.both.0.all")
+    listed = browser.texts("#solutions-groups .take")
+    tally.equal("all of them", sorted(listed), sorted(line_of(pair) for pair in pairs))
+    tally.holds("some are over both", any(all(pair) for pair in pairs))
+    tally.equal("what it is called", browser.text("solutions-heading"), "EO F/B, both sides")
+    at = next(at for at, line in enumerate(listed) if " (" in line)
+    browser.walk(tally, "one is taken, as one step", ("script", "all('#solutions-groups .take')[arguments[0]].click()", at, {}),
+        ("comes", "bracketed", listed[at], {"steps": 1}))
+    tally.holds("and reaches its step", "EO F/B" in browser.texts("#line-list .reaches"))
+    browser.walk(tally, "Back leads to the list", ("script", "history.back()", {}), ("comes", "steps", 0, {"list-side=": "both"}))
+    browser.choose("list-side", "inverse")
+    browser.wait()
+    tally.equal("another side is chosen", browser.listed(), Position(LONGER).solutions("eofb", "inverse"))
+    browser.go(address_of(LONGER) + "&list=eofb.both.0")
+    classes = {tuple(twin_key(moves, "eofb") for moves in pair) for pair in pairs}
+    tally.equal("twins have one row", (len(browser.listed()), len(pairs) > len(classes)), (len(classes), True))

@@ -1,14 +1,14 @@
 """What is there before it is asked for, the best of many, and rows that were seen."""
 import re
-from itertools import product
 
 from browser import Browser
-from best import LONGER, ROWS, STEPS, address_of, ways_of
+from best import LONGER, ROWS, address_of
 from steps import back
 from tally import Tally
-from wanted import SIDES, TITLES, Position
+from wanted import TITLES
+from ways import ways
 
-CUT = 10_000
+CUT = 200
 SHOWN = 168
 HAS_FOCUS = "return document.activeElement.dataset.key === arguments[0]"
 # keeps what each worker is asked, and the steps that it counted beside a cube
@@ -64,21 +64,20 @@ def ahead(tally: Tally, browser: Browser) -> None:
 
 def best_of_many(tally: Tally, browser: Browser) -> None:
     """Of more rows than are kept the best are kept, and the note says so."""
-    position = Position(LONGER)
-    totals, count = [], 0
-    for step, side in product(STEPS, SIDES):
-        ways = ways_of(browser.program, position, step, side, 1)
-        count += len({moves for moves, _ in ways})
-        totals += [min(each.values())[0] for each in ways.values()]
     browser.go(address_of(LONGER))
     browser.wait_best()
-    browser.script("part('best-all').checked = true")
-    said = f"{count:,} of {count:,} EOs tried. The best {CUT:,} rows."
-    browser.walk(tally, "of many", ("choose", "best-slack", "1", {}), ("wait_best", {"best-note": said}))
-    tally.holds("there are more than are kept", len(totals) > CUT)
+    browser.choose("best-slack", "1")
+    browser.wait_best()
+    said = re.fullmatch(r"The best ([0-9,]+) of ([0-9,]+) rows\.", browser.text("best-note"))
+    kept, every = (int(number.replace(",", "")) for number in said.groups()) if said else (0, 0)
+    tally.holds(f"there are more than are kept: {kept} of {every}", kept == CUT < every)
     while len(rows := browser.script(ROWS)) < SHOWN:
         browser.script("part('best-more').click()")
-    tally.equal("the first are the best", [int(row[0]) for row in rows[:SHOWN]], sorted(totals)[:SHOWN])
+    totals = [int(row[0]) for row in rows]
+    tally.equal("the first are the best", totals, sorted(totals))
+    # with one move more there is no row less
+    fewer = [way.total for way in ways(f"0 ; {LONGER} ; ;")][:SHOWN]
+    tally.holds("none is worse than of the shortest", all(one <= other for one, other in zip(totals, fewer)))
 
 
 def more(tally: Tally, browser: Browser) -> None:

@@ -4,7 +4,6 @@ import re
 from best import LONGER, SCRAMBLE, TYPE, address_of
 from browser import Browser
 from tally import Tally
-from wanted import twin_key
 
 SIGNS = """return ['on', 'clear', 'none'].map((each) => document.getElementById(`${arguments[0]}-${each}`))
     .map((each) => each.checkVisibility() ? each.textContent : '')"""
@@ -53,7 +52,7 @@ def of_many(tally: Tally, browser: Browser) -> None:
     browser.script("document.getElementById('best-options').open = true")
     top = browser.script(place)
     browser.choose("best-side", "inverse")
-    left = re.match(r"[0-9,]+ of [0-9,]+ EOs? tried. ([0-9,]+) of", browser.text("best-note"))
+    left = re.match(r"([0-9,]+) of ", browser.text("best-note"))
     tally.equal("as many are seen", len(browser.texts("#best-body tr")), min(count, int(left[1].replace(",", "")) if left else 0))
     tally.holds(f"and not as few as at first: {count}", len(browser.texts("#best-body tr")) > 6)
     tally.equal("the filters stay", browser.script(place), top)
@@ -77,30 +76,17 @@ def of_a_list(tally: Tally, browser: Browser) -> None:
 
 
 def of_both_sides(tally: Tally, browser: Browser) -> None:
-    """A list over both sides is filtered by what its rows begin with, and has each beginning together, those with the fewest moves first."""
-    browser.open(address_of(LONGER) + "&list=eorl.inverse.0.all.split1")
-    rows = {(begin, twin_key(moves, "eorl")) for begin, moves in (key.split(", ") for key in browser.listed())}
-    browser.open(address_of(LONGER) + "&list=eorl.inverse.0.split1")
-    tally.equal("twins with one beginning have one row", len(browser.listed()), len(rows))
-    choices = "return [...document.getElementById(arguments[0]).options].map((each) => each.value)"
-    groups = """return [...document.querySelectorAll('#solutions-groups .group')].map((each) => [each.querySelector('h3').textContent,
-        [...each.querySelectorAll('.take')].map((take) => take.dataset.key)])"""
-    every = browser.listed()
-    begun = list(dict.fromkeys(key.split(", ")[0] for key in every))
-    tally.equal("each beginning may be chosen", browser.script(choices, "list-begin"), ["", *begun])
-    browser.choose("list-sort", "beginning")
-    of_each = {begin: [key for key in every if key.split(", ")[0] == begin] for begin in begun}
-    count = len(every[0].replace(",", "").split())
-    words = {begin: f"{len(keys)} row{'s' if len(keys) > 1 else ''}" for begin, keys in of_each.items()}
-    wanted = [[f"{begin} first, from {count} moves: {words[begin]}", keys] for begin, keys in of_each.items()]
-    tally.holds("there are some", len(begun) > 2 and max(map(len, of_each.values())) > 1)
-    tally.equal("each has its rows together", browser.script(groups), wanted)
-    browser.choose("list-begin", begun[-1])
-    tally.equal("one is left", (browser.listed(), browser.script(SIGNS, "list")[0]), (of_each[begun[-1]], "1 on"))
-    browser.choose("split", "0")
-    browser.wait()
-    seen = "return ['begin-filter', 'list-order'].map((name) => document.getElementById(name).checkVisibility())"
-    tally.equal("without a beginning there is no filter by it", (browser.script(seen), browser.script(SIGNS, "list")[0]), ([False, True], ""))
-    tally.equal("nor an order", browser.script(choices, "list-sort"), ["", "case"])
-    browser.open(address_of(LONGER) + "&steps=inverse.B_D_R_F2_B_D&list=drrl-eoud.normal.0.split1")
-    tally.equal("a reduction has them too", browser.script(choices, "list-sort"), ["", "beginning"])
+    """A list over both sides is filtered by the turns of each, and by the last of each."""
+    browser.open(address_of(LONGER) + "&list=eofb.both.1.all")
+    every = [re.split(r" ?\(", key.replace(")", "")) for key in browser.listed()]
+    last = next(sides[-1].split()[-1] for sides in every if len(sides) == 2)
+    browser.choose("last-turn", last)
+    wanted = [sides for sides in every if any(side.split()[-1:] == [last] for side in sides)]
+    found = [re.split(r" ?\(", key.replace(")", "")) for key in browser.listed()]
+    tally.holds("those that end so are there, and twins", all(sides in found for sides in wanted) and 0 < len(found) < len(every))
+    browser.choose("last-turn", "")
+    turns = " ".join(every[0][0].split()[:2] or every[0][1].split()[:2])
+    browser.script(TYPE, "", turns)
+    found = [re.split(r" ?\(", key.replace(")", "")) for key in browser.listed()]
+    wanted = [sides for sides in every if any(f" {turns} " in f" {side} " for side in sides)]
+    tally.holds(f"those with {turns}, and twins", wanted and all(sides in found for sides in wanted) and len(found) < len(every))

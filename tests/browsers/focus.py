@@ -135,13 +135,12 @@ def one_stop(tally: Tally, browser: Browser) -> None:
     browser.press(Keys.TAB)
     tally.holds("the Tab key leaves them", browser.script("return document.activeElement.closest('#best-body') === null"))
     browser.choose("best-slack", "2")
-    seen = """const [bar, row] = [part("best-progress"), document.querySelector("#best-body .take")];
-        if (!(bar.value > 0 && bar.value < bar.max && row)) return false;
+    seen = """const row = document.querySelector("#best-body .take");
+        if (part("best-progress").hidden || !row) return false;
         row.focus();
-        window.value = bar.value;
         return document.activeElement === row"""
-    tally.holds("some come while others are looked for", browser.until(seen))
-    browser.until("const bar = part('best-progress'); return bar.hidden || bar.value > window.value")
+    tally.holds("some are there while others are looked for", browser.until(seen))
+    browser.until("return part('best-progress').hidden")
     tally.holds("the focus stays among them", browser.script("return document.activeElement.closest('#best-body') !== null"))
 
 
@@ -177,11 +176,9 @@ def words(tally: Tally, browser: Browser) -> None:
     sides = "return all('#best-body tr:first-child .number').map((each) => [each.title, each.ariaLabel])"
     lengths, times = zip(*(text.split("×") for text in browser.texts("#best-body tr:first-child .number")))
     said = browser.script(sides)
-    totals = re.findall(r"side, (\d+) in all$", "\n".join(title for title, _ in said), re.MULTILINE)
-    wanted = [[f"{side} side, {total} in all", f"DR in {count} moves on the {side} side, {total} in all, {counted(int(number), 'solution')}"]
-        for side, count, total, number in zip(SIDES, lengths, totals, times)]
+    wanted = [[f"{side} side alone", f"DR in {counted(int(count), 'move')} on the {side} side alone, {counted(int(number), 'solution')}"]
+        for side, count, number in zip(SIDES, lengths, times)]
     tally.equal("what the lengths of a row are", said, wanted)
-    tally.equal("the row's number is the less of both", str(min(map(int, totals))), browser.texts("#best-body tr:first-child th")[0])
     looks = [f"{Position(SCRAMBLE).count(step, side)[2]:,}" for step in ("eofb", "eorl", "eoud") for side in SIDES]
     tally.equal("the looks have a table of their own", browser.texts("#looks-body td"), looks)
 

@@ -22,7 +22,7 @@ const said = (text, button) => {
   [note.textContent, found.textContent, found.hidden] = [text, button, button === ""];
   return Math.round(rows.getBoundingClientRect().top);
 };
-const tried = "Up to 2 longer: 184,508 of 244,538 EOs tried. The best 10,000 rows.";
+const tried = "Up to 2 longer: the best 200 of 1,244,538 rows.";
 return [said("", ""), said(tried, ""), said(tried, "120 new rows: 10 moves"), said(`Stopped. ${tried}`, "120 new rows: 10 moves")];
 """
 WIDTHS = (1920, 1440, 1180, 1024, 960, 900, 768, 640, 601, 600, 430, 390, 360, 320)
@@ -65,8 +65,6 @@ def goes_on(tally: Tally, browser: Browser) -> None:
     tally.holds("and those of two", browser.until(f"return {NOTE}.startsWith('Up to 2 longer: ')"))
     tally.holds("to their end", browser.until(ENDED))
     tally.equal("to the end", (browser.script(KEYS), browser.script(FIRST_ROW), browser.script(height)), (keys, top, before))
-    done, all_of_them = re.findall("[0-9,]+", browser.text("best-note").removeprefix("Up to 2 longer"))[:2]
-    tally.equal("all are tried", done, all_of_them)
     shows_found(tally, browser, first, top)
 
 
@@ -99,7 +97,9 @@ def pauses(tally: Tally, browser: Browser) -> None:
     asked = "return window.asked.filter((each) => each === 'best').length"
     count = browser.script(asked)
     browser.script(TURN, True)
-    browser.until(f"return {NOTE}.startsWith('Up to 2 longer: ')")
+    browser.until(f"return {NOTE}.startsWith('Up to 1 longer: ')")
+    # those of two moves more
+    browser.until(f"return window.asked.filter((each) => each === 'best').length > {count + 3}")
     workers = browser.workers()
     browser.script(TURN, False)
     end = time.monotonic() + 10
@@ -113,7 +113,7 @@ def pauses(tally: Tally, browser: Browser) -> None:
     tally.holds("it goes on", browser.until(f"return window.asked.filter((each) => each === 'best').length > {left[0]}"))
     browser.click("#best-stop")
     note = browser.text("best-note")
-    tally.holds(f"a stop says how far it came: {note}", note.startswith("Stopped. Up to 2 longer: "))
+    tally.holds(f"a stop says how far it came: {note}", note.startswith("Stopped. Up to 1 longer: "))
     count = browser.script(asked)
     time.sleep(LONGER_THAN_REST)
     tally.equal("and ends it", (browser.script(asked), browser.script(ENDED)), (count, True))
@@ -134,7 +134,7 @@ def three_moves(tally: Tally, browser: Browser) -> None:
     browser.choose("best-slack", "3")
     browser.wait_best()
     note = browser.text("best-note")
-    tally.holds(f"three moves more: {note}", note != before and "tried" in note)
+    tally.holds(f"three moves more: {note}", note != before and "rows" in note)
 
 
 def has_room(tally: Tally, browser: Browser) -> None:

@@ -40,8 +40,8 @@ def edits(tally: Tally, browser: Browser) -> None:
     browser.walk(tally, "a step", ("go", "#scramble=R_U_F&steps=normal.R~inverse.U_D~normal.F", {}),
         ("act", f"{step} button", {at: ["(U D)", len("(U D)")]}), ("press", Keys.ESCAPE, {f"{step} .moves": ["(U D)"], "focus": "Edit"}),
         ("script", EDIT, 1, "(U q)", {}), ("until", "return document.querySelector('#line-list .fault')?.textContent.includes('no move')", {}),
-        ("script", change, {}), ("comes", "steps", 4, {"bracketed": "R (U2) L F", "label": "Edit L"}),
-        ("act", "#line-list li:nth-child(1) button:nth-of-type(2)", {"bracketed": "(U2) L F"}))
+        ("script", change, {}), ("comes", "bracketed", "R L (U2) F", {"steps": 3, "label": "Edit L on the inverse side U2"}),
+        ("act", "#line-list li:nth-child(1) button:nth-of-type(2)", {"bracketed": "L (U2) F"}))
 
 
 def takes_away(tally: Tally, browser: Browser) -> None:

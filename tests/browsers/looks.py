@@ -60,7 +60,7 @@ def is_named(tally: Tally, browser: Browser, what: str) -> None:
     tally.holds(f"{what}: moves that are said", any(" prime" in name for name in pressed))
     tally.holds(f"{what}: the shortest are said to be", any(name.endswith(", shortest") for name in pressed))
     tables = {name for role, name in nodes if role == "table"}
-    tally.holds(f"{what}: the tables' names are without help: {tables}", {"Best continuations, by all moves", "Shortest next steps"} <= tables)
+    tally.holds(f"{what}: the tables' names are without help: {tables}", {"Best ways on, by all moves", "Shortest next steps"} <= tables)
 
 
 def has_its_words(tally: Tally, browser: Browser, what: str) -> None:

@@ -2,8 +2,9 @@
 import re
 import time
 
-from best import CHOOSE, LONGER, SCRAMBLE, TYPE, address_of, program_answers
+from best import CHOOSE, LONGER, SCRAMBLE, TYPE, address_of
 from browser import Browser
+from program import program_answers
 from tally import Tally
 from wanted import SIDES, Position
 

@@ -2,7 +2,6 @@
 import re
 import sys
 from functools import lru_cache
-from itertools import takewhile
 from pathlib import Path
 
 sys.path.insert(0, str(Path(__file__).resolve().parent.parent / "model"))
@@ -101,13 +100,6 @@ def merged_count(line: str) -> int:
     return len(made)
 
 
-def joined_count(one: str, other: str) -> int:
-    """The same of two lines that have nothing to merge themselves: what merges is where they meet, unless two moves do, so that others may too."""
-    ends = [*one.split()[-2:], *other.split()[:2]]
-    saved = len(ends) - merged_count(" ".join(ends))
-    return len(one.split()) + len(other.split()) - saved if saved < 2 else merged_count(f"{one} {other}")
-
-
 class Position:
     """A scramble and the moves after it on both sides, as the definition of the inverse scramble has them."""
 
@@ -173,13 +165,6 @@ class Position:
                 said = f"{counted(length, 'move')}, {self.in_words(step, side, solutions)}"
                 names.append(f"{TITLES[step]}, {side} side: {said}{', shortest' if length == least else ''}")
         return names
-
-    def until_held(self, step: str, side: str, moves: str) -> str:
-        """The shortest beginning of some moves from which on a step holds to their end, "" if that is all of them."""
-        turns = moves.split()
-        beginnings = [" ".join(turns[:count]) for count in range(len(turns) - 1, 0, -1)]
-        held = takewhile(lambda each: "length 0 " in run(("count", step, "0"), f"{self.lines[side]} {each}")[0], beginnings)
-        return ["", *held][-1]
 
     def rows(self, step: str, side: str, slack: int = 0) -> list[str]:
         """The rows of a list, without their lengths: after moves those first that have the fewest in all."""

@@ -40,7 +40,6 @@ NOT_THERE = {
     "docs/elsewhere": "tests/install.sh makes it",
     "proofs/path/Limit/new/Answers.antt": "a check with open goals writes it",
     "share/doc/nissy/EMBEDDING.md": "a package lays it there",
-    "share/doc/nissy/examples/best.py": "a package lays it there",
     "moves.c": "it is a program of the reader's",
     "self.rt": "it is the runtime of an example",
 }

@@ -31,7 +31,7 @@ SHELLS = {"sh": ("sh", "bash", "zsh"), "bash": ("bash",), "zsh": ("zsh",), "fish
 SCRIPTS = {"js": ("node", ".mjs", "nissy.wasm")}
 # tools that a system may lack, as a block takes them: at the beginning of a line; and what takes the library
 TOOLS = re.compile(r"^(?:import )?(cc|c\+\+|dask|parallel|python3)(?=[ .])", re.MULTILINE)
-OF_LIBRARY = re.compile(r"-lnissy|^import nissy|^python3 examples/", re.MULTILINE)
+OF_LIBRARY = re.compile(r"-lnissy|^import nissy|^python3 (examples/|-m nissy)", re.MULTILINE)
 ESCAPES = ((r"\(aq", "'"), (r"\(dq", '"'), (r"\-", "-"), (r"\e", "\\"))
 SECONDS = 300
 NOT_REACHED = "nothing: the shell ended before it\n"

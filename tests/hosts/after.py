@@ -12,7 +12,7 @@ from typing import Iterator, List, Tuple
 
 from hosts import Host, fault_of, hosts_of, told  # isort: skip
 
-from counted import as_held
+from goes_on import as_held
 from cube import effect_of, inverse_of
 from notation import MOST_MOVES, TOO_LONG, ReadFault, read
 from questions import FAULTS, TURNING, Drawing
@@ -23,6 +23,8 @@ ROWS = [
     ("", "", ""), ("R U", "", "R U"), ("", "R U", "R U"), ("R", "U F", "R U F"),
     # what stands in brackets is undone before the scramble, one bracket after another; both together are clean, in the order of cleanup
     ("R U F", "(L2 B)", "B' R L2 U F"), ("R U F", "D (L2) U (B)", "B' R L2 U F U D"), ("", "(R)", "R'"), ("R", "(R)", ""),
+    # so is the scramble with what stands outside
+    ("R U F", "F", "R U F2"), ("R U F", "F' U' (R)", ""),
     # that of a scramble is undone behind it, as a line has it
     ("U (R)", "F", "U R' F"), ("(R) U", "F (D)", "U D' R' F"),
     # after x the face F is called U, and stays it for what is made on the inverse

@@ -206,8 +206,7 @@ std::string counts_of(std::string_view text) {
 
 // What an orientation and a reduction have in common.
 template <typename Step> std::string part(const Step &it) {
-    const std::string side = it.side == nissy::side::normal ? "normal" : "inverse";
-    return it.step + ";" + side + ";" + it.moves + ";" + std::to_string(it.length) + ";" + joined(it.twins);
+    return it.step + ";" + it.moves + ";" + it.normal + ";" + it.inverse + ";" + std::to_string(it.length) + ";" + joined(it.twins);
 }
 
 // The rows of `best`, each in a line.
@@ -220,7 +219,7 @@ std::string continued(std::istream &asked) {
     if (asks != NISSY_ALL) which.stop = [&asks] { return asks-- == 0; };
     const exact first(scramble), other(so_far);
     const nissy::best_found found = partial ? nissy::find_best(first.view(), other.view(), which)
-                                            : nissy::best_found{nissy::best(first.view(), other.view(), which), false};
+                                            : nissy::best_found{nissy::best(first.view(), other.view(), which)};
     const auto said = [](const std::optional<int> &number) { return number ? std::to_string(*number) : "none"; };
     for (const nissy::continuation &it : found.rows)
         text += std::to_string(it.total) + ";" + it.line + ";" + (it.eo ? part(*it.eo) : "none") + ";" + part(it.dr) + ";" +

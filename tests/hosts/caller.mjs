@@ -40,7 +40,7 @@ const nissy = await Nissy.load(source);
 const worker = await NissyWorker.start(source);
 const lines = (all) => all.map((line) => `${line}\n`).join("");
 const solved = (found) => lines(found.map(({ moves, length }) => `${moves}${moves && " "}(${length})`));
-const part = ({ step, side, moves, length, twins }) => [step, side, moves, length, twins.join()].join(";");
+const part = ({ step, moves, normal, inverse, length, twins }) => [step, moves, normal, inverse, length, twins.join()].join(";");
 
 const seen = ({ solved: is, moves, cleanMoves, holds, cases, ...pieces }) => {
   const { badEdges, badCorners, misplacedEdges } = pieces;

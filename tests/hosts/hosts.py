@@ -121,7 +121,7 @@ def lines(texts: Iterable[str]) -> str:
 
 def part(it: Any) -> str:
     """What an orientation and a reduction have in common."""
-    return f"{it.step};{it.side};{it.moves};{it.length};{','.join(it.twins)}"
+    return f"{it.step};{it.moves};{it.normal};{it.inverse};{it.length};{','.join(it.twins)}"
 
 
 def row(it: nissy.Continuation) -> str:

@@ -1,4 +1,5 @@
-"""Questions to `best`, as they are drawn: scrambles with moves so far on both sides, oriented cubes, reduced ones, and lines with faults."""
+"""Questions to `best`, as they are drawn: scrambles with slices, rotations and brackets, moves so far on both sides, oriented cubes, reduced ones,
+lines with faults, and bounds."""
 import random
 from typing import Iterator, List, NamedTuple, Tuple
 
@@ -8,6 +9,7 @@ ORIENTATIONS: Tuple[nissy.Step, ...] = ("eofb", "eorl", "eoud")
 SUFFIXES = ("", "2", "'")
 # moves that leave the centres elsewhere
 TURNING = ("Rw", "f'", "M", "E2", "S'", "x", "y'", "z2", "u")
+ALL = 2**64 - 1
 FAULTS = ("R Q", "(U", "R (F (U))", "F)", "R'3")
 
 
@@ -18,15 +20,11 @@ class Question(NamedTuple):
     so_far: str = ""
     slack: int = 0
     most: int = 20
-    nodes: int = 2**64 - 1
+    nodes: int = ALL
     # 1 if what was found until a cut is wanted
     partial: int = 0
     # how often it is asked whether to end before it is to
-    asks: int = 2**64 - 1
-
-    def as_line(self) -> str:
-        """It as the callers in other languages read it."""
-        return "\t".join(map(str, self))
+    asks: int = ALL
 
 
 class Drawing(random.Random):
@@ -45,6 +43,12 @@ class Drawing(random.Random):
         """One of 25 turns."""
         return " ".join(self.turns(25))
 
+    def mixed(self) -> str:
+        """Some that leave the centres elsewhere among them, and some in brackets."""
+        moves = [turn if self.random() < 0.85 else self.choice(TURNING) for turn in self.turns(22)]
+        cut = self.randrange(12, 20)
+        return f"{' '.join(moves[:cut])} ({' '.join(moves[cut:])})"
+
     def both_sides(self) -> str:
         """A few turns on each side, in an order of their own."""
         parts = [" ".join(self.turns(self.randrange(1, 4))), f"({' '.join(self.turns(self.randrange(1, 4)))})"]
@@ -62,29 +66,27 @@ class Drawing(random.Random):
         side, line = self.choice((("{}", scramble), ("({})", nissy.invert(scramble))))
         return side.format(self.choice(nissy.solve(step, line)))
 
-    def oriented(self) -> Question:
+    def oriented(self, slack: int) -> Question:
         """A scramble with an orientation after it."""
-        scramble = self.scramble()
-        return Question(scramble, self.orientation(scramble), self.randrange(3), self.choice((5, 20, 1000)))
+        scramble = self.choice((self.scramble, self.mixed))()
+        return Question(scramble, self.orientation(scramble), slack, self.choice((5, 20, 50)))
 
 
-def drawn(seed: int, count: int) -> Iterator[Question]:
+def drawn(seed: int, count: int, slack: int) -> Iterator[Question]:
     """Yields questions of each kind, over and over."""
     draw = Drawing(seed)
     kinds = [
-        lambda: Question(draw.scramble()),
-        lambda: Question(draw.scramble(), draw.both_sides()),
-        lambda: Question(draw.scramble(), " ".join(draw.turns(2)), 0, draw.choice((0, 1, 3, 100, 100_000))),
-        draw.oriented,
-        lambda: Question(draw.scramble(), draw.both_sides(), 1),
-        lambda: Question(" ".join(draw.turns(draw.randrange(4))), draw.choice(("", "R", "(F2)", "U (D)")), draw.randrange(2), 50),
-        lambda: Question(f"{draw.scramble()} {draw.choice(TURNING)}", draw.turning()),
-        lambda: Question(draw.scramble(), "", 1, draw.choice((20, 300))),
-        lambda: Question(*draw.choice(((draw.scramble(), draw.choice(FAULTS)), (draw.choice(FAULTS), "R")))),
-        lambda: Question(" ".join(draw.turns(draw.choice((130, 240, 252)))), " ".join(draw.turns(draw.choice((0, 20, 130))))),
-        # too few for any search of such a scramble, and more than all need
-        lambda: Question(draw.scramble(), draw.choice(("", draw.both_sides())), 0, 20, draw.choice((0, 1, 50, 10**9, 2**53 - 1))),
+        lambda: draw.oriented(slack),
+        lambda: Question(" ".join(draw.turns(draw.randrange(4))), draw.choice(("", "R", "(F2)", "U (D)")), slack, 50),
+        lambda: Question(draw.scramble(), "", slack),
+        lambda: Question(draw.scramble(), draw.choice(("", draw.both_sides())), slack, 20, draw.choice((1000, 20_000, 100_000, 10**6)), 1),
+        lambda: Question(*draw.choice(((draw.mixed(), draw.choice(FAULTS)), (draw.choice(FAULTS), "R"))), slack),
+        # moves so far make more ways alike, so these take longer
+        lambda: Question(draw.mixed(), draw.turning(), slack),
+        lambda: Question(draw.mixed(), draw.both_sides(), slack, draw.choice((1, 3, 20, 50))),
+        lambda: Question(draw.scramble(), draw.turning(), slack, 20, draw.choice((0, 1, 50, 5000, 10**9))),
+        lambda: Question(f"{draw.scramble()} {draw.choice(TURNING)}", f"{draw.both_sides()} {draw.choice(TURNING)}", slack),
+        lambda: Question(" ".join(draw.turns(draw.choice((130, 240, 252)))), " ".join(draw.turns(draw.choice((0, 20, 130)))), slack),
     ]
     for at in range(count):
-        # a longer slack takes seconds
-        yield Question(draw.scramble(), draw.choice(("", draw.both_sides())), 2) if at % 25 == 24 else kinds[at % len(kinds)]()
+        yield kinds[at % len(kinds)]()

@@ -57,7 +57,7 @@ def names(tally: Tally) -> None:
     wanted = {"invert", "unniss", "cleanup", "facelets", "run", "Answer", "LineFault", "MOST_INPUT", "DONE", "FAULT", "USAGE", "STOPPED",
               "solve", "solve_all", "near", "count", "count_all", "scramble", "scrambles", "steps", "Tables", "Solution", "Count",
               "StartFault", "Fault", "Cut", "Solutions", "raising", "facts", "facts_all", "check", "Facts", "Check", "Case", "Pieces",
-              "tokens", "Token", "solutions", "best", "Continuation", "Continuations", "Orientation", "Reduction", "Lengths", "form_places", "FormPlace",
+              "tokens", "Token", "solutions", "best", "best_all", "Continuation", "Continuations", "Orientation", "Reduction", "Lengths", "form_places", "FormPlace",
               "start_of", "plain_line", "PlainLine", "AXES", "EDGE_PLACES", "CORNER_PLACES", "NET", "stickers_of",
               "read_attempts", "Attempt", "AttemptCandidate", "place_of", "TextPlace", "line_after",
               "check_attempts", "AttemptCheck", "FormInText"}
@@ -74,6 +74,7 @@ def classes(tally: Tally) -> None:
         (nissy.Count, {"length": Optional[int], "solutions": int, "nodes": int, "cut": bool}),
         (nissy.Answer, {"status": int, "out": bytes, "err": bytes, "full": bool}),
         (nissy.Continuation, {"total": int, "line": str, "eo": Optional[nissy.Orientation], "dr": nissy.Reduction, "case": nissy.Case}),
+        (nissy.Orientation, {"step": nissy.Step, "moves": str, "normal": str, "inverse": str, "length": int, "twins": Tuple[str, ...]}),
         (nissy.Check, {"solved": bool, "moves": int, "clean_moves": int, "forms": Tuple[str, ...]}),
         (nissy.PlainLine, {"line": str, "places": Tuple[int, ...], "left_out": Tuple[str, ...]}),
         (nissy.TextPlace, {"at": int, "line": int, "column": int}),
@@ -160,7 +161,7 @@ def dicts(tally: Tally) -> None:
     some = nissy.solve("eofb", "R U F", slack=1, most=2)
     tally.equal("solutions", json.loads(json.dumps(some.as_dict())), {"solutions": ["F", "F'"], "more": True, "nodes": some.nodes, "cut": False})
     cut = nissy.best("U R F", nodes=0, partial=True)
-    tally.equal("rows that are cut", json.loads(json.dumps(cut.as_dict())), {"rows": [], "cut": True})
+    tally.equal("rows that are cut", json.loads(json.dumps(cut.as_dict())), {"rows": [], "nodes": 0, "cut": True})
     rows = nissy.best("U R F", most=2)
     told = json.loads(json.dumps(rows.as_dict()))
     tally.equal("rows", ([it["line"] for it in told["rows"]], told["cut"]), (["F' R", "F (U)"], False))
@@ -175,7 +176,7 @@ def dicts_of_faults(tally: Tally) -> None:
         (nissy.LineFault, lambda: nissy.line_after("(R"),
          {"text": "bracket not closed", "line": 1, "part": "scramble", "column": 1, "character": 1}),
         (nissy.LineFault, lambda: nissy.invert("Q"), {"text": "not a move", "line": None, "part": "", "column": 1, "character": 1}),
-        (nissy.Fault, lambda: nissy.best("R U " * 100, "F R " * 50), {"text": "more than 256 moves", "line": 2, "part": "moves so far"}),
+        (nissy.Fault, lambda: nissy.best("R U", "F R " * 128), {"text": "more than 256 moves", "line": 2, "part": "moves so far"}),
         (nissy.StartFault, lambda: list(nissy.raising(nissy.count_all("drfb-eorl", ["", "R"]))),
          {"text": "eorl does not hold", "line": 2, "part": "", "step": "drfb-eorl", "start": "eorl"}),
         (nissy.Cut, lambda: nissy.near("eofb", "F B", 20, 0, nodes=0),

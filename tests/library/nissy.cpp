@@ -1,11 +1,11 @@
 /* The headers for C++: values out of strings, exceptions with their column, objects that are copied and shared by threads, the moves of a line,
-   names, solutions one after another, and the bounds and progress of `best`, whose rows tests/hosts tries; text as solvers write it by
-   written.hpp. It is linked with --wrap for malloc, realloc and free, by which the library's memory is refused. */
+   names, and solutions one after another; `best` by best.hpp, text as solvers write it by written.hpp. It is linked with --wrap for malloc, realloc and free, by which the library's memory is refused. */
 #include "nissy_best.hpp"
 #include "nissy_names.hpp"
 #include "nissy_solutions.hpp"
 #include "nissy_tokens.hpp"
 
+#include "best.hpp"
 #include "refused.h"
 #include "searches.h"
 #include "written.hpp"
@@ -18,22 +18,6 @@
 namespace {
 
 using namespace std::string_view_literals;
-using call = std::function<void()>;
-
-// Each of these calls throws this exception, which says something.
-template <typename Thrown> void throw_each(const char *of, std::initializer_list<call> calls) {
-    for (const call &each : calls) {
-        try {
-            each();
-            holds(0, "it throws", of);
-        } catch (const Thrown &thrown) {
-            holds(thrown.what()[0] != 0, "it says what", of);
-        } catch (...) {
-            holds(0, "it throws another exception", of);
-        }
-    }
-}
-
 // A call throws a fault that says this, also in a copy: its code and column, the line of two that has it, with its name, and the step that would
 // have to hold.
 void has_fault(const call &asked, int code, std::size_t column, const std::string &what, int line = 0, const char *start = "") {
@@ -198,51 +182,15 @@ void searches_are_cut() {
     holds(first.solutions.size() == 1 && first.count.more && first.count.length == 2 && !first.count.is_cut, "the first alone", "F B");
     // one bound is for all searches of a call
     nissy::best_search few;
-    few.nodes = 100;
-    throw_each<nissy::cut>("U R F", {[&] { nissy::best("U R F", "", few); }});
-    const nissy::best_found some = nissy::find_best("U R F", "", few), all = nissy::find_best("U R F");
-    holds(some.is_cut && some.rows.size() < all.rows.size(), "what is found until a cut", "U R F");
-    holds(!all.is_cut && all.rows.size() == nissy::best("U R F").size() && all.rows.front().total == 2, "all that is found", "U R F");
+    few.nodes = 500;
+    throw_each<nissy::cut>("U R F L D", {[&] { nissy::best("U R F L D", "", few); }});
+    const nissy::best_found some = nissy::find_best("U R F L D", "", few), all = nissy::find_best("U R F L D");
+    holds(some.is_cut && some.nodes <= 500 && some.rows.size() < all.rows.size(), "what is found until a cut", "U R F L D");
+    holds(!all.is_cut && all.rows.size() == nissy::best("U R F L D").size() && all.rows.front().total == 4, "all that is found", "U R F L D");
     // a cut of the caller's own ends the call
     few.progress = [&](std::size_t, std::size_t) { tables.solve("F B", {20, 0, NISSY_ALL, 0}); };
     throw_each<nissy::cut>("U R F", {[&] { nissy::find_best("U R F", "", few); }});
     throw_each<nissy::fault>("U R q", {[&] { nissy::find_best("U R q", "", few); }});
-}
-
-// The progress goes from none to all, and what it throws ends the call.
-void progress_is_told() {
-    std::vector<std::pair<std::size_t, std::size_t>> told;
-    nissy::best_search which;
-    which.progress = [&](std::size_t done, std::size_t all) { told.push_back({done, all}); };
-    nissy::best("U R F L D", "", which);
-    holds(told.size() > 7 && told.front() == std::make_pair(std::size_t{0}, std::size_t{0}), "it begins with none", "U R F L D");
-    holds(std::is_sorted(told.begin(), told.end()), "it never goes back", "U R F L D");
-    holds(told.back().first > 0 && told.back().first == told.back().second, "it ends with all", "U R F L D");
-    which.progress = [](std::size_t done, std::size_t) {
-        if (done > 0) throw std::domain_error("enough");
-    };
-    for (const char *line : {"U R F L D", "R U"}) throw_each<std::domain_error>(line, {[&] { nissy::best(line, "", which); }});
-}
-
-// A search that is stopped ends as one that is cut. What it found until then, tests/hosts tries.
-void best_is_stopped() {
-    const auto whole = nissy::best("U R F");
-    long asked = 0, left = 0;
-    nissy::best_search which;
-    which.stop = [&] { return ++asked < 0; };
-    holds(nissy::best("U R F", "", which).size() == whole.size() && asked > 1, "it is asked, and goes on", "U R F");
-    left = asked / 2;
-    which.stop = [&] { return left-- == 0; };
-    const nissy::best_found some = nissy::find_best("U R F", "", which);
-    holds(some.is_cut && !some.rows.empty() && some.rows.size() < whole.size(), "the rows after half of the searches", "U R F");
-    which.stop = [] { return true; };
-    throw_each<nissy::cut>("U R F", {[&] { nissy::best("U R F", "", which); }});
-    holds(nissy::find_best("U R F", "", which).rows.empty() && nissy::best("U R F", "F' R", which).empty(), "none before a search", "U R F");
-    which.stop = []() -> bool { throw std::domain_error("enough"); };
-    throw_each<std::domain_error>("U R F", {[&] { nissy::find_best("U R F", "", which); }, [&] { nissy::best("U R F", "", which); }});
-    // a cut of the caller's own ends the call
-    which.stop = [] { return nissy::tables("eofb").solve("F B", {20, 0, NISSY_ALL, 0}).empty(); };
-    throw_each<nissy::cut>("U R F", {[&] { nissy::find_best("U R F", "", which); }});
 }
 
 std::string shown_at(const std::string &letters, const std::string &place) {
@@ -384,8 +332,8 @@ int main() {
     for (const search_row &row : SEARCHES) solves(nissy::tables(row.step), row);
     for (const auto trial : {lines_are_read, faults_are_thrown, columns_are_counted, text_is_read, places_are_found, forms_are_found,
                              attempts_are_read, attempts_are_checked, forms_are_placed, misuse_is_thrown, many_lines_are_answered,
-                             searches_are_cut, progress_is_told, best_is_stopped, stickers_are_found, refused_memory_is_thrown, many_are_whole,
-                             objects_are_values})
+                             searches_are_cut, progress_is_told, best_is_stopped, all_have_their_best, many_rows_have_room, sides_are_listed,
+                             stickers_are_found, refused_memory_is_thrown, many_are_whole, objects_are_values})
         trial();
     holds(nissy::version() == nissy_version() && nissy_version() == NISSY_VERSION_NUMBER, "the library's", "version");
     return ended();

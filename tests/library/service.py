@@ -52,9 +52,10 @@ def requests_are_answered(tally: Tally) -> None:
     """Requests that a person can tell, also some with numbers or steps that there aren't."""
     for path, asked, status, told in REQUESTS:
         tally.equal(f"{path} {asked}", serve.answer(f"{path}?{urlencode(asked)}"), (status, told))
-    for more in ({"slack": "21"}, {"slack": "-1"}, {"slack": "x"}, {"step": "eofx"}, {"step": ""}, {"step": "\0"}):
+    for more in ({"slack": "21"}, {"slack": "-1"}, {"slack": "x"}, {"slack": "9" * 5000}, {"step": "eofx"}, {"step": ""}, {"step": "\0"}):
         status, told = serve.answer("/search?" + urlencode({"step": "eofb", "line": "F", **more}))
         tally.holds(f"{more} is refused", status == 400 and set(told) == {"error"})
+        tally.holds("in words of its own", "slack" not in more or told["error"] == "the slack is a number from 0 to 20")
 
 
 def any_address_is_answered(tally: Tally) -> None:

@@ -4,7 +4,7 @@
     tests/library/values.py
 
 The library is that of NISSY_LIBRARY. Forms of values, copies and rooms are tried by module.py, iterators and threads
-by many.py, text as solvers write it by written.py, drawn lines and the rows of `best` by tests/hosts. The last line is
+by many.py, text as solvers write it by written.py, both sides by both_sides.py, drawn lines and the rows of `best` by tests/hosts. The last line is
 `N passed, M failed`, and the status is 1 where M isn't 0.
 """
 import array
@@ -144,11 +144,11 @@ ON_A_LINE: Dict[str, Callable[[Any], object]] = {
     "count": lambda it: untyped.count("eofb", it), "near": lambda it: untyped.near("eofb", it, 1, 1),
     "solutions": lambda it: untyped.solutions("eofb", it)}
 # calls on a scramble and another line
-ON_TWO: List[Callable[[Any, Any], object]] = [untyped.check, untyped.best]
+ON_TWO: List[Callable[[Any, Any], object]] = [untyped.check, untyped.best, untyped.line_after]
 # those on many lines, each with that on one
 ON_MANY: List[Tuple[Callable[[Any], Any], Callable[[Any], object]]] = [
     (lambda it: untyped.solve_all("eofb", it), ON_A_LINE["solve"]), (lambda it: untyped.count_all("eofb", it), ON_A_LINE["count"]),
-    (untyped.facts_all, untyped.facts)]
+    (untyped.facts_all, untyped.facts), (untyped.best_all, untyped.best)]
 
 
 def faults(tally: Tally) -> None:
@@ -169,13 +169,14 @@ def faults(tally: Tally) -> None:
             tally.holds("it ends there", raised(StopIteration, lambda: next(answers)))
     says(tally, nissy.LineFault, "column 3: not a move", lambda: nissy.near("eo", "R Q", 3, 1))
     says(tally, nissy.LineFault, "line 2, column 3: not a move", lambda: list(nissy.raising(nissy.count_all("eo", ["", "R Q"]))))
-    for pair, other in zip(ON_TWO, ("solution", "moves so far")):
+    for pair, other in zip(ON_TWO, ("solution", "moves so far", "moves so far")):
         says(tally, nissy.LineFault, "scramble, column 3: not a move", lambda: pair("R Q", "U"))
         says(tally, nissy.LineFault, f"{other}, column 1: bracket not closed", lambda: pair("R", "(U"))
         says(tally, nissy.Fault, f"{other}, {TOO_LONG}", lambda: pair("", BEYOND))
         parts = [raised(nissy.LineFault, lambda: pair(*lines)).part for lines in (("R Q", "U"), ("R", "(U"))]
         tally.equal("the names of the lines", parts, ["scramble", other])
-    says(tally, nissy.Fault, "moves so far, more than 256 moves", lambda: nissy.best("R U " * 100, "F R " * 50))
+    for pair in ON_TWO[1:]:
+        says(tally, nissy.Fault, "moves so far, more than 256 moves", lambda: pair("R U " * 128, "(" + "F R " * 128 + ")"))
     for call in (untyped.invert, ON_A_LINE["solve"], untyped.facts):
         says(tally, nissy.Fault, TOO_LONG, lambda: call(BEYOND))
     for many, one in ON_MANY:
@@ -286,86 +287,10 @@ def bounds(tally: Tally) -> None:
     tally.equal("the first one alone", (first.length, first.solutions, first.cut), (1, 1, False))
 
 
-def best(tally: Tally) -> None:
-    """One bound is for all searches of `best`, and the progress goes from none to all; what it raises ends the call."""
-    cuts, rows = [], nissy.best("U R F")
-    for least in range(10_000):
-        cut = raised(nissy.Cut, lambda: nissy.best("U R F", nodes=least))
-        if not cut:
-            break
-        cuts.append(cut.count.cut and cut.count.nodes <= least)
-    # an orientation alone has looked at more before it ends
-    tally.holds("the least bound", all(cuts) and nissy.count("eofb", "U R F").nodes < least < 9_999)
-    tally.equal("from there on", [nissy.best("U R F", nodes=nodes) for nodes in (least, least + 1, MOST)], [rows] * 3)
-    tally.equal("a reduction is reached without a search", nissy.best("U R F", "F' R", nodes=0), [])
-    pairs: List[Any] = []
-    tally.equal("the same rows", nissy.best("U R F L D", progress=lambda *told: pairs.append(told)), nissy.best("U R F L D"))
-    tally.equal("it begins with none, and never goes back", (pairs[0], [it for it, _ in pairs]), ((0, None), sorted(it for it, _ in pairs)))
-    tally.holds("it ends with all", 0 < pairs[-1][0] == pairs[-1][1])
-
-    def stop(done: int, _: object) -> None:
-        if done > 0:
-            raise InterruptedError
-
-    for line in ("U R F L D", "R U"):
-        tally.holds(f"what it raises, of {line}", raised(InterruptedError, lambda: nissy.best(line, progress=stop)))
-    tally.equal("bytes and wide turns", nissy.best(b"U R F x", bytearray(b"")), nissy.best("U R F x"))
-    for name, value, kind in (("most", -1, ValueError), ("most", 1.5, TypeError), ("slack", None, TypeError), ("progress", 1, TypeError)):
-        tally.holds(f"{name} {value}", raised(kind, lambda: untyped.best("R", **{name: value})))
-    says(tally, TypeError, "the stop is a function or None, not bool", lambda: untyped.best("R", stop=True))
-
-
-def cut_best(tally: Tally) -> None:
-    """What a cut `best` found is told as such. What it is, tests/hosts tries."""
-    some, most, whole = (nissy.best("U R F", nodes=nodes, partial=True) for nodes in (100, MOST, None))
-    tally.equal("what is told of each", [(it.cut, type(it)) for it in (some, most, whole)], [(it, nissy.Continuations) for it in (True, False, False)])
-    tally.holds("without a cut there are all", most == whole == nissy.best("U R F") and len(some) < len(whole))
-
-    def own(*_: object) -> None:
-        nissy.count("eofb", "R U F", nodes=0)
-
-    tally.equal("a cut of the progress", raised(nissy.Cut, lambda: nissy.best("U R F", nodes=100, partial=True, progress=own)).count.nodes, 0)
-    tally.holds("a fault is no cut", raised(nissy.LineFault, lambda: nissy.best("U R Q", nodes=0, partial=True)))
-
-
-def stopped_best(tally: Tally) -> None:
-    """A `best` that is stopped ends as one that is cut. What it found until then, tests/hosts tries."""
-    asked, whole = itertools.count(), nissy.best("U R F")
-    tally.equal("never", nissy.best("U R F", stop=lambda: next(asked) < 0), whole)
-    half = iter(range(next(asked) // 2))
-    at_once = raised(nissy.Cut, lambda: nissy.best("U R F", stop=lambda: True))
-    tally.equal("at once", (at_once.count, at_once.solutions), (nissy.Count(None, 0, 0, True), []))
-    some = nissy.best("U R F", partial=True, stop=lambda: next(half, None) is None)
-    tally.holds("after half of the searches", some.cut and 0 < len(some) < len(whole))
-    tally.equal("if a reduction is reached there is no search", nissy.best("U R F", "F' R", stop=lambda: True), [])
-    tally.holds("what it raises", raised(ZeroDivisionError, lambda: nissy.best("U R F", partial=True, stop=lambda: bool(1 // 0))))
-    own: Callable[[], bool] = lambda: nissy.count("eofb", "F", nodes=7).cut
-    tally.holds("a cut of its own", raised(nissy.Cut, lambda: nissy.best("U R F", partial=True, stop=own)))
-
-
-def saved(tally: Tally) -> None:
-    """Of a line on which `best` looks for a reduction it is worked out once how many moves that may save."""
-    ways, calls = untyped._ways, []
-    most_saved, least_lengths = ways._most_saved, ways.Searches.least_lengths
-
-    def noted(made: str, step: str) -> int:
-        calls.append(1)
-        return int(most_saved(made, step))
-
-    def asked(self: Any, wanted: Any) -> Any:
-        calls.extend([-1] * len(wanted))
-        return least_lengths(self, wanted)
-
-    ways._most_saved, ways.Searches.least_lengths = noted, asked
-    rows = nissy.best("R' U' F D2 L2 F R2 U2", "R (U')")
-    ways._most_saved, ways.Searches.least_lengths = most_saved, least_lengths
-    tally.equal("worked out, but for each line once", (sum(calls), len(rows), 1 in calls), (0, 20, True))
-
-
 def main() -> None:
     """All of it."""
     tally = Tally()
-    for part in (searches, lines, without_lines, faults, starts, wrong_types, numbers, bounds, best, cut_best, stopped_best, saved):
+    for part in (searches, lines, without_lines, faults, starts, wrong_types, numbers, bounds):
         part(tally)
     tally.end()
 

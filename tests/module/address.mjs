@@ -14,20 +14,22 @@ const PIECES = ["&scramble=", "&steps=", "&side=", "&list=", "&kept=", "normal."
 
 const some = (all, most) => Array.from({ length: drawn(most) }, () => all[drawn(all.length)]);
 const one = (all) => all[drawn(all.length)];
-const drawnParts = () => Array.from({ length: drawn(4) }, () => ({ side: one(SIDES), moves: [one(TURNS), ...some(TURNS, 6)].join(" ") }));
+const drawnMoves = () => [one(TURNS), ...some(TURNS, 6)].join(" ");
+/** Steps on one side, or on both. */
+const drawnParts = () => Array.from({ length: drawn(4) }, () => one([
+  { normal: drawnMoves(), inverse: "" }, { normal: "", inverse: drawnMoves() }, { normal: drawnMoves(), inverse: drawnMoves() },
+]));
 
-/** A list, of which `split` is there if its solutions begin on the other side. */
-function drawnList() {
-  const list = { step: one([...ORIENTATIONS, ...REDUCTIONS]).name, side: one(SIDES), slack: drawn(4), isAll: drawn(2) === 0 };
-  return drawn(2) === 0 ? list : { ...list, split: 1 + drawn(2) };
-}
+const drawnList = () => ({
+  step: one([...ORIENTATIONS, ...REDUCTIONS]).name, side: one([...SIDES, "both"]), slack: drawn(4), isAll: drawn(2) === 0,
+});
 
 const drawnState = () => ({
   scramble: some(SIGNS, 20).join("").trim(),
   parts: drawnParts(),
   side: one(SIDES),
   list: drawn(2) === 0 ? null : drawnList(),
-  kept: Array.from({ length: drawn(3) }, () => ({ parts: [{ side: "normal", moves: "R" }, ...drawnParts()], note: some(SIGNS, 5).join(""), next: "" })),
+  kept: Array.from({ length: drawn(3) }, () => ({ parts: [{ normal: "R", inverse: "" }, ...drawnParts()], note: some(SIGNS, 5).join(""), next: "" })),
 });
 
 /** A text whose lone halves of pairs are what stands for them. */

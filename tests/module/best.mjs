@@ -1,11 +1,12 @@
-// Tries `best` with values that no call takes, its progress, and its bound in workers and pools. That its rows are those of a count, and of the
-// other languages, also by the least bound, is tried by tests/hosts.
+// Tries `best`: rows beside those of the independent model, each beside what the other calls say of it, values that no call takes, its progress,
+// and its bound in workers and pools. That its rows are those of the other languages is tried by tests/hosts.
 //
 //     node tests/module/best.mjs MODULE
 //
 // The last line is `N passed, M failed`, and the status is 1 where M isn't 0.
+import { readFileSync } from "node:fs";
 import { NissyPool, NissyWorker } from "../../web/module/node.js";
-import { Nissy, SearchCut } from "../../web/module/nissy.js";
+import { Nissy, NissyFault, SearchCut } from "../../web/module/nissy.js";
 import { ended, moduleBytes, same, thrown } from "./tally.mjs";
 
 const nissy = await Nissy.load(moduleBytes);
@@ -15,7 +16,8 @@ const caught = (call) => Promise.resolve().then(call).then(() => null, (error) =
 
 /** Lines that can't be read, by an engine: which of the two has the fault, where, and what the message calls it. */
 async function tryFaults(engine) {
-  const many = "R U ".repeat(100);
+  // more than may be made on a side after a scramble, and more than a line has together
+  const many = "R U ".repeat(110);
   const faults = [
     ["R q", "", 1, 3, "not a move", "scramble, column 3: not a move"],
     ["R", "U (", 2, 3, "bracket not closed", "moves so far, column 3: bracket not closed"],
@@ -51,20 +53,124 @@ async function tryWrong() {
   same("what the caller throws", await thrown(() => nissy.best("R U F2 L D", { onProgress: () => { throw new RangeError("enough"); } })), ["RangeError", "enough"]);
 }
 
+/** The rows that the independent model made of scrambles and moves so far, as C has them: `total length corners edges axis reduction`, and the
+ * turns of both steps on both sides. */
+function tryModel() {
+  const ASKED = /\{"([^"]*)", "([^"]*)", (\d+), (\d+),\n((?:\s+"[^"]*"\n)+)\s*\}/g;
+  const all = [...readFileSync(new URL("../library/ways.h", import.meta.url), "utf8").replaceAll('"},', '"\n},').matchAll(ASKED)];
+  const rowOf = ({ total, eo, dr, case: of }) => {
+    const first = eo ?? dr;
+    const [corners, edges] = of.match(/\d+/g);
+    const turns = [eo?.normal ?? "", eo?.inverse ?? "", dr.normal, dr.inverse].join(" | ");
+    return [total, first.length, corners, edges, dr.step.slice(-2), dr.step.slice(2, 4), "|", turns].join(" ").trim();
+  };
+  for (const [, scramble, soFar, slack, most, text] of all) {
+    const wanted = [...text.matchAll(/"([^"]*)\\n"/g)].map(([, row]) => row.trim());
+    const rows = nissy.best(scramble, { soFar, slack: Number(slack), most: Number(most) });
+    same(`${scramble} / ${soFar}, slack ${slack}: the model's rows`, rows.map(rowOf), wanted);
+  }
+  same("some questions of the model", all.length > 8, true);
+}
+
+const OPPOSITE = { U: "D", D: "U", R: "L", L: "R", F: "B", B: "F" };
+const QUARTERS = { "": 1, 2: 2, "'": 3 };
+
+/** How many moves some turns have once those of one face are merged that only turns of the opposite face stand between. */
+function merged(line) {
+  const made = [];
+  for (const turn of line.split(" ").filter(Boolean)) {
+    let at = made.length - 1;
+    while (at >= 0 && made[at].face === OPPOSITE[turn[0]]) at -= 1;
+    if (at < 0 || made[at].face !== turn[0]) made.push({ face: turn[0], quarters: QUARTERS[turn.slice(1)] });
+    else made[at].quarters = (made[at].quarters + QUARTERS[turn.slice(1)]) % 4;
+    if (at >= 0 && made[at].quarters === 0) made.splice(at, 1);
+  }
+  return made.length;
+}
+
+/** What a line has outside of brackets, and inside. */
+const sidesOf = (line) => [line.replace(/\([^()]*\)/g, " "), [...line.matchAll(/\(([^()]*)\)/g)].map(([, moves]) => moves).join(" ")];
+
+/** Moves with other last turns, which a twin has. */
+function withEnd({ normal, inverse }, twin) {
+  const replaced = [normal, inverse].map((moves, side) => {
+    const [turns, end] = [moves, sidesOf(twin)[side]].map((each) => each.trim().split(" ").filter(Boolean));
+    return [...turns.slice(0, turns.length - end.length), ...end].join(" ");
+  });
+  return `${replaced[0]} (${replaced[1]})`;
+}
+
+/** Each row is true: its moves reach its steps, and so do its twins, and its numbers are those of the lines. */
+function tryTruth(scramble, soFar, slack) {
+  const rows = nissy.best(scramble, { soFar, slack, most: 60 });
+  const what = `${scramble} / ${soFar}, slack ${slack}`;
+  const lineAfter = (moves) => nissy.lineAfter(scramble, `${soFar} ${moves}`);
+  const reaches = (moves, step) => nissy.facts(lineAfter(moves)).holds.includes(step);
+  for (const { total, line, eo, dr, case: of } of rows) {
+    const first = eo ?? dr;
+    const before = lineAfter(eo?.moves ?? "");
+    same(`${what}: ${line} reaches both`, [reaches(first.moves, first.step), reaches(line, dr.step)], [true, true]);
+    same(`${what}: ${line}, its total`, total, sidesOf(`${soFar} ${line}`).map(merged).reduce((sum, count) => sum + count));
+    same(`${what}: ${line}, its case`, of, nissy.facts(before).cases[dr.step.slice(2, 4)]);
+    const lengths = [before, nissy.invert(before)].map((each) => nissy.count(dr.step, each, { most: 1 }).length);
+    same(`${what}: ${line}, on each side alone`, Object.values(dr.lengths), lengths);
+    same(`${what}: ${line}, its turns`, [first, dr].map((step) => step.length), [first, dr].map(({ moves }) => moves.split(" ").filter(Boolean).length));
+    same(`${what}: ${line}, its twins`, first.twins.filter((twin) => !reaches(withEnd(first, twin), first.step)), []);
+    same(`${what}: ${line}, moves`, line.replace(/[()]/g, ""), [eo?.moves ?? "", dr.moves].join(" ").replace(/[()]/g, "").trim());
+  }
+  same(`${what}: each once, and in order`, [new Set(rows.map(({ line, dr }) => line + dr.step)).size, rows.every(({ total }, at) => at === 0 || total >= rows[at - 1].total)], [rows.length, true]);
+  return rows;
+}
+
+/** Rows of drawn scrambles: some over both sides, some with twins, some with fewer moves since they merge. */
+function tryDrawn() {
+  const rows = [20261127, 20261128, 20261129].flatMap((seed) => {
+    const scramble = nissy.scramble(seed, 1, 25);
+    const [{ moves }] = nissy.solve("eorl", scramble, { most: 1 });
+    return [["", 1], ["R U2 D (F B2)", 0], [moves, 1], [`${moves} (F)`, 0]].flatMap(([soFar, slack]) => tryTruth(scramble, soFar, slack));
+  });
+  const isBoth = (step) => step !== null && step.normal !== "" && step.inverse !== "";
+  const kinds = [({ eo }) => isBoth(eo), ({ dr }) => isBoth(dr), ({ eo }) => eo === null, ({ eo, dr }) => (eo ?? dr).twins.length > 2, ({ eo }) => eo?.twins.length === 1];
+  same("rows of each kind", kinds.map((is) => rows.some(is)), kinds.map(() => true));
+}
+
+/** More rows than there is room for at first come all, and those of fewer are their beginning. */
+function tryMany() {
+  const scramble = nissy.scramble(20261127, 1, 25);
+  const all = nissy.best(scramble, { slack: 1, most: Infinity });
+  let tried = 0;
+  same("some of them", [...nissy.best(scramble, { slack: 1, most: 50, onProgress: (done) => { tried = done; } })], all.slice(0, 50));
+  same("all of them", [all.length > 4_096, all.length], [true, tried]);
+  same("none of them", [...nissy.best(scramble, { most: 0 })], []);
+}
+
+/** The same of many scrambles, with the faults in their places. */
+async function tryAll() {
+  const scrambles = ["R U F", "R q", nissy.scramble(20261127, 1, 25), ""];
+  const wanted = scrambles.map((scramble) => (scramble === "R q" ? null : nissy.best(scramble, { most: 3 })));
+  const [worker, pool] = [await NissyWorker.start(moduleBytes), await NissyPool.start(2, moduleBytes)];
+  for (const engine of [nissy, worker, pool]) {
+    const told = await engine.bestAll(scrambles, { most: 3, faults: "value" });
+    same("each is that of its scramble", told.map((each) => (each instanceof NissyFault ? null : each)), wanted);
+    same("the fault", [told[1].line, told[1].column], [2, 3]);
+    same("thrown", await thrown(() => engine.bestAll(scrambles)), ["NissyFault", "line 2, column 3: not a move"]);
+    same("cut", await thrown(() => engine.bestAll(["R U F", "U R F"], { nodes: 10 })), ["SearchCut", "line 1: the search was cut after 10 nodes"]);
+  }
+  worker.end();
+  pool.end();
+}
+
 /** The progress is told from none to all. */
 function tryProgress(scramble) {
   const told = [];
   nissy.best(scramble, { slack: 1, onProgress: (done, all) => told.push([done, all]) });
-  same("it begins with none", told[0][0], 0);
+  same("it begins with none", told[0], [0, null]);
   same("it never goes back", told.map(([done]) => done), told.map(([done]) => done).sort((one, other) => one - other));
-  same("it ends with all", told[told.length - 1][0] > 0 && told[told.length - 1][0] === told[told.length - 1][1], true);
-  // once before each search, on two sides and three axes
-  same("it is told while the first orientations are found", told.slice(0, 6), Array(6).fill([0, null]));
-  const known = told.findIndex(([done]) => done > 0);
-  same("and while the longer ones are", told.slice(known).filter(([, all]) => all === null).length >= 6, true);
-  const ofReductions = [];
-  nissy.best("R U", { onProgress: (done, all) => ofReductions.push([done, all]) });
-  same("and before each search for reductions", ofReductions.slice(0, 2), [[0, null], [0, null]]);
+  const [last, all] = told[told.length - 1];
+  same("it ends with all", [last > 0, last], [true, all]);
+  same("all isn't known before", told.slice(0, -1).every((each) => each[1] === null), true);
+  // of the orientations of some lengths on three axes
+  same("it is told often", told.length > 12, true);
 }
 
 /** A cut, and the rows and faults by a worker; bytes are read as text. */
@@ -74,11 +180,13 @@ async function tryCuts() {
   const [cut, other] = [await caught(() => nissy.best("U R F", { nodes: 30 })), await caught(() => worker.best("U R F", { nodes: 30 }))];
   same("a cut", [cut instanceof SearchCut, cut.found, cut.line, cut.count.length, cut.count.nodes <= 30], [true, null, null, null, true]);
   same("a cut by a worker", [other instanceof SearchCut, other.message], [true, cut.message]);
-  for (const nodes of [10_000, Number.MAX_SAFE_INTEGER, Infinity, undefined]) same(`${nodes} nodes`, await worker.best("U R F", { nodes }), rows);
-  const some = [nissy.best("U R F", { nodes: 100, cut: "value" }), await worker.best("U R F", { nodes: 100, cut: "value" })];
+  for (const nodes of [100_000, Number.MAX_SAFE_INTEGER, Infinity, undefined]) same(`${nodes} nodes`, await worker.best("U R F", { nodes }), rows);
+  const half = rows.nodes >> 1;
+  const some = [nissy.best("U R F", { nodes: half, cut: "value" }), await worker.best("U R F", { nodes: half, cut: "value" })];
   same("what is found until a cut, by a worker too", some[1], some[0]);
   same("it is told so", some.map((it) => [it.cut, Array.isArray(it), it.length < rows.length]), [[true, true, true], [true, true, true]]);
-  same("all that is found isn't", [rows.cut, nissy.best("U R F", { nodes: 10_000, cut: "value" }).cut], [undefined, undefined]);
+  same("all that is found isn't", [rows.cut, nissy.best("U R F", { nodes: rows.nodes, cut: "value" }).cut], [undefined, undefined]);
+  same("one position less is too few", (await thrown(() => nissy.best("U R F", { nodes: rows.nodes - 1 })))[0], "SearchCut");
   for (const wrong of ["values", "", "Throw"]) same(`told by ${wrong}`, (await thrown(() => nissy.best("R", { cut: wrong })))[0], "RangeError");
   const own = () => nissy.count("eofb", "R U F", { nodes: 0 });
   same("a cut of the caller's own", (await caught(() => nissy.best("U R F", { nodes: 100, cut: "value", onProgress: own }))).count.nodes, 0);
@@ -89,17 +197,15 @@ async function tryCuts() {
 
 /** In a pool each axis has the bound by itself, and all have it together. */
 async function tryPoolBounds() {
-  const [pool, rows] = [await NissyPool.start(2, moduleBytes), nissy.best("U R F")];
-  let least = 0;
-  while (least < 10_000 && (await caught(() => pool.best("U R F", { nodes: least }))) instanceof SearchCut) least += 1;
-  same("the least bound of a pool", least > nissy.count("eofb", "U R F").nodes && least < 10_000, true);
-  same("rows by a pool", await pool.best("U R F", { nodes: least }), rows);
+  const [pool, rows] = [await NissyPool.start(2, moduleBytes), [...nissy.best("U R F")]];
+  const least = (await pool.best("U R F")).nodes;
+  same("rows by a pool", [...await pool.best("U R F", { nodes: least })], rows);
   const { count, found } = await caught(() => pool.best("U R F", { nodes: least - 1 }));
   same("all were looked at together", [count, found], [{ length: null, solutions: 0, nodes: least }, null]);
   const some = await pool.best("U R F", { nodes: least - 1, cut: "value" });
   // no axis alone was cut, but all together had looked at more
-  same("what all found", [some.cut, some], [true, Object.assign(rows.slice(), { cut: true })]);
-  const few = await pool.best("U R F", { nodes: 60, cut: "value" });
+  same("what all found", [some.cut, [...some]], [true, rows]);
+  const few = await pool.best("U R F", { nodes: least >> 2, cut: "value" });
   const places = few.map((row) => rows.findIndex((each) => JSON.stringify(each) === JSON.stringify(row)));
   same("what each found, as one list", [few.cut, places.includes(-1), places], [true, false, places.slice().sort((one, other) => one - other)]);
   // after x the face F is called U
@@ -110,6 +216,10 @@ async function tryPoolBounds() {
   pool.end();
 }
 
+tryModel();
+tryDrawn();
+tryMany();
+await tryAll();
 await tryFaults(nissy);
 await tryWrong();
 tryProgress(nissy.scramble(20261127, 1, 25));

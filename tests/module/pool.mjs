@@ -311,11 +311,9 @@ async function tryBest(pool) {
   for (const [soFar, slack] of [["", 0], ["R (U)", 0], ["", 1], [nissy.solve("eorl", scramble, { most: 1 })[0].moves, 1]]) {
     const told = [];
     const rows = await pool.best(scramble, { soFar, slack, onProgress: (done, all) => told.push([done, all]) });
-    same(`the best of ${soFar}, slack ${slack}`, rows, nissy.best(scramble, { soFar, slack }));
+    // each axis looks by itself, so the looks are others
+    same(`the best of ${soFar}, slack ${slack}`, [...rows], [...nissy.best(scramble, { soFar, slack })]);
     same("up to all", told[told.length - 1][0], told[told.length - 1][1]);
-    // of several workers some may have begun before the last one knows
-    const known = told.find(([, all]) => all !== null);
-    if (pool.size === 1 && slack === 0) same("all is known before the first is done", [known[0], known[1] > 0], [0, true]);
   }
   same("a fault", await thrown(() => pool.best("R", { soFar: "q" })), ["NissyFault", "moves so far, column 1: not a move"]);
   same("the best that are given up", await thrown(() => pool.best(scramble, { slack: 3, signal: AbortSignal.timeout(20) })), ["TimeoutError", "The operation was aborted due to timeout"]);

@@ -1,7 +1,7 @@
 // A caller in TypeScript, who is told of what is wrong: tests/module.sh has tsc read this beside the types of the module.
 import {
   AXES, isStep, loadNissy, NET, Nissy, NissyFault, NissyPool, NissyWorker, placeOf, plainLine, readAttempts, SearchCut, startOf, stickersOf,
-  VERSION, type Attempt, type AttemptCheck, type Axis, type Best, type BestRow, type Check, type Count, type EdgePlace, type Facts, type Form,
+  VERSION, type Attempt, type AttemptCheck, type Axis, type Best, type BestRow, type BestStep, type Check, type Count, type EdgePlace, type Facts, type Form,
   type FormInText, type FormPlace, type NetPlace, type PlainLine, type Solution, type Solutions, type Step, type TextPlace, type Token,
 } from "./node.js";
 import { NissyPool as NissyPoolOfBrowsers, NissyWorker as NissyWorkerOfBrowsers } from "./browser.js";
@@ -107,8 +107,10 @@ export async function followed(nissy: Nissy, worker: NissyWorker, bytes: Uint8Ar
   await pools[0].countAll("eofb", ["R"], { onProgress: async (done, all) => void (await Promise.resolve(onProgress(done, all))) });
   const after: string[] = [nissy.lineAfter(bytes), await worker.lineAfter("R", "(U)", { signal }), await pools[0].lineAfter("R x", bytes)];
   const best: Best = await pools[1].best("R U F", { slack: 1, nodes: 1_000, cut: "value" });
+  const each: (Best | NissyFault | RangeError)[] = await pools[0].bestAll(["R U F"], { faults: "value", most: 3, signal, onProgress });
+  const step: BestStep | null = nissy.bestAll(["R U F"])[0][0].eo;
   for (const pool of pools) pool.end();
-  return [rows, total, eo?.moves, lengths, tokens.map(({ layers }) => layers[0]), counts, facts, solutions, best, solved, pools[0].size, ...after].join(" ");
+  return [rows, total, eo?.moves, step?.inverse, each.length, best.nodes, lengths, tokens.map(({ layers }) => layers[0]), counts, facts, solutions, best, solved, pools[0].size, ...after].join(" ");
 }
 
 export async function oneByOne(nissy: Nissy, worker: NissyWorker, signal: AbortSignal): Promise<string> {

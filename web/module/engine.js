@@ -1,4 +1,5 @@
 // The engine: requests are answered by an instance of the module, and by another one after a call that broke off.
+import { bestOf, lineAfterOf } from "./best.js";
 import { EngineMissing } from "./faults.js";
 import { Instance } from "./instance.js";
 import { checked, rewritten, solvedBytes, written } from "./line-calls.js";
@@ -13,6 +14,9 @@ import { compiled } from "./source.js";
 /** @typedef {import("./replies.js").LineReply} LineReply */
 /** @typedef {import("./replies.js").OneReply} OneReply */
 /** @typedef {import("./replies.js").Reply} Reply */
+
+/** @typedef {import("./best.js").TellProgress} TellProgress */
+/** @typedef {{answer: (request: Request, tell?: TellProgress) => any}} Answering an engine, or what asks one */
 
 /** What the module calls each rewriting. */
 const REWRITINGS = {
@@ -30,16 +34,22 @@ const scrambled = (instance, { state, stream, length }) =>
 /**
  * @param {Instance} instance
  * @param {OneRequest} request
+ * @param {TellProgress} tell
  * @returns {OneReply}
  */
-function answerOne(instance, request) {
+function answerOne(instance, request, tell) {
   switch (request.call) {
     case "run":
       return runIn(instance, request);
     case "solve":
+    case "solveSides":
     case "count":
     case "facts":
       return answerLine(instance, request);
+    case "best":
+      return bestOf(instance, request, tell);
+    case "lineAfter":
+      return lineAfterOf(instance, request);
     case "check":
       return checked(instance, request);
     case "scramble":
@@ -70,11 +80,12 @@ export class Engine {
   /**
    * What the engine returns.
    * @param {Request} request
+   * @param {TellProgress} [tell] is told how far the search for the best is; what it throws ends that
    * @returns {Reply}
    */
-  answer(request) {
+  answer(request, tell = () => {}) {
     if (this.#instance.isBroken) this.#startAgain();
-    return request.call === "all" ? answerAll(this.#instance, request) : answerOne(this.#instance, request);
+    return request.call === "all" ? answerAll(this.#instance, request) : answerOne(this.#instance, request, tell);
   }
 
   /**

@@ -61,7 +61,7 @@ export function refusal(instance, { status, fault, column }, line = "", step = "
  * @param {Text} [line] which was read
  * @returns {LineReply}
  */
-function lineAt(instance, out, line) {
+export function lineAt(instance, out, line) {
   const head = headAt(instance.memory, instance.answer);
   if (head.status !== STATUS.done) return refusal(instance, head, line);
   return { status: STATUS.done, out: instance.memory.text(out, instance.answered(LINE_ANSWER.length)) };

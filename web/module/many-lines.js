@@ -1,7 +1,9 @@
 // Searches and facts of many lines. Those that the module takes many of in one call go to it in pieces.
+import { bestOf } from "./best.js";
 import { FACTS_ANSWER, HEAD, LINES_ANSWER, SEARCH_ANSWER } from "./layout.js";
 import { bound, counted, refusal, seen, solved } from "./line-calls.js";
 import { aligned, roomFor } from "./memory.js";
+import { solvedOverSides } from "./over-sides.js";
 import { countAt, factsAt, headAt } from "./read-answers.js";
 import { STATUS, endsAll, hasValue } from "./replies.js";
 
@@ -139,6 +141,10 @@ export function answerLine(instance, request) {
       return solved(instance, request);
     case "count":
       return counted(instance, request);
+    case "solveSides":
+      return solvedOverSides(instance, request);
+    case "best":
+      return bestOf(instance, request, () => {});
     default:
       return seen(instance, request);
   }
@@ -153,11 +159,20 @@ export function answerLine(instance, request) {
  */
 function questionOf(instance, { each, faults }) {
   if (each.call === "facts") return FACTS;
+  if (each.call === "best") return null;
   // a step that isn't there is told though there may be no line
   const tables = instance.tablesOf(each.step);
   const goesOn = faults === "value" && (each.nodes === Infinity || each.cut === "value");
   return each.call === "count" && goesOn ? countsBy(tables, each) : null;
 }
+
+/**
+ * What is asked of one of many lines.
+ * @param {OfEach} each
+ * @param {Text} line
+ * @returns {OfEach}
+ */
+const askedOfLine = (each, line) => (each.call === "best" ? { ...each, scramble: line } : { ...each, line });
 
 /**
  * Answers the next lines, one at least.
@@ -171,8 +186,8 @@ function answerNext(instance, { each, lines }, question, begin) {
   const piece = question === null ? [] : pieceFrom(lines, begin);
   const line = lines[begin];
   if (line === null) return [TOO_LONG];
-  if (question === null || piece.length === 0) return [answerLine(instance, { ...each, line })];
-  return answerPiece(instance, question, piece, each.call === "facts" ? "" : each.step);
+  if (question === null || piece.length === 0) return [answerLine(instance, askedOfLine(each, line))];
+  return answerPiece(instance, question, piece, "step" in each ? each.step : "");
 }
 
 /**

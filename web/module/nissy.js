@@ -10,8 +10,6 @@
  * one.
  */
 import { attemptChecksBy } from "./attempt-checks.js";
-import { bestTold, lineAfterTold } from "./best.js";
-import { Bounded } from "./bounded.js";
 import { stringOf } from "./bytes.js";
 import { Engine } from "./engine.js";
 import { NoWebAssembly } from "./faults.js";
@@ -20,8 +18,8 @@ import {
   tokensIn,
 } from "./replies.js";
 import {
-  allRequest, bestRequest, checkRequest, countRequest, factsRequest, lineAfterRequest, lineRequest, runRequest,
-  scrambleRequest, scramblesRequest, solutionsRequest, solveRequest, stepsRequest,
+  allRequest, bestRequest, checkRequest, countRequest, factsRequest, lineAfterRequest, lineRequest, listRequest,
+  runRequest, scrambleRequest, scramblesRequest, solutionsRequest, stepsRequest,
 } from "./requests.js";
 import { progressOf } from "./signals.js";
 import { solutionsBy } from "./solutions.js";
@@ -36,10 +34,10 @@ export { placeOf, plainLine } from "./written.js";
 /** @typedef {import("./bytes.js").Text} Text */
 /** @typedef {import("./source.js").ModuleSource} ModuleSource */
 /** @typedef {import("./best.js").Best} Best */
-/** @typedef {import("./best.js").BestOrientation} BestOrientation */
 /** @typedef {import("./best.js").BestProgress} BestProgress */
-/** @typedef {import("./best.js").BestReduction} BestReduction */
-/** @typedef {import("./best.js").BestRow} BestRow */
+/** @typedef {import("./ways.js").BestReduction} BestReduction */
+/** @typedef {import("./ways.js").BestRow} BestRow */
+/** @typedef {import("./ways.js").BestStep} BestStep */
 /** @typedef {import("./requests.js").BestWanted} BestWanted */
 /** @typedef {import("./signals.js").Followed} Followed */
 /** @typedef {import("./replies.js").Answer} Answer */
@@ -54,7 +52,9 @@ export { placeOf, plainLine } from "./written.js";
 /** @typedef {import("./replies.js").Solutions} Solutions */
 /** @typedef {import("./tokens.js").FormPlace} FormPlace */
 /** @typedef {import("./tokens.js").Token} Token */
+/** @typedef {import("./replies.js").SideSolutions} SideSolutions */
 /** @typedef {import("./requests.js").OnFaults} OnFaults */
+/** @typedef {import("./requests.js").Sides} Sides */
 /** @typedef {import("./requests.js").Request} Request */
 /** @typedef {import("./requests.js").Wanted} Wanted */
 /** @typedef {import("./requests.js").Within} Within */
@@ -84,6 +84,16 @@ export const NoWideMemory = NoWebAssembly;
  */
 
 /**
+ * @template {Sides | undefined} [On=Sides | undefined]
+ * @typedef {import("./requests.js").OnSides<On>} OnSides
+ */
+
+/**
+ * @template {Sides | undefined} On
+ * @typedef {import("./replies.js").SolutionsOn<On>} SolutionsOn
+ */
+
+/**
  * @template Value, Faults
  * @typedef {import("./replies.js").Told<Value, Faults>} Told
  */
@@ -98,9 +108,9 @@ export const NoWideMemory = NoWebAssembly;
  * call that broke off the next one starts the module anew, or throws `EngineMissing` if that can't be done.
  */
 export class Nissy {
-  /** @type {import("./bounded.js").Answering} */ #engine;
+  /** @type {import("./engine.js").Answering} */ #engine;
 
-  /** @param {import("./bounded.js").Answering} engine */
+  /** @param {import("./engine.js").Answering} engine */
   constructor(engine) {
     this.#engine = engine;
   }
@@ -175,12 +185,14 @@ export class Nissy {
   }
 
   /**
-   * The solutions of a step after a line's moves, by length and then in turn order.
+   * The solutions of a step after a line's moves, by length and then in turn order; with `sides` those on these sides
+   * of the line, each with its moves on both.
    * @template {string} Name
-   * @param {StepName<Name>} step @param {Text} line @param {Wanted} [options] @returns {Solutions}
+   * @template {Sides | undefined} [On=undefined]
+   * @param {StepName<Name>} step @param {Text} line @param {Wanted & OnSides<On>} [options] @returns {SolutionsOn<On>}
    */
   solve(step, line, options) {
-    const request = solveRequest(step, line, options);
+    const request = listRequest(step, line, options);
     return solutionsIn(this.#answer(request), request);
   }
 
@@ -198,11 +210,12 @@ export class Nissy {
    * The same of many lines, up to the first fault, which says in which; or with each fault in its place.
    * @template {string} Name
    * @template {OnFaults} [Faults="throw"]
-   * @param {StepName<Name>} step @param {readonly Text[]} lines @param {Wanted & Many<Faults>} [options]
-   * @returns {Told<Solutions, Faults>[]}
+   * @template {Sides | undefined} [On=undefined]
+   * @param {StepName<Name>} step @param {readonly Text[]} lines @param {Wanted & OnSides<On> & Many<Faults>} [options]
+   * @returns {Told<SolutionsOn<On>, Faults>[]}
    */
   solveAll(step, lines, options) {
-    const request = allRequest(() => solveRequest(step, "", options), lines, options);
+    const request = allRequest(() => listRequest(step, "", options), lines, options);
     return allOf(this.#answer(request), request, (/** @type {any} */ reply) => solutionsIn(reply, request.each));
   }
 
@@ -274,20 +287,28 @@ export class Nissy {
    * @param {Text} scramble @param {Text} [soFar] @returns {string}
    */
   lineAfter(scramble, soFar) {
-    return lineAfterIn(lineAfterTold(this, lineAfterRequest(scramble, soFar)));
+    return lineAfterIn(this.#answer(lineAfterRequest(scramble, soFar)));
   }
 
   /**
-   * What may follow a scramble and the moves so far, the best first: each shortest orientation on either side with each
-   * reduction that may follow it, or the reductions, if an orientation holds. There are none after a reduction. A fault
-   * is told as `check` tells it.
+   * What may follow a scramble and the moves so far, the best first: each shortest orientation over both sides with the
+   * best reduction on each axis that may follow it, over both sides too, or the reductions, if an orientation holds.
+   * There are none after a reduction. A fault is told as `check` tells it.
    * @param {Text} scramble @param {BestWanted & Followed} [options] @returns {Best}
    */
   best(scramble, options) {
     const request = bestRequest(scramble, options);
-    const bounded = new Bounded(this.#engine, request.nodes);
-    const told = bestTold(new Nissy(bounded), request, progressOf(options));
-    return bestIn({ ...told, nodes: bounded.looked }, request);
+    return bestIn(this.#engine.answer(request, progressOf(options)), request);
+  }
+
+  /**
+   * The same of many scrambles, up to the first fault, which says in which; or with each fault in its place.
+   * @template {OnFaults} [Faults="throw"]
+   * @param {readonly Text[]} scrambles @param {BestWanted & Many<Faults>} [options] @returns {Told<Best, Faults>[]}
+   */
+  bestAll(scrambles, options) {
+    const request = allRequest(() => bestRequest("", options), scrambles, options);
+    return allOf(this.#answer(request), request, (/** @type {any} */ reply) => bestIn(reply, request.each));
   }
 
   /**

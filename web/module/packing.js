@@ -68,7 +68,7 @@ const PACKINGS = {
  */
 export function packed(request, replies) {
   const of = request.each.call;
-  if (of === "solve") return { values: null, others: replies.map((reply, at) => [at, reply]) };
+  if (!Object.hasOwn(PACKINGS, of)) return { values: null, others: replies.map((reply, at) => [at, reply]) };
   const { array, size, write } = /** @type {Packing<any, unknown>} */ (PACKINGS[of]);
   const numbers = new array(replies.length * size);
   /** @type {Unpacked[]} */

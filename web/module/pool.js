@@ -1,14 +1,14 @@
 // Several workers that share many lines: these go to them in pieces, and the answers come back in the order of the
 // lines. Another call goes to the worker that has least to do, or to the first one that has nothing to do.
-import { BestRows } from "./best-rows.js";
 import { wholeNumber } from "./bytes.js";
 import { Stopped } from "./faults.js";
 import { Pieces } from "./pieces.js";
-import { bestIn, countIn, factsIn, solutionsIn } from "./replies.js";
-import { allRequest, bestRequest, countRequest, factsRequest, solveRequest } from "./requests.js";
+import { STATUS, bestIn, countIn, factsIn, solutionsIn } from "./replies.js";
+import { allRequest, bestRequest, countRequest, factsRequest, listRequest } from "./requests.js";
 import { Signals, Telling, reasonOf, signalOf } from "./signals.js";
 import { SingleCalls } from "./single-calls.js";
 import { compiled } from "./source.js";
+import { byRank } from "./ways.js";
 import { WorkerQueue } from "./worker-queue.js";
 
 /** @typedef {import("./best.js").BestProgress} BestProgress */
@@ -19,7 +19,6 @@ import { WorkerQueue } from "./worker-queue.js";
 /** @typedef {import("./replies.js").Count} Count */
 /** @typedef {import("./replies.js").Solutions} Solutions */
 /** @typedef {import("./requests.js").AllRequest} AllRequest */
-/** @typedef {import("./requests.js").Asked} Asked */
 /** @typedef {import("./requests.js").BestRequest} BestRequest */
 /** @typedef {import("./requests.js").BestWanted} BestWanted */
 /** @typedef {import("./requests.js").OnFaults} OnFaults */
@@ -30,6 +29,18 @@ import { WorkerQueue } from "./worker-queue.js";
 /** @typedef {import("./source.js").ModuleSource} ModuleSource */
 /** @typedef {import("./worker-queue.js").NewWorker} NewWorker */
 /** @typedef {import("./worker-queue.js").SentModule} SentModule */
+
+/** @typedef {import("./requests.js").Sides} Sides */
+
+/**
+ * @template {Sides | undefined} [On=Sides | undefined]
+ * @typedef {import("./requests.js").OnSides<On>} OnSides
+ */
+
+/**
+ * @template {Sides | undefined} On
+ * @typedef {import("./replies.js").SolutionsOn<On>} SolutionsOn
+ */
 
 /**
  * @template {string} Name
@@ -76,19 +87,17 @@ function sharesOf(workers, { axes, nodes }) {
  * What is told of all axes together.
  * @param {BestReply[]} replies
  * @param {BestRequest} request
- * @returns {BestReply}
+ * @returns {Best}
  */
-function joinedBest(replies, { most, nodes }) {
-  const looked = replies.reduce((sum, reply) => sum + reply.nodes, 0);
-  /** @type {BestRows<import("./best.js").RowWithMoves>} */
-  const best = new BestRows(most);
-  let isCut = looked > nodes;
-  for (const reply of replies) {
-    if ("fault" in reply) return reply;
-    best.add(reply.rows);
-    isCut ||= reply.isCut;
-  }
-  return { rows: best.rows, isCut, nodes: looked };
+function joinedBest(replies, request) {
+  const nodes = replies.reduce((sum, reply) => sum + ("nodes" in reply ? reply.nodes : 0), 0);
+  // of all together, which may be cut though no axis is
+  const last = nodes > request.nodes ? [{ status: STATUS.cut, ways: new Uint8Array(0), tried: 0, nodes }] : [];
+  const found = [...replies, ...last].map((reply) => bestIn("nodes" in reply ? { ...reply, nodes } : reply, request));
+  /** @type {Best} */
+  const best = Object.assign(found.flat().sort(byRank).slice(0, request.most), { nodes });
+  if (found.some(({ cut }) => cut)) best.cut = true;
+  return best;
 }
 
 /**
@@ -179,11 +188,12 @@ export class WorkerPool extends SingleCalls {
    * @template {string} Name
    * @template {OnFaults} [Faults="throw"]
    * @param {StepName<Name>} step @param {readonly Text[]} lines
-   * @param {Wanted & Many<Faults> & Followed & Stoppable} [options]
-   * @returns {Promise<Told<Solutions, Faults>[]>}
+   * @template {Sides | undefined} [On=undefined]
+   * @param {Wanted & OnSides<On> & Many<Faults> & Followed & Stoppable} [options]
+   * @returns {Promise<Told<SolutionsOn<On>, Faults>[]>}
    */
   async solveAll(step, lines, options) {
-    const request = allRequest(() => solveRequest(step, "", options), lines, options);
+    const request = allRequest(() => listRequest(step, "", options), lines, options);
     return this.#answerAll(request, options, (reply) => solutionsIn(reply, request.each));
   }
 
@@ -223,7 +233,17 @@ export class WorkerPool extends SingleCalls {
     const replies = await this.#together(options, (signal) =>
       Promise.all(requests.map((request, at) => this.#queues[at % this.size].answer(request, { signal }, follow(at)))));
     await telling.heard();
-    return bestIn(joinedBest(replies, whole), whole);
+    return joinedBest(replies, whole);
+  }
+
+  /**
+   * @template {OnFaults} [Faults="throw"]
+   * @param {readonly Text[]} scrambles @param {BestWanted & Many<Faults> & Followed & Stoppable} [options]
+   * @returns {Promise<Told<Best, Faults>[]>}
+   */
+  async bestAll(scrambles, options) {
+    const request = allRequest(() => bestRequest("", options), scrambles, options);
+    return this.#answerAll(request, options, (reply) => bestIn(reply, request.each));
   }
 
   /** Gives up all calls. */

@@ -4,6 +4,7 @@ import { checkOf, factsFrom } from "./facts.js";
 import { NissyFault, SearchCut, cutOfAll } from "./faults.js";
 import { formPlacesOf, tokensOf } from "./tokens.js";
 import { textIn } from "./utf8.js";
+import { bothSidesIn, waysIn } from "./ways.js";
 
 /**
  * What a run returns.
@@ -28,6 +29,17 @@ import { textIn } from "./utf8.js";
 /**
  * Solutions. Those of a search that was cut begin its list, and `cut` is there.
  * @typedef {Solution[] & {cut?: true}} Solutions
+ */
+
+/**
+ * Those over both sides.
+ * @typedef {import("./ways.js").BestStep[] & {cut?: true}} SideSolutions
+ */
+
+/**
+ * What `solve` tells, whether sides are asked for or not.
+ * @template {import("./requests.js").Sides | undefined} On
+ * @typedef {On extends string ? SideSolutions : Solutions} SolutionsOn
  */
 
 /**
@@ -60,15 +72,20 @@ import { textIn } from "./utf8.js";
  */
 /** @typedef {SeenCount | NoValue} CountReply */
 /** @typedef {SeenCount & {out: string} | NoValue} SolveReply */
+/** @typedef {import("./over-sides.js").SeenParts | NoValue} SidesReply */
 /** @typedef {SeenCount & {out: Uint8Array} | NoValue} SolveBytesReply */
 /** @typedef {SeenFacts | NoValue} FactsReply */
 /**
  * @typedef {SeenCheck | NoValue & {line: number}} CheckReply of which `line` is the line at fault: 1, the scramble, or
  * 2, the solution
  */
-/** @typedef {Answer | LineReply | CountReply | SolveReply | FactsReply | CheckReply} OneReply */
-/** @typedef {import("./best.js").LineAfterReply} LineAfterReply */
-/** @typedef {OneReply | OneReply[] | import("./best.js").BestReply | LineAfterReply} Reply */
+/** @typedef {LineReply & {line?: number}} LineAfterReply of which a fault has the number of its line */
+/** @typedef {import("./best.js").BestReply} BestReply */
+/**
+ * @typedef {Answer | LineReply | CountReply | SolveReply | FactsReply | CheckReply | SidesReply | BestReply |
+ * LineAfterReply} OneReply
+ */
+/** @typedef {OneReply | OneReply[]} Reply */
 
 /** What the lines are called of calls that take two. */
 const OF_CHECK = ["scramble", "solution"];
@@ -117,7 +134,7 @@ function errorIn(reply) {
 }
 
 /**
- * @template {LineReply | CountReply | SolveReply | FactsReply | CheckReply} Reply
+ * @template {LineReply | CountReply | SolveReply | SidesReply | FactsReply | CheckReply} Reply
  * @param {Reply} reply
  * @returns {Exclude<Reply, NoValue>} the same, which has a value
  */
@@ -178,12 +195,23 @@ const countSeen = ({ least, solutions, nodes }) => ({ length: solutions === 0 ? 
 /** @param {SeenCount} seen whose cut isn't thrown @returns {Count} */
 export const countTold = (seen) => (seen.status === STATUS.cut ? { ...countSeen(seen), cut: true } : countSeen(seen));
 
-/** @param {SolveReply} reply @param {{cut: Telling}} asked @returns {Solutions} */
+/**
+ * @param {SeenCount & {out: string} | import("./over-sides.js").SeenParts} seen
+ * @returns {{solutions: Solutions | SideSolutions, count: Count}}
+ */
+function solutionsSeen(seen) {
+  if ("out" in seen) return { solutions: solutionsFrom(seen.out), count: countSeen(seen) };
+  const solutions = bothSidesIn(seen.parts);
+  const count = { length: solutions[0]?.length ?? null, solutions: solutions.length, nodes: seen.nodes };
+  return { solutions, count };
+}
+
+/** @param {SolveReply | SidesReply} reply @param {{cut: Telling}} asked @returns {any} its solutions */
 export function solutionsIn(reply, { cut }) {
   const seen = withValue(reply);
-  const solutions = solutionsFrom(seen.out);
+  const { solutions, count } = solutionsSeen(seen);
   if (seen.status === STATUS.done) return solutions;
-  if (cut === "throw") throw new SearchCut(countSeen(seen), solutions);
+  if (cut === "throw") throw new SearchCut(count, solutions);
   solutions.cut = true;
   return solutions;
 }
@@ -206,24 +234,24 @@ export function checkIn(reply) {
 
 /**
  * What is thrown of a scramble or of the moves so far.
- * @param {import("./faults.js").FaultParts} fault
+ * @param {NoValue} reply
+ * @param {number} line of which it is
  */
-const faultOfBest = (fault) => new NissyFault(fault.text, fault, OF_BEST[Number(fault.line) - 1]);
+const errorOfBest = (reply, line) => inLine(errorIn(reply), line, OF_BEST[line - 1]);
 
 /** @param {LineAfterReply} reply @returns {string} */
 export function lineAfterIn(reply) {
-  if ("fault" in reply) throw faultOfBest(reply.fault);
-  return reply.line;
+  if (reply.status === STATUS.done) return reply.out;
+  throw errorOfBest(reply, Number(reply.line));
 }
 
-/** @param {import("./best.js").BestReply} reply @param {{cut: Telling}} asked @returns {import("./best.js").Best} */
+/** @param {BestReply} reply @param {{cut: Telling}} asked @returns {import("./best.js").Best} */
 export function bestIn(reply, { cut }) {
-  if ("fault" in reply) throw faultOfBest(reply.fault);
+  if (!("ways" in reply)) throw errorOfBest(reply, reply.line);
+  if (reply.status === STATUS.cut && cut === "throw") throw cutOfAll(reply.nodes);
   /** @type {import("./best.js").Best} */
-  const best = reply.rows.map(({ shown }) => shown);
-  if (!reply.isCut) return best;
-  if (cut === "throw") throw cutOfAll(reply.nodes);
-  best.cut = true;
+  const best = Object.assign(waysIn(reply.ways), { nodes: reply.nodes });
+  if (reply.status === STATUS.cut) best.cut = true;
   return best;
 }
 

@@ -1,5 +1,4 @@
 // What is asked of the engine, in plain values that a worker can be sent, each checked if it comes from a caller.
-import { ORIENTATIONS } from "./best-steps.js";
 import {
   bytesOf, eachOf, joinedWords, readableLine, stringOf, takenLine, wholeNumber, wideNumber,
 } from "./bytes.js";
@@ -16,23 +15,28 @@ import {
 /**
  * @typedef {Search & {call: "solve", after?: string}} SolveRequest `after`: the solution behind which the list begins
  */
+/** @typedef {"normal" | "inverse" | "both"} Sides on which the moves of a solution may be */
+/** @typedef {Search & {call: "solveSides", sides: Sides}} SidesRequest */
 /** @typedef {{call: "facts", line: Text}} FactsRequest */
 /** @typedef {{call: "check", scramble: Text, solution: Text}} CheckRequest */
-/** @typedef {{slack: number, most: number, nodes: number, cut: Telling, axes: readonly Step[]}} BestWithin */
+/** @typedef {{slack: number, most: number, nodes: number, cut: Telling, axes: readonly number[]}} BestWithin */
 /** @typedef {BestWithin & {call: "best", scramble: Text, soFar: Text}} BestRequest */
 /** @typedef {{call: "lineAfter", scramble: Text, soFar: Text}} LineAfterRequest */
 /** @typedef {{call: "scramble", state: bigint, stream: bigint, length: number}} ScrambleRequest */
 /** @typedef {{call: "steps"}} StepsRequest */
-/** @typedef {CountRequest | SolveRequest | FactsRequest} OfEach what many lines may be asked */
-/** @typedef {RunRequest | LineRequest | OfEach | CheckRequest | ScrambleRequest | StepsRequest} OneRequest */
+/**
+ * @typedef {CountRequest | SolveRequest | SidesRequest | FactsRequest | BestRequest} OfEach what many lines may be asked
+ */
+/**
+ * @typedef {RunRequest | LineRequest | OfEach | CheckRequest | LineAfterRequest | ScrambleRequest | StepsRequest}
+ * OneRequest
+ */
 /**
  * @typedef {{call: "all", each: OfEach, lines: (Text | null)[], faults: Telling, isPiece?: boolean}} AllRequest what is
  * asked of each line, whose own line is none, or null for one of too many bytes; `isPiece`: the lines are some of a
  * call's, so a worker tells how long it took
  */
 /** @typedef {OneRequest | AllRequest} Request what an engine is asked */
-/** @typedef {Request | BestRequest | LineAfterRequest} Asked what a worker is asked */
-/** @typedef {import("./steps.js").Step} Step */
 
 /**
  * How far a step is searched: `limit`, the most turns of a solution, 20 at most and if it isn't given; `slack`, how
@@ -42,6 +46,13 @@ import {
  * isn't given, or what was found until then returned.
  * @typedef {{limit?: number | undefined, slack?: number | undefined, most?: number | undefined,
  * nodes?: number | undefined, cut?: Telling | undefined}} Wanted
+ */
+
+/**
+ * On which sides the moves of solutions may be: on the line alone, as they are if it isn't given, on its inverse alone,
+ * or on both; each solution then says its moves on both.
+ * @template {Sides | undefined} [On=Sides | undefined]
+ * @typedef {{sides?: On}} OnSides
  */
 
 /** @typedef {Wanted} Within what `Wanted` was called for counts while they had fewer options */
@@ -56,14 +67,12 @@ import {
  */
 
 /**
- * What is wanted of the best continuations: `soFar`, the moves that were made after the scramble, those in brackets on
- * its inverse, none if it isn't given; `slack`, how many turns longer than the shortest of its side an orientation may
- * be, none if it isn't given: one that goes on after it was reached has a row only if the reduction on the other side
- * makes fewer moves in all than on its own, and than the same one with each shorter orientation that it begins with;
- * `most`, how many rows, 20 if it isn't given; `nodes`, at how many positions all its searches look together at most, at
- * as many as there are if it isn't given. In a pool each axis is searched up to this bound. If they would look at more,
- * they are cut: `cut` says whether `SearchCut` is thrown, as it is if it isn't given, or the best of what was tried
- * until then returned.
+ * What is wanted of the best ways on: `soFar`, the moves that were made after the scramble, those in brackets on its
+ * inverse, none if it isn't given; `slack`, how many turns longer the first step may be than the shortest on the
+ * scramble alone, on its inverse alone, or over both, none if it isn't given; `most`, how many rows, 20 if it isn't
+ * given; `nodes`, at how many positions it looks at most, at as many as there are if it isn't given. In a pool each axis
+ * is searched up to this bound. If it would look at more, it is cut: `cut` says whether `SearchCut` is thrown, as it is
+ * if it isn't given, or the best of what was tried until then returned.
  * @typedef {{soFar?: Text | undefined, slack?: number | undefined, most?: number | undefined,
  * nodes?: number | undefined, cut?: Telling | undefined}} BestWanted
  */
@@ -147,6 +156,24 @@ export const countRequest = (step, line, options = {}) => ({ call: "count", ...s
 /** @param {unknown} step @param {unknown} line @param {unknown} [options] @returns {SolveRequest} */
 export const solveRequest = (step, line, options = {}) => ({ call: "solve", ...searchOf(step, line, options) });
 
+/** @type {readonly unknown[]} */
+const SIDES_OF_LISTS = ["normal", "inverse", "both"];
+
+/**
+ * The same, or on the sides that are asked for.
+ * @param {unknown} step
+ * @param {unknown} line
+ * @param {unknown} [options]
+ * @returns {SolveRequest | SidesRequest}
+ */
+export function listRequest(step, line, options = {}) {
+  const sides = optionOf(options, "sides");
+  if (sides === undefined) return solveRequest(step, line, options);
+  if (typeof sides !== "string") throw new TypeError("the option sides is no string");
+  if (!SIDES_OF_LISTS.includes(sides)) throw new RangeError('the option sides is none of "normal", "inverse", "both"');
+  return { call: "solveSides", sides: /** @type {Sides} */ (sides), ...searchOf(step, line, options) };
+}
+
 /**
  * @param {unknown} step
  * @param {unknown} line
@@ -177,8 +204,8 @@ const bothOf = (scramble, soFar) =>
 /** @param {unknown} scramble @param {unknown} [soFar] @returns {LineAfterRequest} */
 export const lineAfterRequest = (scramble, soFar = "") => ({ call: "lineAfter", ...bothOf(scramble, soFar) });
 
-/** The orientations that are looked at. */
-const ALL_AXES = ORIENTATIONS.map(({ name }) => name);
+/** The numbers of all axes. */
+const ALL_AXES = [0, 1, 2];
 
 /** @param {unknown} scramble @param {unknown} [options] @returns {BestRequest} */
 export const bestRequest = (scramble, options = {}) => ({

@@ -1,15 +1,12 @@
 // The engine's side of a worker: the first message brings the module, and each later one is answered.
-import { bestTold, lineAfterTold } from "./best.js";
-import { Bounded } from "./bounded.js";
 import { Engine } from "./engine.js";
-import { Nissy } from "./nissy.js";
 import { packed } from "./packing.js";
 
 /** @typedef {import("./replies.js").OneReply} OneReply */
 /** @typedef {import("./replies.js").Reply} Reply */
-/** @typedef {import("./requests.js").Asked} Asked */
+/** @typedef {import("./requests.js").Request} Request */
 /** @typedef {{module: WebAssembly.Module | ArrayBuffer | Uint8Array}} Beginning the first message */
-/** @typedef {{id: number, request: Asked}} Question each later one */
+/** @typedef {{id: number, request: Request}} Question each later one */
 /** @typedef {ReturnType<typeof packed> & {milliseconds: number}} PieceReply and how long the worker took for it */
 /** @typedef {{id: number, progress: import("./best.js").BestProgress}} Progressed what comes before some answers */
 /** @typedef {{id: number, reply: Reply | PieceReply}} Answered */
@@ -26,7 +23,8 @@ import { packed } from "./packing.js";
  * The buffers of an answer, which needs them no longer here.
  * @param {Reply} reply
  */
-const buffersOf = (reply) => ["out", "err"].flatMap((name) => /** @type {any} */ (reply)[name]?.buffer ?? []);
+const buffersOf = (reply) => ["out", "err", "ways", "parts"]
+  .flatMap((name) => /** @type {any} */ (reply)[name]?.buffer ?? []);
 
 /**
  * Answers what comes through a port, once the first message has brought the module.
@@ -56,18 +54,6 @@ export function serveBy(port, start, answer) {
 }
 
 /**
- * What a worker sends of the best continuations.
- * @param {Engine} engine
- * @param {import("./requests.js").BestRequest} request
- * @param {import("./best.js").TellProgress} tell
- * @returns {import("./best.js").BestReply}
- */
-function bestReply(engine, request, tell) {
-  const bounded = new Bounded(engine, request.nodes);
-  return { ...bestTold(new Nissy(bounded), request, tell), nodes: bounded.looked };
-}
-
-/**
  * What a worker sends of some of a call's lines.
  * @param {Engine} engine
  * @param {import("./requests.js").AllRequest} request
@@ -77,18 +63,6 @@ function pieceReply(engine, request) {
   const begun = performance.now();
   const replies = packed(request, /** @type {OneReply[]} */ (engine.answer(request)));
   return { ...replies, milliseconds: performance.now() - begun };
-}
-
-/**
- * What a worker sends of one request.
- * @param {Engine} engine
- * @param {Asked} request
- * @param {import("./best.js").TellProgress} tell
- * @returns {Reply}
- */
-function replyTo(engine, request, tell) {
-  if (request.call === "best") return bestReply(engine, request, tell);
-  return request.call === "lineAfter" ? lineAfterTold(new Nissy(engine), request) : engine.answer(request);
 }
 
 /**
@@ -103,7 +77,7 @@ export function serve(port) {
       return;
     }
     const tell = (/** @type {import("./best.js").BestProgress} */ progress) => port.postMessage({ id, progress });
-    const reply = replyTo(engine, request, tell);
+    const reply = engine.answer(request, tell);
     port.postMessage({ id, reply }, buffersOf(reply));
   });
 }

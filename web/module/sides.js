@@ -2,13 +2,14 @@
 // in brackets.
 
 /** @typedef {"normal" | "inverse"} Side */
-/** @typedef {{side: Side, moves: string}} Part some moves of a line, all on one side */
 
 /**
  * What there is of each side.
  * @template Kept
  * @typedef {Record<Side, Kept>} OnSides
  */
+
+/** @typedef {OnSides<string>} Moves of a step on each side, of which one or both may have none */
 
 /** @type {readonly Side[]} */
 export const SIDES = ["normal", "inverse"];
@@ -23,33 +24,17 @@ export const otherSide = (side) => (side === "normal" ? "inverse" : "normal");
 export const joined = (...lines) => lines.filter((line) => line !== "").join(" ");
 
 /**
- * The moves of one side, in their order.
- * @param {readonly Part[]} parts
- * @param {Side} side
+ * Steps as one line, with what is on the inverse side in brackets.
+ * @param {readonly Moves[]} steps
  */
-export const movesOn = (parts, side) => joined(...parts.filter((part) => part.side === side).map((part) => part.moves));
-
-/**
- * The parts as one line, with those on the inverse side in brackets.
- * @param {readonly Part[]} parts
- */
-export function bracketed(parts) {
-  /** @type {Part[]} */
+export function bracketed(steps) {
+  /** @type {{side: Side, moves: string}[]} */
   const runs = [];
-  for (const { side, moves } of parts) {
+  for (const { side, moves } of steps.flatMap((step) => SIDES.map((side) => ({ side, moves: step[side] })))) {
     const last = runs[runs.length - 1];
+    if (moves === "") continue;
     if (last?.side === side) last.moves = joined(last.moves, moves);
     else runs.push({ side, moves });
   }
   return runs.map(({ side, moves }) => (side === "normal" ? moves : `(${moves})`)).join(" ");
-}
-
-/**
- * What a line has outside of brackets, and what it has inside of some.
- * @param {string} line whose brackets are in order
- * @returns {OnSides<string>}
- */
-export function movesOfSides(line) {
-  const inside = Array.from(line.matchAll(/\(([^()]*)\)/g), ([, moves]) => moves.trim());
-  return { normal: line.replace(/\([^()]*\)/g, " ").trim(), inverse: joined(...inside) };
 }

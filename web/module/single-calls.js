@@ -6,8 +6,8 @@ import {
   checkIn, countIn, factsIn, formPlacesIn, lineAfterIn, lineIn, linesIn, outputLinesIn, solutionsIn, tokensIn,
 } from "./replies.js";
 import {
-  checkRequest, countRequest, factsRequest, lineAfterRequest, lineRequest, optionOf, runRequest, scrambleRequest,
-  scramblesRequest, solutionsRequest, solveRequest, stepsRequest,
+  checkRequest, countRequest, factsRequest, lineAfterRequest, lineRequest, listRequest, optionOf, runRequest,
+  scrambleRequest, scramblesRequest, solutionsRequest, stepsRequest,
 } from "./requests.js";
 import { signalOf } from "./signals.js";
 import { solutionsLaterBy } from "./solutions.js";
@@ -20,7 +20,6 @@ import { solutionsLaterBy } from "./solutions.js";
 /** @typedef {import("./replies.js").Count} Count */
 /** @typedef {import("./replies.js").Solution} Solution */
 /** @typedef {import("./replies.js").Solutions} Solutions */
-/** @typedef {import("./requests.js").LineAfterRequest} LineAfterRequest */
 /** @typedef {import("./requests.js").OneRequest} OneRequest */
 /** @typedef {import("./requests.js").Wanted} Wanted */
 /** @typedef {import("./signals.js").Stoppable} Stoppable */
@@ -28,15 +27,24 @@ import { solutionsLaterBy } from "./solutions.js";
 /** @typedef {import("./tokens.js").FormPlace} FormPlace */
 /** @typedef {import("./tokens.js").Token} Token */
 
+/** @typedef {import("./requests.js").Sides} Sides */
+
+/**
+ * @template {Sides | undefined} [On=Sides | undefined]
+ * @typedef {import("./requests.js").OnSides<On>} OnSides
+ */
+
+/**
+ * @template {Sides | undefined} On
+ * @typedef {import("./replies.js").SolutionsOn<On>} SolutionsOn
+ */
+
 /**
  * @template {string} Name
  * @typedef {import("./steps.js").StepName<Name>} StepName
  */
 
-/**
- * @typedef {(request: OneRequest | LineAfterRequest, options?: Stoppable) => Promise<any>} Ask returns what the engine
- * does
- */
+/** @typedef {(request: OneRequest, options?: Stoppable) => Promise<any>} Ask returns what the engine does */
 
 /**
  * The calls of `Nissy` that are one request each, and those made of them. What these throw, the promises are rejected
@@ -86,10 +94,12 @@ export class SingleCalls {
 
   /**
    * @template {string} Name
-   * @param {StepName<Name>} step @param {Text} line @param {Wanted & Stoppable} [options] @returns {Promise<Solutions>}
+   * @template {Sides | undefined} [On=undefined]
+   * @param {StepName<Name>} step @param {Text} line @param {Wanted & OnSides<On> & Stoppable} [options]
+   * @returns {Promise<SolutionsOn<On>>}
    */
   async solve(step, line, options) {
-    const request = solveRequest(step, line, options);
+    const request = listRequest(step, line, options);
     return solutionsIn(await this.#ask(request, options), request);
   }
 

@@ -1,6 +1,6 @@
 // Calls of an engine in a worker as promises, one after another: those that are one request each, and the others.
 import { allOf, bestIn, countIn, factsIn, solutionsIn } from "./replies.js";
-import { allRequest, bestRequest, countRequest, factsRequest, solveRequest } from "./requests.js";
+import { allRequest, bestRequest, countRequest, factsRequest, listRequest } from "./requests.js";
 import { Telling } from "./signals.js";
 import { SingleCalls } from "./single-calls.js";
 import { compiled } from "./source.js";
@@ -20,6 +20,18 @@ import { WorkerQueue } from "./worker-queue.js";
 /** @typedef {import("./worker-queue.js").NewWorker} NewWorker */
 /** @typedef {import("./worker-queue.js").Sent} Sent */
 /** @typedef {import("./worker-queue.js").SentModule} SentModule */
+
+/** @typedef {import("./requests.js").Sides} Sides */
+
+/**
+ * @template {Sides | undefined} [On=Sides | undefined]
+ * @typedef {import("./requests.js").OnSides<On>} OnSides
+ */
+
+/**
+ * @template {Sides | undefined} On
+ * @typedef {import("./replies.js").SolutionsOn<On>} SolutionsOn
+ */
 
 /**
  * @template {string} Name
@@ -70,11 +82,13 @@ export class WorkerCalls extends SingleCalls {
   /**
    * @template {string} Name
    * @template {OnFaults} [Faults="throw"]
-   * @param {StepName<Name>} step @param {readonly Text[]} lines @param {Wanted & Many<Faults> & Stoppable} [options]
-   * @returns {Promise<Told<Solutions, Faults>[]>}
+   * @template {Sides | undefined} [On=undefined]
+   * @param {StepName<Name>} step @param {readonly Text[]} lines
+   * @param {Wanted & OnSides<On> & Many<Faults> & Stoppable} [options]
+   * @returns {Promise<Told<SolutionsOn<On>, Faults>[]>}
    */
   async solveAll(step, lines, options) {
-    const request = allRequest(() => solveRequest(step, "", options), lines, options);
+    const request = allRequest(() => listRequest(step, "", options), lines, options);
     const replies = await this.#queue.answer(request, options);
     return allOf(replies, request, (/** @type {any} */ reply) => solutionsIn(reply, request.each));
   }
@@ -108,6 +122,17 @@ export class WorkerCalls extends SingleCalls {
     const reply = await this.#queue.answer(request, options, telling.tell);
     await telling.heard();
     return bestIn(reply, request);
+  }
+
+  /**
+   * @template {OnFaults} [Faults="throw"]
+   * @param {readonly Text[]} scrambles @param {BestWanted & Many<Faults> & Stoppable} [options]
+   * @returns {Promise<Told<Best, Faults>[]>}
+   */
+  async bestAll(scrambles, options) {
+    const request = allRequest(() => bestRequest("", options), scrambles, options);
+    const replies = await this.#queue.answer(request, options);
+    return allOf(replies, request, (/** @type {any} */ reply) => bestIn(reply, request.each));
   }
 
   /** Gives up the calls that wait for their turn; one that runs goes on. */

@@ -3,7 +3,7 @@
 import { EngineMissing, Stopped } from "./faults.js";
 import { Signals, reasonOf, signalOf } from "./signals.js";
 
-/** @typedef {import("./requests.js").Asked} Asked */
+/** @typedef {import("./requests.js").Request} Request */
 /** @typedef {import("./serve.js").Answered} Answered */
 /** @typedef {import("./serve.js").Progressed} Progressed */
 /** @typedef {import("./serve.js").Unanswered} Unanswered */
@@ -32,14 +32,14 @@ import { Signals, reasonOf, signalOf } from "./signals.js";
  */
 
 /**
- * @typedef {{id: number, request: Asked, signal: AbortSignal | undefined, followed: Follow, answered: (reply:
+ * @typedef {{id: number, request: Request, signal: AbortSignal | undefined, followed: Follow, answered: (reply:
  * any) => void, refused: (reason: unknown) => void, queue: WorkerQueue}} Call `queue`: which has it now
  */
 
 /** How many pieces of a call a worker has: it needs not wait for the second one when it ends the first. */
 const MOST_SENT = 2;
 
-/** @param {Asked} request */
+/** @param {Request} request */
 const isPiece = (request) => request.call === "all" && request.isPiece === true;
 
 /**
@@ -124,7 +124,7 @@ export class WorkerQueue {
 
   /**
    * What the engine returns.
-   * @param {Asked} request
+   * @param {Request} request
    * @param {Stoppable} [options]
    * @param {Follow} [followed]
    * @returns {Promise<any>}

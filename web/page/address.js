@@ -1,19 +1,17 @@
 // The state of the page in its address, after the #, so that it can be kept and sent. What an address says is checked
 // piece by piece: each piece becomes a part of the state, or is left out and named.
-import { REDUCTIONS, isSide, stepNamed } from "./steps.js";
+import { REDUCTIONS, SIDES, isSide, stepNamed } from "./steps.js";
 
 /** @typedef {import("./steps.js").Part} Part */
-/** @typedef {{step: string, side: import("./steps.js").Side, slack: number, isAll: boolean, split?: number}} List
- * `split`: how many moves its solutions begin with on the other side */
+/** @typedef {{step: string, side: Side | "both", slack: number, isAll: boolean}} List */
 /** @typedef {{parts: Part[], note: string, next: string}} Candidate `next`: the reduction it was kept with, or "" */
-/** @typedef {{scramble: string, parts: Part[], side: Part["side"], list: List | null, kept: Candidate[]}} State */
+/** @typedef {import("./steps.js").Side} Side */
+/** @typedef {{scramble: string, parts: Part[], side: Side, list: List | null, kept: Candidate[]}} State */
 
 const LONGEST_ADDRESS = 20000;
 // 256 moves, each of as many signs as one may have and in brackets, are half of it
 export const LONGEST_SCRAMBLE = 4096;
 export const GREATEST_SLACK = 3;
-/** How many moves of a list may stand on the other side. */
-export const MOST_SPLIT = 2;
 export const MOST_CANDIDATES = 24;
 export const LONGEST_NOTE = 80;
 /** How many moves the engine reads in one line. */
@@ -23,7 +21,6 @@ const MOST_NAMED = 5;
 const LONGEST_NAME = 24;
 const MOVES = /^[UDRLFBMESxyzw2']+( [UDRLFBMESxyzw2']+)*$/;
 const ALL_ROWS = "all";
-const SPLIT = /^split([12])$/;
 
 /** @returns {State} */
 export const emptyState = () => ({ scramble: "", parts: [], side: "normal", list: null, kept: [] });
@@ -45,17 +42,19 @@ const oneLine = (text) => text.replace(/[\r\n]/g, " ");
 
 const spelled = (text) => decodeURIComponent(wellFormed(text).replace(/_/g, "%20").replace(/-/g, "'"));
 
+/** @param {Part} part @returns its sides, each with its moves, such as `normal.R_U.inverse.F` */
+const writtenPart = (part) =>
+  SIDES.filter((side) => part[side] !== "").map((side) => `${side}.${escaped(part[side])}`).join(".");
+
 /** @param {Part[]} parts */
-const writtenParts = (parts) => parts.map(({ side, moves }) => `${side}.${escaped(moves)}`).join("~");
+const writtenParts = (parts) => parts.map(writtenPart).join("~");
 
 /** @param {Candidate} candidate */
 const writtenCandidate = ({ parts, note, next }) =>
   [writtenParts(parts), escaped(note), next].join(";").replace(/;+$/, "");
 
 /** @param {List} list */
-function writtenList({ step, side, slack, isAll, split = 0 }) {
-  return [step, side, slack, ...(isAll ? [ALL_ROWS] : []), ...(split > 0 ? [`split${split}`] : [])].join(".");
-}
+const writtenList = ({ step, side, slack, isAll }) => [step, side, slack, ...(isAll ? [ALL_ROWS] : [])].join(".");
 
 /** @param {State} state */
 export function addressOf({ scramble, parts, side, list, kept }) {
@@ -76,10 +75,15 @@ export const hasLines = ({ parts, kept }) => parts.length + kept.length > 0;
 
 /** @param {string} text @returns {Part} */
 function readPart(text) {
-  const [side, moves, ...rest] = text.split(".");
-  const plain = spelled(moves ?? "");
-  if (!isSide(side) || rest.length > 0 || !MOVES.test(plain)) throw new Error("not steps");
-  return { side, moves: plain };
+  const pieces = text.split(".");
+  /** @type {Part} */
+  const part = { normal: "", inverse: "" };
+  for (let at = 0; at < pieces.length; at += 2) {
+    const [side, moves] = [pieces[at], spelled(pieces[at + 1] ?? "")];
+    if (!isSide(side) || part[side] !== "" || !MOVES.test(moves)) throw new Error("not steps");
+    part[side] = moves;
+  }
+  return part;
 }
 
 /** Splits a text into at most so many pieces.
@@ -95,14 +99,11 @@ const readParts = (text) => split(text, "~", MOST_PARTS).map(readPart);
 
 /** @param {string} text @returns {List} */
 function readList(text) {
-  const [step, side, slack, ...others] = text.split(".");
-  const known = stepNamed(step) && isSide(side) && /^[0-9]$/.test(slack) && Number(slack) <= GREATEST_SLACK;
-  const isAll = others[0] === ALL_ROWS;
-  const [written, ...rest] = isAll ? others.slice(1) : others;
-  const split = SPLIT.exec(written ?? "");
-  if (!known || rest.length > 0 || (written !== undefined && split === null)) throw new Error("no list");
-  const list = { step, side, slack: Number(slack), isAll };
-  return split === null ? list : { ...list, split: Number(split[1]) };
+  const [step, side, slack, all, ...rest] = text.split(".");
+  const isKnown = stepNamed(step) && /^[0-9]$/.test(slack) && Number(slack) <= GREATEST_SLACK;
+  const isRead = isKnown && (all === undefined || all === ALL_ROWS) && rest.length === 0;
+  if (!isRead || !(isSide(side) || side === "both")) throw new Error("no list");
+  return { step, side, slack: Number(slack), isAll: all === ALL_ROWS };
 }
 
 /** @param {string} text @returns {Candidate} */

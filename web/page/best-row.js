@@ -1,8 +1,8 @@
-// A row of the best: its moves with their twins, what they reach, the reduction that follows with its lengths on both
-// sides, how many there are and the first of them, and its star.
+// A row of the best: its moves with their twins, what they reach, the reduction that follows with its least length on
+// each side alone and how many of that length there are, and its star.
 import { counted, element } from "./element.js";
 import { starButton, takeButton } from "./rows.js";
-import { SIDES, barred, bracketed } from "./steps.js";
+import { SIDES, bracketed, sidesOf } from "./steps.js";
 
 /** @typedef {import("./finder.js").Row} Row */
 /** @typedef {import("./steps.js").Part} Part */
@@ -21,13 +21,14 @@ function cell(name, attributes, ...children) {
 
 /** The cell of a row's moves and twins, which tells the style how many signs its line has, if the page is narrow or
  * not.
- * @param {HTMLElement} take @param {string} line what it shows @param {string[]} others the last turns of the twins
+ * @param {HTMLElement} take @param {string} line what it shows @param {string[]} twins
  * @param {boolean} isBeside whether they stand beside the moves on a narrow page */
-function movesCell(take, line, others, isBeside) {
+function movesCell(take, line, twins, isBeside) {
   // as solvers write it: the last turn may be the one or the other
-  const either = others.length === 1 ? ` / ${others[0]}` : ` or ${others.length} twins`;
-  const twin = others.length === 0 ? "" : either;
-  const beside = twin === "" ? [] : [element("small", { class: "twins" }, twin)];
+  const [either, word] = twins.length === 1 ? [` / ${twins[0].replace(/[()]/g, "")}`, ""]
+    : [` or ${twins.length}`, " twins"];
+  const twin = twins.length === 0 ? "" : either + word;
+  const beside = twin === "" ? [] : [element("small", { class: "twins" }, either, element("span", {}, word))];
   const made = cell("td", {}, element("span", { class: "ends" }, take, ...beside));
   const seen = take.classList.contains("seen") ? SEEN_SIGNS : 0;
   const [own, more] = [line.length + seen, SIGN_OF_TWIN * twin.length];
@@ -37,48 +38,51 @@ function movesCell(take, line, others, isBeside) {
 }
 
 /** @param {import("./finder.js").Next} next @param {import("./steps.js").Side} side */
-function lengthCell({ lengths, totals, side: best }, side) {
+function lengthCell({ part: reduction, length: best, lengths }, side) {
   const length = lengths[side];
-  const isBest = length !== null && totals[side] === totals[best];
+  const isBest = length !== null && (length === best || sidesOf([reduction]) === side);
   const words = length === null ? "no DR" : `DR in ${counted(length, "move")}`;
-  const inAll = length === null ? "" : `, ${totals[side]} in all`;
   const about = {
-    class: isBest ? "best number" : "number", "data-side": side === "normal" ? "N" : "I", title: `${side} side${inAll}`,
-    "aria-label": `${words} on the ${side} side${inAll}`,
+    class: isBest ? "best number" : "number", "data-side": side === "normal" ? "N" : "I", title: `${side} side alone`,
+    "aria-label": `${words} on the ${side} side alone`,
   };
   return cell("td", about, length === null ? "–" : String(length), element("small", { class: "times" }));
 }
 
-/** Shows in a row how many of the shortest reductions there are on each side, and the first of them.
- * @param {Element} shown the row @param {import("./position.js").Reductions} reductions */
-export function tellReductions(shown, { counts, first }) {
+/** Shows in a row how many of the shortest reductions there are on each side alone.
+ * @param {Element} shown the row @param {import("./counts.js").Counts} counts */
+export function tellCounts(shown, counts) {
   shown.querySelectorAll(".number").forEach((each, at) => {
     const count = counts[SIDES[at]];
     if (count === null) return;
     each.querySelector(".times").textContent = `×${count.toLocaleString("en")}`;
     each.setAttribute("aria-label", `${each.getAttribute("aria-label")}, ${counted(count, "solution")}`);
   });
-  const line = first === null ? "" : `then ${bracketed([first])}`;
-  const place = shown.querySelector(".first");
-  place.textContent = line;
-  place.style.setProperty("--signs", String(line.length));
+}
+
+/** @param {import("./finder.js").Next} next @returns the first of the best reductions, as it follows a row */
+function firstOf({ part: reduction }) {
+  const moves = bracketed([reduction]);
+  const line = moves === "" ? "" : `then ${moves}`;
+  const first = element("small", { class: "first moves" }, line);
+  first.style.setProperty("--signs", String(line.length));
+  return first;
 }
 
 /** @param {Row} row @param {RowActs} acts */
 export function bestRow(row, acts) {
-  const { total, part: added, reached, state, next, others, key } = row;
-  const line = added.moves === "" ? "no moves" : bracketed([barred(added, reached)]);
-  const all = Number.isFinite(total) ? String(total) : "–";
+  const { total, part: added, state, next, twins, key } = row;
+  const line = bracketed([added]) || "no moves";
   /** @type {[Part[], string | undefined]} */
   const kept = [[added], next?.step];
-  const take = takeButton(line, { key, isSeen: acts.isSeen(...kept), step: state.slice(0, 2) }, () => acts.goOn(row));
+  const take = takeButton(line, { key, isSeen: acts.isSeen(...kept) }, () => acts.goOn(row));
   // one orientation has a row, and a star, for each reduction that may follow
   const whole = next ? `${line}, ${next.marks} ${next.case}` : line;
   const star = starButton(whole, () => acts.isStarred(...kept), (button) => acts.star(button, ...kept));
-  const moves = movesCell(take, line, others, next !== null);
-  const cells = [cell("th", {}, all), moves, cell("td", { class: "axis" }, state)];
+  const moves = movesCell(take, line, twins, next !== null);
+  const cells = [cell("th", {}, String(total)), moves, cell("td", { class: "axis" }, state)];
   if (next) {
-    moves.append(element("small", { class: "first moves" }));
+    moves.append(firstOf(next));
     cells.push(cell("td", { class: "axis" }, next.marks, " ", element("span", { class: "case" }, next.case)));
     cells.push(...SIDES.map((side) => lengthCell(next, side)));
   }

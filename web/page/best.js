@@ -1,15 +1,14 @@
-// The card of the best continuations, which are looked for unasked: with progress, a stop, filters, rows that go on.
-import { byTotal } from "../module/best-rows.js";
+// The card of the best ways on, which are looked for unasked: with progress, a stop, filters, rows that go on.
 import { Stopped } from "../module/faults.js";
 import { GREATEST_SLACK } from "./address.js";
 import { bestRow } from "./best-row.js";
+import { ShownCounts } from "./counts.js";
 import { announce, announceLater, counted, part, setBusy, tell } from "./element.js";
 import { Filters, NOT_MOVES, filtersOfBest, offerChoices, offerLastTurns, offerMoves } from "./filter.js";
-import { KnownSearches, byCase, findContinuations, goingOn } from "./finder.js";
+import { KnownSearches, findAll } from "./finder.js";
 import { FurtherSearch } from "./further.js";
-import { ShownReductions } from "./reductions.js";
 import { addRows, roveWithin, showRows, takeNamed } from "./rows.js";
-import { isReduced, reducedAfter } from "./steps.js";
+import { SIDES, isReduced, reducedAfter } from "./steps.js";
 import { isNarrow, withoutMoving } from "./view.js";
 
 /** @typedef {import("./finder.js").Row} Row */
@@ -48,7 +47,7 @@ export class BestContinuations {
   #isAsked = false;
   #further;
   #found = new KnownSearches();
-  #reductions;
+  #counts;
   #shown = 0;
   #body = part("best-body");
   #room = part("best-rows");
@@ -60,10 +59,11 @@ export class BestContinuations {
    * @param {import("./best-row.js").RowActs & {shown: () => void}} acts */
   constructor(finders, calls, acts) {
     this.#finders = finders;
-    this.#reductions = new ShownReductions(calls, this.#body);
+    this.#counts = new ShownCounts(calls, this.#body);
     this.#acts = acts;
     this.#further = new FurtherSearch(finders, {
       turned: () => this.#working(this.#isAsked),
+      looked: (done, all) => this.#tellAxes(done, all),
       found: (progress) => this.#foundFurther(progress),
       ended: (fault) => this.#endedFurther(fault),
     });
@@ -72,20 +72,20 @@ export class BestContinuations {
     part("best-stop").addEventListener("click", () => this.#stopped());
     part("best-new").addEventListener("click", () => this.#showNewer());
     part("best-further").addEventListener("change", () => this.#turnFurther());
-    for (const name of ["best-slack", "best-all"]) part(name).addEventListener("change", () => this.#ask());
+    part("best-slack").addEventListener("change", () => this.#ask());
     part("best-sort").addEventListener("change", () => this.#filtered());
     part("best-more").addEventListener("click", () => this.#more());
   }
 
   /** Takes another cube, or none, and looks for the best of it.
-   * @param {{position: import("../module/ways.js").Position, reached: string[]} | null} cube */
+   * @param {{scramble: string, parts: import("./steps.js").Part[], reached: string[]} | null} cube */
   reset(cube) {
     this.#stop();
     this.#question = cube;
     [this.#progress, this.#newer] = [null, null];
     this.#seen = [];
     this.#room.style.minHeight = "";
-    this.#reductions.clear();
+    this.#counts.clear();
     this.#shown = shownFirst(cube?.reached ?? []);
     // until another cube is known nothing shows or hides the card, or what is read below it would move
     if (cube !== null) this.expect(cube.reached, false);
@@ -163,9 +163,9 @@ export class BestContinuations {
     this.#stop();
     this.#newer = null;
     this.#tellNewer(0);
-    this.#question = { ...this.#question, slack: Number(part("best-slack").value), isAll: part("best-all").checked };
-    const known = this.#found.of(this.#question) ?? this.#found.shorter(this.#question);
-    if (!known || known.slack < this.#question.slack) return void this.#find(this.#question, known);
+    this.#question = { ...this.#question, slack: Number(part("best-slack").value) };
+    const known = this.#found.of(this.#question);
+    if (!known) return void this.#find(this.#question, this.#found.shorter(this.#question));
     this.#show(known);
     this.#goFurther();
   }
@@ -174,7 +174,7 @@ export class BestContinuations {
   #goFurther() {
     this.#working(false);
     const { slack } = this.#progress;
-    if (part("best-further").checked) this.#further.begin({ ...this.#question, slack }, this.#progress);
+    if (part("best-further").checked) this.#further.begin({ ...this.#question, slack });
   }
 
   #turnFurther() {
@@ -187,11 +187,10 @@ export class BestContinuations {
    * waits until it is asked for.
    * @param {Further} progress */
   #foundFurther(progress) {
-    if (progress.done === progress.all) this.#found.keep(this.#question, progress);
+    this.#found.keep({ ...this.#question, slack: progress.slack }, progress);
     const seen = this.#seen.map(({ key }) => key);
     const rows = this.#rows(progress) ?? [];
     this.#newer = progress;
-    this.#tellProgress(progress);
     if (!seen.every((key, at) => rows[at]?.key === key)) this.#tellNewer(newAmong(rows, seen), rows[0]);
     else this.#takeNewer();
     if (seen.length < Math.min(rows.length, this.#shown)) this.#draw();
@@ -234,14 +233,15 @@ export class BestContinuations {
    * @param {Question} question @param {Further} [known] what was found of fewer moves more */
   async #find(question, known) {
     const isStill = () => question === this.#question;
-    const isOne = known || question.slack === 0 || question.reached.length > 0;
+    const tell = (progress) => isStill() && this.#looked(progress);
     this.#progress = known ?? null;
     if (!known) this.#showRows([]);
+    else this.#draw();
     this.#working(true);
     part("best-note").textContent = LOOKING_FOR_BEST;
     try {
-      for (const slack of isOne ? [question.slack] : [0, question.slack]) {
-        const found = await this.#look({ ...question, slack }, isStill);
+      for (const slack of known || question.slack === 0 ? [question.slack] : [0, question.slack]) {
+        const found = { ...await findAll(this.#finders, { ...question, slack }, tell), slack };
         if (!isStill()) return;
         this.#found.keep({ ...question, slack }, found);
         [this.#progress, this.#newer] = [found, null];
@@ -258,30 +258,21 @@ export class BestContinuations {
     }
   }
 
-  /** Finds the best of a question, from what is known on.
-   * @param {Question} question @param {() => boolean} isStill whether it is still asked for */
-  async #look(question, isStill) {
-    const { slack } = question;
-    const known = this.#progress ?? undefined;
-    const asked = known ? goingOn(question, known.slack, known) : question;
-    // how many longer ones there are isn't known yet
-    if (known) this.#looked({ ...known, all: null, slack });
-    const tell = (found) => isStill() && this.#looked({ ...found, slack });
-    return { ...await findContinuations(this.#finders, asked, tell, known), slack };
+  /** Says how far a search is. Its rows come together, since a later one may belong before others, which would move.
+   * @param {import("./finder.js").Progress} progress */
+  #looked({ tried, done, all }) {
+    this.#tellAxes(done, all);
+    if (tried > 0) part("best-note").textContent = `${LOOKING_FOR_BEST} ${counted(tried, "way")} tried.`;
   }
 
-  /** Says how far a search is. Its rows come together, since a later one may belong before others, which would move.
-   * @param {Further} progress */
-  #looked(progress) {
-    this.#newer = progress;
-    this.#tellProgress(progress);
-    part("best-note").textContent = this.#tried() || LOOKING_FOR_BEST;
+  /** @param {number} done how many axes are looked through @param {number} all of how many */
+  #tellAxes(done, all) {
+    Object.assign(part("best-progress"), { max: all, value: done });
   }
 
   #brokenOff(fault) {
     this.#stop();
-    const seen = this.#progress ? ` ${this.#tried()}` : "";
-    const text = fault instanceof Stopped ? `Stopped.${seen}` : fault.message;
+    const text = fault instanceof Stopped ? `Stopped. ${this.#noteOfRows()}`.trim() : fault.message;
     part("best-note").textContent = text;
     announce(text);
   }
@@ -299,41 +290,26 @@ export class BestContinuations {
     part("best-progress").hidden = !isOn;
     setBusy("best", isAsked, "");
     // of rows that a stop left too
-    if (!isAsked && this.#progress) this.#reductions.tell(this.#question.position, this.#seen);
-    if (isOn) part("best-progress").removeAttribute("value");
+    if (!isAsked && this.#progress) this.#counts.tell(this.#question, this.#seen);
   }
 
   /** @param {Further} progress all that was looked for */
   #show(progress) {
     this.#progress = progress;
-    this.#tellProgress(progress);
     this.#working(false);
-    if (this.#question.reached.length > 0) offerLastTurns("best-last", progress.rows.map((row) => row.part.moves));
+    const endsOf = (row) => SIDES.map((side) => row.part[side]).filter(Boolean);
+    if (this.#question.reached.length > 0) offerLastTurns("best-last", progress.rows.flatMap(endsOf));
     this.#draw();
     this.#acts.shown();
-  }
-
-  /** @param {Further} progress */
-  #tellProgress({ done, all }) {
-    if (all === null) return part("best-progress").removeAttribute("value");
-    part("best-progress").max = Math.max(all, 1);
-    part("best-progress").value = done;
-  }
-
-  #tried() {
-    const { done, all, slack } = this.#newer ?? this.#progress;
-    if (this.#question.reached.length > 0) return "";
-    const longer = slack > this.#question.slack ? `Up to ${slack} longer: ` : "";
-    // how many there are isn't known until the longer ones are found
-    if (all === null) return `${longer}${counted(done, "EO")} tried.`;
-    return `${longer}${done.toLocaleString("en")} of ${counted(all, "EO")} tried.`;
   }
 
   /** The rows that the filters leave, in their order; or null if what is typed isn't moves.
    * @param {Further | null} progress */
   #rows(progress) {
     const rows = this.#filters.left(progress?.rows ?? []);
-    if (part("best-sort").value === "case") rows?.sort((one, other) => byCase(one, other) || byTotal(one, other));
+    // after an orientation all have the case of theirs
+    const isByCase = part("best-sort").value === "case" && this.#question?.reached.length === 0;
+    if (isByCase) rows?.sort((one, other) => one.far - other.far || one.rank - other.rank);
     return rows;
   }
 
@@ -344,7 +320,7 @@ export class BestContinuations {
     const shown = rows.slice(0, this.#shown);
     this.#showRows(shown);
     if (this.#progress === null) return;
-    if (!this.#isAsked) this.#reductions.tell(this.#question.position, shown);
+    if (!this.#isAsked) this.#counts.tell(this.#question, shown);
     this.#tellRows(left === null ? null : rows.length);
   }
 
@@ -359,10 +335,17 @@ export class BestContinuations {
 
   /** @param {number} left how many rows are left */
   #note(left) {
-    const { rows, isCut } = this.#newer ?? this.#progress;
-    const all = `${isCut ? "the best " : ""}${counted(rows.length, "row")}`;
-    const of = left === rows.length ? all.replace("the", "The") : `${left.toLocaleString("en")} of ${all}`;
-    return `${this.#tried()} ${of}.`.trim();
+    const { rows, tried, slack } = this.#newer ?? this.#progress;
+    const longer = slack > this.#question.slack ? `Up to ${slack} longer: ` : "";
+    const some = rows.length < tried ? `the best ${rows.length.toLocaleString("en")} of ` : "";
+    const all = some + counted(tried, "row");
+    const words = `${longer}${left === rows.length ? all : `${left.toLocaleString("en")} of ${all}`}.`;
+    return words[0].toUpperCase() + words.slice(1);
+  }
+
+  /** What is said of the rows that are shown, if there are any. */
+  #noteOfRows() {
+    return this.#progress ? this.#note(this.#rows(this.#progress)?.length ?? 0) : "";
   }
 
   #more() {
@@ -377,7 +360,7 @@ export class BestContinuations {
    * seen, so then all are made anew.
    * @param {Row[]} rows */
   #showRows(rows) {
-    const stay = this.#seen.every((row, at) => row === rows[at]) ? this.#seen.length : 0;
+    const stay = this.#seen.every((row, at) => row.key === rows[at]?.key) ? this.#seen.length : 0;
     this.#seen = rows;
     showRows(this.#body, () => {
       if (stay === 0) this.#body.replaceChildren();

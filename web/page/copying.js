@@ -1,7 +1,7 @@
 // Copies: a line as solvers write it on a scoresheet, the scramble on top and then a step a line with what it reaches
 // and how long it is; and how a text comes to the clipboard.
 import { announce, part } from "./element.js";
-import { bracketed, newlyReached } from "./steps.js";
+import { bracketed, newlyReached, turnsOfStep } from "./steps.js";
 import { tellAt } from "./view.js";
 
 /** @typedef {import("./position.js").Walk} Walk */
@@ -24,7 +24,7 @@ export const fmcOf = (scramble, walk) => [scramble, ...stepLines(walk)].join("\n
 /** The first of the reductions that a line was kept with, as its last step.
  * @param {import("./position.js").KeptWalk} walk @returns {string[]} none without one */
 const lineOfNext = ({ next }) => (!next?.first ? []
-  : [`${bracketed([next.first])} // ${next.state} (${next.first.moves.split(" ").length}/${next.total})`]);
+  : [`${bracketed([next.first])} // ${next.state} (${turnsOfStep(next.first).length}/${next.total})`]);
 
 /** Some candidates of a scramble, with their notes.
  * @param {string} scramble @param {{walk: import("./position.js").KeptWalk, notes: string[]}[]} candidates */

@@ -69,12 +69,6 @@ export function counted(count, word) {
   return `${count.toLocaleString("en")} ${word}${count === 1 ? "" : "s"}`;
 }
 
-/** @param {string} moves @param {string} [step] what ends at a bar @returns moves as they are said, since an apostrophe
- * isn't read as solvers read it */
-export const spoken = (moves, step = "EO") => moves.replace(/'/g, " prime").replace(/\(/g, "on the inverse side ")
-  .replace(/\)/g, "").replace(/ \|/g, `, ${step} ends,`);
-
-/** Moves as they are shown: a bar that others of its side follow is a mark with a name, which isn't copied.
- * @param {string} moves @param {string} [step] what ends at a bar */
-export const shownMoves = (moves, step = "EO") => moves.replace(/ \|(?! \w)/g, "").split("| ").flatMap((run, at) =>
-  (at === 0 ? [run] : [element("span", { class: "goes-on", role: "img", title: `${step} ends` }), run]));
+/** @param {string} moves @returns moves as they are said, since an apostrophe isn't read as solvers read it */
+export const spoken = (moves) => moves.replace(/'/g, " prime").replace(/\(/g, "on the inverse side ")
+  .replace(/\)/g, "");

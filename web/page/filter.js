@@ -1,13 +1,11 @@
 // What is left of rows: by what is chosen, by the corners and edges of their cases, by turns that are typed, by the
 // last.
-import { facesOnAxisOf } from "../module/best-steps.js";
-import { withTwins } from "../module/twins.js";
+import { facesOnAxisOf } from "./axes.js";
 import { announce, announceLater, counted, element, part, tell } from "./element.js";
-import { ORIENTATIONS, SIDES, reducedAfter, sizeOfCase, stateOf } from "./steps.js";
+import { ORIENTATIONS, reducedAfter, sidesOf, sizeOfCase, stateOf } from "./steps.js";
 
 /** @typedef {{fields: string[], test: (...values: string[]) => ((row: any) => boolean) | null}} Kind of filter: its
  * fields, and what says by the values of these whether a row is left; null if one of them can't be read */
-/** @typedef {{moves: string, others: string[]}} Ends moves, and the last turns of their twins */
 
 /** What is said of a text that isn't moves. */
 export const NOT_MOVES = "The text in the filter is not moves: type face turns such as F B'.";
@@ -76,21 +74,18 @@ function turnsOf(text) {
 /** @param {string} moves @returns the last turn of some moves, "" where there is none */
 const lastTurn = (moves) => moves.slice(moves.lastIndexOf(" ") + 1);
 
-/** Turns that stand one after another, and the last turn, of a row's moves or of one of their twins.
- * @param {string} typed its field @param {string} last the other one @param {(row: any) => Ends} endsOf
- * @returns {Kind} */
-export function withTurns(typed, last, endsOf) {
+/** Turns that stand one after another on a side, and the last turn, of a row's moves or of one of their twins.
+ * @param {string} typed its field @param {string} last the other one
+ * @param {(row: any) => string[]} movesOf the moves of each side and twin @returns {Kind} */
+export function withTurns(typed, last, movesOf) {
   offerChoices(last, []);
   const test = (text, end) => {
     const wanted = turnsOf(text);
     part(typed).setAttribute("aria-invalid", String(wanted === null));
     if (wanted === null) return null;
     const turns = wanted.length === 0 ? "" : ` ${wanted.join(" ")} `;
-    return (row) => {
-      const { moves, others } = endsOf(row);
-      const isLeft = (each) => ` ${each} `.includes(turns) && (end === "" || lastTurn(each) === end);
-      return withTwins(moves, others).some(isLeft);
-    };
+    const isLeft = (each) => ` ${each} `.includes(turns) && (end === "" || lastTurn(each) === end);
+    return (row) => movesOf(row).some(isLeft);
   };
   return { fields: [typed, last], test };
 }
@@ -100,19 +95,23 @@ export function withTurns(typed, last, endsOf) {
 export const offerLastTurns = (field, all) =>
   offerChoices(field, [...new Set(all.map(lastTurn).filter(Boolean))].sort());
 
+/** On which sides a step may have moves. */
+const WHERE = ["normal", "inverse", "both sides"];
+const isOn = ({ part: step }, where) => sidesOf([step]) === where;
+
 /** The filters of the best: of orientations, with their reduction and its case, and of reductions. */
 export const filtersOfBest = () => ({
   ofOrientations: [
     caseAtMost("best", ({ next }) => [next.case]),
     chosen("best-axis", ORIENTATIONS.map(stateOf), ({ state }, axis) => state === axis),
-    chosen("best-side", [...SIDES], ({ part: { side } }, wanted) => side === wanted),
+    chosen("best-side", WHERE, isOn),
     chosen("best-next", reducedAfter(ORIENTATIONS.map(({ name }) => name)), ({ next }, marks) => next.marks === marks),
     chosen("best-total", TOTALS, ({ total }, most) => total <= Number(most)),
   ],
   ofReductions: [
     chosen("best-reduction", [], ({ state }, wanted) => state === wanted),
-    chosen("best-reduction-side", [...SIDES], ({ part: { side } }, wanted) => side === wanted),
-    withTurns("best-filter", "best-last", ({ part: { moves }, others }) => ({ moves, others })),
+    chosen("best-reduction-side", WHERE, isOn),
+    withTurns("best-filter", "best-last", ({ lines }) => lines),
   ],
 });
 

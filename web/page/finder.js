@@ -1,44 +1,33 @@
-// Finds the best continuations, each axis by an engine of its own: what they find is one list, by all moves in all.
-import { BestRows, Bound } from "../module/best-rows.js";
+// Finds the best ways on, each axis by an engine of its own: what they find is one list, by all moves in all.
 import { ORIENTATIONS } from "./steps.js";
 
 /** @typedef {import("./calls.js").Calls} Calls */
-/** @typedef {Omit<import("../module/best-rows.js").Next, "own"> & {marks: string, case: string}} Next a reduction and
- * what it reaches */
-/** @typedef {Omit<import("../module/best-rows.js").Row, "next"> & {state: string, next: Next | null}} Row */
-/** @typedef {import("../module/ways.js").Position} Position */
-/** @typedef {{position: Position, reached: string[], slack: number, isAll: boolean, from?: number, totals?: number[]}}
- * Question `from`: by how much longer at least, if shorter ones are known; `totals`: how many of those have how many
- * moves */
-/** @typedef {{done: number, all: number | null, rows: Row[], isCut: boolean}} Progress of new rows alone, or of all */
+/** @typedef {import("./steps.js").Part} Part */
+/** @typedef {import("../module/sides.js").OnSides<number | null>} Lengths */
+/** @typedef {{step: import("../module/steps.js").Step, part: Part, length: number, marks: string, case: string,
+ * lengths: Lengths}} Next the reduction after an orientation: its moves, what it reaches, its case, and its least
+ * length on each side alone */
+/** @typedef {{total: number, part: Part, state: string, twins: string[], lines: string[], far: number,
+ * next: Next | null, key: string, rank: number}} Row `twins`: their last turns; `lines`: the moves on each side of all
+ * twins; `far`: how many pieces the case has; `key`: what the row is known by; `rank`: what rows are put in order by */
+/** @typedef {{scramble: string, parts: Part[], reached: string[], slack: number}} Question */
+/** @typedef {{tried: number, done: number, all: number}} Progress how many ways on were tried, and how many of all
+ * axes are done */
+/** @typedef {{rows: Row[], tried: number}} Found of an axis, or of all: the best, and how many there are */
 
-/** How many rows are kept. */
-const MOST_KEPT = 10_000;
-/** What is found before anything is.
- * @type {Progress} */
-const NOTHING = { done: 0, all: 0, rows: [], isCut: false };
-
-/** By how far the cases of two rows are, which matters only before their reductions: both have one then.
- * @param {Row} one @param {Row} other */
-export const byCase = (one, other) => (one.next === null ? 0 : one.far - other.far);
-
-/** A question about what is longer than what was found.
- * @param {Question} question @param {number} known by how much longer that is @param {Progress} before */
-export function goingOn(question, known, { rows }) {
-  const bound = new Bound(MOST_KEPT);
-  bound.add(rows);
-  return { ...question, from: known + 1, totals: bound.totals };
-}
+/** How many rows are kept, which are all but seldom; of longer ones, of which there are thousands, each takes time.
+ * @param {number} slack */
+export const mostKept = (slack) => (slack === 0 ? 5000 : 200);
 
 /** Of how many searches what was found is kept. */
 const MOST_KEPT_SEARCHES = 8;
 
 /** @param {Question} question @returns what a search is known by */
-const nameOfSearch = ({ position: { lines }, slack, isAll }) => [lines.normal, lines.inverse, slack, isAll].join("/");
+const nameOfSearch = ({ scramble, parts, slack }) => JSON.stringify([scramble, parts, slack]);
 
 /** What was found of the last questions. */
 export class KnownSearches {
-  /** @type {Map<string, Progress & {slack: number}>} */
+  /** @type {Map<string, Found & {slack: number}>} */
   #found = new Map();
 
   /** @param {Question} question */
@@ -49,76 +38,58 @@ export class KnownSearches {
   /** What was found of fewer moves more, as far as it was wanted; or nothing.
    * @param {Question} question */
   shorter({ slack, ...question }) {
-    const found = Array.from({ length: slack }, (_, less) => this.of({ ...question, slack: less }));
-    const isWithin = (each) => question.reached.length === 0 && each?.slack <= slack;
-    return found.filter(isWithin).sort((one, other) => other.slack - one.slack)[0];
+    const found = Array.from({ length: slack }, (_, more) => this.of({ ...question, slack: slack - 1 - more }));
+    return found.find((each) => each !== undefined);
   }
 
   /** Keeps what was found, in place of what was kept longest.
-   * @param {Question} question @param {Progress & {slack: number}} found */
+   * @param {Question} question @param {Found & {slack: number}} found */
   keep(question, found) {
     this.#found.set(nameOfSearch(question), found);
     if (this.#found.size > MOST_KEPT_SEARCHES) this.#found.delete(this.#found.keys().next().value);
   }
 }
 
-/** What is found on some axes, as one list. */
-export class Found {
-  #before;
-  #counts;
-  #best;
-  #isCut;
-
-  /** @param {number} axes how many @param {Progress} [before] what was found before, and isn't looked for again */
-  constructor(axes, before = NOTHING) {
-    this.#before = before;
-    this.#counts = Array.from({ length: axes }, () => ({ done: 0, all: null }));
-    this.#best = new BestRows(MOST_KEPT, before.rows);
-    this.#isCut = before.isCut;
-  }
-
-  /** Takes what is new of an axis.
-   * @param {number} at its place @param {Progress} found */
-  take(at, found) {
-    this.#counts[at] = found;
-    this.#best.add(found.rows);
-    this.#isCut ||= found.isCut || this.#best.isCut;
-  }
-
-  /** Forgets how far an axis is, which is to be looked at anew.
-   * @param {number} at its place */
-  giveBack(at) {
-    this.#counts[at] = { done: 0, all: null };
-  }
-
-  /** @returns {Progress} of all */
-  progress() {
-    const plus = (one, other) => (one === null || other === null ? null : one + other);
-    const sum = (name) => this.#counts.reduce((all, each) => plus(all, each[name]), this.#before[name]);
-    return { done: sum("done"), all: sum("all"), rows: this.#best.rows, isCut: this.#isCut };
-  }
+/** What is found on some axes, as one list.
+ * @param {Found[]} each @param {number} slack @returns {Found} */
+export function together(each, slack) {
+  const rows = each.flatMap((found) => found.rows).sort((one, other) => one.rank - other.rank);
+  return { rows: rows.slice(0, mostKept(slack)), tried: each.reduce((sum, { tried }) => sum + tried, 0) };
 }
 
 /** Finds the best of one axis.
- * @param {Calls[]} finders one an axis @param {import("./steps.js").OfferedStep} orientation @param {Question} question
- * @param {(found: Progress) => void} tell told of some after the other */
-export function findOnAxis(finders, orientation, question, tell) {
-  const finder = finders[ORIENTATIONS.indexOf(orientation)];
+ * @param {Calls[]} finders one an axis @param {number} axis its number @param {Question} question
+ * @param {(tried: number) => void} tell told how many were tried @returns {Promise<Found>} */
+export function findOnAxis(finders, axis, question, tell) {
+  const finder = finders[axis];
   // it is needed now, and its tables may wait
   finder.drop();
-  return finder.ask("bestOfAxis", { orientation: orientation.name, question }, tell);
+  return finder.ask("bestOfAxis", { axis, question }, tell);
 }
 
-/** Finds the best, returns them, and tells of its progress whenever there is more.
- * @param {Calls[]} finders one an axis @param {Question} question @param {(progress: Progress) => void} tellProgress
- * @param {Progress} [before] what was found before, from which it goes on */
-export async function findContinuations(finders, question, tellProgress, before) {
-  const held = ORIENTATIONS.filter(({ name }) => question.reached.includes(name));
-  const asked = held.length > 0 ? held : ORIENTATIONS;
-  const found = new Found(asked.length, before);
-  await Promise.all(asked.map((orientation, at) => findOnAxis(finders, orientation, question, (progress) => {
-    found.take(at, progress);
-    tellProgress(found.progress());
-  })));
-  return found.progress();
+/** The numbers of the axes that are looked at: if some orientations hold, those of these.
+ * @param {Question} question */
+export function axesOf({ reached }) {
+  const held = ORIENTATIONS.flatMap(({ name }, at) => (reached.includes(name) ? [at] : []));
+  return held.length > 0 ? held : ORIENTATIONS.map((_, at) => at);
+}
+
+/** Finds the best of all axes at once.
+ * @param {Calls[]} finders one an axis @param {Question} question @param {(progress: Progress) => void} tell
+ * @returns {Promise<Found>} */
+export async function findAll(finders, question, tell) {
+  const axes = axesOf(question);
+  const tried = ORIENTATIONS.map(() => 0);
+  let done = 0;
+  const told = () => tell({ tried: tried.reduce((sum, each) => sum + each), done, all: axes.length });
+  const each = await Promise.all(axes.map(async (axis) => {
+    const found = await findOnAxis(finders, axis, question, (count) => {
+      tried[axis] = count;
+      told();
+    });
+    done += 1;
+    told();
+    return found;
+  }));
+  return together(each, question.slack);
 }

@@ -1,13 +1,14 @@
 // Longer orientations, which nobody asked for: one move longer, and then two. They are looked for while the page is
 // seen and waits for nothing else, by workers that leave half of the processor to whatever is asked meanwhile.
-import { Found, findOnAxis, goingOn } from "./finder.js";
+import { findOnAxis, together } from "./finder.js";
 import { ORIENTATIONS } from "./steps.js";
 import { waitsForAnswers } from "./view.js";
 
+/** @typedef {import("./finder.js").Found} Found */
 /** @typedef {import("./finder.js").Question} Question */
-/** @typedef {import("./finder.js").Progress & {slack: number}} Further by how many moves longer */
-/** @typedef {{question: Question, found: Found, left: number[], running: Set<number>}} Search `left`: the places
- * of the axes that are still to be looked at */
+/** @typedef {Found & {slack: number}} Further by how many moves longer */
+/** @typedef {{question: Question, found: Map<number, Found>, left: number[], running: Set<number>}}
+ * Search `found`: of the axes that were looked through; `left`: those that are still to be looked at */
 
 /** How many moves longer than the shortest are looked for without being asked for. */
 const FURTHEST = 2;
@@ -25,8 +26,9 @@ export class FurtherSearch {
   #search = null;
 
   /** @param {import("./calls.js").Calls[]} finders one an axis
-   * @param {{turned: () => void, found: (progress: Further) => void, ended: (fault: Error | null) => void}} acts
-   * `turned`: once it goes on, or no more */
+   * @param {{turned: () => void, looked: (done: number, all: number) => void,
+   * found: (progress: Further) => void, ended: (fault: Error | null) => void}} acts
+   * `turned`: once it goes on, or no more; `looked`: how many axes are looked through */
   constructor(finders, acts) {
     this.#finders = finders;
     this.#acts = acts;
@@ -39,13 +41,13 @@ export class FurtherSearch {
   }
 
   /** Goes on from what was found.
-   * @param {Question} question @param {import("./finder.js").Progress} before what it found */
-  begin(question, before) {
+   * @param {Question} question */
+  begin(question) {
     this.stop();
     if (question.reached.length > 0 || question.slack >= FURTHEST) return;
     this.#search = {
-      question: { ...goingOn(question, question.slack, before), slack: question.slack + 1 },
-      found: new Found(ORIENTATIONS.length, before),
+      question: { ...question, slack: question.slack + 1 },
+      found: new Map(),
       left: ORIENTATIONS.map((_, at) => at),
       running: new Set(),
     };
@@ -84,13 +86,8 @@ export class FurtherSearch {
   async #look(search, at) {
     search.running.add(at);
     const isStill = () => search === this.#search;
-    const take = (found) => {
-      if (!isStill()) return;
-      search.found.take(at, found);
-      this.#acts.found({ ...search.found.progress(), slack: search.question.slack });
-    };
     try {
-      await findOnAxis(this.#finders, ORIENTATIONS[at], search.question, take);
+      search.found.set(at, await findOnAxis(this.#finders, at, search.question, () => {}));
     } catch (fault) {
       if (isStill()) this.#broken(search, at, fault);
       return;
@@ -108,14 +105,16 @@ export class FurtherSearch {
     }
     // it was given up until the page is seen again
     search.left.unshift(at);
-    search.found.giveBack(at);
   }
 
   /** Goes on with the next axis, or with one more move, or ends.
    * @param {Search} search one of whose axes is looked through */
   #endOf(search) {
+    this.#acts.looked(search.found.size, ORIENTATIONS.length);
     if (search.left.length > 0 || search.running.size > 0) return this.#goOn();
-    this.begin(search.question, search.found.progress());
+    const { question, found } = search;
+    this.#acts.found({ ...together([...found.values()], question.slack), slack: question.slack });
+    this.begin(question);
     if (this.#search === null) this.#acts.ended(null);
   }
 }

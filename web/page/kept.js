@@ -2,10 +2,10 @@
 import { Stopped } from "../module/faults.js";
 import { LONGEST_NOTE, MOST_CANDIDATES, fitsAddress } from "./address.js";
 import { copy, fmcOfAll } from "./copying.js";
-import { announce, button, counted, element, shownMoves, part, spoken, tell } from "./element.js";
+import { announce, button, counted, element, part, spoken, tell } from "./element.js";
 import { WayTo } from "./places.js";
 import {
-  ORIENTATIONS, REDUCTIONS, SIDES, axisName, bracketed, isReduced, reductionsAfter, stateOf, statesOf, stepNamed,
+  ORIENTATIONS, REDUCTIONS, axisName, bracketed, isReduced, reductionsAfter, sidesOf, stateOf, statesOf, stepNamed,
 } from "./steps.js";
 import { tellAt, withoutMoving } from "./view.js";
 import { MOST_ARE_KEPT, NO_ROOM } from "./words.js";
@@ -50,9 +50,8 @@ const totalOf = ({ totals, next }) => next?.total ?? totals.at(-1);
 function wordsOfNext({ next }) {
   if (next === null) return [];
   const [normal, inverse] = next.lengths.map((length) => length ?? "–");
-  const total = Number.isFinite(next.total) ? next.total : "–";
   const then = next.first === null ? [] : [`then ${bracketed([next.first])}`];
-  return [`${next.state} ${next.case}: N ${normal} I ${inverse}, ${total} in all`, ...then];
+  return [`${next.state} ${next.case}: N ${normal} I ${inverse}, ${next.total} in all`, ...then];
 }
 
 /** @typedef {{parts: Part[], states: string[], cases: string[]}} Stage some steps, what they reach, and cases after
@@ -62,17 +61,11 @@ function wordsOfNext({ next }) {
  * @param {KeptWalk} walk @param {string} name of a step that is reached in the end */
 const heldFrom = ({ reached }, name) => reached.findLastIndex((each) => !each.includes(name)) + 1;
 
-/** @param {Part[]} parts @returns on which sides some steps are */
-function sidesOf(parts) {
-  const sides = SIDES.filter((side) => parts.some((each) => each.side === side));
-  return sides.length === 1 ? sides[0] : "both sides";
-}
-
 /** The stages of a candidate with a reduction: up to the orientation before it, up to itself with the case that was
  * solved, and what came after it.
  * @param {KeptWalk} walk @returns {Stage[]} */
 function stagesOfReduced(walk) {
-  const { shown: parts, facts } = walk;
+  const { parts, facts } = walk;
   const reductions = REDUCTIONS.filter(({ name }) => walk.reached.at(-1).includes(name));
   const ways = reductions.map((step) => ({ step, from: heldFrom(walk, step.needs), to: heldFrom(walk, step.name) }));
   const [{ from, to }] = ways.sort((one, other) => one.to - other.to || one.from - other.from);
@@ -95,7 +88,7 @@ function stagesOfReduced(walk) {
 /** The stages of a candidate; before a reduction one, with the cases that may follow.
  * @param {KeptWalk} walk @returns {Stage[]} */
 function stagesOf(walk) {
-  const { shown: parts, facts, next } = walk;
+  const { parts, facts, next } = walk;
   const reached = walk.reached.at(-1);
   if (isReduced(reached)) return stagesOfReduced(walk);
   const steps = ORIENTATIONS.filter(({ name }) => reached.includes(name)).flatMap(({ name }) => reductionsAfter(name));
@@ -110,7 +103,7 @@ function stepOf(parts, walk) {
   const total = walk?.totals.at(-1);
   const count = stages.length > 1 ? `${total} in all` : counted(total ?? 0, "move");
   return element("span", { class: "step" }, ...stages.map((stage, at) => element("span", { class: "step" },
-    element("span", { class: "moves" }, ...shownMoves(bracketed(stage.parts))),
+    element("span", { class: "moves" }, bracketed(stage.parts)),
     ...(at === stages.length - 1 ? [element("span", { class: "total" }, walk === null ? "" : count)] : []),
     ...stage.states.map((state) => element("span", { class: "chip" }, state)),
     ...stage.cases.map((each) => element("span", { class: "case" }, each)))));
@@ -130,7 +123,7 @@ export class KeptCandidates {
   #way = new WayTo(part("bar-kept"), part("kept"), part("kept-heading"));
 
   /** @param {import("./calls.js").Calls} calls of its own
-   * @param {{goOn: (parts: Part[], next: {step: string, side: import("./steps.js").Side} | null) => void,
+   * @param {{goOn: (parts: Part[], next: {step: string, side: import("./address.js").List["side"]} | null) => void,
    * change: (kept: Candidate[]) => void}} acts */
   constructor(calls, acts) {
     this.#calls = calls;

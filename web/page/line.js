@@ -3,8 +3,8 @@
 import { Stopped } from "../module/faults.js";
 import { plainLine } from "../module/written.js";
 import { copy, fmcOf } from "./copying.js";
-import { announce, button, counted, element, shownMoves, part, spoken, tell } from "./element.js";
-import { bracketed, isReduced, newlyReached, otherSide, statesOf } from "./steps.js";
+import { announce, button, counted, element, part, spoken, tell } from "./element.js";
+import { bracketed, isReduced, lastSideOf, movesOn, newlyReached, otherSide, statesOf, turnsOfStep } from "./steps.js";
 import { showFault, wordsOfLeftOut } from "./words.js";
 
 /** @typedef {import("./steps.js").Part} Part */
@@ -19,9 +19,10 @@ const OF_MOVES = ["line-list", "whole", "undo", "bar-total", "bar-undo", "keep-l
 
 /** @param {Part[]} parts @returns {Part[]} the parts without their last move */
 function withoutLastMove(parts) {
-  const { side, moves } = parts.at(-1);
-  const left = moves.split(" ").slice(0, -1).join(" ");
-  return left === "" ? parts.slice(0, -1) : [...parts.slice(0, -1), { side, moves: left }];
+  const last = parts.at(-1);
+  const side = lastSideOf(last);
+  const left = { ...last, [side]: last[side].split(" ").slice(0, -1).join(" ") };
+  return [...parts.slice(0, -1), ...(turnsOfStep(left).length === 0 ? [] : [left])];
 }
 
 /** @param {string[]} words @returns words in a row: `one`, `one and another`, `one, another and a third` */
@@ -41,13 +42,13 @@ function endOf({ parts, facts, reached, totals }) {
 /** What is known of the steps that two lines begin with in common.
  * @template Known @param {Known[]} known of each of `parts` @param {Part[]} parts @param {Part[]} others */
 function keptOf(known, parts, others) {
-  const end = parts.findIndex(({ side, moves }, at) => side !== others[at]?.side || moves !== others[at].moves);
+  const end = parts.findIndex((each, at) => bracketed([each]) !== bracketed(others.slice(at, at + 1)));
   return end < 0 ? known : known.slice(0, end);
 }
 
 /** @param {Walk} walk @returns what is to be known of a line without brackets before the cube is solved, or "" */
 function noteOfJoined({ parts, facts }) {
-  if (facts.at(-1).solved || !parts.some(({ side }) => side === "inverse")) return "";
+  if (facts.at(-1).solved || movesOn(parts, "inverse") === "") return "";
   return "Not finished: the inverse moves stand at the end as premoves, and what follows goes before them.";
 }
 
@@ -156,8 +157,7 @@ export class LineSoFar {
       line: bracketed(walk.parts), joined: whole, total: counted(walk.totals.at(-1), "move"), note: noteOfJoined(walk),
       fmc: fmcOf(scramble, walk),
     });
-    this.#words.forEach(({ moves, reaches, lost, count }, index) => {
-      moves.replaceChildren(...shownMoves(bracketed([walk.shown[index]])));
+    this.#words.forEach(({ reaches, lost, count }, index) => {
       const inAll = index === 0 ? "" : `, ${walk.totals[index + 1]} in all`;
       count.textContent = `${counted(walk.turns[index], "move")}${inAll}`;
       const [fresh, missed] = [newlyReached(walk, index), this.#lost(walk, index)];
@@ -242,7 +242,7 @@ export class LineSoFar {
 
   #undo(parts) {
     const isOneLess = parts.length === this.#parts.length - 1;
-    const isBack = this.#acts.change(isOneLess ? { parts, side: this.#parts.at(-1).side } : { parts });
+    const isBack = this.#acts.change(isOneLess ? { parts, side: lastSideOf(this.#parts.at(-1)) } : { parts });
     announce(parts.length === 0 ? "The line is empty." : `The line is ${spoken(bracketed(parts))}.`);
     // a field that is typed in would bring the keyboard of a phone up, beside the row
     if (parts.length === 0) part(isBack ? "line-heading" : "own").focus({ preventScroll: true });

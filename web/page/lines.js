@@ -3,7 +3,7 @@
 // follows.
 import { NissyFault } from "../module/faults.js";
 import { LONGEST_NOTE, MOST_MOVES } from "./address.js";
-import { bracketed } from "./steps.js";
+import { SIDES, bracketed, joined } from "./steps.js";
 
 /** @typedef {import("../module/nissy.js").Nissy} Nissy */
 /** @typedef {import("./address.js").Candidate} Candidate */
@@ -21,7 +21,8 @@ function withoutTurns(cleaned) {
 }
 
 /** Cuts a line that was read into runs: what is in brackets goes on the inverse side.
- * @param {string} text @param {Side} side where moves without brackets go in a line that has none @returns {Part[]} */
+ * @param {string} text @param {Side} side where moves without brackets go in a line that has none
+ * @returns {{side: Side, moves: string}[]} */
 function runsOf(text, side) {
   if (!text.includes("(")) return [{ side, moves: text }];
   return [...text.matchAll(/\(([^()]*)\)|[^()]+/g)].map(([whole, inside]) =>
@@ -37,12 +38,15 @@ export function readScramble(nissy, text) {
   return { line, isTurned: line !== cleaned };
 }
 
-/** Moves by hand as steps, those in brackets on the inverse side.
+/** Moves by hand as a step, those in brackets on the inverse side; none without moves.
  * @param {Nissy} nissy @param {{text: string, side: Side}} typed `side` of moves without brackets @returns {Part[]} */
 export function readByHand(nissy, { text, side }) {
   const line = FACE_TURNS.test(nissy.unniss(text)) ? text : withoutTurns(nissy.cleanup(text));
-  const runs = runsOf(line, text.includes("(") ? "normal" : side);
-  return runs.map((run) => ({ side: run.side, moves: nissy.unniss(run.moves) })).filter(({ moves }) => moves !== "");
+  const runs = runsOf(line, text.includes("(") ? "normal" : side)
+    .map((run) => ({ side: run.side, moves: nissy.unniss(run.moves) }));
+  const [normal, inverse] = SIDES.map((each) =>
+    joined(...runs.filter((run) => run.side === each).map(({ moves }) => moves)));
+  return normal === "" && inverse === "" ? [] : [{ normal, inverse }];
 }
 
 /** @typedef {{line: string, fault: import("../module/faults.js").FaultParts}} Unread a line, and why it isn't read */
@@ -83,13 +87,13 @@ export function readWritten(nissy, { steps, candidates }) {
  * @param {Nissy} nissy @param {Part[]} parts @returns {Part[]} */
 function readSteps(nissy, parts) {
   nissy.unniss(bracketed(parts));
-  return parts.flatMap(({ side, moves }) => readByHand(nissy, { text: moves, side }));
+  return parts.flatMap((part) => readByHand(nissy, { text: bracketed([part]), side: "normal" }));
 }
 
 /** A candidate of an address, read as its steps are; one that can't be read stays, and is said to be so.
  * @param {Nissy} nissy @param {Candidate} candidate @returns {Candidate} */
 function readAgain(nissy, candidate) {
-  if (candidate.parts.every(({ moves }) => FACE_TURNS.test(moves))) return candidate;
+  if (candidate.parts.every((part) => SIDES.every((side) => FACE_TURNS.test(part[side])))) return candidate;
   try {
     return { ...candidate, parts: readSteps(nissy, candidate.parts) };
   } catch (fault) {

@@ -1,100 +1,72 @@
-// The rows of a list, by the engine at hand: a step's solutions, twins as one, each with the cases after it; or a step
-// split over both sides, a few moves on one and the rest on the other, the fewest moves in all first.
-import { facesOnAxisOf, stepNamed } from "../module/best-steps.js";
-import { turnsOfFace } from "../module/merging.js";
-import { mayBegin, mergeTwins, reachedBy, withoutEarlier } from "../module/twins.js";
-import { afterPart, countOf, totalsWith } from "../module/ways.js";
-import { joined, otherSide } from "./steps.js";
+// The rows of a list, by the engine at hand: a step's solutions on a side, or over both, twins as one, each with the
+// cases after it; after moves the fewest in all first.
+import { stepNamed } from "./axes.js";
+import { positionAfter, totalWith, totalsWith } from "./cubes.js";
+import { joined, partOn } from "./steps.js";
+import { mergeTwins, mergeTwinsOfBoth, withoutEarlier } from "./twins.js";
 
 /** @typedef {import("../module/nissy.js").Nissy} Nissy */
 /** @typedef {import("./address.js").List} List */
-/** @typedef {import("../module/ways.js").Position} Position */
-/** @typedef {import("../module/twins.js").Twins & {total?: number, cases?: Record<string, string>, begin?:
- * import("./steps.js").Part, line?: string, reached?: string | null}} Entry a solution, with all moves and cases if
- * these are known; if it is split `length` counts all its moves, `begin` are those on the other side, and `line` is the
- * cube after these; `reached`: with which beginning the step is reached, if it goes on after that */
+/** @typedef {import("./cubes.js").Position} Position */
+/** @typedef {import("./steps.js").Part} Part */
+/** @typedef {import("./twins.js").Twins & {part: Part, twins?: string[], total?: number,
+ * cases?: Record<string, string>}} Entry a solution, with all moves and cases if these are known; `twins`: over both
+ * sides the last turns of those that it has, whether they share its row or not */
 /** @typedef {{entries: Entry[], all: number, left: number, whole: boolean}} Rows `all`: how many there are, and `left`:
  * without those that reach the step before their last move */
 
-/** How many solutions a list may have, and of how many the cases are asked for. */
+/** How many solutions a list may have, on one side and over both, and of how many the cases are asked for. */
 const MOST_LISTED = 1_000_000;
+const MOST_OF_BOTH = 50_000;
 const MOST_WITH_CASES = 50_000;
-const LONGEST_AFTER = 20;
-/** How many solutions of one beginning are listed, and of all together. */
-const MOST_OF_ONE = 2000;
-const MOST_OF_ALL = 20_000;
 
-/** Whether a turn may follow another one: not of the same face, and of opposite faces in one order alone.
- * @param {string | undefined} last @param {string} turn */
-function mayFollow(last, turn) {
-  if (last === undefined) return true;
-  const faces = facesOnAxisOf(last[0]);
-  return !faces.includes(turn[0]) || faces.indexOf(last[0]) < faces.indexOf(turn[0]);
-}
-
-/** @param {string} step its name @param {number} count @returns {string[][]} its beginnings with so many moves */
-function beginningsWith(step, count) {
-  if (count === 0) return [[]];
-  const turns = [..."UDRLFB"].flatMap((face) => turnsOfFace(face, stepNamed(step)));
-  return beginningsWith(step, count - 1).flatMap((before) =>
-    turns.filter((turn) => mayFollow(before.at(-1), turn)).map((turn) => [...before, turn]));
-}
-
-/** The solutions of a step with some moves on the other side, the fewest in all and longer ones by a slack.
+/** The solutions of a step over both sides, and whether these are all.
  * @param {Nissy} nissy @param {List} list @param {Position["lines"]} now the cube
  * @returns {{solutions: Entry[], whole: boolean}} */
-function splitSolutions(nissy, { step, side, slack, split }, now) {
-  const beginnings = beginningsWith(step, split).map((turns) => turns.join(" ")).map((moves) => (
-    { begin: { side: otherSide(side), moves }, line: joined(nissy.invert(moves), now[side]) }));
-  const lines = beginnings.map(({ line }) => line);
-  const least = Math.min(...nissy.countAll(step, lines, { most: 1 }).map(({ length }) => length ?? LONGEST_AFTER));
-  const limit = Math.min(LONGEST_AFTER, least + slack);
-  const found = nissy.solveAll(step, lines, { limit, slack, most: MOST_OF_ONE });
-  const solutions = beginnings.flatMap((each, at) =>
-    found[at].map(({ moves, length }) => ({ ...each, moves, length: length + split, others: [] })));
-  // no moves on this side are no split
-  const wanted = solutions.filter(({ moves }) => moves !== "").sort((one, two) => one.length - two.length);
-  const whole = wanted.length <= MOST_OF_ALL && found.every((each) => each.length < MOST_OF_ONE);
-  return { solutions: wanted.slice(0, MOST_OF_ALL), whole };
+function solutionsOfBoth(nissy, { step, slack }, now) {
+  const found = nissy.solve(step, now.normal, { sides: "both", slack, most: MOST_OF_BOTH + 1 });
+  const solutions = found.slice(0, MOST_OF_BOTH).map(({ normal, inverse, moves, length, twins }) => (
+    { part: { normal, inverse }, moves, length, twins, others: [] }));
+  return { solutions, whole: found.length <= MOST_OF_BOTH };
 }
 
-/** The solutions of a step on one side that are at most so many moves longer, and whether these are all.
- * @param {Nissy} nissy @param {List} list @param {Position["lines"]} now the cube
+/** The solutions of a step on one side, and whether these are all.
+ * @param {Nissy} nissy @param {List & {side: import("./steps.js").Side}} list @param {Position["lines"]} now the cube
  * @returns {{solutions: Entry[], whole: boolean}} */
-function ownSolutions(nissy, { step, side, slack, isAll }, now) {
+function solutionsOfSide(nissy, { step, side, slack }, now) {
   const found = nissy.solve(step, now[side], { slack, most: MOST_LISTED + 1 });
-  const known = mayBegin(isAll ? found : []);
-  const solutions = found.slice(0, MOST_LISTED).map(({ moves, length }) => (
-    { moves, length, others: [], reached: reachedBy(moves, known) }));
+  const solutions = found.slice(0, MOST_LISTED)
+    .map((each) => ({ ...each, part: partOn(side, each.moves), others: [] }));
   return { solutions, whole: found.length <= MOST_LISTED };
 }
 
 /** Tells of solutions all moves with each, if moves were made before, and puts those with the fewest first.
- * @param {Nissy} nissy @param {Entry[]} solutions @param {Position} position @param {List} list */
-function withTotals(nissy, solutions, position, { side, split = 0 }) {
-  if (countOf(position) === 0 || solutions.length > MOST_WITH_CASES) return solutions;
-  const beginnings = [...new Set(solutions.map(({ begin }) => begin))];
-  const counted = beginnings.flatMap((begin) => {
-    const entries = solutions.filter((each) => each.begin === begin);
-    const before = begin === undefined ? position : afterPart(nissy, position, begin);
-    const own = entries.map(({ moves, length }) => ({ moves, length: length - split }));
-    const totals = totalsWith(nissy, before, side, own);
-    return entries.map((each, at) => ({ ...each, total: totals[at] }));
-  });
-  return counted.sort((one, other) => one.total - other.total || one.length - other.length);
+ * @param {Nissy} nissy @param {Entry[]} solutions @param {Asked} asked @param {Position} position */
+function withTotals(nissy, solutions, { list: { side }, parts }, position) {
+  if (parts.length === 0 || solutions.length > MOST_WITH_CASES) return solutions;
+  const totals = side === "both" ? solutions.map(({ part }) => totalWith(nissy, position, part))
+    : totalsWith(nissy, position, side, solutions);
+  return solutions.map((each, at) => ({ ...each, total: totals[at] }))
+    .sort((one, other) => one.total - other.total || one.length - other.length);
 }
 
-/** @param {Nissy} nissy @param {{list: List, position: Position}} asked @returns {Rows} */
-export function rowsOfList(nissy, { list, position }) {
-  const now = position.lines;
-  const isSplit = list.split > 0;
-  const { solutions, whole } = (isSplit ? splitSolutions : ownSolutions)(nissy, list, now);
-  const wanted = list.isAll || isSplit ? solutions : withoutEarlier(solutions);
-  const left = withTotals(nissy, wanted, position, list);
-  const entries = list.isAll ? left : mergeTwins(left, list.step, ({ begin }) => begin?.moves ?? "");
+/** @typedef {{list: List, scramble: string, parts: Part[]}} Asked */
+
+/** @param {Nissy} nissy @param {Asked} asked @returns {Rows} */
+export function rowsOfList(nissy, asked) {
+  const { list } = asked;
+  const position = positionAfter(nissy, asked.scramble, asked.parts);
+  const { lines: now } = position;
+  const isBoth = list.side === "both";
+  const { solutions, whole } = (isBoth ? solutionsOfBoth : solutionsOfSide)(nissy, /** @type {any} */ (list), now);
+  const wanted = list.isAll || isBoth ? solutions : withoutEarlier(solutions);
+  const left = withTotals(nissy, wanted, asked, position);
+  const merged = isBoth ? mergeTwinsOfBoth : mergeTwins;
+  const entries = list.isAll ? left : merged(left, list.step);
   if (stepNamed(list.step).needs === null) {
     const first = entries.slice(0, MOST_WITH_CASES);
-    const facts = nissy.factsAll(first.map(({ moves, line = now[list.side] }) => joined(line, moves)));
+    const lineAfter = ({ normal, inverse }) => joined(nissy.invert(inverse), now.normal, normal);
+    const facts = nissy.factsAll(first.map(({ part }) => lineAfter(part)));
     first.forEach((entry, at) => {
       entry.cases = facts[at].cases;
     });

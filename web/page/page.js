@@ -14,7 +14,9 @@ import { Seen, WayBack, dropAddress, keepPlace, placeIn, writeState } from "./pl
 import { refreshRows } from "./rows.js";
 import { ScrambleField } from "./scramble.js";
 import { SolutionList } from "./solutions.js";
-import { ORIENTATIONS, bracketed, isReduced, reductionOf, stateOf, stepNamed } from "./steps.js";
+import {
+  ORIENTATIONS, bracketed, isReduced, lastSideOf, reductionOf, sideToward, stateOf, stepNamed, turnsOfStep,
+} from "./steps.js";
 import { StepTable, cubeWithOffers } from "./table.js";
 import { awaitAnswer, isBare, keepInView, listenToKeys, setUsable, showBeginning, showStart, star } from "./view.js";
 import { tellFailed } from "./watch.js";
@@ -238,8 +240,8 @@ export class Page {
     // as it was typed, if what follows names the faces so
     const written = isTurned ? scramble : plainLine(this.#state.scramble).line.trim().replace(/ +/g, " ");
     const [{ facts }, made] = [views.normal, walk.totals.at(-1)];
-    this.#cube = { scramble, written, position: walk.now, reached, facts, made };
-    const count = parts.reduce((sum, { moves }) => sum + moves.split(" ").length, 0);
+    this.#cube = { scramble, written, parts, reached, facts, made };
+    const count = parts.reduce((sum, each) => sum + turnsOfStep(each).length, 0);
     this.#nets.show(views, count, () => this.#byHand.ask("framesOf", { scramble, parts }));
     this.#line.describe(walk, whole, written);
     setUsable(true);
@@ -264,7 +266,7 @@ export class Page {
   /** Shows the steps that may follow as soon as they are known, and has the best looked for.
    * @param {number} turn */
   async #showOffers(turn, portions) {
-    const { position, reached } = this.#cube;
+    const { scramble, parts, reached } = this.#cube;
     // nothing is pressed before the page went on to a list that is to come, or back to a row
     const isHeld = this.#state.list !== null && (this.#nextFocus.waitsFor("list") || this.#wayBack.isOn());
     // no row moves once it can be pressed, so all are there before they are counted
@@ -275,7 +277,7 @@ export class Page {
       this.#table.add(groups, this.#cube, this.#state.list);
       part("choices").inert = isHeld;
       awaitAnswer(null);
-      if (at === 0) this.#best.reset(part("choices").hidden ? null : { position, reached });
+      if (at === 0) this.#best.reset(part("choices").hidden ? null : { scramble, parts, reached });
     }
   }
 
@@ -313,8 +315,8 @@ export class Page {
     const { list } = this.#state;
     if (list && !this.#cube) return;
     if (!list) this.#nets.follow("");
-    const name = list ? [this.#turn, list.step, list.side, list.slack, list.isAll, list.split ?? 0].join(" ") : "";
-    const isShown = await this.#list.show(name, list, list && this.#cube.position);
+    const name = list ? [this.#turn, list.step, list.side, list.slack, list.isAll].join(" ") : "";
+    const isShown = await this.#list.show(name, list, this.#cube);
     if (!isShown || !name.startsWith(`${this.#turn} `)) return;
     part("choices").inert = false;
     if (this.#nextFocus.take("list")) this.#list.focus();
@@ -338,7 +340,7 @@ export class Page {
     if (parts.length > 0) this.#kept.star(this.#state, part("keep-line"), parts, reductionOf(this.#state.list));
   }
 
-  /** @param {string} step @param {Part["side"]} side of the list, which is opened, or closed if it is open */
+  /** @param {string} step @param {State["side"]} side of the list, which is opened, or closed if it is open */
   #open(step, side) {
     const { list } = this.#state;
     if (list?.step === step && list.side === side) return this.#changeList(null);
@@ -366,7 +368,7 @@ export class Page {
   /** @param {Part[]} taken @param {string} key of its row */
   #take(taken, key) {
     this.#seen.add(this.#state, taken, key);
-    this.#change({ parts: [...this.#state.parts, ...taken], side: taken.at(-1).side }, { focusNext: "table" });
+    this.#change({ parts: [...this.#state.parts, ...taken], side: lastSideOf(taken.at(-1)) }, { focusNext: "table" });
     announce(`${spoken(bracketed(taken))} is taken.`);
   }
 
@@ -374,8 +376,8 @@ export class Page {
   #goOn({ part: taken, next, key }) {
     if (!next) return this.#take([taken], key);
     this.#seen.add(this.#state, [taken], key, next.step);
-    const list = { step: next.step, side: next.side, slack: 0, isAll: false };
-    this.#change({ parts: [...this.#state.parts, taken], side: next.side, list }, { focusNext: "list" });
+    const list = { step: next.step, side: sideToward(next.part), slack: 0, isAll: false };
+    this.#change({ parts: [...this.#state.parts, taken], side: lastSideOf(next.part), list }, { focusNext: "list" });
   }
 
   /** @param {Error} fault why there is no answer */

@@ -1,6 +1,6 @@
 // Rows of moves, in a list or a table: what is pressed in each, how they come and go, and one stop of the Tab key for
 // all of them, with the arrow keys, Home and End from row to row, and from button to button within one.
-import { button, shownMoves, part, spoken } from "./element.js";
+import { button, part, spoken } from "./element.js";
 
 /** @type {Set<string>} the rows that were pressed since moves are covered */
 const uncovered = new Set();
@@ -14,15 +14,13 @@ export const named = (open, covered) => ({ tabindex: -1, "data-open": open, "dat
 
 /** The button that takes the moves of a row.
  * @param {string} text the moves as they are shown
- * @param {{key: string, twins?: string[], cases?: string[], isSeen: boolean, step?: string}} row what it is known by,
- * what else is said, whether it was taken, and what ends at a bar @param {() => void} click */
-export function takeButton(text, { key, twins = [], cases = [], isSeen, step }, click) {
+ * @param {{key: string, twins?: string[], cases?: string[], isSeen: boolean}} row what it is known by, what else is
+ * said, and whether it was taken @param {() => void} click */
+export function takeButton(text, { key, twins = [], cases = [], isSeen }, click) {
   const seen = isSeen ? ["seen"] : [];
-  const open = [spoken(text, step), ...cases, ...twins, ...seen].join(", ");
+  const open = [spoken(text), ...cases, ...twins, ...seen].join(", ");
   const names = named(open, ["Covered moves", ...cases, ...seen].join(", "));
-  const take = button("", { class: ["take moves", ...seen].join(" "), "data-key": key, ...names, click });
-  take.replaceChildren(...shownMoves(text, step));
-  return take;
+  return button(text, { class: ["take moves", ...seen].join(" "), "data-key": key, ...names, click });
 }
 
 /** The button that keeps the moves of a row.

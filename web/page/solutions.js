@@ -1,13 +1,14 @@
 // The list of a step's solutions: grouped by length or by case, filtered by turns and by case, and cut if it is long. A
 // list that is looked for gives way to another one, and can be stopped.
 import { Stopped } from "../module/faults.js";
-import { GREATEST_SLACK, MOST_SPLIT } from "./address.js";
+import { GREATEST_SLACK } from "./address.js";
 import { announce, announceLater, button, counted, element, part, setBusy, spoken, tell } from "./element.js";
 import {
   Filters, NOT_MOVES, caseAtMost, chosen, offerChoices, offerLastTurns, offerMoves, withTurns,
 } from "./filter.js";
 import { addRows, named, roveWithin, showRows, starButton, takeButton, takeNamed } from "./rows.js";
-import { axisName, barred, bracketed, reductionsAfter, sizeOfCase, stateOf, stepNamed, titleOf } from "./steps.js";
+import { axisName, bracketed, reductionsAfter, sizeOfCase, stateOf, stepNamed, titleOf } from "./steps.js";
+import { sidesOfTwins, withTwins } from "./twins.js";
 import { isNarrow } from "./view.js";
 
 /** @typedef {import("./address.js").List} List */
@@ -21,13 +22,10 @@ const LONG_LINE = 18;
 const MOST_SHOWN = 200;
 const LOOKING = "Looking …";
 
-/** @param {Entry} entry @returns what a solution is known by */
-const keyOf = ({ moves, begin }) => (begin === undefined ? moves : `${begin.moves}, ${moves}`);
-
-/** How many signs a solution has as it is shown.
- * @param {Entry} entry @param {import("./steps.js").Side} side */
-const signsOf = ({ moves, begin }, side) =>
-  (begin === undefined ? moves.length + (side === "inverse" ? 2 : 0) : moves.length + begin.moves.length + 3);
+/** What a list is called.
+ * @param {List} list */
+const nameOfList = ({ step, side }) =>
+  `${titleOf(stepNamed(step))}, ${side === "both" ? "both sides" : `${side} side`}`;
 
 /** What is said of a list.
  * @param {import("./lists.js").Rows} rows @param {number} matching how many are left @param {number} shown */
@@ -58,9 +56,9 @@ export class SolutionList {
   #ordered = [];
   #shown = MOST_SHOWN;
   #filters = new Filters("list", part("solutions-note"), [[
-    withTurns("filter", "last-turn", (entry) => entry),
+    withTurns("filter", "last-turn", ({ moves, others, part: own, twins }) =>
+      (twins === undefined ? withTwins(moves, others) : sidesOfTwins(own, twins))),
     caseAtMost("most", (entry) => this.#casesOf(entry).map(({ name }) => name)),
-    chosen("list-begin", [], ({ begin }, moves) => begin.moves === moves),
   ]], () => this.#filtered());
   #groups = part("solutions-groups");
 
@@ -72,11 +70,8 @@ export class SolutionList {
     this.#calls = calls;
     this.#acts = acts;
     offerMoves("slack", GREATEST_SLACK);
-    offerMoves("split", MOST_SPLIT);
-    for (const name of ["slack", "split"]) {
-      const field = part(name);
-      field.addEventListener("change", () => acts.change({ [name]: Number(field.value) }));
-    }
+    part("slack").addEventListener("change", () => acts.change({ slack: Number(part("slack").value) }));
+    part("list-side").addEventListener("change", () => acts.change({ side: part("list-side").value }));
     part("twins").addEventListener("change", () => acts.change({ isAll: part("twins").checked }));
     part("solutions-stop").addEventListener("click", () => calls.stop());
     part("solutions-close").addEventListener("click", () => acts.change(null));
@@ -96,13 +91,13 @@ export class SolutionList {
   /** Looks for a list, or shows that none is open; one that is shown already stays. Says whether it is shown in the
    * end.
    * @param {string} name what tells it from others @param {List | null} list
-   * @param {import("../module/ways.js").Position | null} position */
-  async show(name, list, position) {
+   * @param {{scramble: string, parts: Part[]} | null} line */
+  async show(name, list, line) {
     if (name === this.#name) return false;
     this.#name = name;
     this.#calls.stop();
     // the engine searches while the card is drawn; what is wrong is said where it is waited for
-    const asked = list && this.#calls.ask("rowsOfList", { list, position });
+    const asked = list && this.#calls.ask("rowsOfList", { list, scramble: line.scramble, parts: line.parts });
     asked?.catch(() => {});
     this.#open(list);
     if (!list) return false;
@@ -142,31 +137,28 @@ export class SolutionList {
   }
 
   /** @param {List} list */
-  #describe({ step, side, slack, isAll, split = 0 }) {
-    part("solutions-heading").textContent = `${titleOf(stepNamed(step))}, ${side} side`;
+  #describe(list) {
+    const { step, side, slack, isAll } = list;
+    part("solutions-heading").textContent = nameOfList(list);
     part("solutions").dataset.marks = stateOf(stepNamed(step));
     part("slack").value = String(slack);
-    part("split").value = String(split);
+    part("list-side").value = side;
     part("twins").checked = isAll;
-    const orders = { case: stepNamed(step).needs === null, beginning: split > 0 };
-    part("case-filters").hidden = !orders.case;
-    part("begin-filter").hidden = !orders.beginning;
-    offerChoices("list-sort", Object.keys(orders).filter((order) => orders[order]), "length");
-    part("list-order").hidden = !orders.case && !orders.beginning;
+    const hasCases = stepNamed(step).needs === null;
+    part("case-filters").hidden = !hasCases;
+    offerChoices("list-sort", hasCases ? ["case"] : [], "length");
+    part("list-order").hidden = !hasCases;
     tell(part("solutions-note"), LOOKING);
   }
 
   /** @param {import("./lists.js").Rows} rows of the open list */
   #take(rows) {
     this.#rows = rows;
-    offerLastTurns("last-turn", rows.entries.map(({ moves }) => moves));
-    // the best first, as the rows are
-    offerChoices("list-begin", [...new Set(rows.entries.flatMap(({ begin }) => begin?.moves ?? []))]);
+    offerLastTurns("last-turn", rows.entries.flatMap(({ part: { normal, inverse } }) => [normal, inverse]));
     this.#setWorking(false);
     this.#order();
-    const { step, side } = this.#list;
     const all = `${rows.whole ? "" : "more than "}${counted(rows.all, "solution")}`;
-    announce(`${titleOf(stepNamed(step))}, ${side} side: ${all}.`);
+    announce(`${nameOfList(this.#list)}: ${all}.`);
   }
 
   /** Puts the focus on the field of the filter, also where the filters are folded. */
@@ -184,7 +176,7 @@ export class SolutionList {
   /** Makes the row of some moves seen, and returns its button, or null.
    * @param {string} key */
   reveal(key) {
-    const at = this.#rows === null ? -1 : this.#matching.findIndex((entry) => keyOf(entry) === key);
+    const at = this.#rows === null ? -1 : this.#matching.findIndex(({ moves }) => moves === key);
     if (at >= this.#shown) {
       this.#shown = at + 1;
       this.#draw();
@@ -212,7 +204,7 @@ export class SolutionList {
     const next = this.#matching[this.#shown];
     this.#shown += MOST_SHOWN;
     this.#draw();
-    takeNamed(this.#groups, keyOf(next))?.focus();
+    takeNamed(this.#groups, next.moves)?.focus();
   }
 
   /** @param {Entry} entry @returns the names of the cases after a solution, for each reduction that may follow */
@@ -240,8 +232,7 @@ export class SolutionList {
 
   /** @param {Entry[]} matching @returns {Group[]} in the order of their rows */
   #grouped(matching) {
-    const order = part("list-sort").value;
-    const byCase = order === "case";
+    const byCase = part("list-sort").value === "case";
     const nearest = new Map(byCase ? matching.map((entry) => [entry, this.#nearest(entry)]) : []);
     const farOf = (entry) => nearest.get(entry)?.far ?? 0;
     if (byCase) matching.sort((one, other) => farOf(one) - farOf(other) || one.length - other.length);
@@ -250,12 +241,10 @@ export class SolutionList {
     for (const entry of matching) {
       const inAll = entry.total === undefined ? "" : `, ${entry.total} in all`;
       const name = nearest.get(entry)?.name ?? counted(entry.length, "move") + inAll;
-      const begin = order === "beginning" ? bracketed([entry.begin]) : "";
-      const group = groups.get(begin || name)
-        ?? { name: begin === "" ? name : `${begin} first, from ${name}`, entries: [], longest: 0, list: null };
-      groups.set(begin || name, group);
+      const group = groups.get(name) ?? { name, entries: [], longest: 0, list: null };
+      groups.set(name, group);
       group.entries.push(entry);
-      group.longest = Math.max(group.longest, signsOf(entry, this.#list.side));
+      group.longest = Math.max(group.longest, bracketed([entry.part]).length);
     }
     return [...groups.values()];
   }
@@ -289,25 +278,17 @@ export class SolutionList {
     addRows(group.list, entries.slice(group.list.children.length, count).map((entry) => this.#item(entry)));
   }
 
-  /** @param {Entry} entry @returns {Part[]} the steps that a solution is: where it is split two */
-  #partsOf({ moves, begin }) {
-    const own = { side: this.#list.side, moves };
-    return begin === undefined ? [own] : [begin, own];
-  }
-
   /** @param {Entry} entry */
   #item(entry) {
-    const { moves, others } = entry;
+    const { moves, others, part: own } = entry;
     if (moves === "") return element("li", { class: "reached" }, "no moves: it is reached");
-    const [added, key, cases] = [this.#partsOf(entry), keyOf(entry), this.#casesOf(entry)];
+    const [added, key, cases] = [[own], moves, this.#casesOf(entry)];
     const text = bracketed(added);
-    const shown = bracketed(added.with(-1, barred(added.at(-1), entry.reached)));
     const twins = others.map((other) => `or ${spoken(other)}`);
-    const step = stateOf(stepNamed(this.#list.step)).slice(0, 2);
-    const said = { cases: cases.map(({ axis, name }) => `${axis} ${name}`), twins, step };
+    const said = { cases: cases.map(({ axis, name }) => `${axis} ${name}`), twins };
     const copy = { class: "copy", ...named(`Copy ${spoken(text)}`, "Copy the covered moves") };
     return element("li", {},
-      takeButton(shown, { key, isSeen: this.#acts.isSeen(added), ...said }, () => this.#acts.take(added, key)),
+      takeButton(text, { key, isSeen: this.#acts.isSeen(added), ...said }, () => this.#acts.take(added, key)),
       ...(others.length === 0 ? [] : [element("small", { class: "twins" }, `/ ${others.join(" / ")}`)]),
       ...(cases.length === 0 ? [] : [element("span", { class: "cases" }, ...cases.map(({ axis, name, state }) =>
         element("span", { class: "case", "data-marks": state }, `${axis} ${name}`)))]),

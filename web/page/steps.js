@@ -1,14 +1,14 @@
 // The steps that the page offers, by the engine's names, what they are called here, and the numbers that solvers choose
 // them by; and the parts of a line, each a step on one side.
-import { FACES_OF, ORIENTATIONS, REDUCTIONS, reductionsAfter, stepNamed } from "../module/best-steps.js";
-import { SIDES } from "../module/sides.js";
+import { SIDES, joined } from "../module/sides.js";
+import { FACES_OF, ORIENTATIONS, REDUCTIONS, reductionsAfter, stepNamed } from "./axes.js";
 
-export { ORIENTATIONS, REDUCTIONS, reductionsAfter, stepNamed } from "../module/best-steps.js";
 export { SIDES, bracketed, joined, otherSide } from "../module/sides.js";
+export { ORIENTATIONS, REDUCTIONS, reductionsAfter, stepNamed } from "./axes.js";
 
 /** @typedef {import("../module/facts.js").Axis} Axis */
-/** @typedef {import("../module/best-steps.js").StepOnAxis} OfferedStep */
-/** @typedef {import("../module/sides.js").Part} Part one step of a line */
+/** @typedef {import("./axes.js").StepOnAxis} OfferedStep */
+/** @typedef {import("../module/sides.js").Moves} Part one step of a line */
 /** @typedef {import("../module/sides.js").Side} Side */
 
 /** @param {string} name @returns {name is Side} whether it names a side */
@@ -61,10 +61,31 @@ export function newlyReached({ reached }, index) {
   return reductions.length > 0 ? reductions : fresh;
 }
 
-/** A part with a bar after the beginning with which what it reaches is reached, if it goes on after that.
- * @param {Part} part @param {string | null} [beginning] @returns {Part} */
-export const barred = ({ side, moves }, beginning = null) =>
-  ({ side, moves: beginning === null ? moves : `${beginning} |${moves.slice(beginning.length)}` });
+/** Moves on one side as a step.
+ * @param {Side} side @param {string} moves @returns {Part} */
+export const partOn = (side, moves) => ({ normal: "", inverse: "", [side]: moves });
+
+/** @param {readonly Part[]} parts @param {Side} side @returns what some steps make on a side, in their order */
+export const movesOn = (parts, side) => joined(...parts.map((each) => each[side]));
+
+/** @param {Part} part @returns {string[]} the turns of a step on both sides */
+export const turnsOfStep = (part) => SIDES.flatMap((side) => part[side].split(" ")).filter(Boolean);
+
+/** @param {readonly Part[]} parts @returns {"normal" | "inverse" | "both sides"} where some steps have moves */
+export function sidesOf(parts) {
+  const [normal, inverse] = SIDES.map((side) => parts.some((each) => each[side] !== ""));
+  if (normal && inverse) return "both sides";
+  return inverse ? "inverse" : "normal";
+}
+
+/** @param {Part} part a reduction @returns {Side | "both"} on which its list is opened: where it has moves */
+export function sideToward(part) {
+  const where = sidesOf([part]);
+  return where === "both sides" ? "both" : where;
+}
+
+/** @param {Part} part @returns {Side} the side on which a step ends */
+export const lastSideOf = ({ inverse }) => (inverse === "" ? "normal" : "inverse");
 
 /** @param {string} name such as `4c2e` @returns the numbers in the name of a case, and how far it is, to sort by: an
  * edge costs about as much as a corner */

@@ -1,41 +1,58 @@
 // The script of the page's workers: all that the page asks, each by its name, of the engine that is at hand there.
-import { continuations } from "../module/best-search.js";
+import { Engine } from "../module/engine.js";
 import { NissyFault } from "../module/faults.js";
 import { Nissy } from "../module/nissy.js";
+import { bestIn } from "../module/replies.js";
+import { bestRequest } from "../module/requests.js";
 import { serveBy } from "../module/serve.js";
+import { STEPS } from "../module/steps.js";
+import { mostKept } from "./finder.js";
 import { readAddressed, readByHand, readWritten } from "./lines.js";
 import { rowsOfList } from "./lists.js";
-import { examine, framesOf, reductionsOf, walkKept } from "./position.js";
-import { stateOf, stepNamed } from "./steps.js";
+import { countsAfter, examine, framesOf, walkKept } from "./position.js";
+import { bracketed, sizeOfCase, stateOf, stepNamed } from "./steps.js";
+import { sidesOfTwins } from "./twins.js";
 
 /** @typedef {import("../module/steps.js").Step} Step */
+/** @typedef {import("../module/ways.js").BestRow} BestRow */
 
 const SCRAMBLE_TURNS = 25;
 const STREAM = 1;
-/** How many rows of one axis are told, besides those that are as good as the last: no more are kept of all. */
-const MOST_TOLD_OF_AXIS = 10_000;
 
 /** @param {Nissy} nissy @param {{seed: string}} asked @returns the scramble of a seed, or null if it is none */
 const scrambleOf = (nissy, { seed }) => (/^\d+$/.test(seed) && BigInt(seed) < 2n ** 64n
   ? nissy.scramble(BigInt(seed), STREAM, SCRAMBLE_TURNS) : null);
 
-/** A row as it is told: what it reaches in the page's words, and the lengths after the moves that it shows alone.
- * @param {import("../module/best-rows.js").Row} row @returns {import("./finder.js").Row} */
-function rowInWords(row) {
-  if (row.next === null) return { ...row, state: stateOf(stepNamed(row.step)), next: null };
-  const { step, side, own } = row.next;
-  const next = { step, side, ...own, marks: stateOf(stepNamed(step)), case: row.case };
-  return { ...row, state: stateOf(stepNamed(row.step)), next };
+/** What rows are put in order by, as one number: all moves, those of the first step, the pieces of the case, the step.
+ * @param {number} total @param {import("../module/ways.js").BestStep} first @param {number} far */
+const rankOf = (total, { length, step }, far) => ((total * 64 + length) * 64 + far) * 16 + STEPS.indexOf(step);
+
+/** A row as the page has it, with what it reaches in the page's words.
+ * @param {BestRow} row @returns {import("./finder.js").Row} */
+function rowInWords({ total, eo, dr, case: name }) {
+  const first = eo ?? dr;
+  const { far } = sizeOfCase(name);
+  const partOf = ({ normal, inverse }) => ({ normal, inverse });
+  const { step, length, lengths } = dr;
+  const next = eo && { step, part: partOf(dr), length, marks: stateOf(stepNamed(step)), case: name, lengths };
+  return {
+    total, part: partOf(first), state: stateOf(stepNamed(first.step)), twins: first.twins, far, next,
+    lines: eo ? [] : sidesOfTwins(dr, dr.twins), key: [first.step, first.moves, step].join(" "),
+    rank: rankOf(total, first, far),
+  };
 }
 
-/** The best of one axis, which are told as they are found.
- * @param {Nissy} nissy @param {{orientation: Step, question: import("./finder.js").Question}} asked
- * @param {(found: import("./finder.js").Progress) => void} tell */
-function bestOfAxis(nissy, { orientation, question }, tell) {
-  const wish = { ...question, most: MOST_TOLD_OF_AXIS, atOnce: true };
-  for (const found of continuations(nissy, question.position, question.reached, [orientation], wish)) {
-    tell({ ...found, rows: found.rows.map(rowInWords) });
-  }
+/** The best of one axis, of which it is told how many were tried.
+ * @param {Nissy} _ @param {{axis: number, question: import("./finder.js").Question}} asked
+ * @param {(tried: number) => void} tell @param {Engine} engine @returns {import("./finder.js").Found} */
+function bestOfAxis(_, { axis, question: { scramble, parts, slack } }, tell, engine) {
+  const request = bestRequest(scramble, { soFar: bracketed(parts), slack, most: mostKept(slack) });
+  let tried = 0;
+  const reply = engine.answer({ ...request, axes: [axis] }, ({ done }) => {
+    tried = done;
+    tell(tried);
+  });
+  return { rows: bestIn(/** @type {any} */ (reply), request).map(rowInWords), tried };
 }
 
 /** Has the tables of a step built.
@@ -45,7 +62,7 @@ function build(nissy, { step }) {
 }
 
 const ANSWERS = {
-  bestOfAxis, build, examine, framesOf, readAddressed, readByHand, readWritten, reductionsOf, rowsOfList, scrambleOf,
+  bestOfAxis, build, countsAfter, examine, framesOf, readAddressed, readByHand, readWritten, rowsOfList, scrambleOf,
   walkKept,
 };
 
@@ -68,7 +85,7 @@ const worker = self;
 worker.addEventListener("unhandledrejection", ({ reason }) => {
   throw reason;
 });
-serveBy(worker, (module) => Nissy.load(module), (nissy, { id, request: { call, about } }) => {
+serveBy(worker, (module) => Engine.start(module), (engine, { id, request: { call, about } }) => {
   const tell = (progress) => worker.postMessage({ id, progress });
-  worker.postMessage({ id, reply: replyOf(() => ANSWERS[call](nissy, about, tell)) });
+  worker.postMessage({ id, reply: replyOf(() => ANSWERS[call](new Nissy(engine), about, tell, engine)) });
 });

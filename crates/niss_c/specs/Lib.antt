@@ -1,1 +1,2 @@
+pub mod BestCall
 pub mod Version

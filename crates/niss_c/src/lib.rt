@@ -1,6 +1,7 @@
 //! The library for C: what other programs call. `include/nissy.h` says the same in the words of C.
 #![tactic(auto)]
 
+mod best_call;
 mod check_calls;
 mod reading_calls;
 mod run_call;
@@ -8,11 +9,14 @@ mod table_calls;
 mod text_calls;
 mod version;
 
+pub use best_call::{nissy_best, nissy_line_after, nissy_solve_sides};
 pub use check_calls::{nissy_check, nissy_facts, nissy_facts_lines};
 pub use niss_embed::{
-    Answer, AxisFacts, CheckAnswer, FactsAnswer, LineAnswer, LinesAnswer, SearchAnswer,
+    Answer, AxisFacts, CheckAnswer, FactsAnswer, LineAfterAnswer, LineAnswer, LinesAnswer,
+    SearchAnswer, WaysAnswer, WaysWanted,
 };
 pub use niss_kept::Held;
+pub use niss_ways::{Part, SideTurns, Way};
 pub use reading_calls::{nissy_plain, nissy_text_lines};
 pub use run_call::nissy_run;
 pub use table_calls::{

@@ -146,10 +146,10 @@ fn all_pairs_come_in_order(rt: HostRuntime) {
     for row in &[
         found(after("", 0), &[("", "")], Some(0), 1),
         found(after("F", 0), AFTER_F, Some(1), 39),
-        found(after("F B", 0), AFTER_F_B, Some(2), 239),
-        found(after("F R U B", 0), AFTER_F_R_U_B, Some(2), 59),
-        found(after("F", 1), AFTER_F, Some(1), 497),
-        found(after("F R U B", 1), AND_A_TURN_MORE, Some(2), 385),
+        found(after("F B", 0), AFTER_F_B, Some(2), 225),
+        found(after("F R U B", 0), AFTER_F_R_U_B, Some(2), 45),
+        found(after("F", 1), AFTER_F, Some(1), 231),
+        found(after("F R U B", 1), AND_A_TURN_MORE, Some(2), 343),
         found(TOO_FEW, &[], None, 3),
     ] {
         row.check(&rt, &tables);
@@ -179,7 +179,7 @@ fn a_search_over_both_sides_ends_early(rt: HostRuntime) {
 fn a_reduction_has_pairs(rt: HostRuntime) {
     let tables = tables_of(&rt, rt.alloc(), Step::DrudEofb, &mut Meter::new());
     let pairs = &[("R", "R"), ("R", "R'"), ("R'", "R"), ("R'", "R'")];
-    found(after("R U R", 0), pairs, Some(2), 47).check(&rt, &tables);
+    found(after("R U R", 0), pairs, Some(2), 37).check(&rt, &tables);
     drop(tables);
 }
 
@@ -190,7 +190,7 @@ type LengthRow = (Sides, u8, &'static [Written], u128);
 const LENGTHS: &[LengthRow] = &[
     (Sides::Both, 0, &[], 1),
     (Sides::Both, 1, AFTER_F, 38),
-    (Sides::Both, 2, &[], 458),
+    (Sides::Both, 2, &[], 192),
     (Sides::Normal, 1, &[("F", ""), ("F'", "")], 19),
     (Sides::Inverse, 1, &[("", "F"), ("", "F'")], 19),
 ];

@@ -1,5 +1,5 @@
 -- The cubies of the inverse scramble: at the place of each cubie's home stands the cubie of its place, turned back.
-use Rattle.niss_cube.proofs.Words.{◌≡◌, ℕ, ◌+◌, ◌-◌, ◌%◌, ◌<◌, ◌==◌, refl, sym, ◌∙◌, ap, get_or, length, sum, arith, inl, inr}
+use Rattle.niss_cube.proofs.Words.{◌≡◌, ℕ, ◌+◌, ◌-◌, ◌%◌, ◌<◌, ◌==◌, refl, sym, ◌∙◌, ap, get_or, length, arith, inl, inr}
 use Rattle.niss_cube.proofs.Words.{Place, eq-eqb, eqb-true, same_truth, is_place, subst, true, ◌*◌, List, ArePlaced, set, eqb_tells}
 use Rattle.std.proofs.lemmas.List.{get_or-set_same, get_or-set_other}
 use Rattle.niss_cube.proofs.CubieKinds.{lists_path, CubieLists, Valid, map_lists, tabulated, tabulated-length, tabulated-at}

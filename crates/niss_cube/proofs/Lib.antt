@@ -5,6 +5,7 @@ pub mod Codes
 pub mod CoordinateLaws
 pub mod CubieKinds
 pub mod Digits
+pub mod IdleTurns
 pub mod InverseCubies
 pub mod Leaving
 pub mod MovedCubies

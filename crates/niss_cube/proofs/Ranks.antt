@@ -4,10 +4,10 @@ use Rattle.niss_cube.proofs.Words.{ap, arith, ◌≡◌, ℕ, ◌%◌, ◌<◌, 
 use Rattle.niss_cube.proofs.Words.{eq-eqb, number, orientations_of_rank, AreOriented}
 use Rattle.niss_cube.proofs.Words.{append_assoc, suc, ◌+◌, ◌-◌, [], ◌∷◌, ◌++◌, set, drop, length-set}
 use Rattle.niss_cube.proofs.Words.{take-length, digits_of_number, drop-set_at, Same, Truths, map, reverse}
-use Rattle.niss_cube.proofs.Words.{Bool, false, nat_le, sum_by, get_or-reverse, length-reverse, length-map, get_or-map}
+use Rattle.niss_cube.proofs.Words.{Bool, true, cond, false, nat_le, sum_by, get_or-reverse, length-reverse, length-map, get_or-map}
 use Rattle.niss_cube.proofs.Words.{rank_places, edges_down, reverse-reverse, count_by, Turn, turn_table}
-use Rattle.niss_cube.proofs.Words.{edges_of_rank, ArePlaced, ◌≤◌, le-leb, drop-cons, choose, length-drop, zero}
-use Rattle.niss_cube.proofs.Words.{CHOICES, choices_with, lt-leb, leb-true, nat_lt, subst, reverse-append, lt-ltb}
+use Rattle.niss_cube.proofs.Words.{edges_of_rank, ArePlaced, ◌≤◌, drop-cons, choose, length-drop, zero}
+use Rattle.niss_cube.proofs.Words.{choices_with, leb-true, nat_lt, subst, reverse-append, lt-ltb}
 use Rattle.niss_cube.proofs.Words.{le-ltb}
 use Rattle.niss_cube.proofs.CubieKinds.{Kind, Corners, Edges, count, facelets, CubieLists, Valid, once, tabulated}
 use Rattle.niss_cube.proofs.CubieKinds.{tabulated-length, tabulated-at, brought, low}
@@ -237,13 +237,6 @@ pub rank-turned : (t : Turn) (c d : CubieLists) → Valid c → Valid d → rank
 rank-turned t c d v w e =
     ap (λ os. rank_places (reverse os) 4) (turned-occupied t c.edges d.edges v.edges_placed.places w.edges_placed.places (slice-same c d v w e))
 
-choices-are : (n : ℕ) → n < 12 → (k : ℕ) → k < 4 → get_or (get_or CHOICES n []) k 0 ≡ choose n k
-choices-are = holds (Numbers 12 λ n. Numbers 4 λ k. Equal (get_or (get_or CHOICES n []) k 0) (choose n k)) refl
-
-pub choices_with_are : (n k : ℕ) → n < 12 → k ≤ 4 → 0 < k → get_or (get_or CHOICES n []) (k - 1) 0 ≡ choices_with n k
-choices_with_are n zero l few some = absurd (omega arith)
-choices_with_are n (suc k) l few some = let e : suc k - 1 ≡ k = omega arith in rw e (choices-are n l k (omega arith))
-
 module _ (edges : List ℕ) (l : length edges ≡ 12) (met n : ℕ) (lm : met < 12) where
   next : drop met (slice_occupied edges) ≡ nat_le 8 (get_or edges (11 - met) 0) ∷ drop (suc met) (slice_occupied edges)
   next =
@@ -253,33 +246,43 @@ module _ (edges : List ℕ) (l : length edges ≡ 12) (met n : ℕ) (lm : met < 
   left : length (drop (suc met) (slice_occupied edges)) ≡ 11 - met
   left = omega (arith, length-drop (suc met) (slice_occupied edges), slice_occupied-length edges l)
 
-  step_yes : (w : ℕ) → 8 ≤ get_or edges (11 - met) 0 → rank_places (drop met (slice_occupied edges)) (suc w) ≡ rank_places (drop (suc met) (slice_occupied edges)) w
-  step_yes w h =
-      ap (λ os. rank_places os (suc w)) next
-      ∙ ap (λ b. rank_places (b ∷ drop (suc met) (slice_occupied edges)) (suc w)) (le-leb 8 (get_or edges (11 - met) 0) h)
+  abbrev rest : List Bool
+  rest = drop (suc met) (slice_occupied edges)
 
-  step_no : (w : ℕ) → get_or edges (11 - met) 0 < 8 → rank_places (drop met (slice_occupied edges)) (suc w) ≡ choose (11 - met) w + rank_places (drop (suc met) (slice_occupied edges)) (suc w)
-  step_no w h =
-      ap (λ os. rank_places os (suc w)) next
-      ∙ ap (λ b. rank_places (b ∷ drop (suc met) (slice_occupied edges)) (suc w)) (lt-leb 8 (get_or edges (11 - met) 0) h)
-      ∙ ap (λ k. choose k w + rank_places (drop (suc met) (slice_occupied edges)) (suc w)) left
+  -- by one place more, at which one of the edges stands or not
+  step : (w : ℕ) (b : Bool) → b ≡ nat_le 8 (get_or edges (11 - met) 0)
+      → rank_places (drop met (slice_occupied edges)) w
+      ≡ cond b 0 (choices_with (11 - met) w) + rank_places rest (w - cond {A = ℕ} b 1 0)
+  step zero true is = refl
+  step zero false is = refl
+  step (suc w) true is =
+      let first = ap (λ os. rank_places os (suc w)) next in
+      let here : rank_places (drop met (slice_occupied edges)) (suc w) ≡ rank_places rest w =
+      first ∙ ap (λ b. rank_places (b ∷ rest) (suc w)) (sym is) in
+      let one : suc w - 1 ≡ w = omega arith in
+      let less : rank_places rest (suc w - 1) ≡ rank_places rest w = ap (rank_places rest) one in
+      let all : rank_places (drop met (slice_occupied edges)) (suc w) ≡ 0 + rank_places rest (suc w - 1) =
+      omega (arith, here, less) in
+      all
+  step (suc w) false is =
+      let first = ap (λ os. rank_places os (suc w)) next in
+      let here : rank_places (drop met (slice_occupied edges)) (suc w) ≡ choose (11 - met) w + rank_places rest (suc w) =
+      first ∙ ap (λ b. rank_places (b ∷ rest) (suc w)) (sym is) ∙ ap (λ k. choose k w + rank_places rest (suc w)) left in
+      let none : suc w - 0 ≡ suc w = omega arith in
+      let same : rank_places rest (suc w - 0) ≡ rank_places rest (suc w) = ap (rank_places rest) none in
+      let all : rank_places (drop met (slice_occupied edges)) (suc w) ≡ choose (11 - met) w + rank_places rest (suc w - 0) =
+      omega (arith, here, same) in
+      all
 
-  pub counted_yes : (w w' n' total : ℕ) → 0 < w → 8 ≤ get_or edges (11 - met) 0 → w' ≡ w - 1 → n' ≡ n → n + rank_places (drop met (slice_occupied edges)) w ≡ total → n' + rank_places (drop (met + 1) (slice_occupied edges)) w' ≡ total
-  counted_yes w w' n' total p h ew en e =
-      let some : w ≡ suc (w - 1) = omega arith in
+  pub counted_place : (w w' k total : ℕ) (b : Bool) → b ≡ nat_le 8 (get_or edges (11 - met) 0)
+      → k ≡ cond b 0 (choices_with (11 - met) w) → w' ≡ w - cond {A = ℕ} b 1 0
+      → n + rank_places (drop met (slice_occupied edges)) w ≡ total
+      → n + k + rank_places (drop (met + 1) (slice_occupied edges)) w' ≡ total
+  counted_place w w' k total b is passed less e =
       let more : met + 1 ≡ suc met = omega arith in
-      let step = step_yes (w - 1) h in
-      let same : rank_places (drop met (slice_occupied edges)) w ≡ rank_places (drop (met + 1) (slice_occupied edges)) w' = cc in
-      omega (arith, same)
-
-  pub counted_no : (w w' n' total : ℕ) → 0 < w → w ≤ 4 → get_or edges (11 - met) 0 < 8 → w' ≡ w → n' ≡ n + get_or (get_or CHOICES (11 - met) []) (w - 1) 0 →
-      n + rank_places (drop met (slice_occupied edges)) w ≡ total → n' + rank_places (drop (met + 1) (slice_occupied edges)) w' ≡ total
-  counted_no w w' n' total p q h ew en e =
-      let some : w ≡ suc (w - 1) = omega arith in
-      let more : met + 1 ≡ suc met = omega arith in
-      let step = step_no (w - 1) h in
-      let same : rank_places (drop met (slice_occupied edges)) w ≡ choose (11 - met) (w - 1) + rank_places (drop (met + 1) (slice_occupied edges)) w' = cc in
-      omega (arith, same, choices-are (11 - met) (omega arith) (w - 1) (omega arith))
+      let same : rank_places (drop (met + 1) (slice_occupied edges)) w' ≡ rank_places rest (w - cond {A = ℕ} b 1 0) =
+      λ i. rank_places (drop (more i) (slice_occupied edges)) (less i) in
+      omega (arith, step w b is, same, passed, e)
 
 -- what the loop keeps: the edges still to come, and those placed, are the edges of the number
 pub record Placed (number n wanted rest : ℕ) (edges : List ℕ) : Type 0 where

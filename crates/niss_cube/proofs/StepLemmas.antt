@@ -209,16 +209,16 @@ start_is_kept s e t m h = start_kept (start_of s) e t m h
 -- the places alone are seen
 
 -- Two maps keep the same sets of places.
-abbrev KeepAlike : (d e : Place → Place) → Type 0
+abbrev pub KeepAlike : (d e : Place → Place) → Type 0
 KeepAlike d e = (set : Place → Bool) → HasOnlyPlaces set → is_kept set d ≡ is_kept set e
 
-is_kept_same : (d e : Place → Place) → SameMap d e → KeepAlike d e
+pub is_kept_same : (d e : Place → Place) → SameMap d e → KeepAlike d e
 is_kept_same d e same set inside =
     same_truth (is_kept set d) (is_kept set e)
     (λ h. (kept_is_tested set e inside).1 (kept_same set d e inside same ((kept_is_tested set d inside).0 h)))
     (λ h. (kept_is_tested set d inside).1 (kept_same set e d inside (λ q p. sym (same q p)) ((kept_is_tested set e inside).0 h)))
 
-holds_same : (g : Goal) (d e : Place → Place) → KeepAlike d e → goal_holds g d ≡ goal_holds g e
+pub holds_same : (g : Goal) (d e : Place → Place) → KeepAlike d e → goal_holds g d ≡ goal_holds g e
 holds_same (Edges a) d e same = same (flip_set a) (sets_are_places Flip a)
 holds_same (Domino b a) d e same =
     let flips : is_kept (flip_set b) d ≡ is_kept (flip_set b) e = same (flip_set b) (sets_are_places Flip b) in

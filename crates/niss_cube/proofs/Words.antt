@@ -59,7 +59,7 @@ unfoldable pub use Rattle.niss_cube.specs.Sets.{is_kept}
 pub use Rattle.niss_cube.specs.StepLaws.{OtherTurnsLeaveStart, DominoKeepsStart, StartIsKept, StepsSeePlaces}
 pub use Rattle.niss_cube.specs.StepLaws.{InversesOfSteps, StepTurnsInOrder, StepTurnsAreCounted, NamesDiffer}
 pub use Rattle.niss_cube.specs.Steps.{start_of, goals_of, powers_from, is_face_of, steps, name_of}
-unfoldable pub use Rattle.niss_cube.specs.Steps.{turns_of, may_start, reached}
+unfoldable pub use Rattle.niss_cube.specs.Steps.{turns_of, may_start, reached, is_idle}
 pub use Rattle.niss_cube.specs.AfterTurn.{IsMoveRow, IsRankAfter, AreMoveRows, turn_in, turn_number}
 pub use Rattle.niss_cube.specs.declared.cube.coordinate.ranking.TheConstants.{CHOICES}
 pub use Rattle.niss_cube.specs.declared.cubie_turns.CubieTurn.{CubieTurn}

@@ -5,7 +5,7 @@ use Rattle.niss_moves.specs.Canonical.{turn_order}
 use Rattle.niss_cube.specs.Names.{Place, SameMap, turned, inverse_turn, Turn, Axis, Domino, Cube, Step}
 use Rattle.niss_cube.specs.Map.{map_of}
 use Rattle.niss_cube.specs.BadPieces.{TakesBack}
-use Rattle.niss_cube.specs.Steps.{reached_mask, start_of, goals_of, turns_of, may_start, reached, name_of}
+use Rattle.niss_cube.specs.Steps.{reached_mask, start_of, goals_of, turns_of, may_start, reached, is_idle, name_of}
 
 -- A step that may start may start after each of its turns too.
 abbrev pub StartIsKept : Type 0
@@ -39,6 +39,15 @@ ReachedStepsSeePlaces = (d e : Place → Place) → SameMap d e → reached_mask
 -- A cube and its inverse have the same start and the same goal.
 abbrev pub InverseHasSteps : Type 0
 InverseHasSteps = (c d : Cube) → TakesBack c d → SameSteps (map_of c) (map_of d)
+
+-- A turn leaves a step reached or not, after all that made the cube, and on the inverse, where it is taken back before all
+-- that.
+pub record LeavesStep (s : Step) (t : Turn) : Type 0 where
+  pub after : (e : Place → Place) → reached s (λ q. turned t (e q)) ≡ reached s e
+  pub on_inverse : (e : Place → Place) → reached s (λ q. e (turned (inverse_turn t) q)) ≡ reached s e
+
+abbrev pub IdleTurnsLeaveSteps : Type 0
+IdleTurnsLeaveSteps = (s : Step) (t : Turn) → IsTrue (is_idle s t) → LeavesStep s t
 
 -- The turns of a step hold their inverses.
 abbrev pub InversesOfSteps : Type 0

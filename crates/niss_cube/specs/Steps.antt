@@ -1,9 +1,10 @@
 -- The steps of solving: from where each may start, what it reaches, and its turns.
 use Rattle.std.specs.Prelude.{ℕ, Bool, true, ◌&&◌, ◌||◌, if◌then◌else◌, List, [], ◌∷◌, map, Option, None, Some, flat_map, codes}
-use Rattle.std.specs.List.{list_any}
+use Rattle.std.specs.List.{list_any, list_all}
 use lib.Lanes.{mask_l}
 use Rattle.std.specs.Option.{option_map_or, option_map}
 use Rattle.niss_moves.specs.Canonical.{face_order, powers, same_face}
+use Rattle.niss_cube.specs.Names.{turned}
 use Rattle.niss_cube.specs.Names.{Place, Axis, Ud, Rl, Fb, Face, U, D, R, L, F, B, Power, Half, Turn, Goal, Edges, Domino, Step, Eofb, Eorl}
 use Rattle.niss_cube.specs.Names.{Eoud, DrudEofb, DrrlEofb, DrudEorl, DrfbEorl, DrrlEoud, DrfbEoud, Eo, DrEofb, DrEorl, DrEoud}
 use Rattle.niss_cube.specs.Sets.{flip_set, twist_set, slice_set, is_kept, Kept}
@@ -98,6 +99,10 @@ may_start step e = option_map_or (λ axis. holds (Edges axis) e) (start_of step)
 -- A cube with this map has reached the step: some goal holds.
 unfoldable pub reached : Step → (Place → Place) → Bool
 reached step e = list_any (λ goal. holds goal e) (goals_of step)
+
+-- A turn is idle in a step if it keeps each set of each goal: it leaves the step reached, or not reached.
+unfoldable pub is_idle : Step → Turn → Bool
+is_idle step t = list_all (λ goal. holds goal (turned t)) (goals_of step)
 
 -- which steps are reached, as a number: bit i is set if step i is
 abbrev pub reached_mask : (Place → Place) → ℕ

@@ -109,6 +109,7 @@ impl Cube {
     }
 
     /// The cube renamed by a rotation.
+    #[inline(always)]
     fn renamed(&self, renaming: Renaming) -> Cube
         ensures { SameMap (map_of result) (renamed_by renaming (map_of self.now)) }
     {

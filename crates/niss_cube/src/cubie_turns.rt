@@ -104,6 +104,7 @@ pub fn cubie_turn(turn: Turn) -> &'static CubieTurn
 }
 
 /// Which cubie stands at each place, after each came from the place that `from` names.
+#[inline(always)]
 pub fn turn_homes<const PLACES: usize>(homes: &[u8; PLACES], from: &[u8; PLACES]) -> [u8; PLACES]
     requires { EachIndex from.now (λ k. slice_index from.now k < PLACES) }
     ensures { EachIndex result (λ k. slice_index result k
@@ -118,6 +119,7 @@ pub fn turn_homes<const PLACES: usize>(homes: &[u8; PLACES], from: &[u8; PLACES]
 
 /// How the cubie at each place is twisted or flipped, after each came from the place that `from` names and was turned by
 /// what `added` names. Corners have three `FACELETS`, edges two.
+#[inline(always)]
 pub fn turn_orientations<const PLACES: usize, const FACELETS: u8>(
     orientations: &[u8; PLACES],
     from: &[u8; PLACES],

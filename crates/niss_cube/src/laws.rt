@@ -7,7 +7,7 @@ ghost use Rattle.niss_cube.specs.BadPieces.{InverseIsAsBad, BadEdgesAreEven, NoC
 ghost use Rattle.niss_cube.specs.BadPieces.{BadPiecesAreCounted, GoalsByBadPieces};
 ghost use Rattle.niss_cube.specs.BadPlaces.{BadPlacesAreCounted, BadPlacesSeePlaces};
 ghost use Rattle.niss_cube.specs.StepLaws.{StartIsKept, StartIsKeptBefore, InverseHasSteps, OtherTurnsLeaveStart, StepsSeePlaces, InversesOfSteps};
-ghost use Rattle.niss_cube.specs.StepLaws.{ReachedStepsSeePlaces};
+ghost use Rattle.niss_cube.specs.StepLaws.{ReachedStepsSeePlaces, IdleTurnsLeaveSteps};
 ghost use Rattle.niss_cube.specs.Map.{HomeIsTested, HomeSeesPlaces};
 ghost use Rattle.niss_cube.specs.StepLaws.{StepTurnsInOrder, StepTurnsAreCounted, DominoKeepsStart, NamesDiffer};
 
@@ -127,6 +127,11 @@ pub fn home_is_tested()
 /// Whether a cube is solved depends on the 54 sticker places alone.
 pub fn home_sees_places()
     ensures { HomeSeesPlaces }
+{}
+
+/// An idle turn of a step leaves it reached or not, on either side.
+pub fn idle_turns_leave_steps()
+    ensures { IdleTurnsLeaveSteps }
 {}
 
 /// The turns of a step hold their inverses.

@@ -1,10 +1,11 @@
 //! The steps of solving: edge orientation, and the domino reduction that follows it.
 ghost use Rattle.std.specs.Prelude.{◌≡◌, ◌↔◌, IsTrue, ◌≢◌, IfSome, IfNone};
-ghost use Rattle.std.specs.List.{Any};
+ghost use Rattle.std.specs.List.{Any, list_all};
 ghost use Rattle.std.specs.Option.{option_copied};
 ghost use Rattle.niss_cube.specs.Map.{map_of};
 ghost use Rattle.niss_cube.specs.Steps.{steps, name_of, start_of, start_name_of, goals_of};
 ghost use Rattle.niss_cube.specs.Steps.{turns_of, holds, may_start, reached, reached_mask, KeepsGoal, KeepsStart};
+ghost use Rattle.niss_cube.specs.Steps.{is_idle};
 ghost use Rattle.niss_cube.specs.declared.step.Step.{Step};
 
 use crate::cube::Cube;
@@ -216,6 +217,23 @@ impl Step {
         ensures kept { IsTrue result ↔ Any (λ goal. KeepsGoal goal (map_of cube.now)) (goals_of self) }
     {
         self.goals().iter().any(|goal| goal.holds(cube))
+    }
+
+    /// Whether a turn is idle in the step: it keeps what each of its goals keeps. So it leaves the step reached, or not
+    /// reached.
+    pub fn is_idle(self, turn: Turn) -> bool
+        ensures { result ≡ is_idle self turn }
+    {
+        let mut cube = Cube::solved();
+        cube.turn(turn);
+        self.holds_all(&cube)
+    }
+
+    /// Whether each of its goals holds of the cube.
+    fn holds_all(self, cube: &Cube) -> bool
+        ensures { result ≡ list_all (λ goal. holds goal (map_of cube.now)) (goals_of self) }
+    {
+        self.goals().iter().all(|goal| goal.holds(cube))
     }
 }
 

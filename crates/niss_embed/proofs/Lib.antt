@@ -9,3 +9,5 @@ pub mod ManyLemmas
 pub mod CountLemmas
 pub mod AfterLemmas
 pub mod RestLemmas
+pub mod BestLemmas
+pub mod SidesLemmas

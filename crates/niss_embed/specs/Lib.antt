@@ -6,3 +6,6 @@ pub mod LineSearch
 pub mod LineFacts
 pub mod ManyLines
 pub mod SolveAfter
+pub mod TwoLines
+pub mod BestWays
+pub mod ListedSides

@@ -23,6 +23,7 @@
 #![tactic(auto)]
 
 mod answer;
+mod best;
 mod call;
 mod fact_answers;
 mod line_facts;
@@ -31,8 +32,13 @@ mod line_texts;
 mod many_lines;
 mod memory;
 mod search_answer;
+mod sides;
+mod sides_answer;
+mod two_lines;
+mod ways_answer;
 
 pub use answer::{Answer, LineAnswer, Status};
+pub use best::{best_ways, line_after};
 pub use call::run_bytes;
 pub use fact_answers::{AxisFacts, CheckAnswer, FactsAnswer, LinesAnswer};
 pub use line_facts::{check_line, facts_of_line};
@@ -40,3 +46,6 @@ pub use line_search::{Wanted, count_line, solve_after, solve_line};
 pub use line_texts::{fault_text, rewrite_line, scramble, start_name, step_names};
 pub use many_lines::{count_lines, facts_of_lines};
 pub use search_answer::SearchAnswer;
+pub use sides::solve_sides;
+pub use sides_answer::{SidesAnswer, SidesWanted};
+pub use ways_answer::{LineAfterAnswer, WaysAnswer, WaysWanted};

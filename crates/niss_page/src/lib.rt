@@ -2,6 +2,7 @@
 #![tactic(auto)]
 
 mod arena;
+mod best_call;
 mod check_calls;
 mod held;
 mod one_block;
@@ -10,6 +11,7 @@ mod run_call;
 mod table_calls;
 mod text_calls;
 
+pub use best_call::{nissy_best, nissy_line_after, nissy_solve_sides};
 pub use check_calls::{nissy_check, nissy_facts, nissy_facts_lines};
 pub use held::{Held, Kept};
 pub use room::{Block, Room};

@@ -7,7 +7,7 @@ use Rattle.std.proofs.Math.Nat.{pow-le-pow_right}
 use Rattle.niss_search.proofs.ListLemmas.{in-range}
 use Rattle.niss_search.proofs.ByLength.{last-within}
 use Rattle.niss_search.proofs.Bounds.{looks-le, range-le, count-le, turns_of-length}
-use Rattle.niss_search.specs.BothSides.{Pair, HandsOut, inverse_side, looks_after, looks_of_lengths, fewest_normal, most_normal}
+use Rattle.niss_search.specs.BothSides.{Pair, HandsOut, ends_idle, inverse_side, looks_after, looks_of_lengths, fewest_normal, most_normal}
 unfoldable use Rattle.niss_search.specs.BothSides.{looks_of_pairs, pair_looks, least_pair_length}
 use Rattle.niss_search.specs.declared.searching.both.Sides.{Sides}
 use Rattle.niss_search.specs.declared.searching.both.Sides.TheVariants.{Normal, Inverse, Both}
@@ -33,13 +33,19 @@ fewest-within Normal n = omega arith
 fewest-within Inverse n = omega arith
 fewest-within Both n = omega arith
 
+if-within : (b : Bool) (n m : ℕ) → n ≤ m → cond b 0 n ≤ m
+if-within true n m l = omega arith
+if-within false n m l = l
+
 module _ (step : Step) (e : Place → Place) where
   after-small : (from to : Space (turns_of step) (Place → Place)) (i j : ℕ) → i + j ≤ 20 → looks_after step e from to i j ≤ most
   after-small from to i j few =
       let heads = all_canonical (turns_of step) i in
-      let one : (h : List Turn) → looks to (distance to) (after_all from e h) j ≤ (j + 1) * 18 ^ j = λ h. looks-tight to (distance to) (after_all from e h) j (turns_of-length step) in
-      let all : looks_after step e from to i j ≤ length heads * ((j + 1) * 18 ^ j) =
-      sum_by-le (λ h. looks to (distance to) (after_all from e h) j) ((j + 1) * 18 ^ j) heads (λ k d l. one (get_or heads k d)) in
+      let bound = (j + 1) * 18 ^ j in
+      let at : List Turn → ℕ = λ h. looks to (distance to) (after_all from e h) j in
+      let one : (h : List Turn) → at h ≤ bound = λ h. looks-tight to (distance to) (after_all from e h) j (turns_of-length step) in
+      let all : looks_after step e from to i j ≤ length heads * bound =
+      sum_by-le (λ h. cond (ends_idle step h) 0 (at h)) bound heads (λ k d l. if-within (ends_idle step (get_or heads k d)) (at (get_or heads k d)) bound (one (get_or heads k d))) in
       let count : length heads * ((j + 1) * 18 ^ j) ≤ 18 ^ i * ((j + 1) * 18 ^ j) = mul-le-mul_right ((j + 1) * 18 ^ j) (count-le (turns_of step) i (turns_of-length step)) in
       let joined : 18 ^ i * ((j + 1) * 18 ^ j) ≡ (j + 1) * 18 ^ (i + j) = rw (pow-add 18 i j) (omega arith) in
       let deep : j + 1 ≤ 21 = omega (arith, few) in

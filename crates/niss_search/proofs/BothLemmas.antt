@@ -3,8 +3,12 @@
 use Rattle.niss_search.proofs.Words.{◌≡◌, arith, ◌+◌, ◌<◌, ◌-◌, ℕ, suc, zero, ap, ◌∙◌, sym, refl, subst, Bool, true, false, not, ◌&&◌, cond, nat_le}
 use Rattle.niss_search.proofs.Words.{List, [], ◌∷◌, ◌++◌, length, map, filter, flat_map, sum_by, take, drop, get_or, length-append, append-nil}
 use Rattle.niss_search.proofs.Words.{flat_map-append, sum_by-append, sum_by-cons, range_with_len, up_to, take-append-drop, drop_more, all_canonical, below}
-use Rattle.niss_search.proofs.Words.{Turn, Step, Place, Follower, turns_of, after_all, reached, may_follow, last_turn}
-use Rattle.niss_search.proofs.Words.{Path, Option, Some, None, last_length, least_of}
+use Rattle.niss_search.proofs.Words.{Turn, Step, Place, Follower, turns_of, after_all, reached, reaching, may_follow, last_turn}
+use Rattle.niss_search.proofs.Words.{Path, Option, Some, None, last_length, least_of, option_map_or, last_turn-push, IsFollower, ◌==◌}
+unfoldable use Rattle.niss_search.proofs.Words.{looks, distance}
+use Rattle.std.proofs.lemmas.Bool.{eqb-true}
+use Rattle.niss_moves.proofs.CallerLemmas.{and_left, and_right}
+unfoldable use Rattle.niss_cube.specs.Steps.{is_idle}
 use Rattle.std.specs.Prelude.{IfSome, IfNone}
 use Rattle.std.proofs.lemmas.List.Folds.{flat_map-map}
 use Rattle.niss_search.proofs.ListLemmas.{filter-flat_map, flat_map-flat_map, sum_by-flat_map, sum_by-map, sum_by-one, before-last}
@@ -12,10 +16,12 @@ use Rattle.niss_search.proofs.ByLength.{from_least-all}
 use Rattle.niss_search.proofs.DepthFirst.{below-all}
 use Rattle.niss_search.proofs.DescentParts.{WentThrough-append, EndedIn-after, EndedIn-before}
 use Rattle.niss_search.proofs.InverseLemmas.{apart}
-use Rattle.niss_search.specs.BothSides.{Pair, reaches, begins_reached, pairs_of_lengths, splits, HandedOut, StoppedEarly}
+use Rattle.niss_search.specs.BothSides.{Pair, reaches, begins_reached, ends_idle, pairs_of_lengths, splits, HandedOut, StoppedEarly}
 unfoldable use Rattle.niss_search.specs.BothSides.{first_pairs, looks_of_pairs, least_pair_length, pair_solutions, pair_looks}
 use Rattle.niss_search.specs.BothSides.{looks_of_lengths}
-use Rattle.niss_search.specs.BothWalk.{PairPart, parts, after_head, part_of_lengths, on_side, on_other, join}
+use Rattle.niss_search.proofs.IdleHeads.{idle_head}
+use Rattle.niss_cube.specs.StepLaws.{IdleTurnsLeaveSteps}
+use Rattle.niss_search.specs.BothWalk.{PairPart, parts, kept, after_head, part_of_lengths, on_side, on_other, join}
 unfoldable use Rattle.niss_search.specs.BothWalk.{after_heads}
 use Rattle.niss_search.specs.declared.searching.both.Sides.{Sides}
 use Rattle.niss_search.specs.declared.searching.both.walk.Side.{Side}
@@ -107,6 +113,16 @@ popped old pushed now t (Some u) e same some none =
 popped old pushed now t None e same some none =
     absurd (omega (arith, ap length (sym (ap (λ (p : Path). p.turns) e) ∙ none.0), length-append old.turns (t ∷ [])))
 
+-- Is the last turn of a head idle?
+ends-by : (step : Step) (head : List Turn) (f : Follower) → IsFollower step f → ends_idle step (head ++ f.turn ∷ []) ≡ f.is_idle
+ends-by step head f is = ap (λ last. option_map_or (is_idle step) last false) (last_turn-push head f.turn) ∙ sym is.2
+
+pub live_end : (step : Step) (head : List Turn) (f : Follower) (left : ℕ) (r : Bool) → IsFollower step f → r ≡ (left == 0 && f.is_idle) → r ≡ false
+    → left ≡ 0 → ends_idle step (head ++ f.turn ∷ []) ≡ false
+live_end step head f left r is test fails none =
+    let P : ℕ → Type 0 = λ n. (n == 0 && f.is_idle) ≡ false in
+    ends-by step head f is ∙ subst P none (sym test ∙ fails)
+
 -- What is done for heads: at one alone, and for those with one turn more by that turn.
 module _ (step : Step) (e : Place → Place) (side : Side) (tail : ℕ) where
   abbrev at : List Turn → PairPart
@@ -118,6 +134,21 @@ module _ (step : Step) (e : Place → Place) (side : Side) (tail : ℕ) where
   pub heads-end : (head : List Turn) → after_heads step e side tail head 0 ≡ after_head step e side tail head
   unfolding after_heads
   heads-end head = λ i. record { pairs = append-nil (at head).pairs i; looks = sum_by-one (λ h. (at h).looks) head i }
+
+  -- nothing is done after a head that ends in an idle turn
+  pub idle_end : (head : List Turn) (f : Follower) (left : ℕ) (r : Bool) → IsFollower step f → r ≡ (left == 0 && f.is_idle) → r ≡ true
+      → after_heads step e side tail (head ++ f.turn ∷ []) left ≡ record { pairs = []; looks = 0 }
+  idle_end head f left r is test passes =
+      let long = head ++ f.turn ∷ [] in
+      let both : (left == 0 && f.is_idle) ≡ true = sym test ∙ passes in
+      let none : left ≡ 0 = eqb-true left 0 (and_left (left == 0) f.is_idle both) in
+      let idle : ends_idle step long ≡ true = ends-by step head f is ∙ and_right (left == 0) f.is_idle both in
+      let here = after_all (on_side side step) e long in
+      ap (after_heads step e side tail long) none ∙ heads-end long
+      ∙ (λ i. record {
+        pairs = cond (idle i) [] (kept step e (map (join side long) (reaching (on_other side step) here tail)));
+        looks = cond (idle i) 0 (looks (on_other side step) (distance (on_other side step)) here tail);
+      })
 
   pub heads-next : (head : List Turn) (left : ℕ) (fs : List Follower) → map (λ f. f.turn) fs ≡ filter (may_follow (last_turn head)) (turns_of step)
       → after_heads step e side tail head (suc left) ≡ parts (next_heads head left) fs
@@ -172,29 +203,37 @@ module _ (step : Step) (e : Place → Place) where
   reach_alike Normal head tail = ap (reached step) (sym (apart step head e tail))
   reach_alike Inverse head tail = refl
 
-  one_head : (side : Side) (k : ℕ) (head : List Turn) → (after_head step e side k head).pairs ≡ filter first (map (join side head) (all k))
-  one_head side k head =
+  live_head : (side : Side) (k : ℕ) (head : List Turn)
+      → kept step e (map (join side head) (reaching (on_other side step) (after_all (on_side side step) e head) k)) ≡ filter first (map (join side head) (all k))
+  live_head side k head =
       filter_twice (λ t. (on_other side step).reached (after_all (on_other side step) (after_all (on_side side step) e head) t)) (reaches step e) (λ p. not (begins_reached step e p)) (join side head) (all k) (reach_alike side head)
+
+  one_head : IdleTurnsLeaveSteps → (side : Side) (k : ℕ) (head : List Turn) → (after_head step e side k head).pairs ≡ filter first (map (join side head) (all k))
+  one_head law side k head = by_test (ends_idle step head) refl where
+    by_test : (b : Bool) → ends_idle step head ≡ b
+        → cond b [] (kept step e (map (join side head) (reaching (on_other side step) (after_all (on_side side step) e head) k))) ≡ filter first (map (join side head) (all k))
+    by_test true is = sym (idle_head law step e side head (all k) is)
+    by_test false is = live_head side k head
 
   abbrev start : Side → (tail head : ℕ) → PairPart
   start side tail head = after_heads step e side tail [] head
 
-  start-pairs : (side : Side) (tail head : ℕ) → (start side tail head).pairs ≡ filter first (flat_map (λ h. map (join side h) (all tail)) (all head))
+  start-pairs : IdleTurnsLeaveSteps → (side : Side) (tail head : ℕ) → (start side tail head).pairs ≡ filter first (flat_map (λ h. map (join side h) (all tail)) (all head))
   unfolding after_heads
-  start-pairs side tail head =
+  start-pairs law side tail head =
       ap (flat_map (λ h. (after_head step e side tail h).pairs)) (below-all (turns_of step) head)
-      ∙ (λ i. flat_map (λ h. one_head side tail h i) (all head))
+      ∙ (λ i. flat_map (λ h. one_head law side tail h i) (all head))
       ∙ sym (filter-flat_map first (λ h. map (join side h) (all tail)) (all head))
 
   start-looks : (side : Side) (tail head : ℕ) → (start side tail head).looks ≡ sum_by (λ h. (after_head step e side tail h).looks) (all head)
   unfolding after_heads
   start-looks side tail head = ap (sum_by (λ h. (after_head step e side tail h).looks)) (below-all (turns_of step) head)
 
-  lengths-pairs : (i j : ℕ) → (part_of_lengths step e i j).pairs ≡ filter first (pairs_of_lengths (turns_of step) i j)
-  lengths-pairs i j = by_test (nat_le i j) refl where
+  lengths-pairs : IdleTurnsLeaveSteps → (i j : ℕ) → (part_of_lengths step e i j).pairs ≡ filter first (pairs_of_lengths (turns_of step) i j)
+  lengths-pairs law i j = by_test (nat_le i j) refl where
     by_test : (b : Bool) → nat_le i j ≡ b → (part_of_lengths step e i j).pairs ≡ filter first (pairs_of_lengths (turns_of step) i j)
-    by_test true is = rw is (start-pairs Normal j i)
-    by_test false is = rw is (start-pairs Inverse i j)
+    by_test true is = rw is (start-pairs law Normal j i)
+    by_test false is = rw is (start-pairs law Inverse i j)
 
   lengths-looks : (i j : ℕ) → (part_of_lengths step e i j).looks ≡ looks_of_lengths step e i j
   lengths-looks i j = by_test (nat_le i j) refl where
@@ -209,10 +248,10 @@ module _ (step : Step) (e : Place → Place) where
   abbrev pub part_of_split : ℕ → ℕ → PairPart
   part_of_split n i = part_of_lengths step e i (n - i)
 
-  pub length-parts : (sides : Sides) (n : ℕ) → part_of_length sides n ≡ parts (part_of_split n) (splits sides n)
+  pub length-parts : IdleTurnsLeaveSteps → (sides : Sides) (n : ℕ) → part_of_length sides n ≡ parts (part_of_split n) (splits sides n)
   unfolding first_pairs looks_of_pairs
-  length-parts sides n = λ i. record {
-    pairs = (filter-flat_map first (λ k. pairs_of_lengths (turns_of step) k (n - k)) (splits sides n) ∙ sym (λ j. flat_map (λ k. lengths-pairs k (n - k) j) (splits sides n))) i;
+  length-parts law sides n = λ i. record {
+    pairs = (filter-flat_map first (λ k. pairs_of_lengths (turns_of step) k (n - k)) (splits sides n) ∙ sym (λ j. flat_map (λ k. lengths-pairs law k (n - k) j) (splits sides n))) i;
     looks = sym (λ j. sum_by (λ k. lengths-looks k (n - k) j) (splits sides n)) i;
   }
 

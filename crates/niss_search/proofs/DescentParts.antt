@@ -11,7 +11,7 @@ use Rattle.niss_search.proofs.Words.{drop_more, length-take-le, take-append-drop
 
 -- what stands in a list of followers past its end
 abbrev pub no_follower : Follower
-no_follower = record { turn = no_turn; column = 0 }
+no_follower = record { turn = no_turn; column = 0; is_idle = false }
 
 abbrev pub turns_in : List Follower → List Turn
 turns_in fs = map (λ f. f.turn) fs

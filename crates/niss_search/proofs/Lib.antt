@@ -18,6 +18,7 @@ pub mod EntryLemmas
 pub mod GoalLemmas
 pub mod FillLemmas
 pub mod ScanLemmas
+pub mod IdleHeads
 pub mod InverseLemmas
 pub mod BeginningLemmas
 pub mod BothLemmas

@@ -1,11 +1,13 @@
 -- Solutions over both sides: turns on the normal side, and turns on the inverse.
-use Rattle.std.specs.Prelude.{◌≡◌, ℕ, ◌+◌, ◌-◌, ◌≤◌, ◌<◌, nat_le, nat_lt, Bool, true, not, ◌&&◌, if◌then◌else◌, Result, Ok, Err}
+use Rattle.std.specs.Prelude.{◌≡◌, ℕ, ◌+◌, ◌-◌, ◌≤◌, ◌<◌, nat_le, nat_lt, Bool, true, false, not, ◌&&◌}
+use Rattle.std.specs.Prelude.{if◌then◌else◌, Result, Ok, Err}
 use Rattle.std.specs.Prelude.{List, length, take, map, filter, flat_map, sum_by, Option}
 use Rattle.std.specs.List.{list_any, range_with_len}
 use Rattle.niss_moves.specs.Places.{Place}
 use Rattle.niss_moves.specs.Effects.{turned, inverse_turn}
-use Rattle.niss_moves.specs.Canonical.{all_canonical}
-use Rattle.niss_cube.specs.Steps.{turns_of, reached}
+use Rattle.std.specs.Option.{option_map_or}
+use Rattle.niss_moves.specs.Canonical.{all_canonical, last_turn}
+use Rattle.niss_cube.specs.Steps.{turns_of, reached, is_idle}
 use Rattle.niss_search.specs.Names.{Turn, Step}
 use Rattle.niss_search.specs.Solutions.{Space, after_all, distance, looks, up_to, last_length, least_of, from_least}
 use Rattle.niss_search.specs.Cubes.{cubes}
@@ -56,6 +58,10 @@ splits sides n = range_with_len (fewest_normal sides n) (most_normal sides n + 1
 abbrev pub pairs_of_length : List Turn → Sides → ℕ → List Pair
 pairs_of_length turns sides n = flat_map (λ i. pairs_of_lengths turns i (n - i)) (splits sides n)
 
+-- Is the last turn of a sequence idle? Then the step is reached before it, or isn't after it.
+abbrev pub ends_idle : Step → List Turn → Bool
+ends_idle step s = option_map_or (is_idle step) (last_turn s) false
+
 module _ (step : Step) (e : Place → Place) where
   -- Has the cube reached the step after a pair? Turns on the two sides don't see each other, so either side may come first.
   abbrev pub reaches : Pair → Bool
@@ -80,9 +86,11 @@ module _ (step : Step) (e : Place → Place) where
   pair_solutions sides n slack = from_least (first_pairs sides) n slack
 
   -- The looks of a search: the sequences of the shorter side are gone through without a look, and after each the other side is
-  -- searched exactly as deep as it is long.
+  -- searched exactly as deep as it is long; but after none that ends in an idle turn.
   abbrev pub looks_after : (from to : Space (turns_of step) (Place → Place)) → (i j : ℕ) → ℕ
-  looks_after from to i j = sum_by (λ s. looks to (distance to) (after_all from e s) j) (all_canonical (turns_of step) i)
+  looks_after from to i j =
+      sum_by (λ s. if ends_idle step s then 0 else looks to (distance to) (after_all from e s) j)
+      (all_canonical (turns_of step) i)
 
   abbrev pub looks_of_lengths : (i j : ℕ) → ℕ
   looks_of_lengths i j =

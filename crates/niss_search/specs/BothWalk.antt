@@ -13,7 +13,7 @@ use Rattle.niss_search.specs.Solutions.{Space, Homomorphism, after_all, reaching
 use Rattle.niss_search.specs.Cubes.{cubes, HasPosition}
 use Rattle.niss_search.specs.Positions.{positions}
 use Rattle.niss_search.specs.Deepening.{below}
-use Rattle.niss_search.specs.BothSides.{Pair, pair, inverse_side, begins_reached}
+use Rattle.niss_search.specs.BothSides.{Pair, pair, inverse_side, ends_idle, begins_reached}
 use Rattle.niss_search.specs.declared.searching.both.walk.Side.{Side}
 use Rattle.niss_search.specs.declared.searching.both.walk.Side.TheVariants.{Normal, Inverse}
 use Rattle.niss_search.specs.declared.searching.both.walk.Split.{Split}
@@ -53,11 +53,12 @@ abbrev pub kept : Step → (Place → Place) → List Pair → List Pair
 kept step e ps = filter (λ p. not (begins_reached step e p)) ps
 
 module _ (step : Step) (e : Place → Place) (side : Side) (tail : ℕ) where
-  -- what is done after a head: the search for its tails
+  -- what is done after a head: the search for its tails, or nothing if it ends in an idle turn
   abbrev pub after_head : List Turn → PairPart
   after_head head = let here = after_all (on_side side step) e head in record {
-    pairs = kept step e (map (join side head) (reaching (on_other side step) here tail));
-    looks = looks (on_other side step) (distance (on_other side step)) here tail;
+    pairs = if ends_idle step head
+        then [] else kept step e (map (join side head) (reaching (on_other side step) here tail));
+    looks = if ends_idle step head then 0 else looks (on_other side step) (distance (on_other side step)) here tail;
   }
 
   -- what is done for all heads that begin with one and have so many turns more

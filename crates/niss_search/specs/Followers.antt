@@ -2,13 +2,14 @@
 -- near. (For the search's own functions.)
 use Rattle.std.specs.Prelude.{◌≡◌, ℕ, ◌+◌, ◌<◌, ◌≤◌, Bool, List, map, filter, take, get_or, length, All}
 use Rattle.niss_search.specs.Names.{Turn, Step, Follower, GoalCoordinates}
-use Rattle.niss_cube.specs.Steps.{turns_of}
+use Rattle.niss_cube.specs.Steps.{turns_of, is_idle}
 use Rattle.niss_search.specs.Moves.{turn_at}
 use Rattle.niss_search.specs.Positions.{position_after, distance_at}
 
--- The turn stands in its column.
+-- The turn stands in its column, and it is known whether it is idle.
 abbrev pub IsFollower : Step → Follower → Type 0
-IsFollower step f = (f.column < length (turns_of step)) × (turn_at step f.column ≡ f.turn)
+IsFollower step f =
+    (f.column < length (turns_of step)) × (turn_at step f.column ≡ f.turn) × (f.is_idle ≡ is_idle step f.turn)
 
 -- Those of the step's turns that may follow, in turn order.
 pub record AreFollowers (step : Step) (may : Turn → Bool) (list : List Follower) : Type 0 where

@@ -8,3 +8,4 @@ pub mod Definition
 pub mod Rooms
 pub mod Searched
 pub mod Sinks
+pub mod Listing

@@ -1,9 +1,10 @@
 //! The turns at the end of a sequence, in whose direction its twins differ.
 ghost use Rattle.std.specs.Prelude.{◌≡◌, ◌≤◌, length};
 ghost use Rattle.niss_cube.specs.Steps.{is_face_of};
+ghost use Rattle.niss_ways.specs.Shown.{last_axis, last_on};
 
 use crate::counting::{Sequence, sequence_of};
-use niss_cube::{Axis, Face, Power, Turn};
+use niss_cube::{Axis, Face, Power, Step, Turn};
 
 /// Whether a face is one of the two of an axis.
 pub fn is_face_of(axis: Axis, face: Face) -> bool
@@ -16,27 +17,41 @@ pub fn is_face_of(axis: Axis, face: Face) -> bool
     }
 }
 
-/// How many turns at the end of a canonical sequence are of an axis: at most two.
-fn last_count(axis: Axis, turns: &[Turn]) -> usize
-    ensures { result ≤ 2 }
+/// The axis on whose faces a solution of a step has the turns at its end that may go either way: that of an orientation, and
+/// the third one of a reduction; none if the step has several.
+pub fn last_axis(step: Step) -> Option<Axis>
+    ensures { result ≡ last_axis step }
 {
-    let Some((last, front)) = turns.split_last() else {
-        return 0;
-    };
-    if !is_face_of(axis, last.face) {
-        return 0;
+    match step {
+        Step::Eofb | Step::DrudEorl | Step::DrrlEoud => Some(Axis::Fb),
+        Step::Eorl | Step::DrudEofb | Step::DrfbEoud => Some(Axis::Rl),
+        Step::Eoud | Step::DrrlEofb | Step::DrfbEorl => Some(Axis::Ud),
+        Step::Eo | Step::DrEofb | Step::DrEorl | Step::DrEoud => None,
     }
-    match front.last() {
-        Some(before) if is_face_of(axis, before.face) => 2,
-        _ => 1,
+}
+
+/// How many turns at the end are on an axis.
+pub fn last_on(axis: Axis, turns: &[Turn]) -> usize
+    ensures value { result ≡ last_on axis turns.now }
+    ensures few { result ≤ length turns.now }
+{
+    let mut count = 0;
+    let mut rest = turns;
+    while let Some((last, front)) = rest.split_last() {
+        if !is_face_of(axis, last.face) {
+            break;
+        }
+        count += 1;
+        rest = front;
     }
+    count
 }
 
 /// How many twins a sequence has, with itself.
 pub fn twin_count(axis: Axis, turns: &[Turn]) -> u8
     ensures { result ≤ 4 }
 {
-    match last_count(axis, turns) {
+    match last_on(axis, turns) {
         0 => 1,
         1 => 2,
         _ => 4,

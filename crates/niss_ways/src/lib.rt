@@ -16,6 +16,7 @@ mod counting;
 mod finding;
 mod following;
 mod last_turns;
+mod listing;
 mod looks;
 mod made;
 mod nearest;
@@ -29,6 +30,7 @@ mod totals;
 mod way;
 
 pub use finding::{Axes, FoundWays, Wish, find_ways};
+pub use listing::{FoundSolutions, Listed, list_solutions};
 pub use start::Start;
 pub use tables::WayTables;
 pub use way::{NO_STEP, NO_TURN, Part, SideTurns, Way};

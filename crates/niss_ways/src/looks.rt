@@ -52,11 +52,6 @@ impl Looks {
         self.most - self.count()
     }
 
-    /// Takes looks that were made elsewhere into account.
-    pub fn spend(&mut self, count: u64) {
-        self.most -= count.min(self.left());
-    }
-
     /// The least length of a step from a cube, or 21 if it is more than 20, or if the step may not start there.
     pub fn distance<A: Allocator>(&mut self, tables: &Tables<A>, cube: &Cube) -> Result<u8, Cut>
         ensures most { self.new.most ≡ self.old.most }

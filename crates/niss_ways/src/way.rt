@@ -6,6 +6,7 @@ ghost use Rattle.niss_ways.specs.Shown.{step_number, shown, Tells, TellsTurns};
 ghost use Rattle.niss_ways.specs.Order.{rank_of};
 ghost use Rattle.niss_search.specs.BothSides.{pair};
 
+use crate::last_turns::{last_axis, last_on};
 use crate::solution::Solution;
 use niss_cube::{Axis, Step};
 use niss_moves::{Face, Token, Turn};
@@ -25,6 +26,8 @@ pub type Names = [Face; 6];
 pub struct SideTurns {
     /// How many they are.
     pub count: u8,
+    /// How many at the end may go either way: if one of them is a quarter turn, its other direction reaches the step too.
+    pub free: u8,
     /// Each by its number in turn order, from 0 to 17, as it is written; `NO_TURN` behind them.
     pub turns: [u8; 20],
 }
@@ -82,21 +85,24 @@ impl SideTurns {
     fn none() -> SideTurns {
         SideTurns {
             count: 0,
+            free: 0,
             turns: [NO_TURN; 20],
         }
     }
 
-    /// Some turns, as they are written.
-    fn of(names: &Names, turns: &[Turn]) -> SideTurns
+    /// Some turns, as they are written, of which the last ones on an axis may go either way.
+    fn of(names: &Names, axis: Option<Axis>, turns: &[Turn]) -> SideTurns
         requires { length turns.now ≤ 20 }
-        ensures { TellsTurns names.now turns.now result }
+        ensures { TellsTurns names.now axis turns.now result }
     {
         let mut numbers = [NO_TURN; 20];
         for index in 0..turns.len() {
             numbers[index] = shown(names, turns[index]);
         }
+        let free = axis.map_or(0, |axis| last_on(axis, turns));
         SideTurns {
             count: turns.len() as u8,
+            free: free as u8,
             turns: numbers,
         }
     }
@@ -118,10 +124,11 @@ impl Part {
     pub(crate) fn of(names: &Names, step: Step, solution: &Solution) -> Part
         ensures { Tells names.now step solution.now result }
     {
+        let axis = last_axis(step);
         Part {
             step: step as u8,
-            normal: SideTurns::of(names, solution.normal()),
-            inverse: SideTurns::of(names, solution.inverse()),
+            normal: SideTurns::of(names, axis, solution.normal()),
+            inverse: SideTurns::of(names, axis, solution.inverse()),
         }
     }
 

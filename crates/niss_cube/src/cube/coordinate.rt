@@ -45,6 +45,7 @@ impl Coordinate {
     }
 
     /// The rank of a cube on an axis, below `count`. It is 0 exactly if the cube keeps the coordinate's set of places.
+    #[inline(always)]
     pub fn rank(self, axis: Axis, cube: &Cube) -> u16
         ensures { IsRank self axis (map_of cube.now) result }
     {
@@ -100,6 +101,7 @@ impl Coordinate {
     }
 
     /// A cube as the coordinate on an axis is read from it.
+    #[inline(always)]
     fn renamed(self, axis: Axis, cube: &Cube) -> Cube
         ensures { SameMap (map_of result) (renamed_for self axis (map_of cube.now)) }
     {
@@ -110,6 +112,7 @@ impl Coordinate {
     }
 
     /// The rank of a cube on the standard axis, for which it isn't renamed.
+    #[inline(always)]
     fn standard_rank(self, cube: &Cube) -> u16
         ensures { result ≡ rank_of self (standard_axis self) (map_of cube.now) }
     {

@@ -19,6 +19,7 @@ use crate::path::{Lengths, Limit, TurnPath};
 use crate::tables::{Meter, Tables};
 pub use joined::begins_reached;
 use niss_cube::Cube;
+use niss_cube::laws::idle_turns_leave_steps;
 use std::alloc::Allocator;
 use walk::{Split, Walk};
 
@@ -208,6 +209,7 @@ impl<A: Allocator> PairSearch<'_, A> {
         ensures within { meter.new ≤ self.now.budget.bound }
         ensures spent { HasSpent is_cut_in self.now.budget.bound self.now.tables.now meter.new result }
     {
+        idle_turns_leave_steps();
         let mut count = 0;
         for normal in self.sides.fewest_normal(length)..self.sides.most_normal(length) + 1 {
             count += self.of_lengths(normal, length - normal, meter, sink)?;

@@ -13,11 +13,12 @@ use niss_cube::{Face, Step, Turn};
 use niss_moves::{Power, allowed};
 use std::marker::Model;
 
-/// A turn of a step that may follow, with its column in the step's move tables.
+/// A turn of a step that may follow, with its column in the step's move tables, and whether it is idle in the step.
 #[derive(Clone, Copy, Default)]
 pub struct Follower {
     pub turn: Turn,
     pub column: u8,
+    pub is_idle: bool,
 }
 
 /// Some of a step's turns.
@@ -36,6 +37,7 @@ fn followers_after(step: Step, last: Option<Turn>) -> FollowerList
             list.push(Follower {
                 turn,
                 column: column as u8,
+                is_idle: step.is_idle(turn),
             });
         }
     }

@@ -1,4 +1,4 @@
-use Rattle.niss_cube.proofs.Words.{◌≡◌, ◌∙◌, ap, sym, arith, get_or, length-set}
+use Rattle.niss_cube.proofs.Words.{◌∙◌, ap, sym, arith, get_or, length-set}
 use Rattle.niss_cube.proofs.InverseCubies.{found_at, written_place}
 use Rattle.niss_cube.proofs.cubie_turns.places_of.Goals as goal
 

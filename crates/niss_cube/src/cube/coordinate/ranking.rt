@@ -1,5 +1,5 @@
 //! The ranks of orientations and of the places of a slice's edges, and what has a rank.
-ghost use Rattle.std.specs.Prelude.{◌≡◌, ◌<◌, ◌≤◌, ◌^◌, ◌-◌, ◌⊎◌, length, map, reverse, nat_le};
+ghost use Rattle.std.specs.Prelude.{◌≡◌, ◌<◌, ◌≤◌, ◌^◌, ◌-◌, ◌⊎◌, length, map, reverse, nat_le, cond};
 ghost use Rattle.niss_cube.specs.Coordinates.{number, rank_places, orientations_of_rank, choices_with, edges_of_rank};
 
 /// The digits as a number, the first digit the highest.
@@ -33,54 +33,65 @@ pub fn unrank_orientations(base: u8, rank: u16, orientations: &mut [u8])
     orientations[last] = (base - sum) % base;
 }
 
-/// At a number of places below, the choices of 0 to 3 of them.
-const CHOICES: [[u16; 4]; 12] = [
-    [1, 0, 0, 0],
-    [1, 1, 0, 0],
-    [1, 2, 1, 0],
-    [1, 3, 3, 1],
-    [1, 4, 6, 4],
-    [1, 5, 10, 10],
-    [1, 6, 15, 20],
-    [1, 7, 21, 35],
-    [1, 8, 28, 56],
-    [1, 9, 36, 84],
-    [1, 10, 45, 120],
-    [1, 11, 55, 165],
+/// At a place with a number of places below, the choices that leave the last of 0 to 4 wanted edges to it.
+const CHOICES: [[u16; 5]; 12] = [
+    [0, 1, 0, 0, 0],
+    [0, 1, 1, 0, 0],
+    [0, 1, 2, 1, 0],
+    [0, 1, 3, 3, 1],
+    [0, 1, 4, 6, 4],
+    [0, 1, 5, 10, 10],
+    [0, 1, 6, 15, 20],
+    [0, 1, 7, 21, 35],
+    [0, 1, 8, 28, 56],
+    [0, 1, 9, 36, 84],
+    [0, 1, 10, 45, 120],
+    [0, 1, 11, 55, 165],
 ];
 
-/// The rank of the places at which one of the edges 8 to 11 stands: a numbering of this project's own.
+/// At a place with a number of places below, the choices that leave the last of the wanted edges to it.
+#[inline(always)]
+fn choices_with(below: usize, wanted: usize) -> u16
+    requires below { below < 12 }
+    requires wanted { wanted ≤ 4 }
+    ensures { result ≡ choices_with below wanted }
+{
+    CHOICES[below][wanted]
+}
+
+/// The same choices, unless one of the edges stands at the place.
+#[inline(always)]
+fn choices_passed(below: usize, wanted: usize, is_there: bool) -> u16
+    requires below { below < 12 }
+    requires wanted { wanted ≤ 4 }
+    ensures { result ≡ cond is_there 0 (choices_with below wanted) }
+{
+    let choices = choices_with(below, wanted);
+    if is_there { 0 } else { choices }
+}
+
+/// Whether an edge is one of the slice.
+#[inline(always)]
+fn is_of_slice(edge: u8) -> bool
+    ensures { result ≡ nat_le 8 edge }
+{
+    edge >= 8
+}
+
+/// The rank of the places at which one of the edges 8 to 11 stands: a numbering of this project's own. Where they stand
+/// can't be foreseen, so the loop has no branch.
 pub fn rank_slice(edges: &[u8; 12]) -> u16
     ensures { result ≡ rank_places (reverse (map (nat_le 8) edges.now)) 4 }
 {
     let mut wanted: usize = 4;
     let mut n = 0;
     for met in 0..12 {
-        if wanted == 0 {
-            return n;
-        }
         let place = 11 - met;
-        if edges[place] >= 8 {
-            wanted -= 1;
-        } else {
-            n += CHOICES[place][wanted - 1];
-        }
+        let is_there = is_of_slice(edges[place]);
+        n += choices_passed(place, wanted, is_there);
+        wanted = wanted.saturating_sub(usize::from(is_there));
     }
     n
-}
-
-/// At a place with a number of places below, the choices that leave the last of the wanted edges to it.
-#[tactic(auto, using(crate::proofs::Ranks::choices_with_are))]
-fn choices_with(below: usize, wanted: usize) -> u16
-    requires below { below < 12 }
-    requires wanted { wanted ≤ 4 }
-    ensures { result ≡ choices_with below wanted }
-{
-    if wanted == 0 {
-        0
-    } else {
-        CHOICES[below][wanted - 1]
-    }
 }
 
 /// The edges by place, those of the slice at the places that have a rank.

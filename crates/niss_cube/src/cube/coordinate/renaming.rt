@@ -17,6 +17,7 @@ pub struct RenamedPlaces<const PLACES: usize, const FACELETS: u8> {
 
 impl<const PLACES: usize, const FACELETS: u8> RenamedPlaces<PLACES, FACELETS> {
     /// The renamed cubies by place: which stand there, and how they are twisted or flipped.
+    #[inline(always)]
     pub fn renamed(
         &self,
         homes: &[u8; PLACES],

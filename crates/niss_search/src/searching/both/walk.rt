@@ -1,10 +1,11 @@
 //! The walk through the shorter sides of pairs, the heads, with a search of the other side after each for tails.
-ghost use Rattle.std.specs.Prelude.{◌≡◌, ◌+◌, ◌*◌, ◌≤◌, ◌^◌, [], length, IsTrue, IfOk};
+ghost use Rattle.std.specs.Prelude.{◌≡◌, ◌+◌, ◌*◌, ◌≤◌, ◌^◌, ◌==◌, ◌&&◌, ◌++◌, ◌∷◌, false, [], length, IsTrue, IfOk};
 ghost use Rattle.niss_cube.specs.Map.{map_of};
 ghost use Rattle.niss_cube.specs.Steps.{may_start};
 ghost use Rattle.niss_search.specs.Budgets.{is_cut_in, HasSpent};
-ghost use Rattle.niss_search.specs.BothSides.{HandsOut};
+ghost use Rattle.niss_search.specs.BothSides.{HandsOut, ends_idle};
 ghost use Rattle.niss_search.specs.BothWalk.{IsOther, after_heads, after_head, split_of};
+ghost use Rattle.niss_search.specs.Followers.{IsFollower};
 
 use super::PairSink;
 use super::joined::Joined;
@@ -12,7 +13,7 @@ use crate::budget::{Stopped, UpTo};
 use crate::laws::{positions_follow_cubes, positions_follow_inverses};
 use crate::path::{Limit, TurnPath};
 use crate::searching::Root;
-use crate::tables::{Meter, Tables};
+use crate::tables::{Follower, Meter, Tables};
 use niss_cube::Cube;
 use niss_cube::laws::{
     cubes_permute_places, inverse_has_steps, inverses_of_steps, start_is_kept_before,
@@ -55,6 +56,13 @@ impl Split {
             }
         }
     }
+}
+
+/// Whether no turn comes after this one, and it is idle.
+fn is_idle_end(follower: Follower, left: u8) -> bool
+    ensures { result ≡ (left == 0 && follower.is_idle) }
+{
+    left == 0 && follower.is_idle
 }
 
 /// A walk through heads on a side of a cube, with a search for tails of so many turns after each.
@@ -104,7 +112,9 @@ impl<A: Allocator> Walk<'_, A> {
         }
     }
 
-    /// Goes on below a head with `left` turns more. `other` is the cube of the other side after it.
+    /// Goes on below a head with `left` turns more. If there are none, it ends in no idle turn. `other` is the cube of
+    /// the other side after it.
+    #[cycle(heads)]
     fn go_on<K: PairSink>(
         &self,
         other: &Cube,
@@ -118,6 +128,7 @@ impl<A: Allocator> Walk<'_, A> {
             head.old.turns (map_of other.now) }
         requires few { self.now.tail ≤ 20 }
         requires room { length head.old.turns + left ≤ head.old.limit }
+        requires end { left ≡ 0 → ends_idle self.now.tables.now head.old.turns ≡ false }
         requires budget { meter.old ≤ self.now.budget.now.bound }
         requires bound { self.now.budget.now.bound ≤ 3 * 2 ^ 126 }
         ensures head { head.new ≡ head.old }
@@ -134,22 +145,59 @@ impl<A: Allocator> Walk<'_, A> {
         if left == 0 {
             return self.search_tails(other, head, meter, sink);
         }
+        let mut count = 0;
+        for follower in self.tables.turns_after(head.last()) {
+            count += self.follow(other, *follower, left - 1, head, meter, sink)?;
+        }
+        Ok(count)
+    }
+
+    /// Goes on below a head and one turn more with `left` turns after that. If there are none, it leaves out an idle turn:
+    /// a pair that reaches the step by it reaches it before.
+    #[cycle(heads)]
+    fn follow<K: PairSink>(
+        &self,
+        other: &Cube,
+        follower: Follower,
+        left: u8,
+        head: &mut TurnPath,
+        meter: &mut Meter,
+        sink: &mut K,
+    ) -> Result<u128, Stopped<K::Fault>>
+        requires follower { IsFollower self.now.tables.now follower }
+        requires starts { IsTrue (may_start self.now.tables.now (map_of other.now)) }
+        requires other { IsOther self.now.tables.now self.now.side (map_of self.now.cube.now)
+            head.old.turns (map_of other.now) }
+        requires few { self.now.tail ≤ 20 }
+        requires room { length head.old.turns + 1 + left ≤ head.old.limit }
+        requires budget { meter.old ≤ self.now.budget.now.bound }
+        requires bound { self.now.budget.now.bound ≤ 3 * 2 ^ 126 }
+        ensures head { head.new ≡ head.old }
+        ensures solutions { HandsOut K.took K.refused
+            (after_heads self.now.tables.now (map_of self.now.cube.now) self.now.side self.now.tail
+            (head.old.turns ++ follower.turn ∷ []) left).pairs
+            (after_heads self.now.tables.now (map_of self.now.cube.now) self.now.side self.now.tail
+            (head.old.turns ++ follower.turn ∷ []) left).looks
+            meter.old meter.new sink.old sink.new is_cut_in self.now.budget.now.bound (λ count. count) result }
+        ensures counted { IfOk result (λ count. meter.old + count ≤ meter.new) }
+        ensures within { meter.new ≤ self.now.budget.now.bound }
+        ensures spent { HasSpent is_cut_in self.now.budget.now.bound self.now.tables.now meter.new result }
+    {
+        if is_idle_end(follower, left) {
+            return Ok(0);
+        }
         inverse_undoes();
         cubes_permute_places();
         start_is_kept_before();
         inverses_of_steps();
         steps_see_places();
         places_stay();
-        let mut count = 0;
-        for follower in self.tables.turns_after(head.last()) {
-            let mut next = *other;
-            next.turn_before(follower.turn.inverse());
-            head.push(follower.turn);
-            let found = self.go_on(&next, left - 1, head, meter, sink);
-            head.pop();
-            count += found?;
-        }
-        Ok(count)
+        let mut next = *other;
+        next.turn_before(follower.turn.inverse());
+        head.push(follower.turn);
+        let found = self.go_on(&next, left, head, meter, sink);
+        head.pop();
+        found
     }
 
     /// Searches the other side exactly as deep as tails are long, and hands on the pairs.
@@ -164,6 +212,7 @@ impl<A: Allocator> Walk<'_, A> {
         requires other { IsOther self.now.tables.now self.now.side (map_of self.now.cube.now)
             head.now.turns (map_of other.now) }
         requires few { self.now.tail ≤ 20 }
+        requires end { ends_idle self.now.tables.now head.now.turns ≡ false }
         requires budget { meter.old ≤ self.now.budget.now.bound }
         requires bound { self.now.budget.now.bound ≤ 3 * 2 ^ 126 }
         ensures solutions { HandsOut K.took K.refused

@@ -10,7 +10,7 @@ use Rattle.niss_ways.proofs.rows.insert.Goals as goal
 use Rattle.niss_ways.proofs.rows.insert.Goals.{else-loop-at-test, then-loop-at-test+then-rank}
 
 abbrev side : SideTurns
-side = record { count = 0; turns = [] }
+side = record { count = 0; free = 0; turns = [] }
 
 abbrev part : Part
 part = record { step = 0; normal = side; inverse = side }

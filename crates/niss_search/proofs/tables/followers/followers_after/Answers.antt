@@ -23,12 +23,16 @@ loop-column-preserved c =
     let kept : Bool → List Turn = λ b. filter may (take i turns) ++ cond b (t ∷ []) [] in
     elim c.if-allowed.branch [
       | then-allowed w ↦
-          let new : Follower = record { turn = t; column = i } in
+          let new : Follower = record { turn = t; column = i; is_idle = w.is_idle.result } in
           let yes : may t ≡ true = sym rule ∙ w.if-allowed.true in
           rw w.list-is (rw w.push.ensures.items record {
             end = refl;
             kept = map_push (λ (f : Follower). f.turn) c.loop-column.list.items new ∙ ap (λ (ts : List Turn). ts ++ t ∷ []) inv.kept ∙ sym (more ∙ ap kept yes);
-            columns = All-push (IsFollower c.args.step) c.loop-column.list.items new inv.columns (omega (arith, c.loop-column-test.true, ap (length {A = Turn}) c.turns-turns.ensures), ap (λ (ts : List Turn). get_or ts i no_turn) (sym c.turns-turns.ensures));
+            columns = All-push (IsFollower c.args.step) c.loop-column.list.items new inv.columns (
+              omega (arith, c.loop-column-test.true, ap (length {A = Turn}) c.turns-turns.ensures),
+              ap (λ (ts : List Turn). get_or ts i no_turn) (sym c.turns-turns.ensures),
+              w.is_idle.ensures,
+            );
             long = omega (arith, inv.long, ap (length {A = Follower}) w.push.ensures.items, w.push.ensures.len);
           })
       | else-allowed w ↦

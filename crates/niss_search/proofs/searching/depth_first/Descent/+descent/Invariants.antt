@@ -19,7 +19,7 @@ invariant-try_turns-loop-stop g l = record {
   columns : All (IsFollower l.tables.step) l.rest;
   within : l.meter ≤ g.B.Budget.bound l.budget;
   some : length l.rest ≤ length (turns_of l.tables.step);
-  few : length l.rest * 3 < 9223372036854775808;
+  few : length l.rest * 4 < 9223372036854775808;
   keeps : Keeps l.fn.self l.self l.fn.meter l.meter;
   remains : Remains (at_limit g.K.Sink.took l.fn.self.path.now.limit) (at_limit g.K.Sink.refused l.fn.self.path.now.limit)
       l.tables.step (g.S.StateSpace.seen l.tables.space l.state) l.fn.self.path.now.turns l.left l.rest

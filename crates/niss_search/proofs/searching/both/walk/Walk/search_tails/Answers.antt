@@ -21,7 +21,7 @@ returns-clause-solutions g c =
     let did = joined_went g.K.PairSink.took g.K.PairSink.refused step walk.cube.now walk.side head c.new-path.result.limit (reaching (positions step) x walk.tail) _ c.deepen.new.sink record { of_step = c.step.ensures; of_cube = refl; on_side = refl; has_head = refl } (omega arith) went.delivered in
     let few = pairs-few g.K.PairSink.took g.K.PairSink.refused step walk.cube.now walk.side head c.new-path.result.limit (reaching (positions step) x walk.tail) in
     let back : c.sink-2-1.given.0 ≡ c.deepen.new.sink.sink.now = c.sink-2-1.given.1 (sym did.stays.same_sink) in
-    rw (same, looked, back) record { taken = did.went; counted = omega (arith, did.counted, few, went.counted, c.in_ok-deepen.ensures.counted, c.deepen.ensures.within, c.requires.bound); looked = went.looked }
+    rw (c.requires.end, same, looked, back) record { taken = did.went; counted = omega (arith, did.counted, few, went.counted, c.in_ok-deepen.ensures.counted, c.deepen.ensures.within, c.requires.bound); looked = went.looked }
 
 pub returns-in_err-deepen-clause-solutions : goal.returns-in_err-deepen-clause-solutions
 returns-in_err-deepen-clause-solutions g c =
@@ -35,7 +35,7 @@ returns-in_err-deepen-clause-solutions g c =
     let stops = rw c.in_err-deepen.was at c.deepen.ensures.delivers in
     let did = joined_ended g.K.PairSink.took g.K.PairSink.refused step walk.cube.now walk.side head c.new-path.result.limit _ _ _ c.deepen.new.sink record { of_step = c.step.ensures; of_cube = refl; on_side = refl; has_head = refl } stops.stopped in
     let back : c.in_err-deepen.sink-1-own.given.0 ≡ c.deepen.new.sink.sink.now = c.in_err-deepen.sink-1-own.given.1 (sym did.0.same_sink) in
-    rw (p.1, p.2, same, looked, back) record { taken = did.1; over = stops.over; rises = stops.rises; looked = stops.looked }
+    rw (p.1, p.2, c.requires.end, same, looked, back) record { taken = did.1; over = stops.over; rises = stops.rises; looked = stops.looked }
 
 pub returns-clause-counted : goal.returns-clause-counted
 returns-clause-counted g c =

@@ -1,0 +1,96 @@
+//! The calls on a scramble and the moves so far: the search for the best ways on, by the tables of nine steps, the solutions of
+//! one step over sides, and the line of the cube at which one stands.
+ghost use Rattle.std.specs.Prelude.{◌≡◌, ◌≢◌, ◌≤◌, true, MatchOption, length};
+ghost use Rattle.niss_embed.specs.BestWays.{AreTables, FindsBestWith, WritesLineAfter};
+ghost use Rattle.niss_embed.specs.TwoLines.{both_of};
+ghost use Rattle.niss_embed.specs.LineCalls.{status_number};
+ghost use Rattle.niss_embed.specs.ListedSides.{ListsSidesWith};
+ghost use Rattle.niss_embed.specs.Memory.{memory};
+ghost use Rattle.niss_embed.specs.declared.answer.Status.TheVariants.{NoRoom};
+ghost use Rattle.niss_c.specs.BestCall.{IsTable};
+
+use niss_cube::Step;
+use niss_embed::{
+    LineAfterAnswer, SidesAnswer, SidesWanted, WaysAnswer, WaysWanted, best_ways, line_after,
+    solve_sides,
+};
+use niss_kept::Held;
+use niss_search::Tables;
+use niss_ways::{Part, Way, WayTables};
+use std::alloc::Global;
+
+/// The tables, if they are those of this step.
+fn table_of(held: &Held, step: Step) -> Option<&'static Tables>
+    ensures { MatchOption result (IsTable held.now step → ⊥) (λ tables. IsTable held.now step) }
+{
+    let tables = held.tables()?;
+    if tables.step() == step {
+        Some(tables)
+    } else {
+        None
+    }
+}
+
+/// The tables of the nine steps, if they are these, in their order.
+fn way_tables(held: &[Held; 9]) -> Option<WayTables<'static, Global>>
+    ensures { MatchOption result (AreTables IsTable held.now → ⊥) (λ tables. AreTables IsTable held.now) }
+{
+    Some(WayTables {
+        eofb: table_of(&held[0], Step::Eofb)?,
+        eorl: table_of(&held[1], Step::Eorl)?,
+        eoud: table_of(&held[2], Step::Eoud)?,
+        drud_eofb: table_of(&held[3], Step::DrudEofb)?,
+        drrl_eofb: table_of(&held[4], Step::DrrlEofb)?,
+        drud_eorl: table_of(&held[5], Step::DrudEorl)?,
+        drfb_eorl: table_of(&held[6], Step::DrfbEorl)?,
+        drrl_eoud: table_of(&held[7], Step::DrrlEoud)?,
+        drfb_eoud: table_of(&held[8], Step::DrfbEoud)?,
+    })
+}
+
+/// Puts the best ways on from a scramble and the moves so far into the room, as `best_ways` of `niss_embed`.
+#[unsafe(no_mangle)]
+pub extern "C" fn nissy_best(
+    tables: &[Held; 9],
+    scramble: &[u8],
+    so_far: &[u8],
+    wanted: &WaysWanted,
+    room: &mut [Way],
+) -> WaysAnswer
+    ensures { FindsBestWith (AreTables IsTable tables.now) wanted.now scramble.now so_far.now room.old room.new result }
+{
+    match way_tables(tables) {
+        Some(tables) => best_ways(&tables, scramble, so_far, wanted, room),
+        None => WaysAnswer::misused(),
+    }
+}
+
+/// Puts the solutions of a step over sides into the room by its tables, as `solve_sides` of `niss_embed`.
+#[unsafe(no_mangle)]
+pub extern "C" fn nissy_solve_sides(
+    tables: &Held,
+    scramble: &[u8],
+    so_far: &[u8],
+    wanted: &SidesWanted,
+    room: &mut [Part],
+) -> SidesAnswer
+    ensures { ListsSidesWith tables.now.built tables.now.kept.step wanted.now scramble.now so_far.now room.old room.new result }
+{
+    match tables.tables() {
+        Some(tables) => solve_sides(tables, scramble, so_far, wanted, room),
+        None => SidesAnswer::misused(),
+    }
+}
+
+/// Writes the line of the cube at which one stands, as `line_after` of `niss_embed`.
+#[unsafe(no_mangle)]
+pub extern "C" fn nissy_line_after(
+    scramble: &[u8],
+    so_far: &[u8],
+    out: &mut [u8],
+) -> LineAfterAnswer
+    ensures does { WritesLineAfter (both_of scramble.now so_far.now) (memory out.old out.new) result }
+    ensures room { 2048 ≤ length out.old → result.status ≢ status_number NoRoom }
+{
+    line_after(scramble, so_far, out)
+}

@@ -1,0 +1,178 @@
+use Rattle.niss_search.proofs.Words.{◌≡◌, ◌∙◌, ◌+◌, ◌-◌, ◌<◌, ◌≤◌, ◌++◌, ◌∷◌, [], suc, arith, sym, ap, subst, take, take_all, get_or, length, length-append, map_of, Path, false}
+use Rattle.niss_search.proofs.Words.{err_from_is_err_and, turns_of, Contains, Contains-get_or}
+use Rattle.std.proofs.lemmas.List.{take_more}
+use Rattle.niss_search.proofs.LookLemmas.{starts_before}
+use Rattle.niss_search.proofs.DescentParts.{no_follower}
+use Rattle.niss_search.proofs.InverseLemmas.{other_next}
+use Rattle.niss_search.proofs.BothLemmas.{parts_more, parts_stop, list_split, heads-end, heads-next, next_heads, popped, same_went, none_yet, idle_end, live_end}
+use Rattle.niss_moves.specs.declared.token.Token.TheVariants as token
+unfoldable use Rattle.niss_search.specs.BothWalk.{after_heads}
+use Rattle.niss_search.specs.BothWalk.{parts, IsOther}
+use Rattle.niss_search.specs.BothSides.{ends_idle}
+use Rattle.niss_search.proofs.searching.both.walk.Walk.+heads.Goals as goal
+
+pub go_on-returns-then-left-eq0-clause-solutions : goal.go_on-returns-then-left-eq0-clause-solutions
+go_on-returns-then-left-eq0-clause-solutions g t c =
+    let walk = c.args.self.now in
+    rw (c.if-left-eq0.true, heads-end walk.tables.now (map_of walk.cube.now) walk.side walk.tail c.args.head.now.turns) c.search_tails.ensures.solutions
+
+pub go_on-search_tails-requires-clause-end : goal.go_on-search_tails-requires-clause-end
+go_on-search_tails-requires-clause-end g t c = c.requires.end c.if-left-eq0.true
+
+pub go_on-follow-requires : goal.go_on-follow-requires
+go_on-follow-requires g t c κs within =
+    let walk = c.args.self.now in
+    let inv = c.loop-follower.invariant in
+    let items = c.turns_after-follower-items.result.now in
+    let i = c.loop-follower.follower-index in
+    let same = sym inv.head in
+    let Room : Path → Type 0 = λ q. length q.turns + 1 + (c.args.left - 1) ≤ q.limit in
+    let Other : Path → Type 0 = λ q. IsOther walk.tables.now walk.side (map_of walk.cube.now) q.turns (map_of c.args.other.now) in
+    let room : Room c.args.head.now = omega (arith, c.requires.room, c.if-left-eq0.false) in (
+      omega (arith, c.if-left-eq0.false),
+      (
+        within.0,
+        (
+          within.1.0,
+          (
+            within.1.1,
+            (
+              c.turns_after-follower-items.ensures.columns i no_follower c.loop-follower-test.true,
+              (c.requires.starts, (subst Other same c.requires.other, (c.requires.few, (subst Room same room, (inv.within, c.requires.bound))))),
+            ),
+          ),
+        ),
+      ),
+    )
+
+pub go_on-returns-in_err-count-clause-head : goal.go_on-returns-in_err-count-clause-head
+go_on-returns-in_err-count-clause-head g t c = c.follow.ensures.head ∙ c.loop-follower.invariant.head
+
+pub go_on-returns-in_err-count-clause-solutions : goal.go_on-returns-in_err-count-clause-solutions
+go_on-returns-in_err-count-clause-solutions g t c =
+    let walk = c.args.self.now in
+    let step = walk.tables.now in
+    let e = map_of walk.cube.now in
+    let inv = c.loop-follower.invariant in
+    let head = c.args.head.now.turns in
+    let left = c.args.left - 1 in
+    let items = c.turns_after-follower-items.result.now in
+    let i = c.loop-follower.follower-index in
+    let p = err_from_is_err_and c.from_residual.result c.from_residual.ensures.1 in
+    let part = next_heads step e walk.side walk.tail head left in
+    let stops = rw (inv.head, c.in_err-count.was) at c.follow.ensures.solutions in
+    let one : c.args.left ≡ suc left = omega (arith, c.if-left-eq0.false) in
+    let all : after_heads step e walk.side walk.tail head c.args.left ≡ parts part items =
+    ap (after_heads step e walk.side walk.tail head) one ∙ heads-next step e walk.side walk.tail head left items (rw c.last.ensures at c.turns_after-follower-items.ensures.turns) in
+    let split = list_split items i no_follower c.loop-follower-test.true in
+    rw (p.1, p.2, all, split) (parts_stop g.K.PairSink.took g.K.PairSink.refused part (take i items) (get_or items i no_follower) inv.went _ stops)
+
+pub go_on-overflow_add-count : goal.go_on-overflow_add-count
+go_on-overflow_add-count g t c =
+    omega (arith, c.loop-follower.invariant.counted, c.in_ok-count.ensures.counted, c.follow.ensures.within, c.requires.bound)
+
+pub go_on-loop-follower-preserved : goal.go_on-loop-follower-preserved
+go_on-loop-follower-preserved g t c =
+    let walk = c.args.self.now in
+    let step = walk.tables.now in
+    let e = map_of walk.cube.now in
+    let inv = c.loop-follower.invariant in
+    let head = c.args.head.now.turns in
+    let left = c.args.left - 1 in
+    let items = c.turns_after-follower-items.result.now in
+    let i = c.loop-follower.follower-index in
+    let part = next_heads step e walk.side walk.tail head left in
+    let went = rw (inv.head, c.in_ok-count.was) at c.follow.ensures.solutions in
+    record {
+      head = c.follow.ensures.head ∙ inv.head;
+      within = c.follow.ensures.within;
+      counted = omega (arith, inv.counted, c.in_ok-count.ensures.counted);
+      went = rw (take_more items i no_follower c.loop-follower-test.true)
+          (parts_more g.K.PairSink.took g.K.PairSink.refused part (take i items) (get_or items i no_follower) inv.went went);
+    }
+
+pub go_on-returns-clause-head : goal.go_on-returns-clause-head
+go_on-returns-clause-head g t c = c.loop-follower.invariant.head
+
+pub go_on-returns-clause-solutions : goal.go_on-returns-clause-solutions
+go_on-returns-clause-solutions g t c =
+    let walk = c.args.self.now in
+    let step = walk.tables.now in
+    let e = map_of walk.cube.now in
+    let inv = c.loop-follower.invariant in
+    let head = c.args.head.now.turns in
+    let left = c.args.left - 1 in
+    let items = c.turns_after-follower-items.result.now in
+    let part = next_heads step e walk.side walk.tail head left in
+    let one : c.args.left ≡ suc left = omega (arith, c.if-left-eq0.false) in
+    let all : after_heads step e walk.side walk.tail head c.args.left ≡ parts part items =
+    ap (after_heads step e walk.side walk.tail head) one ∙ heads-next step e walk.side walk.tail head left items (rw c.last.ensures at c.turns_after-follower-items.ensures.turns) in
+    let end : take c.loop-follower.follower-index items ≡ items = take_all c.loop-follower.follower-index items (omega (arith, c.loop-follower-test.false, c.loop-follower.auto.follower-index-end)) in
+    rw all (rw end at inv.went)
+
+pub go_on-returns-clause-counted : goal.go_on-returns-clause-counted
+go_on-returns-clause-counted g t c = c.loop-follower.invariant.counted
+
+pub go_on-returns-clause-within : goal.go_on-returns-clause-within
+go_on-returns-clause-within g t c = c.loop-follower.invariant.within
+
+pub follow-returns-then-is_idle_end-clause-solutions : goal.follow-returns-then-is_idle_end-clause-solutions
+follow-returns-then-is_idle_end-clause-solutions g t c =
+    let walk = c.args.self.now in
+    let head = c.args.head.now.turns in
+    let e = map_of walk.cube.now in
+    same_went g.K.PairSink.took g.K.PairSink.refused
+    (after_heads walk.tables.now e walk.side walk.tail (head ++ c.args.follower.turn ∷ []) c.args.left) _
+    (idle_end walk.tables.now e walk.side walk.tail head c.args.follower c.args.left c.is_idle_end.result c.requires.follower c.is_idle_end.ensures c.if-is_idle_end.true)
+    (none_yet g.K.PairSink.took g.K.PairSink.refused c.args.meter.now c.args.sink.now)
+
+pub follow-push-requires : goal.follow-push-requires
+follow-push-requires g t c = omega (arith, c.requires.room)
+
+pub follow-go_on-found-requires : goal.follow-go_on-found-requires
+follow-go_on-found-requires g t c κs within =
+    let walk = c.args.self.now in
+    let step = walk.tables.now in
+    let turn = c.args.follower.turn in
+    let column = c.requires.follower in
+    let of_step : Contains (turns_of step) turn = subst (Contains (turns_of step)) column.1 (Contains-get_or (turns_of step) c.args.follower.column _ column.0) in
+    let path = c.args.head.now in
+    let pushed : Path = record { limit = path.limit; turns = path.turns ++ turn ∷ [] } in
+    let is_pushed : c.push.new.self ≡ pushed = c.push.ensures in
+    let Room : Path → Type 0 = λ q. length q.turns + c.args.left ≤ q.limit in
+    let Other : Path → Type 0 = λ q. IsOther step walk.side (map_of walk.cube.now) q.turns (map_of c.turn_before.new.self) in
+    let End : Path → Type 0 = λ q. c.args.left ≡ 0 → ends_idle step q.turns ≡ false in
+    let room : Room pushed = omega (arith, c.requires.room, length-append path.turns (turn ∷ [])) in
+    let end : End pushed = live_end step path.turns c.args.follower c.args.left c.is_idle_end.result column c.is_idle_end.ensures c.if-is_idle_end.false in
+    let other : Other pushed =
+    other_next c.cubes_permute_places.ensures (λ t q. c.places_stay.ensures (token.Face t) q) step (λ t q. c.inverse_undoes.ensures (token.Face t ∷ []) q) walk.side walk.cube.now c.args.other.now c.turn_before.new.self path.turns turn c.inverse.result
+    c.inverse.ensures c.requires.other c.turn_before.ensures in
+    let starts =
+    starts_before c.start_is_kept_before.ensures c.inverses_of_steps.ensures c.steps_see_places.ensures step c.args.other.now c.turn_before.new.self turn c.inverse.result
+    of_step c.inverse.ensures c.requires.starts c.turn_before.ensures in (
+      omega arith,
+      (
+        within.0,
+        (
+          within.1.0,
+          (
+            within.1.1,
+            (
+              starts,
+              (
+                subst Other (sym is_pushed) other,
+                (c.requires.few, (subst Room (sym is_pushed) room, (subst End (sym is_pushed) end, (c.requires.budget, c.requires.bound)))),
+              ),
+            ),
+          ),
+        ),
+      ),
+    )
+
+pub follow-returns-clause-head : goal.follow-returns-clause-head
+follow-returns-clause-head g t c =
+    popped c.args.head.now c.go_on-found.new.head c.pop.new.self c.args.follower.turn c.pop.result
+    (c.go_on-found.ensures.head ∙ c.push.ensures) c.pop.ensures.limit c.pop.ensures.some c.pop.ensures.none
+
+pub follow-returns-clause-solutions : goal.follow-returns-clause-solutions
+follow-returns-clause-solutions g t c = rw c.push.ensures at c.go_on-found.ensures.solutions

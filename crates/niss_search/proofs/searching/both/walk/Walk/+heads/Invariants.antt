@@ -1,0 +1,20 @@
+use Rattle.niss_search.proofs.Words.{◌≡◌, ◌+◌, ◌*◌, ◌≤◌, ◌-◌, take, map_of}
+use Rattle.niss_search.proofs.BothLemmas.{next_heads}
+use Rattle.niss_search.specs.BothSides.{HandedOut}
+use Rattle.niss_search.specs.BothWalk.{parts}
+use Rattle.niss_search.proofs.searching.both.walk.Walk.+heads.Given as goal
+
+abbrev pub decreases-go_on : goal.decreases-go_on
+decreases-go_on g l = 2 * l.left
+
+abbrev pub decreases-follow : goal.decreases-follow
+decreases-follow g l = 2 * l.left + 1
+
+abbrev pub invariant-go_on-loop-follower : goal.invariant-go_on-loop-follower
+invariant-go_on-loop-follower g l =
+    let done = parts (next_heads l.self.tables.now (map_of l.self.cube.now) l.self.side l.self.tail l.fn.head.turns (l.left - 1)) (take l.follower-index l.follower-items) in record {
+      head : l.head ≡ l.fn.head;
+      within : l.meter ≤ l.self.budget.now.bound;
+      counted : l.fn.meter + l.count ≤ l.meter;
+      went : HandedOut g.K.PairSink.took g.K.PairSink.refused done.pairs done.looks l.fn.meter l.meter l.fn.sink l.sink l.count;
+    }

@@ -1,0 +1,73 @@
+"""The best ways on as the independent model has them, tests/model/ways.cpp, of the questions in ways.txt: each stands before its rows, and ends with
+an empty line. `c++ -O2 -o ways tests/model/ways.cpp && grep ';' tests/browsers/ways.txt | ./ways` writes the rows anew."""
+from pathlib import Path
+from typing import NamedTuple
+
+from program import program_answers
+from wanted import SIDES, TITLES, Position
+
+AXES = {"fb": "F/B", "rl": "R/L", "ud": "U/D"}
+
+
+class Way(NamedTuple):
+    """A way on: all moves, the length of its first step, its case, the axes of its orientation and its reduction, and the moves of both on both
+    sides."""
+
+    total: int
+    length: int
+    case: str
+    axis: str
+    reduction: str
+    eo: tuple[str, str]
+    dr: tuple[str, str]
+
+    @property
+    def step(self) -> str:
+        """The name of its reduction."""
+        return f"dr{self.reduction}-eo{self.axis}"
+
+
+def line_of(sides: tuple[str, str]) -> str:
+    """Moves on both sides as a solver writes them."""
+    return " ".join(text for text in (sides[0], f"({sides[1]})" if sides[1] else "") if text)
+
+
+def way_of(row: str) -> Way:
+    """A row of the model."""
+    head, *moves = row.split("|")
+    total, length, corners, edges, axis, reduction = head.split()
+    one, other, third, last = (text.strip() for text in moves)
+    return Way(int(total), int(length), f"{corners}c{edges}e", axis, reduction, (one, other), (third, last))
+
+
+def ways(question: str) -> list[Way]:
+    """All ways on of a question, `slack ; turns that lead to the cube ; turns made on the normal side ; on the inverse`, in their order."""
+    blocks = (Path(__file__).parent / "ways.txt").read_text().split("\n\n")
+    [rows] = [block.splitlines()[1:] for block in blocks if block.splitlines()[:1] == [question]]
+    return [way_of(row) for row in rows]
+
+
+def lengths_after(program: str, scramble: str, found: list[Way]) -> list[list[str]]:
+    """The least length of each way's reduction on each side alone, after its orientation, by the built program."""
+    lines = [Position(scramble, *way.eo).lines for way in found]
+    told: dict[tuple[str, str], str] = {}
+    for step in {way.step for way in found}:
+        asked = [line[side] for way, line in zip(found, lines) if way.step == step for side in SIDES]
+        told |= {(step, line): said.split()[1] for line, said in zip(asked, program_answers(program, ["count", step, "20"], asked), strict=True)}
+    return [[told[way.step, line[side]] for side in SIDES] for way, line in zip(found, lines)]
+
+
+def rows_of(program: str, scramble: str, found: list[Way]) -> list[list[str]]:
+    """Ways on with an orientation as the page shows them: the number, moves, what they reach, the reduction, its case and lengths."""
+    return [[str(way.total), line_of(way.eo), f"EO {AXES[way.axis]}", f"DR {AXES[way.reduction]}", *lengths]
+        for way, lengths in zip(found, lengths_after(program, scramble, found), strict=True)]
+
+
+def firsts_of(found: list[Way]) -> list[str]:
+    """What each row says of its reduction."""
+    return [f"then {line}" if (line := line_of(way.dr)) else "" for way in found]
+
+
+def title_of(way: Way) -> str:
+    """What the way on reaches by its reduction."""
+    return TITLES[way.step].split(" after")[0]
