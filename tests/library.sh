@@ -65,7 +65,7 @@ tried() { # NAME: the test in C of this name
     esac
     ended
 }
-for name in calls pieces facts ways sides threads fuzz memory handlers; do part tried $name; done
+for name in calls pieces facts ways sides text threads fuzz memory handlers; do part tried $name; done
 
 # the headers in C++, by each compiler that is here
 compiled_by() { # COMPILER PROGRAM WORD..: compiles the test in C++, with these words too
@@ -83,6 +83,7 @@ read_strictly() { # COMPILER: callers have warnings of their own, and no header 
 by_compiler() { # COMPILER STANDARD OTHER
     local compiler=$1
     holds "nissy.h is C++98 too, by $compiler" "$compiler" -std=c++98 "${strict[@]}" -x c++ -fsyntax-only include/nissy.h
+    holds "so is nissy_text.h, by $compiler" "$compiler" -std=c++98 "${strict[@]}" -x c++ -fsyntax-only include/nissy_text.h
     # named beside an empty file, since not all of its functions are called in it
     holds "so is nissy_forms.h, by $compiler" "$compiler" -std=c++98 "${strict[@]}" -include nissy_forms.h -x c++ -fsyntax-only /dev/null
     holds "nissy.hpp tells C++14 that it is for C++17, by $compiler" tells_older "$compiler"
@@ -118,18 +119,18 @@ holds "a call with too few arguments doesn't compile" refuses cc -std=c11 "${str
 callable_forms() { sed 's/^static inline //' include/nissy_forms.h; }
 by_cffi() {
     callable_forms | cc "${strict[@]}" -shared -fPIC -o "$made/libforms.so" -x c - -x none -L"$folder" -Wl,--no-as-needed -lnissy -Wl,-rpath,"$folder"
-    sed '/^#include/d; /^static/,/^}/{s/^static inline\(.*\) {/\1;/p;d}' include/nissy.h include/nissy_forms.h | cc -E -P - > "$made/nissy.cdef"
+    sed '/^#include/d; /^static/,/^}/{s/^static inline\(.*\) {/\1;/p;d}' include/nissy.h include/nissy_text.h include/nissy_forms.h | cc -E -P - > "$made/nissy.cdef"
     add python3 tests/library/by_cffi.py "$made/nissy.cdef" "$made/libforms.so"
     ended
 }
 read_by_bindgen() {
     callable_forms > "$made/nissy_forms.c" &&
-        bindgen --allowlist-file '.*nissy.*' "$made/nissy_forms.c" -- -Iinclude > "$made/nissy.rs" &&
+        bindgen --allowlist-file '.*nissy.*' "$made/nissy_forms.c" -- -Iinclude -include nissy_text.h > "$made/nissy.rs" &&
         test "$(grep -oE 'pub fn [A-Za-z0-9_]+' "$made/nissy.rs" | cut -c 8- | sort)" = "$({ declared && of_forms; } | sort)"
 }
 of_forms() { sed -n 's/^static inline .*\(nissy_[a-z_]*\)(.*/\1/p' include/nissy_forms.h; }
 if python3 -c "import cffi" 2> /dev/null; then part by_cffi; else skips "cffi isn't installed"; fi
-if missing bindgen; then skips "bindgen isn't installed"; else holds "bindgen reads each call of both headers for C, and no other" read_by_bindgen; fi
+if missing bindgen; then skips "bindgen isn't installed"; else holds "bindgen reads each call of the headers for C, and no other" read_by_bindgen; fi
 
 # The oldest processor that the library is for, which does some of its instructions otherwise, and one that is older. The positions of the
 # last answer are the model's.

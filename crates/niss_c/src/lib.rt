@@ -3,6 +3,7 @@
 
 mod best_call;
 mod check_calls;
+mod reading_calls;
 mod run_call;
 mod table_calls;
 mod text_calls;
@@ -16,6 +17,7 @@ pub use niss_embed::{
 };
 pub use niss_kept::Held;
 pub use niss_ways::{Part, SideTurns, Way};
+pub use reading_calls::{nissy_plain, nissy_text_lines};
 pub use run_call::nissy_run;
 pub use table_calls::{
     nissy_build, nissy_count, nissy_count_lines, nissy_solve, nissy_solve_after,

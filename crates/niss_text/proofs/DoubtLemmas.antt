@@ -1,0 +1,47 @@
+-- Letters that are written as moves are, and which doubt has which number.
+use Rattle.std.proofs.Common.{◌≡◌, ℕ, ◌+◌, ◌<◌, ◌≤◌, true, false, List, refl, sym, ◌∙◌, arith}
+use Rattle.std.proofs.lemmas.Bool.{false≢true}
+use Rattle.niss_text.specs.declared.doubts.Doubt.{Doubt}
+use Rattle.niss_text.specs.declared.doubts.Doubt.TheVariants.{Nothing, AnotherScramble, SeveralSolutions, Side, Letters, SmallLetters, Comment}
+use Rattle.niss_text.specs.declared.doubts.Sight.TheVariants.{Joined, Parted, Prime}
+use Rattle.niss_text.specs.Doubts.{IsAsWritten, number_of, sees}
+
+pub none_joined : (text : List ℕ) (from to : ℕ) → ((k : ℕ) → from + 1 ≤ k → k < to → sees text Joined k ≡ false) → IsAsWritten text from to
+none_joined text from to none = record {
+  apart = λ j after before seen k far near. none k (omega (arith, far)) near;
+  unprimed = λ unseen k far near. none k (omega (arith, far)) near;
+}
+
+pub none_parted : (text : List ℕ) (from to prime : ℕ) → ((k : ℕ) → from + 1 ≤ k → k < to → sees text Parted k ≡ false) → from ≤ prime →
+    prime < to → sees text Prime prime ≡ true → IsAsWritten text from to
+none_parted text from to prime none after before primed = record {
+  apart = λ j far near seen k. absurd (false≢true (sym (none j (omega (arith, far)) near) ∙ seen));
+  unprimed = λ unseen k. absurd (false≢true (sym (unseen prime after before) ∙ primed));
+}
+
+pub is_nothing : (d : Doubt) → number_of d ≡ 0 → d ≡ Nothing
+is_nothing Nothing h = refl
+is_nothing AnotherScramble h = absurd (omega arith)
+is_nothing SeveralSolutions h = absurd (omega arith)
+is_nothing Side h = absurd (omega arith)
+is_nothing Letters h = absurd (omega arith)
+is_nothing SmallLetters h = absurd (omega arith)
+is_nothing Comment h = absurd (omega arith)
+
+pub is_letters : (d : Doubt) → number_of d ≡ 4 → d ≡ Letters
+is_letters Nothing h = absurd (omega arith)
+is_letters AnotherScramble h = absurd (omega arith)
+is_letters SeveralSolutions h = absurd (omega arith)
+is_letters Side h = absurd (omega arith)
+is_letters Letters h = refl
+is_letters SmallLetters h = absurd (omega arith)
+is_letters Comment h = absurd (omega arith)
+
+pub is_small_letters : (d : Doubt) → number_of d ≡ 5 → d ≡ SmallLetters
+is_small_letters Nothing h = absurd (omega arith)
+is_small_letters AnotherScramble h = absurd (omega arith)
+is_small_letters SeveralSolutions h = absurd (omega arith)
+is_small_letters Side h = absurd (omega arith)
+is_small_letters Letters h = absurd (omega arith)
+is_small_letters SmallLetters h = refl
+is_small_letters Comment h = absurd (omega arith)

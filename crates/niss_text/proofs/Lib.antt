@@ -1,0 +1,4 @@
+pub mod SignLemmas
+pub mod PlainLemmas
+pub mod LineLemmas
+pub mod DoubtLemmas

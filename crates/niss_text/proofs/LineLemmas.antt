@@ -1,0 +1,59 @@
+-- One more line of a text.
+use Rattle.std.proofs.Common.{◌≡◌, ℕ, ◌+◌, ◌-◌, ◌<◌, ◌≤◌, List, [], ◌∷◌, ◌++◌, length, take, drop, set, get_or, zero-add, refl, sym, subst, ap, ◌∙◌, arith}
+use Rattle.std.proofs.lemmas.List.{take_more_set, drop-set-lt, drop-drop, get_or-drop}
+use Rattle.niss_text.specs.declared.text_line.TextLine.{TextLine}
+use Rattle.niss_text.specs.Signs.{ends_line}
+use Rattle.niss_text.specs.Doubts.{IsDoubted}
+use Rattle.niss_text.specs.Lines.{IsLine, IsUnbroken, end_of, end_size}
+unfoldable use Rattle.niss_text.specs.Lines.{Covers}
+
+pub covers_none : (text : List ℕ) (at : ℕ) → Covers text at [] at
+unfolding Covers
+covers_none text at = refl
+
+pub covers_more : (text : List ℕ) (from : ℕ) (lines : List TextLine) (to : ℕ) (line : TextLine) (size : ℕ) → Covers text from lines to → IsLine to line → IsDoubted text line →
+    line.end ≡ to + size → IsUnbroken text to size → Covers text from (lines ++ line ∷ []) (line.end + end_size text line.end)
+unfolding Covers
+covers_more text from [] to line size same is told end whole =
+    subst (λ (at : ℕ). IsLine at line × (IsDoubted text line × ((n : ℕ) × (line.end ≡ at + n) × IsUnbroken text at n × (line.end + end_size text line.end ≡ line.end + end_size text line.end))))
+    (sym same) (is, (told, (size, end, whole, refl)))
+covers_more text from (l ∷ ls) to line size far is told end whole =
+    (far.0, (far.1.0, (far.1.1.0, far.1.1.1, far.1.1.2, covers_more text (l.end + end_size text l.end) ls to line size far.1.1.3 is told end whole)))
+
+-- what ends a line in the rest of a text ends it in the text
+end_size_at : (text : List ℕ) (now size : ℕ) → end_size (drop now text) size ≡ end_size text (now + size)
+end_size_at text now size =
+    let first : get_or (drop now text) size 0 ≡ get_or text (now + size) 0 = get_or-drop now text size 0 in
+    let second : get_or (drop now text) (size + 1) 0 ≡ get_or text (now + (size + 1)) 0 = get_or-drop now text (size + 1) 0 in
+    let same : now + (size + 1) ≡ now + size + 1 = omega arith in
+    ap (λ a. end_of a (get_or (drop now text) (size + 1) 0)) first
+    ∙ ap (λ b. end_of (get_or text (now + size) 0) b) (second ∙ ap (λ n. get_or text n 0) same)
+
+-- the same in memory: a line is cut from the rest of a text
+pub covers_next : (text : List ℕ) (lines : List TextLine) (count now size whole : ℕ) (line : TextLine) → count < length lines →
+    Covers text 0 (take count lines) now → IsLine now line → IsDoubted text line → line.end ≡ now + size → IsUnbroken (drop now text) 0 size →
+    whole ≡ size + end_size (drop now text) size → Covers text 0 (take (count + 1) (set lines count line)) (now + whole)
+covers_next text lines count now size whole line room far is told end unbroken all =
+    let there : line.end + end_size text line.end ≡ now + whole =
+    ap (λ n. n + end_size text n) end ∙ ap (λ n. now + size + n) (sym (end_size_at text now size)) ∙ sum ∙ ap (λ n. now + n) (sym all) in
+    let broken : IsUnbroken text now size = λ k lt. ap (λ b. ends_line b) (sym (get_or-drop now text k 0)) ∙ ap (λ n. ends_line (get_or (drop now text) n 0)) (sym (zero-add k)) ∙ unbroken k lt in
+    subst (λ (ls : List TextLine). Covers text 0 ls (now + whole)) (sym (take_more_set lines count line room))
+    (subst (λ (n : ℕ). Covers text 0 (take count lines ++ line ∷ []) n) there (covers_more text 0 (take count lines) now line size far is told end broken))
+  where
+    sum : now + size + end_size (drop now text) size ≡ now + (size + end_size (drop now text) size)
+    sum = omega arith
+
+pub same_behind_line : (lines first : List TextLine) (count : ℕ) (line : TextLine) → drop count lines ≡ drop count first →
+    drop (count + 1) (set lines count line) ≡ drop (count + 1) first
+same_behind_line lines first count line far =
+    drop-set-lt (count + 1) lines count line (omega arith) ∙ sym (drop-drop 1 count lines) ∙ ap (λ v. drop 1 v) far ∙ drop-drop 1 count first
+
+pub same_behind_none : (lines first : List TextLine) (count : ℕ) → drop count lines ≡ drop count first → drop (count + 1) lines ≡ drop (count + 1) first
+same_behind_none lines first count far = sym (drop-drop 1 count lines) ∙ ap (λ v. drop 1 v) far ∙ drop-drop 1 count first
+
+-- what is the same after some lines is so after more of them
+pub more_behind : (lines first : List TextLine) (count more : ℕ) → count ≤ more → drop count lines ≡ drop count first → drop more lines ≡ drop more first
+more_behind lines first count more le far =
+    let split : count + (more - count) ≡ more = omega arith in
+    ap (λ n. drop n lines) (sym split) ∙ sym (drop-drop (more - count) count lines) ∙ ap (λ v. drop (more - count) v) far
+    ∙ drop-drop (more - count) count first ∙ ap (λ n. drop n first) split

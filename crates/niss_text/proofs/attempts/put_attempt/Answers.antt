@@ -1,0 +1,36 @@
+use Rattle.std.proofs.Common.{◌≡◌, ◌+◌, ◌<◌, ℕ, List, length, take, drop, set, sym, ap, ◌∙◌, subst, arith}
+use Rattle.std.proofs.lemmas.List.{length-set, length-drop}
+use Rattle.niss_text.specs.declared.text_line.TextLine.{TextLine}
+use Rattle.niss_text.specs.Lines.{IsLine, IsUnbroken, Covers, end_size}
+use Rattle.niss_text.proofs.LineLemmas.{covers_next, same_behind_line}
+use Rattle.niss_text.proofs.attempts.put_attempt.Goals as goal
+
+pub loop-at-preserved : goal.loop-at-preserved
+loop-at-preserved c =
+    let text : List ℕ = c.args.text.now in
+    let lines : List TextLine = c.loop-at.lines in
+    let count : ℕ = c.loop-at.count in
+    let now : ℕ = c.args.begin + c.loop-at.at in
+    let size : ℕ = c.cut_line-whole.result.0.length in
+    let whole : ℕ = c.cut_line-whole.result.1 in
+    let told : TextLine = c.judged-told.result in
+    let inv = c.loop-at.invariant in
+    let rest : c.from_place-rest.result.now ≡ drop now text = c.from_place-rest.ensures in
+    let e : c.put_line.new.lines ≡ set lines count told = c.put_line.ensures in
+    let same : length c.put_line.new.lines ≡ length lines = ap length e ∙ length-set lines count told in
+    let begins : IsLine now told = subst (λ (n : ℕ). IsLine n told) c.told_line-told.ensures.is.begins c.judged-told.ensures.is in
+    let some : 0 < whole = c.cut_line-whole.ensures.some in
+    let unbroken : IsUnbroken (drop now text) 0 size = subst (λ (r : List ℕ). IsUnbroken r 0 size) rest c.cut_line-whole.ensures.whole in
+    let all : whole ≡ size + end_size (drop now text) size = subst (λ (r : List ℕ). whole ≡ size + end_size r size) rest c.cut_line-whole.ensures.ends in
+    let there : now + whole ≡ c.args.begin + (c.loop-at.at + whole) = omega arith in
+    record {
+      within = omega (arith, c.cut_line-whole.ensures.fits, ap length rest, length-drop now text, inv.within);
+      more = omega (arith, inv.more);
+      few = omega (arith, inv.few, some);
+      covers = λ begun room.
+          subst (λ (n : ℕ). Covers text 0 (take (count + 1) c.put_line.new.lines) n) there
+          (subst (λ (ls : List TextLine). Covers text 0 (take (count + 1) ls) (now + whole)) (sym e)
+          (covers_next text lines count now size whole told (omega (arith, room, same)) (inv.covers begun (omega (arith, room, same)))
+          begins c.judged-told.ensures.doubt (c.judged-told.ensures.ends ∙ c.told_line-told.ensures.ends) unbroken all));
+      behind = ap (λ v. drop (count + 1) v) e ∙ same_behind_line lines c.args.lines.now count told inv.behind;
+    }

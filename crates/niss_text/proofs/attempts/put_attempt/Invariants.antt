@@ -1,0 +1,15 @@
+use Rattle.std.proofs.Common.{◌≡◌, ◌+◌, ◌-◌, ◌≤◌, length, take, drop}
+use Rattle.niss_text.specs.Lines.{Covers}
+use Rattle.niss_text.proofs.attempts.put_attempt.Given as goal
+
+abbrev pub invariant-loop-at : goal.invariant-loop-at
+invariant-loop-at l = record {
+  within : l.begin + l.at ≤ length l.text;
+  more : l.written ≤ l.count;
+  few : l.count ≤ l.begin + l.at;
+  covers : Covers l.text 0 (take l.written l.initial.lines) l.begin → l.count ≤ length l.lines → Covers l.text 0 (take l.count l.lines) (l.begin + l.at);
+  behind : drop l.count l.lines ≡ drop l.count l.initial.lines;
+}
+
+abbrev pub decreases-loop-at : goal.decreases-loop-at
+decreases-loop-at l = l.attempt.length - l.at

@@ -1,0 +1,4 @@
+pub mod Signs
+pub mod Pieces
+pub mod Doubts
+pub mod Lines

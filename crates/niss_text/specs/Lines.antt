@@ -1,0 +1,34 @@
+-- The lines of a text, one after another, and where their parts stand.
+use Rattle.std.specs.Prelude.{◌≡◌, ℕ, ◌==◌, ◌+◌, ◌<◌, ◌≤◌, ◌&&◌, false, if◌then◌else◌, List, [], ◌∷◌, slice_index}
+use Rattle.niss_text.specs.Signs.{ends_line}
+use Rattle.niss_text.specs.Doubts.{IsDoubted}
+use Rattle.niss_text.specs.declared.text_line.TextLine.{TextLine}
+
+-- A line that begins there. Its parts stand in this order, and none overlaps another.
+pub record IsLine (from : ℕ) (line : TextLine) : Type 0 where
+  pub begins : line.begin ≡ from
+  pub head : line.begin ≤ line.head_end
+  pub label : line.head_end ≤ line.label_begin
+  pub words : line.label_begin ≤ line.label_end
+  pub title : line.label_end ≤ line.moves
+  pub moves : line.moves ≤ line.comment
+  pub comment : line.comment ≤ line.end
+
+-- how many bytes of two end a line: a return and a line feed both, either of them alone, or none
+abbrev pub end_of : ℕ → ℕ → ℕ
+end_of a b = if ends_line a then (if (a == 13) && (b == 10) then 2 else 1) else 0
+
+-- how many bytes end a line there: none if the text ends
+abbrev pub end_size : List ℕ → ℕ → ℕ
+end_size text at = end_of (slice_index text at) (slice_index text (at + 1))
+
+-- that many bytes of a text from there on don't end a line
+abbrev pub IsUnbroken : List ℕ → ℕ → ℕ → Type 0
+IsUnbroken text from size = (k : ℕ) → k < size → ends_line (slice_index text (from + k)) ≡ false
+
+-- The lines of a text from one place to another: each of bytes that don't end it, and after it what does. What makes
+-- one doubt a line is told of it.
+unfoldable pub Covers : List ℕ → ℕ → List TextLine → ℕ → Type 0
+Covers text from [] to = from ≡ to
+Covers text from (line ∷ lines) to =
+    IsLine from line × (IsDoubted text line × ((size : ℕ) × (line.end ≡ from + size) × IsUnbroken text from size × Covers text (line.end + end_size text line.end) lines to))

@@ -1,0 +1,78 @@
+-- What a text is read as: pieces, one after another, of which each is written in its place or left out.
+use Rattle.std.specs.Prelude.{◌≡◌, ℕ, ◌+◌, ◌<◌, ◌≤◌, true, false, List, [], ◌∷◌, ◌++◌, length, replicate, take, slice_index}
+use Rattle.niss_text.specs.declared.piece.Piece.{Piece}
+use Rattle.niss_text.specs.declared.piece.Piece.TheVariants.{Kept, Blank, LineEnd, Comma, Apostrophe, Unseen, Label, LineNumber, MoveCount, Comment}
+use Rattle.niss_text.specs.Signs.{HasNoMoves, is_letter, ends_line, begins_number, begins_count}
+
+-- A piece of a text, with its bytes.
+pub record Part : Type 0 where
+  pub kind : Piece
+  pub bytes : List ℕ
+
+abbrev pub part : Piece → List ℕ → Part
+part kind bytes = record { kind = kind; bytes = bytes }
+
+-- no byte of these ends a line
+abbrev pub IsWithinLine : List ℕ → Type 0
+IsWithinLine bytes = (k : ℕ) → k < length bytes → ends_line (slice_index bytes k) ≡ false
+
+-- What each kind of piece may be: what isn't written as it stands has no byte of moves, or begins as no moves do. A
+-- label begins with a letter, as moves may. None of these goes on after its line.
+abbrev pub IsPiece : Piece → List ℕ → Type 0
+IsPiece Kept bytes = length bytes ≡ 1
+IsPiece Blank bytes = HasNoMoves bytes
+IsPiece LineEnd bytes = HasNoMoves bytes
+IsPiece Comma bytes = HasNoMoves bytes
+IsPiece Apostrophe bytes = HasNoMoves bytes
+IsPiece Unseen bytes = HasNoMoves bytes
+IsPiece Label bytes = (is_letter (slice_index bytes 0) ≡ true) × IsWithinLine bytes
+IsPiece LineNumber bytes = (begins_number (slice_index bytes 0) ≡ true) × IsWithinLine bytes
+IsPiece MoveCount bytes = begins_count (slice_index bytes 0) (slice_index bytes 1) ≡ true
+IsPiece Comment bytes = (slice_index bytes 0 ≡ 47) × (slice_index bytes 1 ≡ 47) × IsWithinLine bytes
+
+-- The first bytes of a text, that many and at least one, are such a piece.
+pub record IsFirst (text : List ℕ) (kind : Piece) (count : ℕ) : Type 0 where
+  pub some : 0 < count
+  pub fits : count ≤ length text
+  pub is : IsPiece kind (take count text)
+
+-- what is written of a piece: what stays, one blank, the grammar's other apostrophe, or nothing
+abbrev pub written : Piece → List ℕ → List ℕ
+written Kept bytes = bytes
+written Blank bytes = 32 ∷ []
+written LineEnd bytes = 32 ∷ []
+written Comma bytes = 32 ∷ []
+written Apostrophe bytes = 226 ∷ 128 ∷ 153 ∷ []
+written Unseen bytes = []
+written Label bytes = []
+written LineNumber bytes = []
+written MoveCount bytes = []
+written Comment bytes = []
+
+-- the text that pieces make, one after another
+unfoldable pub text_of : List Part → List ℕ
+text_of [] = []
+text_of (p ∷ ps) = p.bytes ++ text_of ps
+
+-- the line that is written of them
+unfoldable pub line_of : List Part → List ℕ
+line_of [] = []
+line_of (p ∷ ps) = written p.kind p.bytes ++ line_of ps
+
+-- the place in the text of each byte of the line: that of its piece, of which the first is here
+unfoldable pub places_of : ℕ → List Part → List ℕ
+places_of at [] = []
+places_of at (p ∷ ps) = replicate (length (written p.kind p.bytes)) at ++ places_of (at + length p.bytes) ps
+
+-- each has bytes, and is what its kind may be
+unfoldable pub ArePieces : List Part → Type 0
+ArePieces [] = Unit {0}
+ArePieces (p ∷ ps) = (0 < length p.bytes) × IsPiece p.kind p.bytes × ArePieces ps
+
+-- A text is read as this line, of which each byte has its place.
+pub record IsPlain (text line places : List ℕ) : Type 0 where
+  pub parts : List Part
+  pub are_pieces : ArePieces parts
+  pub whole : text_of parts ≡ text
+  pub line_is : line_of parts ≡ line
+  pub places_are : places_of 0 parts ≡ places

@@ -1,0 +1,135 @@
+//! The groups of lines after a scramble: those directly under it, and the blocks after blank lines.
+ghost use Rattle.std.specs.Prelude.{◌≤◌, ◌<◌};
+
+use crate::line::Line;
+
+/// The group of the last line, and what is seen of it.
+#[derive(Clone, Copy)]
+pub struct Group {
+    /// Its number: 0 of the lines directly under the scramble.
+    pub number: usize,
+    has_moves: bool,
+    has_label: bool,
+    is_ended: bool,
+    /// It is a solution on one line, of which nothing more is said.
+    is_line: bool,
+}
+
+impl Group {
+    /// Before the first line after a scramble.
+    pub fn first() -> Group {
+        Group {
+            number: 0,
+            has_moves: false,
+            has_label: false,
+            is_ended: false,
+            is_line: false,
+        }
+    }
+
+    /// Whether a line begins a group: after one that is ended, with the label of a solution after moves, or with moves
+    /// that are told after a solution that isn't.
+    fn is_ended_by(&self, line: &Line) -> bool {
+        self.is_ended
+            || (self.has_moves && line.is_solution)
+            || (self.is_line && line.is_told && line.is_moves)
+    }
+
+    /// After one more line. A blank line ends a group, but one of a label alone, which belongs to what follows it.
+    pub fn after(self, line: &Line) -> Group {
+        let mut group = self;
+        if line.is_blank {
+            group.is_ended = self.is_ended || self.has_moves || !self.has_label;
+            return group;
+        }
+        if self.is_ended_by(line) {
+            group = Group::first();
+            group.number = self.number.saturating_add(1);
+        }
+        group.is_line = group.is_line || (line.is_solution && line.is_moves && !line.has_comment());
+        group.has_moves = group.has_moves || line.is_moves;
+        group.has_label = group.has_label || line.is_solution;
+        group
+    }
+}
+
+/// What tells which group is the solution.
+#[derive(Clone, Copy)]
+pub struct Solutions {
+    group: Group,
+    /// There is a line that isn't blank.
+    pub has_lines: bool,
+    is_under: bool,
+    /// How many groups after the first have moves, two at most, and the last of them.
+    listed: u8,
+    last_listed: usize,
+    /// How many lines say that the solution follows, two at most, and of the last which group it is in, and whether it
+    /// is the final one.
+    told: u8,
+    last_told: usize,
+    is_final: bool,
+}
+
+impl Solutions {
+    /// Before the first line after a scramble.
+    pub fn none() -> Solutions {
+        Solutions {
+            group: Group::first(),
+            has_lines: false,
+            is_under: false,
+            listed: 0,
+            last_listed: 0,
+            told: 0,
+            last_told: 0,
+            is_final: false,
+        }
+    }
+
+    /// After one more line.
+    pub fn after(self, line: &Line) -> Solutions {
+        let mut seen = self;
+        seen.group = self.group.after(line);
+        seen.has_lines = self.has_lines || !line.is_blank;
+        if line.is_moves {
+            seen = seen.with_moves();
+        }
+        if line.is_solution {
+            seen.told = if self.told == 0 { 1 } else { 2 };
+            seen.last_told = seen.group.number;
+            seen.is_final = line.is_final;
+        }
+        seen
+    }
+
+    /// With moves in the group.
+    fn with_moves(self) -> Solutions {
+        let mut seen = self;
+        let number = self.group.number;
+        if number == 0 {
+            seen.is_under = true;
+        } else if self.listed == 0 || self.last_listed != number {
+            seen.listed = if self.listed == 0 { 1 } else { 2 };
+            seen.last_listed = number;
+        }
+        seen
+    }
+
+    /// The group that is the solution: the one that a label says to be, of several the last one if it is the final one;
+    /// without labels the lines directly under the scramble, else the only group.
+    pub fn group(self) -> Option<usize> {
+        if self.told == 1 || (self.told > 1 && self.is_final) {
+            return Some(self.last_told);
+        }
+        if self.told > 1 {
+            return None;
+        }
+        if self.is_under {
+            return Some(0);
+        }
+        if self.listed == 1 {
+            Some(self.last_listed)
+        } else {
+            None
+        }
+    }
+}

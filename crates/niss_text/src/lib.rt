@@ -1,0 +1,21 @@
+//! Text as solvers write it: which bytes of it are moves, and which of its lines are scrambles, steps and notes. It
+//! knows nothing of what moves do: what isn't told apart here is at fault where it is read as a line.
+#![tactic(auto)]
+
+mod attempts;
+mod body;
+mod doubts;
+mod forms;
+mod groups;
+mod line;
+mod piece;
+mod plain;
+mod sign;
+mod span;
+mod text_line;
+mod word;
+mod words;
+
+pub use attempts::{TextAnswer, text_lines};
+pub use plain::{PlainAnswer, plain_line};
+pub use text_line::TextLine;

@@ -1,0 +1,279 @@
+//! A line of a text: where its parts are, and what is seen of it.
+ghost use Rattle.std.specs.Prelude.{◌≡◌, ◌≤◌, ◌<◌, ◌+◌, true, length, slice_index};
+ghost use Rattle.niss_text.specs.Signs.{ends_line};
+ghost use Rattle.niss_text.specs.Lines.{IsUnbroken, end_of, end_size};
+
+use crate::body::{has_frame, is_moves, is_whole_scramble};
+use crate::forms::{
+    begins_comment, head_length, label_of, line_length, listed_length, number_length, trimmed,
+};
+use crate::sign::{Class, first_sign, length_of};
+use crate::span::span_of;
+use crate::words::{Wanted, is_word, says};
+
+/// Which numbers may stand before a scramble.
+#[derive(Clone, Copy, PartialEq, Eq)]
+pub enum Numbers {
+    /// None: what begins a line so is its number.
+    OfLines,
+    /// Those of a list, such as `2`.
+    Listed,
+    /// Those of a list with extras, such as `E2`.
+    WithExtras,
+}
+
+/// What tells a scramble from others in front of a line.
+#[derive(Clone, Copy, PartialEq, Eq)]
+pub enum Head {
+    None,
+    Number,
+    Word,
+}
+
+/// What is seen of a line: how many bytes its head has, where the words of its label begin and end, where its moves and
+/// what is said after them begin, where slashes begin a comment, and what these say.
+#[derive(Clone, Copy)]
+pub struct Line {
+    pub head_kind: Head,
+    pub head: usize,
+    pub label_begin: usize,
+    pub label_end: usize,
+    pub moves: usize,
+    pub comment: usize,
+    /// Where the first name stands that is no move, but spelled by them; at the slashes if there is none.
+    pub name: usize,
+    pub slashes: usize,
+    pub length: usize,
+    pub is_blank: bool,
+    pub is_head_alone: bool,
+    pub is_moves: bool,
+    pub is_told: bool,
+    pub is_solution: bool,
+    pub is_final: bool,
+    pub is_step: bool,
+    pub is_whole: bool,
+    ghost head_in: { head ≤ label_begin },
+    ghost label_in: { label_begin ≤ label_end },
+    ghost words_in: { label_end ≤ moves },
+    ghost moves_in: { moves ≤ comment },
+    ghost comment_in: { comment ≤ slashes },
+    ghost name_in: { name ≤ slashes },
+    ghost slashes_in: { slashes ≤ length },
+}
+
+impl Line {
+    /// Whether something is said after its moves.
+    pub fn has_comment(&self) -> bool {
+        self.comment < self.length
+    }
+}
+
+/// How many bytes stand before the comment of a line.
+fn comment_at(line: &[u8]) -> usize
+    ensures { result ≤ length line.now }
+{
+    let mut rest = line;
+    while !rest.is_empty() {
+        if begins_comment(rest) {
+            return line.len() - rest.len();
+        }
+        rest = &rest[1..];
+    }
+    line.len()
+}
+
+/// How many bytes of blanks a line begins with.
+fn blanks(line: &[u8]) -> usize
+    ensures { result ≤ length line.now }
+{
+    length_of(line, Class::Skipped)
+}
+
+/// Whether one of the words of a label is this one.
+fn has_word(words: &[u8], word: &[u8]) -> bool {
+    let mut rest = trimmed(words);
+    while !rest.is_empty() {
+        let length = length_of(rest, Class::Word);
+        if length > 0 && is_word(&rest[..length], word) {
+            return true;
+        }
+        let sign = if length == 0 {
+            first_sign(rest).length
+        } else {
+            length
+        };
+        rest = trimmed(&rest[sign..]);
+    }
+    false
+}
+
+/// What tells a scramble from others in front of a line, and how many bytes it has.
+fn head_of(line: &[u8], numbers: Numbers) -> (Head, usize)
+    ensures { result.1 ≤ length line.now }
+{
+    let number = number_length(line);
+    let behind_number = number + blanks(&line[number..]);
+    let word = head_length(&line[behind_number..]);
+    if word > 0 {
+        return (Head::Word, behind_number + word);
+    }
+    let listed = listed_length(line, numbers == Numbers::WithExtras);
+    if numbers == Numbers::OfLines || listed == 0 {
+        return (Head::None, 0);
+    }
+    (Head::Number, listed)
+}
+
+/// Where the parts of a line are: its label, its moves, and what is said after them.
+#[derive(Clone, Copy)]
+struct Parts {
+    label_begin: usize,
+    label_end: usize,
+    moves: usize,
+    comment: usize,
+    name: usize,
+    slashes: usize,
+    ghost label_in: { label_begin ≤ label_end },
+    ghost words_in: { label_end ≤ moves },
+    ghost moves_in: { moves ≤ comment },
+    ghost comment_in: { comment ≤ slashes },
+    ghost name_in: { name ≤ slashes },
+}
+
+/// Where the parts of a line are after its head, which has that many bytes.
+fn parts_of(line: &[u8], head: usize) -> Parts
+    requires { head ≤ length line.now }
+    ensures head { head ≤ result.label_begin }
+    ensures fits { result.slashes ≤ length line.now }
+{
+    let slashes = head + comment_at(&line[head..]);
+    let number_begin = head + blanks(&line[head..slashes]);
+    let number_end = number_begin + number_length(&line[number_begin..slashes]);
+    let begin = number_end + blanks(&line[number_end..slashes]);
+    let (words, title) = match label_of(&line[begin..slashes]) {
+        Some(label) => (label.words, label.length),
+        None => (0, 0),
+    };
+    let body = begin + title;
+    let span = span_of(&line[body..slashes]);
+    let comment = body + span.end;
+    let lead = body + span.begin;
+    Parts {
+        label_begin: begin,
+        label_end: if words == 0 { lead } else { begin + words },
+        moves: lead + blanks(&line[lead..comment]),
+        comment,
+        name: body + span.name,
+        slashes,
+    }
+}
+
+/// The line without what stands in front of it, which has that many bytes.
+fn line_behind(line: &[u8], head_kind: Head, head: usize) -> Line
+    requires { head ≤ length line.now }
+    ensures head { result.head ≡ head }
+    ensures kind { result.head_kind ≡ head_kind }
+    ensures length { result.length ≡ length line.now }
+{
+    let parts = parts_of(line, head);
+    let label = &line[parts.label_begin..parts.label_end];
+    let body = &line[parts.moves..parts.comment];
+    let is_solution = has_word(label, b"solution");
+    let is_told = parts.label_begin < parts.label_end || parts.comment < line.len();
+    Line {
+        head_kind,
+        head,
+        label_begin: parts.label_begin,
+        label_end: parts.label_end,
+        moves: parts.moves,
+        comment: parts.comment,
+        name: parts.name,
+        slashes: parts.slashes,
+        length: line.len(),
+        is_blank: blanks(line) == line.len(),
+        is_head_alone: head_kind != Head::None && blanks(&line[head..]) == line.len() - head,
+        is_moves: is_moves(body),
+        is_told: is_told || head_kind == Head::Word,
+        is_solution,
+        is_final: is_solution && has_word(label, b"final"),
+        is_step: says(label, Wanted::Step) || says(&line[parts.comment..], Wanted::Step),
+        is_whole: is_whole_scramble(body),
+    }
+}
+
+/// What is seen of a line. One that goes on with prose after its head has none.
+pub fn line_of(line: &[u8], numbers: Numbers) -> Line
+    ensures { result.length ≡ length line.now }
+{
+    let begin = blanks(line);
+    let (kind, length) = head_of(&line[begin..], numbers);
+    if kind != Head::None {
+        let seen = line_behind(line, kind, begin + length);
+        if seen.is_moves || seen.is_head_alone {
+            return seen;
+        }
+    }
+    line_behind(line, Head::None, 0)
+}
+
+/// How many bytes what ends a line has in front of a text.
+fn line_end_length(text: &[u8]) -> usize
+    requires some { 0 < length text.now }
+    requires ends { ends_line (slice_index text.now 0) ≡ true }
+    ensures some { 0 < result }
+    ensures fits { result ≤ length text.now }
+    ensures ends { result ≡ end_of (slice_index text.now 0) (slice_index text.now 1) }
+{
+    if text.len() > 1 && text[0] == b'\r' && text[1] == b'\n' {
+        2
+    } else {
+        1
+    }
+}
+
+/// The first line of a text, and how many bytes it has with what ends it.
+pub fn cut_line(text: &[u8], numbers: Numbers) -> (Line, usize)
+    requires { 0 < length text.now }
+    ensures some { 0 < result.1 }
+    ensures fits { result.1 ≤ length text.now }
+    ensures whole { IsUnbroken text.now 0 result.0.length }
+    ensures ends { result.1 ≡ result.0.length + end_size text.now result.0.length }
+{
+    let length = line_length(text);
+    let line = line_of(&text[..length], numbers);
+    if length == text.len() {
+        return (line, length);
+    }
+    (line, length + line_end_length(&text[length..]))
+}
+
+/// How many bytes the first line of a text has with what ends it.
+pub fn whole_length(text: &[u8]) -> usize
+    requires { 0 < length text.now }
+    ensures { (0 < result) × (result ≤ length text.now) }
+{
+    let line = line_length(text);
+    if line == text.len() {
+        return line;
+    }
+    line + first_sign(&text[line..]).length
+}
+
+/// Whether the first line of a text begins with the word that stands before a scramble.
+pub fn begins_with_head(text: &[u8]) -> bool {
+    let line = &text[..line_length(text)];
+    head_of(&line[blanks(line)..], Numbers::OfLines).0 == Head::Word
+}
+
+/// Whether the first line of a text may begin an attempt: by a head, or as a whole scramble.
+pub fn may_begin(text: &[u8], numbers: Numbers) -> bool {
+    let line = &text[..line_length(text)];
+    head_of(&line[blanks(line)..], numbers).0 != Head::None || has_frame(line)
+}
+
+/// The first line of a text.
+pub fn first_line(text: &[u8], numbers: Numbers) -> Line
+    ensures { result.length ≤ length text.now }
+{
+    line_of(&text[..line_length(text)], numbers)
+}

@@ -1,0 +1,154 @@
+//! The pieces of a text, one after another: single bytes of moves, and what is read otherwise or left out.
+ghost use Rattle.std.specs.Prelude.{◌≡◌, ◌<◌, ◌≤◌, length, IfSome};
+ghost use Rattle.niss_text.specs.Pieces.{IsFirst};
+ghost use Rattle.niss_text.specs.Signs.{begins_number, begins_count};
+
+use crate::forms::{count_length, head_length, label_of, line_length, number_length};
+use crate::sign::{Kind, first_sign, is_digit_byte, is_letter_byte};
+
+/// What a piece is.
+#[derive(Clone, Copy, PartialEq, Eq)]
+pub enum Piece {
+    /// A byte that stays.
+    Kept,
+    /// What parts moves.
+    Blank,
+    LineEnd,
+    Comma,
+    /// What the grammar has another sign for.
+    Apostrophe,
+    Unseen,
+    /// What stands before the moves of a line and says what they are.
+    Label,
+    LineNumber,
+    MoveCount,
+    Comment,
+}
+
+/// Where one is in a line.
+#[derive(Clone, Copy, PartialEq, Eq)]
+pub enum Place {
+    /// Before its number.
+    Begin,
+    /// After its number, before a label.
+    Numbered,
+    /// After what may be a label.
+    Moves,
+}
+
+impl Place {
+    /// Where one is after a piece.
+    pub fn after(self, piece: Piece) -> Place {
+        match piece {
+            Piece::LineEnd => Place::Begin,
+            Piece::Blank | Piece::Unseen => self,
+            Piece::LineNumber => Place::Numbered,
+            _ => Place::Moves,
+        }
+    }
+}
+
+/// How many bytes the head or the label has in front of a text; 0 if there is none.
+fn title_length(line: &[u8]) -> usize
+    ensures { result ≤ length line.now }
+{
+    if let Some(label) = label_of(line) {
+        return label.length;
+    }
+    head_length(line)
+}
+
+/// Whether a number may begin with a byte.
+fn begins_number(byte: u8) -> bool
+    ensures { result ≡ begins_number byte }
+{
+    byte == b'#' || is_digit_byte(byte)
+}
+
+/// Whether a number of moves may begin with two bytes.
+fn begins_count(first: u8, second: u8) -> bool
+    ensures { result ≡ begins_count first second }
+{
+    (first == b'(' || first == b'[') && is_digit_byte(second)
+}
+
+/// What has a form of its own in front of a text among its moves, and how many bytes it has: a comment or a number of
+/// moves.
+fn form_of_moves(text: &[u8]) -> Option<(Piece, usize)>
+    ensures { IfSome result (λ first. IsFirst text.now first.0 first.1) }
+{
+    if text.len() < 2 {
+        return None;
+    }
+    if text[0] == b'/' && text[1] == b'/' {
+        let length = line_length(text);
+        if length > 1 {
+            return Some((Piece::Comment, length));
+        }
+    }
+    if begins_count(text[0], text[1]) {
+        let count = count_length(text);
+        if count > 0 {
+            return Some((Piece::MoveCount, count));
+        }
+    }
+    None
+}
+
+/// The piece before the moves of a line in front of a text, if there is one, and how many bytes it has.
+fn first_of_line(text: &[u8], place: Place) -> Option<(Piece, usize)>
+    requires { 0 < length text.now }
+    ensures { IfSome result (λ first. IsFirst text.now first.0 first.1) }
+{
+    let line = &text[..line_length(text)];
+    if place == Place::Begin && begins_number(text[0]) {
+        let number = number_length(line);
+        if number > 0 {
+            return Some((Piece::LineNumber, number));
+        }
+    }
+    if is_letter_byte(text[0]) {
+        let title = title_length(line);
+        if title > 0 {
+            return Some((Piece::Label, title));
+        }
+    }
+    None
+}
+
+/// The piece in front of a text among its moves, and how many bytes it has.
+fn first_of_moves(text: &[u8]) -> (Piece, usize)
+    requires { 0 < length text.now }
+    ensures { IsFirst text.now result.0 result.1 }
+{
+    if let Some(form) = form_of_moves(text) {
+        return form;
+    }
+    let sign = first_sign(text);
+    match sign.kind {
+        Kind::LineEnd => (Piece::LineEnd, sign.length),
+        Kind::Blank => (Piece::Blank, sign.length),
+        Kind::Unseen => (Piece::Unseen, sign.length),
+        Kind::Comma => (Piece::Comma, sign.length),
+        Kind::Apostrophe => (Piece::Apostrophe, sign.length),
+        _ => (Piece::Kept, 1),
+    }
+}
+
+/// Whether a piece before the moves may begin at a sign.
+fn may_begin(kind: Kind) -> bool {
+    !matches!(kind, Kind::Blank | Kind::Unseen | Kind::LineEnd)
+}
+
+/// The piece in front of a text, and how many bytes it has.
+pub fn first_piece(text: &[u8], place: Place) -> (Piece, usize)
+    requires { 0 < length text.now }
+    ensures { IsFirst text.now result.0 result.1 }
+{
+    if place != Place::Moves && may_begin(first_sign(text).kind) {
+        if let Some(first) = first_of_line(text, place) {
+            return first;
+        }
+    }
+    first_of_moves(text)
+}

@@ -1,0 +1,229 @@
+//! The signs of a text: those that are told apart, however many bytes they have, and else single bytes.
+ghost use Rattle.std.specs.Prelude.{◌≡◌, ◌<◌, ◌≤◌, [], ◌∷◌, length, take, IfSome};
+ghost use Rattle.niss_text.specs.Signs.{IsSign, is_digit, is_letter};
+
+/// What a sign is. A byte that begins none of the longer ones is one by itself, also if it isn't UTF-8.
+#[derive(Clone, Copy, PartialEq, Eq)]
+pub enum Kind {
+    /// A line feed, a return, or both.
+    LineEnd,
+    Blank,
+    /// One that isn't seen, such as U+200B.
+    Unseen,
+    /// `,` or `;`.
+    Comma,
+    /// An apostrophe that the grammar hasn't.
+    Apostrophe,
+    /// `'`, or the first byte of U+2019.
+    Prime,
+    /// `:`, or that of Chinese.
+    Colon,
+    /// `-`, U+2013 or U+2014.
+    Dash,
+    Slash,
+    Open,
+    Close,
+    Digit,
+    Capital,
+    Small,
+    /// The first byte of another sign beyond ASCII.
+    Beyond,
+    /// A further byte of one.
+    Inner,
+    Other,
+}
+
+/// A sign, and how many bytes it has.
+#[derive(Clone, Copy)]
+pub struct Sign {
+    pub kind: Kind,
+    pub length: usize,
+}
+
+/// What a byte of ASCII is.
+#[tactic(auto, unfolding(crate::specs::Signs::is_of_moves))]
+fn kind_of_byte(byte: u8) -> Kind
+    ensures { IsSign result (byte ∷ []) }
+{
+    match byte {
+        b'\n' | b'\r' => Kind::LineEnd,
+        b' ' | b'\t' | 0x0b | 0x0c => Kind::Blank,
+        b',' | b';' => Kind::Comma,
+        b'`' => Kind::Apostrophe,
+        b'\'' => Kind::Prime,
+        b':' => Kind::Colon,
+        b'-' => Kind::Dash,
+        b'/' => Kind::Slash,
+        b'(' | b'[' => Kind::Open,
+        b')' | b']' => Kind::Close,
+        b'0'..=b'9' => Kind::Digit,
+        b'A'..=b'Z' => Kind::Capital,
+        b'a'..=b'z' => Kind::Small,
+        0x80..=0xbf => Kind::Inner,
+        0xc0..=0xff => Kind::Beyond,
+        _ => Kind::Other,
+    }
+}
+
+/// What two bytes are together, if that is told apart.
+#[tactic(auto, using(crate::proofs::SignLemmas::two), unfolding(crate::specs::Signs::is_of_moves))]
+fn kind_of_two(first: u8, second: u8) -> Option<Kind>
+    ensures { IfSome result (λ kind. IsSign kind (first ∷ second ∷ [])) }
+{
+    match (first, second) {
+        (b'\r', b'\n') => Some(Kind::LineEnd),
+        (0xc2, 0xa0) => Some(Kind::Blank),
+        (0xc2, 0xb4) | (0xca, 0xbc) => Some(Kind::Apostrophe),
+        _ => None,
+    }
+}
+
+/// What three bytes are together, of which the first is 0xe2 and the second 0x80.
+#[tactic(auto, using(crate::proofs::SignLemmas::three))]
+fn kind_of_punctuation(third: u8) -> Option<Kind>
+    ensures { IfSome result (λ kind. IsSign kind (226 ∷ 128 ∷ third ∷ [])) }
+{
+    match third {
+        0x80..=0x8a | 0xa8 | 0xa9 | 0xaf => Some(Kind::Blank),
+        0x8b..=0x8d => Some(Kind::Unseen),
+        0x93 | 0x94 => Some(Kind::Dash),
+        0x98 | 0xb2 => Some(Kind::Apostrophe),
+        0x99 => Some(Kind::Prime),
+        _ => None,
+    }
+}
+
+/// What three bytes are together, if that is told apart.
+#[tactic(auto, using(crate::proofs::SignLemmas::three))]
+fn kind_of_three(first: u8, second: u8, third: u8) -> Option<Kind>
+    ensures { IfSome result (λ kind. IsSign kind (first ∷ second ∷ third ∷ [])) }
+{
+    match (first, second, third) {
+        (0xe2, 0x80, third) => kind_of_punctuation(third),
+        (0xe2, 0x81, 0x9f) | (0xe1, 0x9a, 0x80) | (0xe3, 0x80, 0x80) => Some(Kind::Blank),
+        (0xe2, 0x81, 0xa0) | (0xef, 0xbb, 0xbf) => Some(Kind::Unseen),
+        (0xef, 0xbc, 0x9a) => Some(Kind::Colon),
+        _ => None,
+    }
+}
+
+/// The first sign of a text.
+pub fn first_sign(text: &[u8]) -> Sign
+    requires { 0 < length text.now }
+    ensures some { 0 < result.length }
+    ensures fits { result.length ≤ length text.now }
+    ensures is { IsSign result.kind (take result.length text.now) }
+{
+    if text.len() > 1 {
+        if let Some(kind) = kind_of_two(text[0], text[1]) {
+            return Sign { kind, length: 2 };
+        }
+    }
+    if text.len() > 2 {
+        if let Some(kind) = kind_of_three(text[0], text[1], text[2]) {
+            return Sign { kind, length: 3 };
+        }
+    }
+    Sign {
+        kind: kind_of_byte(text[0]),
+        length: 1,
+    }
+}
+
+/// What the first sign of a text is, a line end of none.
+pub fn first_kind(text: &[u8]) -> Kind {
+    if text.is_empty() {
+        Kind::LineEnd
+    } else {
+        first_sign(text).kind
+    }
+}
+
+/// Whether a byte is a digit.
+pub fn is_digit_byte(byte: u8) -> bool
+    ensures { result ≡ is_digit byte }
+{
+    byte >= b'0' && byte <= b'9'
+}
+
+/// Whether a byte is a letter of ASCII, or of a sign beyond it.
+pub fn is_letter_byte(byte: u8) -> bool
+    ensures { result ≡ is_letter byte }
+{
+    (byte >= b'A' && byte <= b'Z') || ((byte >= b'a' && byte <= b'z') || byte >= 0x80)
+}
+
+/// Whether a sign parts what stands beside it.
+pub fn is_skipped(kind: Kind) -> bool {
+    matches!(kind, Kind::Blank | Kind::Unseen)
+}
+
+/// Whether a sign is one of a word.
+pub fn is_of_word(kind: Kind) -> bool {
+    matches!(
+        kind,
+        Kind::Digit | Kind::Capital | Kind::Small | Kind::Beyond | Kind::Inner
+    )
+}
+
+/// Whether a sign is a letter, or a byte beyond ASCII.
+pub fn is_letter(kind: Kind) -> bool {
+    matches!(
+        kind,
+        Kind::Capital | Kind::Small | Kind::Beyond | Kind::Inner
+    )
+}
+
+/// Signs that may follow each other.
+#[derive(Clone, Copy)]
+pub enum Class {
+    /// Blanks and what isn't seen.
+    Skipped,
+    Digits,
+    /// Letters and digits, and what is beyond ASCII.
+    Word,
+    Letters,
+    /// All but letters.
+    NoLetters,
+    /// All but blanks, what is not seen, and the end of the line.
+    NoBlanks,
+    /// Words, and blanks and dashes between them.
+    Words,
+}
+
+impl Class {
+    /// Whether a sign is of it.
+    fn has(self, kind: Kind) -> bool {
+        match self {
+            Class::Skipped => is_skipped(kind),
+            Class::Digits => kind == Kind::Digit,
+            Class::Word => is_of_word(kind),
+            Class::Letters => is_letter(kind),
+            Class::NoLetters => !is_letter(kind),
+            Class::NoBlanks => !is_skipped(kind) && kind != Kind::LineEnd,
+            Class::Words => is_of_word(kind) || is_skipped(kind) || kind == Kind::Dash,
+        }
+    }
+}
+
+/// What is after the signs of a class in front of a text.
+pub fn behind(text: &[u8], class: Class) -> &[u8]
+    ensures { length result.now ≤ length text.now }
+{
+    let mut rest = text;
+    while !rest.is_empty() {
+        let sign = first_sign(rest);
+        if !class.has(sign.kind) {
+            break;
+        }
+        rest = &rest[sign.length..];
+    }
+    rest
+}
+
+/// How many bytes the signs of a class in front of a text have.
+pub fn length_of(text: &[u8], class: Class) -> usize
+    ensures { result ≤ length text.now }
+{
+    text.len() - behind(text, class).len()
+}

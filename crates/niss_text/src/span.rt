@@ -1,0 +1,207 @@
+//! Where the moves of a line begin and end: after words in front of them that are none, and before those after them.
+ghost use Rattle.std.specs.Prelude.{◌≡◌, ◌≤◌, ◌<◌, length, true};
+
+use crate::word::{Word, first_word};
+
+/// Where the moves of a line begin and end, and where the first name stands that may be moves, such as `LL`: the end if
+/// there is none.
+#[derive(Clone, Copy)]
+pub struct Span {
+    pub begin: usize,
+    pub end: usize,
+    pub name: usize,
+    ghost in_order: { begin ≤ end },
+}
+
+/// What is seen of a line up to a word. Places count only if it has them.
+#[derive(Clone, Copy)]
+struct Frame {
+    /// The end of the words before the moves.
+    lead: usize,
+    is_lead: bool,
+    /// Where the words after the moves begin.
+    tail: usize,
+    has_tail: bool,
+    /// Where a bracket was opened.
+    bracket: usize,
+    is_open: bool,
+    /// The bracket has moves in it.
+    is_of_moves: bool,
+    name: usize,
+    has_name: bool,
+    /// How many words of moves there are, two at most.
+    moves: u8,
+}
+
+impl Frame {
+    fn nothing() -> Frame
+        ensures { (result.lead ≤ 0) × (result.tail ≤ 0) × (result.bracket ≤ 0) × (result.name ≤ 0) }
+    {
+        Frame {
+            lead: 0,
+            is_lead: true,
+            tail: 0,
+            has_tail: false,
+            bracket: 0,
+            is_open: false,
+            is_of_moves: false,
+            name: 0,
+            has_name: false,
+            moves: 0,
+        }
+    }
+
+    /// After moves.
+    fn with_moves(self) -> Frame
+        ensures lead { result.lead ≤ self.lead }
+        ensures tail { result.tail ≤ self.tail }
+        ensures bracket { result.bracket ≤ self.bracket }
+        ensures name { result.name ≤ self.name }
+    {
+        let mut frame = self;
+        frame.is_lead = false;
+        frame.has_tail = false;
+        frame.is_of_moves = self.is_open;
+        frame.moves = if self.moves == 0 { 1 } else { 2 };
+        frame
+    }
+
+    /// After a word that is no move, from there to there.
+    fn with_words(self, begin: usize, end: usize) -> Frame
+        requires { begin ≤ end }
+        ensures lead { self.lead ≤ begin → result.lead ≤ end }
+        ensures tail { self.tail ≤ begin → self.bracket ≤ begin → result.tail ≤ end }
+        ensures bracket { result.bracket ≤ self.bracket }
+        ensures name { result.name ≤ self.name }
+    {
+        let mut frame = self;
+        if self.is_lead {
+            frame.lead = end;
+        } else if !self.has_tail && !self.is_of_moves {
+            frame.has_tail = true;
+            frame.tail = if self.is_open { self.bracket } else { begin };
+        }
+        frame
+    }
+
+    /// With a name there, if it is the first one.
+    fn with_name(self, begin: usize) -> Frame
+        ensures lead { result.lead ≤ self.lead }
+        ensures tail { result.tail ≤ self.tail }
+        ensures bracket { result.bracket ≤ self.bracket }
+        ensures name { self.name ≤ begin → result.name ≤ begin }
+    {
+        let mut frame = self;
+        if !self.has_name {
+            frame.has_name = true;
+            frame.name = begin;
+        }
+        frame
+    }
+
+    /// After a bracket that opens there.
+    fn opened(self, begin: usize) -> Frame
+        ensures lead { result.lead ≤ self.lead }
+        ensures tail { result.tail ≤ self.tail }
+        ensures bracket { self.bracket ≤ begin → result.bracket ≤ begin }
+        ensures name { result.name ≤ self.name }
+    {
+        let mut frame = self;
+        if !self.has_tail {
+            frame.is_open = true;
+            frame.bracket = begin;
+            frame.is_of_moves = false;
+        }
+        frame
+    }
+
+    /// After a bracket that closes there.
+    fn closed(self, end: usize) -> Frame
+        ensures lead { self.lead ≤ end → result.lead ≤ end }
+        ensures tail { result.tail ≤ self.tail }
+        ensures bracket { result.bracket ≤ self.bracket }
+        ensures name { result.name ≤ self.name }
+    {
+        let mut frame = self;
+        if self.is_lead && self.is_open && self.lead > 0 {
+            frame.lead = end;
+        }
+        frame.is_open = false;
+        frame.is_of_moves = false;
+        frame
+    }
+
+    /// After a word from there to there.
+    fn after(self, word: Word, begin: usize, end: usize) -> Frame
+        requires { begin ≤ end }
+        ensures lead { self.lead ≤ begin → result.lead ≤ end }
+        ensures tail { self.tail ≤ begin → self.bracket ≤ begin → result.tail ≤ end }
+        ensures bracket { self.bracket ≤ begin → result.bracket ≤ end }
+        ensures name { self.name ≤ begin → result.name ≤ end }
+    {
+        match word {
+            Word::Move | Word::Moves => self.with_moves(),
+            Word::Name => self.with_name(begin).with_words(begin, end),
+            Word::Said | Word::Mark => self.with_words(begin, end),
+            Word::Stamp if self.is_lead => self.with_words(begin, end),
+            Word::Open => self.opened(begin),
+            Word::Close => self.closed(end),
+            Word::Other => self.without_lead(),
+            _ => self,
+        }
+    }
+
+    /// After what is at fault where the moves are read.
+    fn without_lead(self) -> Frame
+        ensures lead { result.lead ≤ self.lead }
+        ensures tail { result.tail ≤ self.tail }
+        ensures bracket { result.bracket ≤ self.bracket }
+        ensures name { result.name ≤ self.name }
+    {
+        let mut frame = self;
+        frame.is_lead = false;
+        frame
+    }
+
+    /// Where the moves of a line are that has that many bytes. Words are told from moves only beside two moves.
+    fn span(self, length: usize) -> Span
+        requires { self.name ≤ length }
+        ensures fits { result.end ≤ length }
+        ensures name { result.name ≤ length }
+    {
+        let is_told = self.moves > 1 && !(self.is_open && self.is_of_moves);
+        if !is_told {
+            return Span {
+                begin: 0,
+                end: length,
+                name: length,
+            };
+        }
+        let end = if self.has_tail && self.tail < length {
+            self.tail
+        } else {
+            length
+        };
+        Span {
+            begin: self.lead.min(end),
+            end,
+            name: if self.has_name { self.name } else { length },
+        }
+    }
+}
+
+/// Where the moves of a line are, which has no comment.
+pub fn span_of(line: &[u8]) -> Span
+    ensures fits { result.end ≤ length line.now }
+    ensures name { result.name ≤ length line.now }
+{
+    let mut frame = Frame::nothing();
+    let mut rest = line;
+    while !rest.is_empty() {
+        let (word, length) = first_word(rest);
+        let begin = line.len() - rest.len();
+        frame = frame.after(word, begin, begin + length);
+        rest = &rest[length..];
+    }
+    frame.span(line.len())
+}

@@ -1,0 +1,76 @@
+//! A line of a text in the attempt that it is of.
+ghost use Rattle.std.specs.Prelude.{◌≡◌, ◌≤◌, ◌+◌, length};
+ghost use Rattle.niss_text.specs.Lines.{IsLine};
+
+use crate::line::Line;
+
+/// A line of a text, and what it is there. Places are in bytes of the text.
+#[repr(C)]
+#[derive(Clone, Copy, Debug, PartialEq, Eq)]
+pub struct TextLine {
+    /// 0 a blank line, 1 prose before a scramble, 2 one of a scramble, 3 a step, 4 a note.
+    pub kind: u8,
+    /// It is in the group that is the solution.
+    pub is_solution: bool,
+    /// A head stands before `head_end`: the first one of an attempt is its name.
+    pub is_headed: bool,
+    /// Its label says that the solution follows.
+    pub says_solution: bool,
+    /// What is said of it has its moves on the inverse, and they have no brackets.
+    pub is_inverse: bool,
+    /// What makes one doubt that it is read as it was meant, if its attempt isn't solved: the number of a `Doubt`, 0
+    /// for nothing.
+    pub doubt: u8,
+    /// Which attempt, from 0.
+    pub attempt: usize,
+    /// Which group after the scramble: 0 of the lines directly under it.
+    pub group: usize,
+    pub begin: usize,
+    pub head_end: usize,
+    pub label_begin: usize,
+    pub label_end: usize,
+    pub moves: usize,
+    pub comment: usize,
+    pub end: usize,
+    /// Where that stands which makes one doubt it; at its end if nothing does.
+    pub doubt_at: usize,
+}
+
+/// What a line is in its attempt.
+#[derive(Clone, Copy)]
+pub struct Role {
+    pub kind: u8,
+    /// It is in the group that is the solution.
+    pub is_solution: bool,
+    pub is_headed: bool,
+    pub attempt: usize,
+    pub group: usize,
+}
+
+/// A line as it stands in the text, which begins there.
+pub fn told_line(role: &Role, line: &Line, begin: usize) -> TextLine
+    requires { begin + line.now.length ≤ usize.MAX }
+    ensures is { IsLine begin result }
+    ensures ends { result.end ≡ begin + line.now.length }
+    ensures undoubted { result.doubt_at ≡ result.end }
+    ensures kind { result.kind ≡ role.now.kind }
+{
+    TextLine {
+        kind: role.kind,
+        is_solution: role.is_solution,
+        is_headed: role.is_headed,
+        says_solution: line.is_solution,
+        is_inverse: false,
+        doubt: 0,
+        attempt: role.attempt,
+        group: role.group,
+        begin,
+        head_end: begin + line.head,
+        label_begin: begin + line.label_begin,
+        label_end: begin + line.label_end,
+        moves: begin + line.moves,
+        comment: begin + line.comment,
+        end: begin + line.length,
+        doubt_at: begin + line.length,
+    }
+}

@@ -1,0 +1,305 @@
+//! The words of a line: moves that stand alone, moves in one word, and words that are no moves.
+ghost use Rattle.std.specs.Prelude.{◌≤◌, ◌<◌, length};
+
+use crate::forms::count_length;
+use crate::sign::{Kind, first_sign};
+use crate::words::is_step_name;
+
+/// What a word of a line is.
+#[derive(Clone, Copy, PartialEq, Eq)]
+pub enum Word {
+    Open,
+    Close,
+    /// What parts words: blanks, commas, and numbers of moves.
+    Parting,
+    /// One move.
+    Move,
+    /// Moves in one word, as `RUR'`.
+    Moves,
+    /// Letters that spell moves, but stand together as those of a name do, such as `LL`.
+    Name,
+    /// Letters that stand together and spell none, or the name of a step, such as `DR`.
+    Said,
+    /// Signs without letters and digits, such as `->`.
+    Mark,
+    /// Digits with other signs, such as `0:12`.
+    Stamp,
+    /// Digits or apostrophes without a letter.
+    Number,
+    /// A letter that spells no move, such as `Q` or `Ri`.
+    Other,
+}
+
+impl Word {
+    /// The same of a name that solvers give a step.
+    fn or_step(self, text: &[u8]) -> Word {
+        if self == Word::Name && is_step_name(text) {
+            Word::Said
+        } else {
+            self
+        }
+    }
+}
+
+/// How far a word spells moves.
+#[derive(Clone, Copy, PartialEq, Eq)]
+enum Spelling {
+    Empty,
+    /// Moves by capitals, up to a letter that may be a wide turn's.
+    Letter,
+    /// Moves by capitals.
+    Moves,
+    /// A move by a small letter.
+    Small,
+    Other,
+}
+
+impl Spelling {
+    /// With one more sign, which begins with this byte.
+    fn with(self, kind: Kind, byte: u8) -> Spelling {
+        match self {
+            Spelling::Empty => Spelling::begun(byte),
+            Spelling::Letter | Spelling::Moves => {
+                if is_capital_move(byte) {
+                    Spelling::Letter
+                } else if is_suffix(kind, byte) || (byte == b'w' && self == Spelling::Letter) {
+                    Spelling::Moves
+                } else {
+                    Spelling::Other
+                }
+            }
+            Spelling::Small if is_suffix(kind, byte) => Spelling::Small,
+            _ => Spelling::Other,
+        }
+    }
+
+    /// With this byte as the first.
+    fn begun(byte: u8) -> Spelling {
+        if is_capital_move(byte) {
+            Spelling::Letter
+        } else if is_small_move(byte) {
+            Spelling::Small
+        } else {
+            Spelling::Other
+        }
+    }
+}
+
+/// Whether a byte is the capital of a move.
+fn is_capital_move(byte: u8) -> bool {
+    matches!(
+        byte,
+        b'U' | b'D' | b'R' | b'L' | b'F' | b'B' | b'M' | b'E' | b'S'
+    )
+}
+
+/// Whether a byte is the small letter of a move.
+fn is_small_move(byte: u8) -> bool {
+    matches!(
+        byte,
+        b'u' | b'd' | b'r' | b'l' | b'f' | b'b' | b'x' | b'y' | b'z'
+    )
+}
+
+/// Whether a sign may stand after the letter of a move.
+fn is_suffix(kind: Kind, byte: u8) -> bool {
+    byte == b'2' || is_prime(kind)
+}
+
+/// Whether a sign is an apostrophe.
+fn is_prime(kind: Kind) -> bool {
+    kind == Kind::Prime || kind == Kind::Apostrophe
+}
+
+/// Whether a sign begins a letter.
+fn begins_letter(kind: Kind) -> bool {
+    matches!(kind, Kind::Capital | Kind::Small | Kind::Beyond)
+}
+
+/// Whether a sign ends a word.
+fn is_parting(kind: Kind) -> bool {
+    matches!(
+        kind,
+        Kind::Blank | Kind::Comma | Kind::LineEnd | Kind::Open | Kind::Close
+    )
+}
+
+/// One more than a number, three at most.
+fn up_to_three(number: u8) -> u8 {
+    if number < 3 { number + 1 } else { 3 }
+}
+
+/// What is seen of a word.
+#[derive(Clone, Copy)]
+struct Seen {
+    spelling: Spelling,
+    /// How many signs, capitals of moves, letters in a row, and most letters in a row it has, three at most.
+    signs: u8,
+    capitals: u8,
+    row: u8,
+    most: u8,
+    has_prime: bool,
+    has_digit: bool,
+    has_mark: bool,
+    is_beyond: bool,
+    /// Its first letter is a capital of a move, and its second a small one or beyond ASCII: a slip rather than a name.
+    is_slip: bool,
+}
+
+impl Seen {
+    fn nothing() -> Seen {
+        Seen {
+            spelling: Spelling::Empty,
+            signs: 0,
+            capitals: 0,
+            row: 0,
+            most: 0,
+            has_prime: false,
+            has_digit: false,
+            has_mark: false,
+            is_beyond: false,
+            is_slip: false,
+        }
+    }
+
+    /// With one more sign, which begins with this byte.
+    fn with(self, kind: Kind, byte: u8) -> Seen {
+        if kind == Kind::Unseen {
+            return self;
+        }
+        let mut seen = self;
+        seen.is_slip = self.is_slip
+            || (self.signs == 1
+                && self.spelling == Spelling::Letter
+                && (kind == Kind::Small || kind == Kind::Beyond));
+        seen.is_beyond = self.is_beyond || (self.signs == 0 && kind == Kind::Beyond);
+        seen.signs = up_to_three(self.signs);
+        seen.spelling = self.spelling.with(kind, byte);
+        if is_capital_move(byte) {
+            seen.capitals = up_to_three(self.capitals);
+        }
+        seen.with_letter(kind).with_sign(kind)
+    }
+
+    /// With a letter, if the sign is one.
+    fn with_letter(self, kind: Kind) -> Seen {
+        let mut seen = self;
+        if begins_letter(kind) {
+            seen.row = up_to_three(self.row);
+        } else if kind != Kind::Inner {
+            seen.row = 0;
+        }
+        if seen.row > self.most {
+            seen.most = seen.row;
+        }
+        seen
+    }
+
+    /// With what is no letter, if the sign is none.
+    fn with_sign(self, kind: Kind) -> Seen {
+        let mut seen = self;
+        seen.has_prime = self.has_prime || is_prime(kind);
+        seen.has_digit = self.has_digit || kind == Kind::Digit;
+        seen.has_mark = self.has_mark
+            || !(is_prime(kind)
+                || kind == Kind::Digit
+                || kind == Kind::Capital
+                || kind == Kind::Small);
+        seen
+    }
+
+    /// What the word is.
+    fn word(self) -> Word {
+        match self.spelling {
+            Spelling::Small => Word::Move,
+            Spelling::Letter | Spelling::Moves => self.moves(),
+            _ => self.no_moves(),
+        }
+    }
+
+    /// What a word is that spells moves by capitals.
+    fn moves(self) -> Word {
+        if self.capitals < 2 {
+            Word::Move
+        } else if self.has_prime || self.most < 2 {
+            Word::Moves
+        } else {
+            Word::Name
+        }
+    }
+
+    /// What a word is that spells none.
+    fn no_moves(self) -> Word {
+        let is_name = self.most == 2 && !self.has_prime && !self.is_slip;
+        if is_name || self.most > 2 || (self.most > 0 && self.is_beyond && !self.has_prime) {
+            Word::Said
+        } else if self.most > 0 {
+            Word::Other
+        } else if self.has_prime || !self.has_mark {
+            Word::Number
+        } else if self.has_digit {
+            Word::Stamp
+        } else {
+            Word::Mark
+        }
+    }
+}
+
+/// What is seen of the word that a text begins with, and how many bytes it has, one sign at least.
+fn spelled_word(text: &[u8]) -> (Seen, usize)
+    requires { 0 < length text.now }
+    ensures { (0 < result.1) × (result.1 ≤ length text.now) }
+{
+    let first = first_sign(text);
+    let mut seen = Seen::nothing().with(first.kind, text[0]);
+    let mut rest = &text[first.length..];
+    while !rest.is_empty() {
+        let sign = first_sign(rest);
+        if is_parting(sign.kind) {
+            break;
+        }
+        seen = seen.with(sign.kind, rest[0]);
+        rest = &rest[sign.length..];
+    }
+    (seen, text.len() - rest.len())
+}
+
+/// The first word of a text, and how many bytes it has.
+pub fn first_word(text: &[u8]) -> (Word, usize)
+    requires { 0 < length text.now }
+    ensures { (0 < result.1) × (result.1 ≤ length text.now) }
+{
+    let count = count_length(text);
+    if count > 0 {
+        return (Word::Parting, count);
+    }
+    let sign = first_sign(text);
+    match sign.kind {
+        Kind::Open => (Word::Open, sign.length),
+        Kind::Close => (Word::Close, sign.length),
+        Kind::Blank | Kind::Comma | Kind::LineEnd | Kind::Unseen => (Word::Parting, sign.length),
+        _ => {
+            let (seen, length) = spelled_word(text);
+            (seen.word().or_step(&text[..length]), length)
+        }
+    }
+}
+
+/// Whether three moves stand in a text, one after another.
+pub fn has_three_moves(text: &[u8]) -> bool {
+    let mut moves = 0u8;
+    let mut rest = text;
+    while !rest.is_empty() {
+        let (word, length) = first_word(rest);
+        moves = match word {
+            Word::Move => up_to_three(moves),
+            Word::Parting => moves,
+            _ => 0,
+        };
+        if moves == 3 {
+            return true;
+        }
+        rest = &rest[length..];
+    }
+    false
+}

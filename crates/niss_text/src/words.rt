@@ -1,0 +1,128 @@
+//! Words in a text, in capitals or small letters.
+ghost use Rattle.std.specs.Prelude.{◌≤◌, length};
+
+use crate::sign::{Class, length_of};
+
+/// A letter of ASCII as a small one.
+fn small(byte: u8) -> u8 {
+    if byte >= b'A' && byte <= b'Z' {
+        byte + 32
+    } else {
+        byte
+    }
+}
+
+/// How many bytes this word has, which is written in small letters, if a text begins with it; else 0.
+pub fn word_length(text: &[u8], word: &[u8]) -> usize
+    ensures { result ≤ length text.now }
+{
+    if text.len() < word.len() {
+        return 0;
+    }
+    for (at, byte) in word.iter().enumerate() {
+        if small(text[at]) != *byte {
+            return 0;
+        }
+    }
+    word.len()
+}
+
+/// Whether a text is this word, which is written in small letters and has any.
+pub fn is_word(text: &[u8], word: &[u8]) -> bool {
+    text.len() == word.len() && word_length(text, word) > 0
+}
+
+/// Whether a word of a label says that moves without brackets belong to the inverse: no line says so without them.
+pub fn is_other_side(word: &[u8]) -> bool {
+    is_word(word, b"inverse")
+        || is_word(word, b"inv")
+        || is_word(word, b"niss")
+        || is_word(word, b"premove")
+        || is_word(word, b"premoves")
+        || is_word(word, b"switch")
+}
+
+/// A kind of words that a label or a comment may have.
+#[derive(Clone, Copy)]
+pub enum Wanted {
+    /// What solvers call a step.
+    Step,
+    /// The inverse, for the side of the moves.
+    Inverse,
+    /// What makes the inverse something else than the side of these moves.
+    Switch,
+}
+
+impl Wanted {
+    /// Whether a word is of them.
+    fn has(self, word: &[u8]) -> bool {
+        match self {
+            Wanted::Step => is_step_name(word),
+            Wanted::Inverse => is_word(word, b"inverse") || is_word(word, b"inv"),
+            Wanted::Switch => {
+                is_word(word, b"normal")
+                    || is_word(word, b"niss")
+                    || is_word(word, b"switch")
+                    || is_word(word, b"premove")
+                    || is_word(word, b"premoves")
+            }
+        }
+    }
+}
+
+/// Whether solvers call a step so.
+pub fn is_step_name(word: &[u8]) -> bool {
+    is_word(word, b"eo")
+        || is_word(word, b"dr")
+        || is_word(word, b"htr")
+        || is_word(word, b"fr")
+        || is_word(word, b"finish")
+        || is_word(word, b"skeleton")
+        || is_word(word, b"slice")
+}
+
+/// Whether a text has a word of such.
+pub fn says(text: &[u8], wanted: Wanted) -> bool {
+    let mut rest = text;
+    while !rest.is_empty() {
+        let letters = length_of(rest, Class::Letters);
+        if wanted.has(&rest[..letters]) {
+            return true;
+        }
+        rest = &rest[letters..];
+        let others = length_of(rest, Class::NoLetters);
+        if letters == 0 && others == 0 {
+            return false;
+        }
+        rest = &rest[others..];
+    }
+    false
+}
+
+/// Whether a text begins with letters by which solvers name a side of the cube, or a change of it.
+pub fn begins_side(text: &[u8]) -> bool {
+    word_length(text, b"inv") > 0
+        || word_length(text, b"niss") > 0
+        || word_length(text, b"premov") > 0
+        || word_length(text, b"pre-mov") > 0
+        || word_length(text, b"switch") > 0
+        || word_length(text, b"revers") > 0
+        || word_length(text, b"backward") > 0
+        || word_length(text, b"normal") > 0
+        || word_length(text, b"side") > 0
+}
+
+/// How many bytes the word has that stands before each of several scrambles, if a text begins with one; else 0.
+pub fn head_word_length(text: &[u8]) -> usize
+    ensures { result ≤ length text.now }
+{
+    let scramble = word_length(text, b"scramble");
+    if scramble > 0 {
+        return scramble;
+    }
+    let attempt = word_length(text, b"attempt");
+    if attempt > 0 {
+        return attempt;
+    }
+    word_length(text, b"extra")
+}

@@ -1,0 +1,91 @@
+/* nissy for other programs: text as solvers write it, read by the library. The module and nissy.c don't have these calls. Any bytes are a text,
+ * and any number of threads may call. */
+#ifndef NISSY_TEXT_H
+#define NISSY_TEXT_H
+
+#include "nissy.h"
+
+#ifdef __cplusplus
+extern "C" {
+#endif
+
+/* What nissy_plain has left out of a line, or read as a blank. */
+enum nissy_left_out {
+    NISSY_LABELS = 1,           /* what stands before the moves of a line and says what they are */
+    NISSY_NUMBERS_OF_MOVES = 2, /* such as (2), [1/5] or (12 moves) */
+    NISSY_COMMENTS = 4,
+    NISSY_LINE_NUMBERS = 8,
+    NISSY_COMMAS = 16,
+    NISSY_UNSEEN = 32 /* signs that aren't seen */
+};
+
+/* What nissy_plain returns. */
+typedef struct nissy_plain_answer {
+    uint8_t status;   /* NISSY_DONE or NISSY_ROOM */
+    uint8_t left_out; /* the bits of nissy_left_out, added */
+    uint64_t length;  /* how many bytes are written, and how many places */
+} nissy_plain_answer;
+
+/* Writes text as solvers write it, any bytes, as one line for the other calls, and for each byte of the line its place in the text, from 0.
+ * What is no move but is written beside moves becomes a blank or an apostrophe, or is left out; all else stays, and is at fault where the
+ * line is read. Three bytes and places for each byte of the text are never too few. It takes no memory. */
+nissy_plain_answer nissy_plain(const uint8_t *text, size_t text_length, uint8_t *out, size_t out_room, uint64_t *places, size_t places_room);
+
+/* What a line of such a text is. */
+enum nissy_line_kind {
+    NISSY_BLANK_LINE = 0,    /* blanks, or a head alone */
+    NISSY_LINE_BEFORE = 1,   /* prose before a scramble */
+    NISSY_SCRAMBLE_LINE = 2, /* of a scramble */
+    NISSY_STEP_LINE = 3,     /* moves after it */
+    NISSY_NOTE_LINE = 4      /* prose after it */
+};
+
+/* What makes one doubt that a line is read as it was meant. */
+enum nissy_doubt {
+    NISSY_NO_DOUBT = 0,
+    NISSY_ANOTHER_SCRAMBLE = 1,  /* after all of a scramble the line goes on */
+    NISSY_SEVERAL_SOLUTIONS = 2, /* which of several groups is the solution can't be told */
+    NISSY_SIDE = 3,              /* a side is named, such as the inverse, and the moves have no brackets */
+    NISSY_LETTERS = 4,           /* letters stand together as moves don't elsewhere in the line, such as F2L or xD */
+    NISSY_SMALL_LETTERS = 5,     /* a scramble has a move in a small letter */
+    NISSY_COMMENT = 6            /* three moves stand one after another in a comment of a step */
+};
+
+/* A line of such a text. The places are in bytes of the text, from 0, and don't fall from one to the next, nor from line to line. Its moves are
+ * what nissy_plain writes of head_end to end, as far as that comes from moves to comment; an `inverse` one is a line in brackets. */
+typedef struct nissy_text_line {
+    uint8_t kind;     /* one of nissy_line_kind */
+    uint8_t solution; /* it is of the group that is the solution */
+    uint8_t headed;   /* a head stands before head_end, such as "2." or "Scramble 2:": the first one of an attempt is its name */
+    uint8_t labelled; /* its label, from label_begin to label_end, says that the solution follows */
+    uint8_t inverse;  /* it is said of this step that it is on the inverse, and it has no brackets */
+    uint8_t doubt;    /* one of nissy_doubt: of a line of the scramble or the solution, or if there is none, of any step. It counts if the
+                       * solution doesn't solve the scramble: what does was read as it was meant */
+    uint64_t attempt; /* which attempt, from 0 */
+    uint64_t group;   /* of a step or a note: 0 directly under the scramble, and then the blocks after blank lines */
+    uint64_t begin; /* of the line */
+    uint64_t head_end;
+    uint64_t label_begin;
+    uint64_t label_end;
+    uint64_t moves;
+    uint64_t comment; /* where its moves end */
+    uint64_t end;     /* of the line */
+    uint64_t doubt_at; /* where the first sign of the doubt stands; `end` if there is none */
+} nissy_text_line;
+
+/* What nissy_text_lines returns. */
+typedef struct nissy_text_answer {
+    uint8_t status;    /* NISSY_DONE or NISSY_ROOM */
+    uint64_t lines;    /* how many lines the text has, also if there is no room for all */
+    uint64_t attempts; /* how many attempts; the last one has no scramble if a head alone ends the text */
+} nissy_text_answer;
+
+/* Tells of each line of text as solvers write it what it is, as long as there is room. Lines end by a line feed, a return, or both. It takes no
+ * memory. */
+nissy_text_answer nissy_text_lines(const uint8_t *text, size_t text_length, nissy_text_line *lines, size_t room);
+
+#ifdef __cplusplus
+}
+#endif
+
+#endif

@@ -1,0 +1,120 @@
+/* The calls that read text as solvers write it, on rows by hand and on drawn texts, in rooms behind which no memory is. */
+#include "trial.h"
+
+#include "nissy_text.h"
+
+enum { DRAWN = 20000, MOST_PARTS = 12 };
+
+/* What a text and its line have in common: each byte of the line is that of its place, or stands for it. */
+static int is_of_its_place(guarded text, const uint8_t *line, const uint64_t *places, uint64_t at) {
+    const uint64_t place = places[at];
+    if (place >= text.size || (at > 0 && place < places[at - 1])) return 0;
+    const uint8_t byte = text.bytes[place];
+    return line[at] == byte || line[at] == ' ' || byte == '`' || byte == 0xc2 || byte == 0xca || byte == 0xe2;
+}
+
+static void plain_is_of_the_text(guarded text, const char *name) {
+    guarded out = guard(3 * text.size), places = guard(24 * text.size);
+    uint64_t *const of = (uint64_t *)(void *)places.bytes;
+    const nissy_plain_answer got = nissy_plain(text.bytes, text.size, out.bytes, out.size, of, 3 * text.size);
+    holds(got.status == NISSY_DONE && got.length <= out.size && got.left_out < 64, "a line", name);
+    int is_right = 1;
+    for (uint64_t at = 0; at < got.length; at++) is_right = is_right && is_of_its_place(text, out.bytes, of, at);
+    holds(is_right, "the place of each byte", name);
+    if (got.length > 0) {
+        guarded small = guard(got.length - 1);
+        holds(nissy_plain(text.bytes, text.size, small.bytes, small.size, of, 3 * text.size).status == NISSY_ROOM, "too small a room", name);
+        let_go(small);
+    }
+    let_go(out), let_go(places);
+}
+
+static int ends_line(uint8_t byte) {
+    return byte == '\n' || byte == '\r';
+}
+
+/* Whether a line begins where the one before it ended, and has its parts in order. */
+static int is_line_of(guarded text, const nissy_text_line *line, uint64_t begin) {
+    uint64_t at = line->begin;
+    while (at < line->end && !ends_line(text.bytes[at])) at++;
+    return line->begin == begin && at == line->end && line->begin <= line->head_end && line->head_end <= line->label_begin &&
+           line->label_begin <= line->label_end && line->label_end <= line->moves && line->moves <= line->comment && line->comment <= line->end &&
+           line->doubt_at >= line->begin && line->doubt_at <= line->end && line->kind <= NISSY_NOTE_LINE && line->doubt <= NISSY_COMMENT &&
+           (line->doubt != NISSY_NO_DOUBT || line->doubt_at == line->end);
+}
+
+/* Where the line begins that follows one. */
+static uint64_t behind(guarded text, uint64_t end) {
+    if (end < text.size && text.bytes[end] == '\r' && end + 1 < text.size && text.bytes[end + 1] == '\n') return end + 2;
+    return end < text.size ? end + 1 : end;
+}
+
+static void lines_are_of_the_text(guarded text, const char *name) {
+    guarded room = guard(sizeof(nissy_text_line) * (text.size + 1));
+    nissy_text_line *const lines = (nissy_text_line *)(void *)room.bytes;
+    const nissy_text_answer got = nissy_text_lines(text.bytes, text.size, lines, text.size + 1);
+    holds(got.status == NISSY_DONE && got.lines <= text.size && got.attempts <= got.lines, "lines", name);
+    uint64_t begin = 0;
+    int is_right = 1;
+    for (uint64_t at = 0; at < got.lines; at++) {
+        is_right = is_right && is_line_of(text, lines + at, begin) && lines[at].attempt < got.attempts;
+        begin = behind(text, lines[at].end);
+    }
+    holds(is_right && begin == text.size, "each of them, and no other", name);
+    if (got.lines > 0) {
+        guarded small = guard(sizeof(nissy_text_line) * (got.lines - 1));
+        const nissy_text_answer few = nissy_text_lines(text.bytes, text.size, (nissy_text_line *)(void *)small.bytes, got.lines - 1);
+        holds(few.status == NISSY_ROOM && few.lines == got.lines && few.attempts == got.attempts, "too small a room for them", name);
+        holds(memcmp(small.bytes, room.bytes, small.size) == 0, "the first of them", name);
+        let_go(small);
+    }
+    let_go(room);
+}
+
+static void drawn_texts(void) {
+    static const char *const PARTS[] = {"R U F", "\n", "\r\n", "\r", "// ", "EO: ", "Solution: ", "1. ", "#2 ", "R' U' F D R' U' F", "(", ")", "(2)",
+                                        "\xe2\x80\x99", "\xe2", "\xff", "\xc2\xa0", "`", ",", "DR", "F2L", "on inverse", " - ", "[0:12] ", "r u",
+                                        "Attempt 1 of 3", "\xf0\x9f\x8e\xb2", "", "E1 ", "23\n"};
+    enum { COUNT = sizeof PARTS / sizeof *PARTS };
+    unsigned state = 1;
+    for (int drawn = 0; drawn < DRAWN; drawn++) {
+        char text[32 * MOST_PARTS] = "";
+        for (int part = drawn % MOST_PARTS; part > 0; part--) {
+            state = state * 1103515245 + 12345;
+            strcat(text, PARTS[state / 65536 % COUNT]);
+        }
+        guarded read = copied(text, strlen(text));
+        plain_is_of_the_text(read, text);
+        lines_are_of_the_text(read, text);
+        let_go(read);
+    }
+}
+
+/* A sheet of two attempts, the second with the label of a solution that names a side. */
+static void a_sheet(void) {
+    static const char TEXT[] = "1. R U F\nF' U' R' // EO\n\n2. R U\nSolution: U' // on inverse";
+    static const unsigned KINDS[] = {NISSY_SCRAMBLE_LINE, NISSY_STEP_LINE, NISSY_BLANK_LINE, NISSY_SCRAMBLE_LINE, NISSY_STEP_LINE};
+    nissy_text_line lines[5];
+    const nissy_text_answer got = nissy_text_lines((const uint8_t *)TEXT, sizeof TEXT - 1, lines, 5);
+    holds(got.status == NISSY_DONE && got.lines == 5 && got.attempts == 2, "its lines", "a sheet");
+    for (int at = 0; at < 5; at++) holds(lines[at].kind == KINDS[at] && lines[at].attempt == (at > 2), "what each is", "a sheet");
+    holds(lines[0].headed && lines[0].head_end == 2 && lines[0].moves == 3 && !lines[1].headed, "its heads", "a sheet");
+    holds(lines[1].solution && lines[1].comment == 18 && lines[1].end == 23 && !lines[1].inverse, "its first solution", "a sheet");
+    holds(lines[4].solution && lines[4].labelled && lines[4].inverse && lines[4].group == 0, "its second solution", "a sheet");
+    holds(lines[4].doubt == NISSY_SIDE && lines[4].doubt_at == 51 && lines[1].doubt == NISSY_NO_DOUBT, "its doubt", "a sheet");
+}
+
+/* No byte, and a pointer to none. */
+static void nothing(void) {
+    holds(nissy_plain(NULL, 0, NULL, 0, NULL, 0).status == NISSY_DONE, "its line", "no text");
+    const nissy_text_answer got = nissy_text_lines(NULL, 0, NULL, 0);
+    holds(got.status == NISSY_DONE && got.lines == 0 && got.attempts == 0, "its lines", "no text");
+    holds(sizeof(nissy_text_line) == 88 && sizeof(nissy_text_answer) == 24 && sizeof(nissy_plain_answer) == 16, "its size", "each struct");
+}
+
+int main(void) {
+    drawn_texts();
+    a_sheet();
+    nothing();
+    return ended();
+}
