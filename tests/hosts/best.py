@@ -33,8 +33,9 @@ from ways import C, as_model, by_model
 CUT = fault_of(0, 0, "cut")
 # of so many rows of a question it is tried that they go on
 GONE_ON = 5
-# one of a reduced cube, and two that are cut
-FIXED = (Question("U R F", "F' R"), Question("U R F L D", "", 0, 20, 500), Question("U R F D", "(F)", 0, 20, 2000, 1))
+# one whose best rows take back the F2 that stands before a B, one of a reduced cube, and two that are cut
+FIXED = (Question("R' B U2 R' U' L' B' D F2 L D' L2 R2 U B F2 D R2 L F R' F L' D L", "L F2 B"),
+         Question("U R F", "F' R"), Question("U R F L D", "", 0, 20, 500), Question("U R F D", "(F)", 0, 20, 2000, 1))
 # more pieces than any question here has
 NO_STOP = 10**9
 # questions of the model at once, of which each process builds its tables

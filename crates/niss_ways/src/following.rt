@@ -100,7 +100,7 @@ struct Between {
     made: Made,
     on_normal: u8,
     on_inverse: u8,
-    ghost small: { (made.count ≤ 1024) × (made.saving ≤ 2052) × (on_normal ≤ 21) × (on_inverse ≤ 21) },
+    ghost small: { (made.count ≤ 1024) × (made.saving ≤ 2056) × (on_normal ≤ 21) × (on_inverse ≤ 21) },
 }
 
 impl<'a, A: Allocator> Following<'a, A> {
