@@ -110,6 +110,12 @@ public:
         : scramble_(scramble), so_far_(so_far), most_(which.most), room_(static_cast<std::size_t>(std::min(which.most, FIRST_ROWS))),
           wanted_({detail::turns(which.slack, "slack"), 0, 0, 0, which.nodes, 0}) {}
 
+    // Reads both lines, and looks for nothing. Returns whether they can be read.
+    bool begin() {
+        ask();
+        return said.status == NISSY_DONE;
+    }
+
     // Looks for ways whose first steps have this axis and this length. Returns whether longer ones are let in.
     bool look(std::uint8_t axis, std::uint8_t length) {
         wanted_.axes = axis, wanted_.from = wanted_.to = length;
@@ -155,6 +161,7 @@ private:
 
 // Looks for one length of the first step after another, on each axis, as far as there are longer ones. Returns whether it is done.
 inline bool look_for_all(searching &search, const best_search &which) {
+    if (!search.begin()) return false;
     std::vector<std::uint8_t> axes = {1, 2, 4};
     for (std::uint8_t length = 0; !axes.empty(); length++) {
         std::vector<std::uint8_t> longer;

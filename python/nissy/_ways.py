@@ -116,6 +116,10 @@ class _Search:
             raise fault_on(answer, self._lines)
         return answer
 
+    def begin(self) -> None:
+        """Reads both lines, and looks for nothing. Raises Fault."""
+        self._answer()
+
     def look(self, axis: int, length: int) -> bool:
         """Looks for ways whose first steps have this axis and this length. Returns whether longer ones are let in."""
         asked = self._asked
@@ -144,6 +148,7 @@ def found(lines: Lines, wanted: Wanted, progress: Progress, stop: Stop) -> Conti
     """Returns what a search finds, which goes in pieces: of each length of the first step, on each axis, as far as
     there are longer ones. Raises Fault."""
     search, axes, length = _Search(lines, wanted), list(_AXES), 0
+    search.begin()
     while axes and not search.cut:
         for axis in tuple(axes):
             progress(search.tried, None)

@@ -84,8 +84,8 @@ void faults_are_thrown() {
     has_fault([] { nissy::tables("drrl-eoud").count("U"); }, NISSY_START, 0, "nissy: eoud does not hold", 0, "eoud");
     has_fault([] { nissy::invert(std::string_view("R\0U", 3)); }, NISSY_NOT_A_MOVE, 2, "nissy: column 2: not a move");
     std::string many;
-    for (int at = 0; at < 200; at++) many += at % 2 ? "U" : "R";
-    has_fault([&] { nissy::best(many, many); }, NISSY_TOO_LONG, 0, "nissy: moves so far, more than 256 moves", 2);
+    for (int at = 0; at < 201; at++) many += at % 2 ? "U" : "R";
+    has_fault([&] { nissy::best("", many); }, NISSY_TOO_LONG, 0, "nissy: moves so far, more than 256 moves", 2);
     try {
         nissy::invert("R\xe2\x80\x99 U\xe2\x80\x99 q");
     } catch (const nissy::fault &thrown) {
