@@ -84,11 +84,13 @@ function tryTurned(line) {
 /** What is cut, of many lines, in workers, and what no call takes. */
 async function tryRest() {
   const wanted = nissy.solve("eofb", "R U F", { sides: "both", slack: 1 });
+  // enough for the shortest, and not for those that are longer
+  const nodes = 60;
   const [worker, pool] = [await NissyWorker.start(moduleBytes), await NissyPool.start(2, moduleBytes)];
   for (const engine of [nissy, worker, pool]) {
     same("by each engine", await engine.solve("eofb", "R U F", { sides: "both", slack: 1 }), wanted);
     same("of many lines", (await engine.solveAll("eofb", ["R U F", "q", "R U F"], { sides: "both", slack: 1, faults: "value" })).filter(Array.isArray), [wanted, wanted]);
-    const cut = await engine.solve("eofb", "R U F", { sides: "both", slack: 1, nodes: 150, cut: "value" });
+    const cut = await engine.solve("eofb", "R U F", { sides: "both", slack: 1, nodes, cut: "value" });
     same("cut", [cut.cut, [...cut]], [true, wanted.slice(0, cut.length)]);
     same("a cut that is thrown", (await thrown(() => engine.solve("eofb", "R U F", { sides: "both", nodes: 1 })))[0], "SearchCut");
     same("a fault", await thrown(() => engine.solve("eofb", "R q", { sides: "both" })), ["NissyFault", "column 3: not a move"]);
@@ -97,8 +99,8 @@ async function tryRest() {
     for (const wrong of ["", "Both", "left"]) same(`sides of ${wrong}`, (await thrown(() => engine.solve("eofb", "F", { sides: wrong })))[0], "RangeError");
     for (const wrong of [3, null, {}]) same(`sides of ${wrong}`, (await thrown(() => engine.solve("eofb", "F", { sides: wrong })))[0], "TypeError");
   }
-  const { count, found } = await Promise.resolve().then(() => nissy.solve("eofb", "R U F", { sides: "both", slack: 1, nodes: 150 })).catch((error) => error);
-  same("what was found until a cut", [found.length, count.solutions, count.nodes <= 150], [count.solutions, found.length, true]);
+  const { count, found } = await Promise.resolve().then(() => nissy.solve("eofb", "R U F", { sides: "both", slack: 1, nodes })).catch((error) => error);
+  same("what was found until a cut", [found.length, count.solutions, count.nodes <= nodes], [count.solutions, found.length, true]);
   same("a bound that is none", nissy.solve("eofb", "R U F", { sides: "both", slack: 1, nodes: 10_000 }), wanted);
   same("none", nissy.solve("eofb", "R U F", { sides: "both", most: 0 }), []);
   same("within a limit", nissy.solve("eofb", "F R U F' L B", { sides: "both", limit: 0 }), []);
