@@ -288,8 +288,8 @@ typedef struct nissy_way {
 
 /* What is asked of nissy_best. */
 typedef struct nissy_ways_wanted {
-    uint8_t slack;       /* by how many turns, 0 to 20, the first step may be longer than the shortest: on the scramble alone, on the inverse
-                            alone, or over both */
+    uint8_t slack;       /* by how many turns, 0 to 20, the first step may be longer than the shortest on its axis: on the scramble alone, on
+                            the inverse alone, or over both */
     uint8_t axes;        /* on which axes the orientation is: 1 F and B, 2 R and L, 4 U and D, added; NISSY_ALL_AXES are all */
     uint8_t from;        /* how many turns the first step has on both sides together, from and to: 0 and 20 are all */
     uint8_t to;
@@ -317,8 +317,8 @@ typedef struct nissy_ways_answer {
  * `tables` are nine, in the order of nissy_steps: eofb, eorl, eoud, drud-eofb, drrl-eofb, drud-eorl, drfb-eorl, drrl-eoud, drfb-eoud. `wanted`
  * may name some axes and lengths only: so a search goes in parts, between which a caller tells how far it is, or ends it. The ways of all
  * parts come into one room, if each call is told how many are there: the best of them stay, as many as have place, whatever the order of the
- * parts. It looks at no more than `most_nodes` positions: before it would look at more it ends with NISSY_CUT, and the ways are the best of
- * those that it tried.
+ * parts. It looks at no more than `most_nodes` positions: before it would look at more it ends with NISSY_CUT, and each way that is
+ * there is a true one.
  *
  * It takes no memory, but 64 KiB of stack. NISSY_USAGE: the tables aren't those of the nine steps in this order, a number is out of its range,
  * or `there` is more than the room. NISSY_STOPPED, NISSY_FAULT: as of nissy_check; NISSY_TOO_LONG of line 2 without a column if both lines

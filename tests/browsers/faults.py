@@ -72,7 +72,7 @@ def by_hand(tally: Tally, browser: Browser) -> None:
         browser.script("part('own-fault').hidden = true")
         browser.submit("own", text)
         shows_fault(tally, browser, "own", text, sign, said)
-    browser.walk(tally, "brackets name the sides", ("submit", "own", "r (U F2\u2019) x", {}), ("comes", "steps", 2, {"bracketed": "L (U F2)"}))
+    browser.walk(tally, "brackets name the sides", ("submit", "own", "r (U F2\u2019) x", {}), ("comes", "steps", 1, {"bracketed": "L (U F2)"}))
 
 
 PASTE = """const field = document.querySelector(arguments[0]); field.focus(); field.select();
@@ -86,7 +86,7 @@ def lines_by_hand(tally: Tally, browser: Browser) -> None:
     for end in ("\n", "\r\n"):
         browser.walk(tally, f"lines that end with {end!r}", ("go", "#scramble=R_U", {}),
             ("script", PASTE, "#own", end.join(("R U // EO", "(F2 D) // DR", "")), {"own-read": "Left out: comments."}),
-            ("script", send, "#own-form", {}), ("comes", "steps", 2, {"bracketed": "R U (F2 D)"}))
+            ("script", send, "#own-form", {}), ("comes", "steps", 1, {"bracketed": "R U (F2 D)"}))
     browser.walk(tally, "by hand", ("go", "#scramble=R_U", {}), ("submit", "own", "R, U // EO F2", {}), ("comes", "steps", 1,
         {"bracketed": "R U", "own-read": "Left out: comments, commas."}), ("act", "#line-list button", {}), ("script", PASTE,
         "#line-list input", "R // one\nD // another", {}), ("script", send, "#line-list form", {}), ("comes", "bracketed", "R D", {}))
@@ -108,15 +108,15 @@ def pasted_steps(tally: Tally, browser: Browser) -> None:
     """Text with the steps of a solution is read as far as it can be, and what it has besides is kept, with its notes."""
     kept = "#kept-list .step .moves"
     browser.walk(tally, "a text of steps", ("go", {}), ("fill", "scramble", FMC, {}),
-        ("comes", "kept", 2, {"scramble=": "R' U' F D2", "bracketed": "F R' B (D R) B2"}))
+        ("comes", "kept", 2, {"scramble=": "R' U' F D2", "bracketed": "F R' B B2 (D R)"}))
     tally.equal("what else it has is kept", sorted(browser.texts(kept)), ["(U F)", "L2 D'"])
     notes = browser.script("return all('#kept-list .note-field').map((each) => each.value).sort()")
     tally.equal("with its notes", notes, ["", "a note"])
     labels = "Scramble: R' U' F\nEO: D R\nDR after it: (L2) F // note: no\nleave: U\n"
     said = f"The steps of this text are read up to the line \u201cB R1 L\u201d: {ODD_MOVE.format('R1', 'R')}"
     browser.walk(tally, "steps", ("fill", "scramble", "R' U' F\n\nD R // EO\n(L2) // DR\n", {}), ("comes", "steps", 2,
-        {"bracketed": "D R (L2)", kept: ["D R (L2)"]}), ("fill", "scramble", labels, {}), ("comes", "steps", 4,
-        {"bracketed": "D R (L2) F U", "scramble-read": "Left out: the word Scramble."}), ("fill", "scramble",
+        {"bracketed": "D R (L2)", kept: ["D R (L2)"]}), ("fill", "scramble", labels, {}), ("comes", "steps", 3,
+        {"bracketed": "D R F (L2) U", "scramble-read": "Left out: the word Scramble."}), ("fill", "scramble",
         "R U F2\nD // EO\nB R1 L // DR\nU F\n\nL2\n", {}), ("comes", kept, ["L2"], {"alert": said, "bracketed": "D"}))
 
 

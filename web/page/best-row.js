@@ -34,6 +34,7 @@ function movesCell(take, line, twins, isBeside) {
   const [own, more] = [line.length + seen, SIGN_OF_TWIN * twin.length];
   made.style.setProperty("--signs", String(own + (isBeside ? more : 0)));
   made.style.setProperty("--signs-wide", String(own + more));
+  made.style.setProperty("--beside", String(isBeside ? more : 0));
   return made;
 }
 
