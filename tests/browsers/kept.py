@@ -290,6 +290,8 @@ def leads_to_kept(tally: Tally, browser: Browser) -> None:
     browser.script("scrollTo({ top: 0, behavior: 'instant' })")
     tally.holds("whoever leaves isn't led back", browser.until(leaves))
     browser.click("#bar-kept")
+    # the side of its reduction is known by then
+    browser.until(KEPT_SAID)
     browser.act("#kept-list li:nth-child(1) button")
     tally.equal("whoever goes on comes to what follows", (browser.script(seen), browser.until(leaves)), ([True, True, True], True))
     is_there = "return document.activeElement.closest('#solutions-groups') !== null"
