@@ -128,15 +128,11 @@ nissy_run_answer nissy_run(const uint8_t *words, size_t words_length, const uint
 
 enum { WAY_TABLES = 9 };
 
-/* What is asked, where the engine reads it. */
-static void put_wanted(unsigned char *asked, const nissy_ways_wanted *wanted) {
-    const uint64_t at = address(asked);
-    store1(at, wanted->slack);
-    store1(at + 1, wanted->axes);
-    store1(at + 2, wanted->from);
-    store1(at + 3, wanted->to);
-    store8(at + 8, wanted->most_nodes);
-    store8(at + 16, wanted->there);
+/* What is asked, where the engine reads it: four bytes, and two long numbers from the eighth on. */
+static void put_asked(unsigned char *asked, const uint8_t bytes[4], uint64_t first, uint64_t second) {
+    memcpy(asked, bytes, 4);
+    store8(address(asked) + 8, first);
+    store8(address(asked) + 16, second);
 }
 
 /* The one number of more than a byte that a way has, in the form of the engine, and in that of C again. */
@@ -155,7 +151,7 @@ nissy_ways_answer nissy_best(const nissy_tables *tables, const uint8_t *scramble
     _Static_assert(sizeof(nissy_way) == 96, "nissy_way has the size that it has in the engine");
     const uint64_t there = wanted->there < room_length ? wanted->there : room_length;
     for (int at = 0; at < WAY_TABLES; at += 1) copy(address(held[at]), held_of(&tables[at]), sizeof held[at]);
-    put_wanted(asked, wanted);
+    put_asked(asked, (const uint8_t[4]){wanted->slack, wanted->axes, wanted->from, wanted->to}, wanted->most_nodes, wanted->there);
     put_totals(room, there);
     w_nissy_best(STACK_END, address(answer), address(held), address(scramble), scramble_length, address(so_far), so_far_length, address(asked),
                  address(room), room_length);
@@ -165,22 +161,12 @@ nissy_ways_answer nissy_best(const nissy_tables *tables, const uint8_t *scramble
     return said;
 }
 
-/* What is asked, where the engine reads it. */
-static void put_sides_wanted(unsigned char *asked, const nissy_sides_wanted *wanted) {
-    const uint64_t at = address(asked);
-    store1(at, wanted->sides);
-    store1(at + 1, wanted->length);
-    store1(at + 2, wanted->counts);
-    store8(at + 8, wanted->passed);
-    store8(at + 16, wanted->most_nodes);
-}
-
 nissy_sides_answer nissy_solve_sides(const nissy_tables *tables, const uint8_t *scramble, size_t scramble_length, const uint8_t *so_far,
                                      size_t so_far_length, const nissy_sides_wanted *wanted, nissy_way_part *room, size_t room_length) {
     STACK(STACK_OF_nissy_solve_sides);
     _Alignas(16) unsigned char answer[32], asked[24];
     _Static_assert(sizeof(nissy_way_part) == 45, "nissy_way_part has the size that it has in the engine");
-    put_sides_wanted(asked, wanted);
+    put_asked(asked, (const uint8_t[4]){wanted->sides, wanted->length, wanted->counts}, wanted->passed, wanted->most_nodes);
     w_nissy_solve_sides(STACK_END, address(answer), held_of(tables), address(scramble), scramble_length, address(so_far), so_far_length,
                         address(asked), address(room), room_length);
     return nissy_sides_answer_at(address(answer));

@@ -33,11 +33,6 @@ after : (lines : Result Both Nowhere) (o : Origin) (w : WaysWanted) (room room_n
 after (Ok lines) o w room room_now told stands is = inr (o, stands, is)
 after (Err why) o w room room_now told stands is = absurd stands
 
-nowhere : (lines : Result Both Nowhere) (why : Nowhere) (w : WaysWanted) (room : List Way) (told : WaysAnswer) → StartsAfter lines (Err why)
-    → told ≡ nowhere_answer why → FindsAfter lines w room room told
-nowhere (Ok lines) why w room told stands is = inl (record { same = refl; told_is = is ∙ ap nowhere_answer stands })
-nowhere (Err due) why w room told stands is = record { same = refl; told_is = is ∙ ap nowhere_answer stands }
-
 -- what is asked is in range, so the search does what it is to do, or there is no cube to begin at
 pub found_after : (lines : Result Both Nowhere) (o : Origin) (w : WaysWanted) (room room_now : List Way) (found : FoundWays) (told : WaysAnswer)
     → StartsAfter lines (Ok o) → Grows o (min w.there (length room)) room found.rows room_now → found.looks ≤ w.most_nodes → Tells found told
@@ -47,7 +42,8 @@ found_after lines o w room room_now found told stands grows looks tells =
 
 pub not_found : (lines : Result Both Nowhere) (why : Nowhere) (w : WaysWanted) (room : List Way) (told : WaysAnswer) → StartsAfter lines (Err why)
     → told ≡ nowhere_answer why → FindsAfter lines w room room told
-not_found lines why w room told stands is = nowhere lines why w room told stands is
+not_found (Ok lines) why w room told stands is = inl (record { same = refl; told_is = is ∙ ap nowhere_answer stands })
+not_found (Err due) why w room told stands is = record { same = refl; told_is = is ∙ ap nowhere_answer stands }
 
 -- the line of where one stands is written, or there is none
 pub line_written : (lines : Result Both Nowhere) (o : Origin) (out : Memory) (told : LineAfterAnswer) → StartsAfter lines (Ok o)
