@@ -369,9 +369,10 @@ typedef struct nissy_line_after_answer {
     uint64_t length; /* after NISSY_DONE the bytes written, after NISSY_ROOM the bytes that there are to write */
 } nissy_line_after_answer;
 
-/* Writes the line of the cube at which a solver stands after a scramble and the moves so far, for the calls on one line: face turns, named by
- * the centres, with the moves in brackets inverted before the scramble. nissy_invert makes it that of the inverse side. NISSY_LINE_ROOM is
- * enough. It takes no memory; 64 KiB of stack. Both lines have too many moves together also if the line would have more than 256. */
+/* Writes the line of the cube at which a solver stands after a scramble and the moves so far, for the calls on one line: clean face turns,
+ * named by the centres, with the moves in brackets inverted before the scramble. nissy_invert makes it that of the inverse side.
+ * NISSY_LINE_ROOM is enough. It takes no memory; 64 KiB of stack. Both lines have too many moves together also if the line, before it is
+ * cleaned, would have more than 256. */
 nissy_line_after_answer nissy_line_after(const uint8_t *scramble, size_t scramble_length, const uint8_t *so_far, size_t so_far_length,
                                          uint8_t *out, size_t out_room);
 

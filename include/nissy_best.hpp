@@ -202,7 +202,8 @@ inline std::string line_after(std::string_view scramble, std::string_view so_far
     const nissy_line_after_answer said = nissy_line_after(detail::bytes(scramble), scramble.size(), detail::bytes(so_far), so_far.size(),
                                                           detail::bytes(out), out.size());
     continuing::end_unless_read(said);
-    return cleanup(std::string_view(out).substr(0, said.length));
+    out.resize(said.length);
+    return out;
 }
 
 // What may follow a scramble and the moves so far, the best first, up to a domino reduction: each orientation on three axes, over both sides, and

@@ -8,7 +8,7 @@ from . import _library, _rooms
 from ._continuations import Continuations
 from ._given import Partial, Progress, Stop, Text, bytes_of, function_of, number_of
 from ._library import DONE, LINE_ROOM
-from ._lines import MOST_WORD, cleanup
+from ._lines import MOST_WORD
 from ._many import one_by_one
 from ._values import Count, Cut, Fault
 from ._ways import MOST_TURNS, Wanted, fault_on, found
@@ -48,11 +48,11 @@ def line_after(scramble: Text, so_far: Text = "") -> str:
     lines = one, other = bytes_of(scramble, "the scramble"), bytes_of(so_far, "the line so far")
     room = _rooms.take()
     answer = _library.nissy_line_after(one, len(one), other, len(other), room.address, LINE_ROOM)
-    text = room.memory[:answer.length]
+    text = str(room.memory[:answer.length], "ascii")
     _rooms.put_back(room)
     if answer.status != DONE:
         raise fault_on(answer, lines)
-    return cleanup(text)
+    return text
 
 
 def best(scramble: Text, so_far: Text = "", *, slack: int = 0, most: Optional[int] = 20, nodes: Optional[int] = None,

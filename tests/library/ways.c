@@ -211,11 +211,11 @@ static nissy_line_after_answer after(const char *scramble, const char *so_far, g
     return got;
 }
 
-/* A scramble, the moves so far, and the line: a rotation renames what comes after it, also in brackets before it, and so does a slice. */
+/* A scramble, the moves so far, and the line, which is clean: a rotation renames what comes after it, also in brackets before it, and so does a slice. */
 static const char *const LINES[][3] = {
-    {"R U F", "", "R U F"}, {"", "", ""},           {"R U F", "F' (U)", "U' R U F F'"},  {"R U", "(D F2) L (R')", "R F2 D' R U L"},
+    {"R U F", "", "R U F"}, {"", "", ""},           {"R U F", "F' (U)", "U' R U"},  {"R U", "(D F2) L (R')", "R F2 D' R U L"},
     {"R U", "x U", "R U F"}, {"R U", "(B) x U", "U' R U F"}, {"R (F)", "U U", "R F' U2"},
-    {"x U", "F", "F D"},    {"", "M", "R L'"},
+    {"x U", "F", "F D"},    {"", "M", "R L'"},      {"R U F", "F' U' (R)", ""},  {"R U F", "D (L2) U (B)", "B' R L2 U F U D"},
 };
 
 static void lines_are_written(void) {

@@ -1,7 +1,7 @@
 // The search for the best ways on from a scramble and the moves so far, by calls of the module on one length of a first
 // step on one axis each: between them it tells its progress. The line of the cube at which they begin.
 import { LONG, LINE_AFTER_ANSWER, LINE_ROOM, TABLES, WAY, WAYS_ANSWER, WAYS_WANTED } from "./layout.js";
-import { lineAt, refusal, rewritten } from "./line-calls.js";
+import { lineAt, refusal } from "./line-calls.js";
 import { aligned, roomFor } from "./memory.js";
 import { headAt } from "./read-answers.js";
 import { STATUS, hasValue } from "./replies.js";
@@ -144,7 +144,7 @@ export function bestOf(instance, request, tell) {
 }
 
 /**
- * The line of the cube after a scramble and the moves so far, cleaned.
+ * The line of the cube after a scramble and the moves so far.
  * @param {Instance} instance
  * @param {LineAfterRequest} request
  * @returns {LineAfterReply}
@@ -160,6 +160,5 @@ export function lineAfterOf(instance, { scramble, soFar }) {
   ));
   const head = headAt(memory, answer);
   if (head.status !== STATUS.done) return refusalOf(instance, head, scramble, soFar, LINE_AFTER_ANSWER.line);
-  const whole = lineAt(instance, out);
-  return /** @type {LineAfterReply} */ ("out" in whole ? rewritten(instance, "nissy_cleanup", whole.out) : whole);
+  return /** @type {LineAfterReply} */ (lineAt(instance, out));
 }

@@ -12,6 +12,8 @@ use Rattle.niss_cube.proofs.Words.{get_or-map-range_with_len, length-map-range_w
 use Rattle.niss_cube.proofs.Words.{Below, Both, When, Numbers, Holds, holds, Place, Axis, Ud, Rl, Fb, Cube, Coordinate, Flip}
 use Rattle.niss_cube.proofs.Words.{Twist, Slice, set_of, map_of, places, facelet, U, row_at, flips_home}
 use Rattle.niss_cube.proofs.Words.{◌∷◌, SameMap, is_place, slice_set, count_by, sum_by-cons}
+use Rattle.std.specs.Prelude.{◌↔◌}
+use Rattle.niss_cube.specs.Sets.{Kept}
 use Rattle.niss_cube.specs.BadPieces.{leaving, stickers_in, bad_pieces}
 use Rattle.niss_cube.specs.BadPlaces.{strays, rows_of, bad_places, bad_mask, bad_count, marks_of, turned_away}
 use Rattle.niss_cube.specs.BadPlaces.{sides, BadPlacesAreCounted, BadPlacesSeePlaces}
@@ -359,3 +361,20 @@ bad_places_are_counted k a c = count-leaving k a (lists_of c) c.are_cubies ∙ s
     by Flip = refl
     by Twist = refl
     by Slice = refl
+
+-- No place is bad exactly if the coordinate's set is kept.
+pub none_bad : (k : Coordinate) (a : Axis) (c : Cube) → (bad_count k a (map_of c) ≡ 0) ↔ Kept (set_of k a) (map_of c)
+none_bad k a c =
+    let counted = bad_places_are_counted k a c in
+    let none = (bad_pieces_are_counted k a c).none in
+    (λ e. none.0 (no_sides k _ (sym counted ∙ e)), λ kept. counted ∙ ap (λ (n : ℕ). sides k * n) (none.1 kept) ∙ of_none k)
+  where
+    no_sides : (k : Coordinate) (n : ℕ) → sides k * n ≡ 0 → n ≡ 0
+    no_sides Flip n e = omega (arith, e)
+    no_sides Twist n e = omega (arith, e)
+    no_sides Slice n e = omega (arith, e)
+
+    of_none : (k : Coordinate) → sides k * 0 ≡ 0
+    of_none Flip = refl
+    of_none Twist = refl
+    of_none Slice = refl

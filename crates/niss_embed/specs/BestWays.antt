@@ -1,6 +1,7 @@
 -- What the calls on a scramble and the moves so far leave and tell: the search for the best ways on, and the line of the cube at which
 -- one stands.
 use Rattle.std.specs.Prelude.{◌≡◌, ◌⊎◌, ℕ, ◌<◌, ◌≤◌, if◌then◌else◌, false, Result, Ok, Err, List, [], length, get_or, min}
+use Rattle.niss_moves.specs.Cleaning.{clean_turns}
 use Rattle.niss_moves.specs.Text.{with_words, turn_words}
 use Rattle.niss_cube.specs.declared.step.Step.{Step}
 use Rattle.niss_cube.specs.declared.step.Step.TheVariants.{Eofb, Eorl, Eoud, DrudEofb, DrrlEofb, DrudEorl, DrfbEorl, DrrlEoud, DrfbEoud}
@@ -96,10 +97,10 @@ pub record Tells (found : FoundWays) (told : WaysAnswer) : Type 0 where
 abbrev pub words_of : List Turn → List ℕ
 words_of turns = with_words [] (turn_words turns)
 
--- A line of at most 256 turns is written as a text is; a longer one is refused.
+-- A line of at most 256 turns is cleaned and written as a text is; a longer one is refused.
 pub record WritesTurns (turns : List Turn) (out : Memory) (told : LineAfterAnswer) : Type 0 where
   pub writes : length turns ≤ 256 → (put : LineAnswer) × (told ≡ line_told put)
-      × Does (outcome_of_text (length out.before) (words_of turns)) out.before out.after put
+      × Does (outcome_of_text (length out.before) (words_of (clean_turns turns))) out.before out.after put
   pub refuses : 256 < length turns → (told ≡ unwritten_line TooMany) × (out.after ≡ out.before)
 
 -- What the call does that writes a line that leads to where one stands.

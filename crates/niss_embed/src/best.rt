@@ -10,13 +10,10 @@ ghost use Rattle.niss_embed.specs.declared.answer.Status.TheVariants.{NoRoom};
 use crate::answer::{LineAnswer, Status};
 use crate::two_lines::{Nowhere, start_after};
 use crate::ways_answer::{LineAfterAnswer, WaysAnswer, WaysWanted};
-use niss_moves::{LineText, Turn, put_faces};
+use niss_moves::{LineText, put_faces};
 use niss_search::Limit;
-use niss_ways::{Axes, FoundWays, Way, WayTables, Wish, find_ways};
+use niss_ways::{Axes, FoundWays, Start, Way, WayTables, Wish, find_ways};
 use std::alloc::Allocator;
-
-/// The most turns of a line that other calls read.
-const MOST_TURNS: usize = 256;
 
 /// What is wished by some numbers, if they are in their ranges.
 fn wish_of(wanted: &WaysWanted) -> Option<Wish>
@@ -81,27 +78,27 @@ pub fn best_ways<A: Allocator>(
     }
 }
 
-/// Writes the turns of a line, if other calls read as many.
-fn put_line(turns: &[Turn], out: &mut [u8]) -> LineAfterAnswer
-    ensures does { WritesTurns turns.now (memory out.old out.new) result }
+/// Writes the line of where one stands, cleaned, if other calls read as many turns.
+fn put_line(start: &Start, out: &mut [u8]) -> LineAfterAnswer
+    ensures does { WritesTurns start.now.line (memory out.old out.new) result }
     ensures room { 2048 ≤ length out.old → result.status ≢ status_number NoRoom }
 {
-    if turns.len() > MOST_TURNS {
+    let Some(turns) = start.clean_line() else {
         return LineAfterAnswer::nowhere(Nowhere::TooMany);
-    }
+    };
     let mut text = LineText::new();
-    put_faces(turns, &mut text);
+    put_faces(turns.as_slice(), &mut text);
     LineAfterAnswer::of(LineAnswer::put(text.as_slice(), out))
 }
 
-/// Writes the line of the cube at which one stands after a scramble and the moves so far: face turns, named by the centres, with the
-/// moves in brackets inverted before the scramble.
+/// Writes the line of the cube at which one stands after a scramble and the moves so far: clean face turns, named by the centres, with
+/// the moves in brackets inverted before the scramble.
 pub fn line_after(scramble: &[u8], so_far: &[u8], out: &mut [u8]) -> LineAfterAnswer
     ensures does { WritesLineAfter (both_of scramble.now so_far.now) (memory out.old out.new) result }
     ensures room { 2048 ≤ length out.old → result.status ≢ status_number NoRoom }
 {
     match start_after(scramble, so_far) {
-        Ok(start) => put_line(start.line(), out),
+        Ok(start) => put_line(&start, out),
         Err(why) => LineAfterAnswer::nowhere(why),
     }
 }

@@ -1,18 +1,19 @@
 //! The reductions after orientations.
-ghost use Rattle.std.specs.Prelude.{◌≡◌, ◌≤◌, [], ◌∷◌, IfSome, IfOk, OnOk};
+ghost use Rattle.std.specs.Prelude.{◌≡◌, ◌≤◌, [], ◌∷◌, IfSome, IfOk, OnOk, IsTrue};
 ghost use Rattle.niss_cube.specs.BadPlaces.{bad_count};
 ghost use Rattle.niss_cube.specs.Map.{map_of};
 ghost use Rattle.niss_cube.specs.declared.cube.coordinate.Coordinate.TheVariants.{Twist, Slice};
-ghost use Rattle.niss_cube.specs.Steps.{goals_of, edge_step_on};
+ghost use Rattle.niss_cube.specs.Steps.{goals_of, edge_step_on, may_start};
 ghost use Rattle.niss_cube.specs.declared.step.Goal.TheVariants.{Domino};
 ghost use Rattle.niss_ways.specs.Truth.{IsWay, IsReduction};
 
 use crate::looks::{Cut, Exactly, Looks};
-use crate::made::Made;
 use crate::nearest::{Nearest, total_after};
+use crate::oriented::Oriented;
 use crate::solution::Solution;
 use crate::start::Start;
 use crate::way::{Part, Way, rank_by};
+use niss_cube::laws::inverse_has_steps;
 use niss_cube::{Axis, Coordinate, Cube, Step};
 use niss_search::{Limit, Sides, Stopped, Tables};
 use std::alloc::Allocator;
@@ -93,14 +94,96 @@ pub struct Following<'a, A: Allocator> {
     ghost of_step: { goals_of tables.now ≡ Domino axes.edges axes.domino ∷ [] },
 }
 
-/// A cube after an orientation, and the least lengths of the reduction on it alone and on its inverse alone.
+/// A cube after an orientation, on which a reduction may start, and the least lengths of that on the cube alone and on
+/// its inverse alone.
 #[derive(Drop)]
-struct Between {
-    cube: Cube,
-    made: Made,
+struct Between<'a, A: Allocator> {
+    tables: &'a Tables<A>,
+    after: &'a Oriented,
     on_normal: u8,
     on_inverse: u8,
-    ghost small: { (made.count ≤ 1024) × (made.saving ≤ 2056) × (on_normal ≤ 21) × (on_inverse ≤ 21) },
+    ghost starts: { IsTrue (may_start tables.now (map_of after.now.cube)) },
+    ghost small: { (on_normal ≤ 21) × (on_inverse ≤ 21) },
+}
+
+impl<'a, A: Allocator> Between<'a, A> {
+    /// That of an orientation, if the reduction may start there.
+    fn of(
+        tables: &'a Tables<A>,
+        after: &'a Oriented,
+        looks: &mut Looks,
+    ) -> Result<Option<Between<'a, A>>, Cut>
+        ensures { looks.new.most ≡ looks.old.most }
+    {
+        if !tables.step().may_start(&after.cube) {
+            return Ok(None);
+        }
+        inverse_has_steps();
+        let on_normal = looks.distance_from(tables, &after.cube)?;
+        let on_inverse = looks.distance_from(tables, &after.inverse)?;
+        Ok(Some(Between {
+            tables,
+            after,
+            on_normal,
+            on_inverse,
+        }))
+    }
+
+    /// The least length on one side.
+    fn on_one(&self) -> u8
+        ensures { result ≤ 21 }
+    {
+        self.on_normal.min(self.on_inverse)
+    }
+
+    /// Searches for reductions on each side alone, and then over both.
+    fn search_all(&self, nearest: &mut Nearest, looks: &mut Looks) -> Result<(), Cut>
+        ensures { looks.new.most ≡ looks.old.most }
+    {
+        self.search(Sides::Normal, self.on_normal, nearest, looks)?;
+        self.search(Sides::Inverse, self.on_inverse, nearest, looks)?;
+        self.search_both(nearest, looks)
+    }
+
+    /// Searches for reductions of exactly so many turns, if they may come to fewer moves in all.
+    fn search(
+        &self,
+        sides: Sides,
+        length: u8,
+        nearest: &mut Nearest,
+        looks: &mut Looks,
+    ) -> Result<(), Cut>
+        ensures { looks.new.most ≡ looks.old.most }
+    {
+        let made = self.after.made;
+        if made.count + u16::from(length) >= nearest.below.saturating_add(made.saving) {
+            return Ok(());
+        }
+        let Some(length) = Limit::new(length) else {
+            return Ok(());
+        };
+        let exactly = Exactly { sides, length };
+        match looks.search_from(self.tables, &self.after.cube, exactly, nearest) {
+            Err(Stopped::Cut) => Err(Cut),
+            _ => Ok(()),
+        }
+    }
+
+    /// Searches for the shortest reductions over both sides. If nothing merges, those that have all turns on one side
+    /// were searched for already.
+    fn search_both(&self, nearest: &mut Nearest, looks: &mut Looks) -> Result<(), Cut>
+        ensures { looks.new.most ≡ looks.old.most }
+    {
+        let on_one = self.on_one();
+        let end = if nearest.is_plain { on_one } else { on_one + 1 };
+        nearest.is_seen = false;
+        for length in 1..end {
+            if !nearest.is_seen {
+                self.search(Sides::Both, length, nearest, looks)?;
+            }
+        }
+        Ok(())
+    }
 }
 
 impl<'a, A: Allocator> Following<'a, A> {
@@ -116,22 +199,6 @@ impl<'a, A: Allocator> Following<'a, A> {
         })
     }
 
-    /// The cube after an orientation.
-    fn between(&self, orientation: &Solution, looks: &mut Looks) -> Result<Between, Cut>
-        ensures { looks.new.most ≡ looks.old.most }
-    {
-        let cube = orientation.cube_after(self.start.cube());
-        let made = Made::with(self.start, self.axes.edges, orientation);
-        let on_normal = looks.distance(self.tables, &cube)?;
-        let on_inverse = looks.distance(self.tables, &cube.inverse())?;
-        Ok(Between {
-            cube,
-            made,
-            on_normal,
-            on_inverse,
-        })
-    }
-
     /// The place in the order of a way with so many moves in all that begins with an orientation or one of its twins.
     pub fn rank_with(&self, total: u16, class: &Solution) -> u64 {
         let cube = class.cube_after(self.start.cube());
@@ -140,132 +207,48 @@ impl<'a, A: Allocator> Following<'a, A> {
         rank_by(total, u16::from(class.len()), corners + edges, step)
     }
 
-    /// At most so many moves there are in all with the best reduction after an orientation or one of its twins.
-    pub fn at_most(&self, class: &Solution, looks: &mut Looks) -> Result<u16, Cut>
+    /// At most so many moves there are in all with the best reduction after an orientation.
+    pub fn at_most(&self, after: &Oriented, looks: &mut Looks) -> Result<u16, Cut>
         ensures { looks.new.most ≡ looks.old.most }
     {
-        let mut least = u16::MAX;
-        for number in 0..class.twins(self.axes.edges) {
-            let orientation = class.twin(self.axes.edges, number);
-            let between = self.between(&orientation, looks)?;
-            let length = between.on_normal.min(between.on_inverse);
-            least = least.min(between.made.count + u16::from(length));
+        match Between::of(self.tables, after, looks)? {
+            Some(between) => Ok(after.made.count + u16::from(between.on_one())),
+            None => Ok(u16::MAX),
         }
-        Ok(least)
-    }
-
-    /// The best reduction after an orientation or one of its twins, the first with the fewest moves in all, if these
-    /// are fewer than a bound.
-    pub fn best(
-        &self,
-        class: &Solution,
-        below: u16,
-        looks: &mut Looks,
-    ) -> Result<Option<Found>, Cut>
-        ensures { looks.new.most ≡ looks.old.most }
-    {
-        let mut best = None;
-        let mut below = below;
-        for number in 0..class.twins(self.axes.edges) {
-            let orientation = class.twin(self.axes.edges, number);
-            if let Some(found) = self.after(orientation, below, looks)? {
-                below = found.total;
-                best = Some(found);
-            }
-        }
-        Ok(best)
     }
 
     /// The best reduction after an orientation, if it has fewer moves in all than a bound.
-    fn after(
+    pub fn after(
         &self,
-        orientation: Solution,
+        after: &Oriented,
         below: u16,
         looks: &mut Looks,
     ) -> Result<Option<Found>, Cut>
         ensures { looks.new.most ≡ looks.old.most }
     {
-        let between = self.between(&orientation, looks)?;
+        let Some(between) = Between::of(self.tables, after, looks)? else {
+            return Ok(None);
+        };
         let mut nearest = Nearest {
             start: self.start,
-            orientation: &orientation,
+            orientation: &after.solution,
             below,
-            is_plain: between.made.saving == 0,
+            is_plain: after.made.saving == 0,
             is_seen: false,
             found: None,
         };
-        self.search(
-            &between,
-            Sides::Normal,
-            between.on_normal,
-            &mut nearest,
-            looks,
-        )?;
-        self.search(
-            &between,
-            Sides::Inverse,
-            between.on_inverse,
-            &mut nearest,
-            looks,
-        )?;
-        self.search_both(&between, &mut nearest, looks)?;
+        between.search_all(&mut nearest, looks)?;
         let total = nearest.below;
         let Some(reduction) = nearest.found else {
             return Ok(None);
         };
         Ok(Some(Found {
             total,
-            orientation,
+            orientation: Solution::of(after.solution.normal(), after.solution.inverse()),
             reduction,
             on_normal: between.on_normal,
             on_inverse: between.on_inverse,
         }))
-    }
-
-    /// Searches for reductions of exactly so many turns, if they may come to fewer moves in all.
-    fn search(
-        &self,
-        between: &Between,
-        sides: Sides,
-        length: u8,
-        nearest: &mut Nearest,
-        looks: &mut Looks,
-    ) -> Result<(), Cut>
-        ensures { looks.new.most ≡ looks.old.most }
-    {
-        let made = between.made;
-        if made.count + u16::from(length) >= nearest.below.saturating_add(made.saving) {
-            return Ok(());
-        }
-        let Some(length) = Limit::new(length) else {
-            return Ok(());
-        };
-        let exactly = Exactly { sides, length };
-        match looks.search(self.tables, &between.cube, exactly, nearest) {
-            Err(Stopped::Cut) => Err(Cut),
-            _ => Ok(()),
-        }
-    }
-
-    /// Searches for the shortest reductions over both sides. If nothing merges, those that have all turns on one side
-    /// were searched for already.
-    fn search_both(
-        &self,
-        between: &Between,
-        nearest: &mut Nearest,
-        looks: &mut Looks,
-    ) -> Result<(), Cut>
-        ensures { looks.new.most ≡ looks.old.most }
-    {
-        let on_one = between.on_normal.min(between.on_inverse);
-        let end = if nearest.is_plain { on_one } else { on_one + 1 };
-        nearest.is_seen = false;
-        for length in 1..end {
-            if !nearest.is_seen {
-                self.search(between, Sides::Both, length, nearest, looks)?;
-            }
-        }
-        Ok(())
     }
 
     /// The row of an orientation and a reduction that were found. What it tells is tested once more, so a row is true

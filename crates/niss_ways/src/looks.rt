@@ -1,5 +1,5 @@
 //! The looks of a call, within a bound.
-ghost use Rattle.std.specs.Prelude.{◌≡◌, ◌+◌, ◌≤◌, IfOk};
+ghost use Rattle.std.specs.Prelude.{◌≡◌, ◌+◌, ◌≤◌, IfOk, IsTrue};
 ghost use Rattle.niss_cube.specs.Map.{map_of};
 ghost use Rattle.niss_search.specs.Budgets.{is_cut_in};
 ghost use Rattle.niss_cube.specs.Steps.{may_start};
@@ -60,6 +60,19 @@ impl Looks {
         if !tables.step().may_start(cube) {
             return Ok(NO_LENGTH);
         }
+        self.distance_from(tables, cube)
+    }
+
+    /// The same from a cube on which the step may start.
+    pub fn distance_from<A: Allocator>(
+        &mut self,
+        tables: &Tables<A>,
+        cube: &Cube,
+    ) -> Result<u8, Cut>
+        requires { IsTrue (may_start tables.now (map_of cube.now)) }
+        ensures most { self.new.most ≡ self.old.most }
+        ensures length { IfOk result (λ length. length ≤ 21) }
+    {
         let most = self.most;
         if self.meter.count() >= u128::from(most) {
             return Err(Cut);
@@ -85,6 +98,24 @@ impl Looks {
         if !tables.step().may_start(cube) {
             return Ok(0);
         }
+        self.search_from(tables, cube, exactly, sink)
+    }
+
+    /// The same from a cube on which the step may start.
+    pub fn search_from<K: PairSink, A: Allocator>(
+        &mut self,
+        tables: &Tables<A>,
+        cube: &Cube,
+        exactly: Exactly,
+        sink: &mut K,
+    ) -> Result<u128, Stopped<K::Fault>>
+        requires { IsTrue (may_start tables.now (map_of cube.now)) }
+        ensures most { self.new.most ≡ self.old.most }
+        ensures solutions { Searched K.took K.refused (may_start tables.now (map_of cube.now))
+            (first_pairs tables.now (map_of cube.now) exactly.sides exactly.length)
+            (looks_of_pairs tables.now (map_of cube.now) exactly.sides exactly.length)
+            self.old.meter self.new.meter sink.old sink.new is_cut_in (λ count. count) result }
+    {
         let most = self.most;
         let left = u128::from(most) - self.meter.count();
         search_pairs_of_length(

@@ -5,8 +5,9 @@ ghost use Rattle.niss_ways.specs.Sinks.{KeepsOrientations, KeepsRows};
 
 use crate::admitted::Admitted;
 use crate::finding::{FoundWays, Wish};
-use crate::following::Following;
+use crate::following::{Following, Found};
 use crate::looks::{Cut, Exactly, Looks};
+use crate::reductions_after::{Both, ReductionsAfter};
 use crate::rows::take;
 use crate::solution::Solution;
 use crate::start::Start;
@@ -20,7 +21,7 @@ use std::alloc::Allocator;
 /// What is done with an orientation.
 #[derive(Clone, Copy, Debug, PartialEq, Eq)]
 enum Task {
-    /// Nothing: the search counts its looks.
+    /// Nothing more: the search goes on to its end.
     Nothing,
     /// The moves in all that it comes to at most are counted.
     Bound,
@@ -71,6 +72,14 @@ impl Plan {
     }
 }
 
+/// How often a pass through the orientations looked in the search for them, and at what follows, and whether it was cut.
+#[derive(Clone, Copy)]
+struct Passed {
+    looks: u64,
+    others: u64,
+    cut: bool,
+}
+
 /// The lengths that are let in on an axis, if it is asked for.
 fn admitted_on<A: Allocator>(
     tables: &WayTables<A>,
@@ -105,77 +114,82 @@ struct Orientations<'a, A: Allocator> {
 }
 
 impl<A: Allocator> Orientations<'_, A> {
-    /// Takes a class of orientations, by the reductions after it.
+    /// Counts or takes the best ways on by the reductions after a class of orientations.
     fn take_class(&mut self, class: &Solution) -> Result<(), Cut>
         ensures { KeepsOrientations self.old self.new }
     {
-        let tables = self.tables;
-        self.follow_by(tables.first_after(self.axis), class)?;
-        self.follow_by(tables.second_after(self.axis), class)
-    }
-
-    /// Takes it by one of them.
-    fn follow_by(&mut self, reduction: &Tables<A>, class: &Solution) -> Result<(), Cut>
-        ensures { KeepsOrientations self.old self.new }
-    {
-        let start = self.start;
-        match Following::of(start, reduction) {
-            Some(following) => self.follow(&following, class),
-            None => Ok(()),
-        }
-    }
-
-    /// Counts or takes the best way on by a reduction.
-    fn follow(&mut self, following: &Following<A>, class: &Solution) -> Result<(), Cut>
-        requires { following.now.start.now ≡ self.old.start.now }
-        ensures { KeepsOrientations self.old self.new }
-    {
+        let Some(reductions) = ReductionsAfter::of(self.start, self.tables, self.axis) else {
+            return Ok(());
+        };
         match self.task {
             Task::Nothing => Ok(()),
-            Task::Bound => self.count_total(following, class),
-            Task::Take => self.take_best(following, class),
+            Task::Bound => {
+                self.count_totals(&reductions, class);
+                Ok(())
+            }
+            Task::Take => self.take_best(&reductions, class),
         }
     }
 
-    /// Counts the moves in all that there are at most with a reduction.
-    fn count_total(&mut self, following: &Following<A>, class: &Solution) -> Result<(), Cut>
+    /// Counts the moves in all that there are at most with each reduction.
+    fn count_totals(&mut self, reductions: &ReductionsAfter<A>, class: &Solution)
         ensures { KeepsOrientations self.old self.new }
     {
-        let most = following.at_most(class, &mut self.looks)?;
-        self.totals.add(most);
-        Ok(())
+        match reductions.at_most(class, &mut self.looks) {
+            Ok(most) => {
+                self.totals.add(most.first);
+                self.totals.add(most.second);
+            }
+            // what was counted holds
+            Err(Cut) => self.task = Task::Nothing,
+        }
     }
 
     /// So many moves in all no way has that may still come into the room, of those that begin with these orientations.
     fn too_many(&self, following: &Following<A>, class: &Solution) -> u16 {
         let places = self.room.len();
         if self.count < places {
-            return u16::MAX;
+            return self.below;
         }
         if places == 0 {
             return 0;
         }
         let last = self.room[places - 1];
         let is_better = following.rank_with(last.total, class) < last.rank();
-        last.total.saturating_add(u16::from(is_better))
+        self.below
+            .min(last.total.saturating_add(u16::from(is_better)))
     }
 
-    /// Takes the best way on by a reduction, if it comes into the room.
-    fn take_best(&mut self, following: &Following<A>, class: &Solution) -> Result<(), Cut>
+    /// Takes the best way on by each reduction, if it comes into the room.
+    fn take_best(&mut self, reductions: &ReductionsAfter<A>, class: &Solution) -> Result<(), Cut>
+        requires first { reductions.now.first.start.now ≡ self.old.start.now }
+        requires second { reductions.now.second.start.now ≡ self.old.start.now }
+        ensures { KeepsOrientations self.old self.new }
+    {
+        self.tried = self.tried.saturating_add(2);
+        let below = Both {
+            first: self.too_many(&reductions.first, class),
+            second: self.too_many(&reductions.second, class),
+        };
+        let best = reductions.best(class, below, &mut self.looks)?;
+        self.take_row(&reductions.first, best.first);
+        self.take_row(&reductions.second, best.second);
+        Ok(())
+    }
+
+    /// Takes what was found, if anything was.
+    fn take_row(&mut self, following: &Following<A>, found: Option<Found>)
         requires { following.now.start.now ≡ self.old.start.now }
         ensures { KeepsOrientations self.old self.new }
     {
-        self.tried = self.tried.saturating_add(1);
-        let count = self.count;
-        let below = self.below.min(self.too_many(following, class));
-        let Some(found) = following.best(class, below, &mut self.looks)? else {
-            return Ok(());
+        let Some(found) = found else {
+            return;
         };
         let Some(way) = following.row(&found) else {
-            return Ok(());
+            return;
         };
+        let count = self.count;
         self.count = take(self.room, count, way);
-        Ok(())
     }
 
     /// Goes through the orientations of a wish's lengths on each axis.
@@ -231,42 +245,40 @@ impl<A: Allocator> Orientations<'_, A> {
         }
     }
 
-    /// Goes through all of them for a task with at most so many looks, of which `each` are kept for the search for
-    /// orientations. Returns how many are left, and whether it was cut.
-    fn go_within(&mut self, task: Task, wish: &Wish, each: u64, left: u64) -> (u64, bool)
-        requires { each ≤ left }
-        ensures left { result.0 ≤ left }
+    /// Goes through all of them for a task, by so many looks at most for the search for orientations, and so many
+    /// others.
+    fn go_within(&mut self, task: Task, wish: &Wish, most: u64, most_others: u64) -> Passed
+        ensures looks { result.looks ≤ most }
+        ensures others { result.others ≤ most_others }
         ensures room { KeepsRows self.old self.new }
     {
-        let mut outer = Looks::new(each);
-        self.looks = Looks::new(left - each);
+        let mut looks = Looks::new(most);
+        self.looks = Looks::new(most_others);
         self.task = task;
-        let cut = self.go(wish, &mut outer).is_err();
-        (left - outer.count() - self.looks.count(), cut)
+        let cut = self.go(wish, &mut looks).is_err();
+        Passed {
+            looks: looks.count(),
+            others: self.looks.count(),
+            cut,
+        }
     }
 
-    /// Goes through all of them three times: it counts the looks of the search for orientations, and the moves in all
-    /// that each comes to at most, which gives a bound early, and then takes the ways on. Returns how many looks are
-    /// left, and whether it was cut.
+    /// Goes through all of them twice: it counts the moves in all that each comes to at most, which gives a bound early,
+    /// and then takes the ways on. Returns how many looks are left, and whether it was cut.
     fn find(&mut self, wish: &Wish, left: u64) -> (u64, bool)
         ensures left { result.0 ≤ left }
         ensures room { KeepsRows self.old self.new }
     {
-        let (rest, cut) = self.go_within(Task::Nothing, wish, left, left);
-        let each = left - rest;
-        if cut || rest < each {
-            return (rest, true);
-        }
-        // what was counted holds even if this is cut
-        let half = each + (rest - each) / 2;
-        let (unused, _) = self.go_within(Task::Bound, wish, each, half);
-        let rest = rest - (half - unused);
-        if rest < each {
+        let half = left / 2;
+        let bound = self.go_within(Task::Bound, wish, half, half / 2);
+        let rest = left - bound.looks - bound.others;
+        if bound.cut || rest < bound.looks {
             return (rest, true);
         }
         let places = self.room.len();
         self.below = self.totals.that_has(places).saturating_add(1);
-        self.go_within(Task::Take, wish, each, rest)
+        let taken = self.go_within(Task::Take, wish, bound.looks, rest - bound.looks);
+        (rest - taken.looks - taken.others, taken.cut)
     }
 }
 

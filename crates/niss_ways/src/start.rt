@@ -16,6 +16,9 @@ use std::marker::Model;
 /// The most face turns of the moves so far on a side.
 const MOST_MADE: usize = 200;
 
+/// The most turns that are read of a line.
+const MOST_READ: usize = 256;
+
 /// Where one stands: a cube, and what the faces are called for whoever holds it.
 #[derive(Drop)]
 pub struct Start {
@@ -134,12 +137,12 @@ fn undoing(before: &Faces) -> Faces
 }
 
 impl Start {
-    ghost use Rattle.std.specs.Prelude.{◌≡◌, ◌≤◌, length};
+    ghost use Rattle.std.specs.Prelude.{◌≡◌, ◌≤◌, ◌<◌, length, IfSome, MatchOption};
+    ghost use Rattle.niss_moves.specs.Cleaning.{clean_turns};
     ghost use Rattle.niss_moves.specs.Effects.{effect_of_turns};
     ghost use Rattle.niss_moves.specs.Places.{SameMap};
     ghost use Rattle.niss_cube.specs.Map.{map_of};
     ghost use Rattle.niss_ways.specs.Starts.{IsAfter};
-    ghost use Rattle.std.specs.Prelude.{IfSome};
 
     /// The cube after a scramble and the moves so far; none if they are too many. Moves in brackets come before the
     /// scramble, inverted; they name the faces as the moves outside brackets leave the cube.
@@ -173,6 +176,17 @@ impl Start {
         ensures of_cube { SameMap (map_of self.now.cube) (effect_of_turns self.now.line) }
     {
         self.line.as_slice()
+    }
+
+    /// These turns cleaned, if they are at most 256.
+    pub fn clean_line(&self) -> Option<Faces>
+        ensures { MatchOption result (256 < length self.now.line)
+            (λ clean. (length self.now.line ≤ 256) × (clean.items ≡ clean_turns self.now.line)) }
+    {
+        if self.line.len() > MOST_READ {
+            return None;
+        }
+        Some(cleaned(self.line.as_slice(), &[], &[]))
     }
 
     /// What was made on the normal side, cleaned, by the names of the centres.

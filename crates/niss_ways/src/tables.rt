@@ -19,7 +19,7 @@ pub struct WayTables<'a, A: Allocator> {
     pub drfb_eoud: &'a Tables<A>,
 }
 
-impl<A: Allocator> WayTables<'_, A> {
+impl<'a, A: Allocator> WayTables<'a, A> {
     /// Those of the orientation on an axis.
     pub(crate) fn orientation(&self, axis: Axis) -> &Tables<A> {
         match axis {
@@ -30,7 +30,7 @@ impl<A: Allocator> WayTables<'_, A> {
     }
 
     /// Those of the first reduction after the orientation on an axis.
-    pub(crate) fn first_after(&self, axis: Axis) -> &Tables<A> {
+    pub(crate) fn first_after(&self, axis: Axis) -> &'a Tables<A> {
         match axis {
             Axis::Fb => self.drud_eofb,
             Axis::Rl => self.drud_eorl,
@@ -39,7 +39,7 @@ impl<A: Allocator> WayTables<'_, A> {
     }
 
     /// Those of the second one.
-    pub(crate) fn second_after(&self, axis: Axis) -> &Tables<A> {
+    pub(crate) fn second_after(&self, axis: Axis) -> &'a Tables<A> {
         match axis {
             Axis::Fb => self.drrl_eofb,
             Axis::Rl => self.drfb_eorl,

@@ -57,7 +57,7 @@ impl Coordinate {
         ensures value { result ≡ is_kept (set_of self axis) (map_of cube.now) }
         ensures kept { IsTrue result ↔ Kept (set_of self axis) (map_of cube.now) }
     {
-        self.rank(axis, cube) == 0
+        self.bad_places(axis, cube).count_ones() == 0
     }
 
     /// At which places a bad piece stands on an axis, as a mask: bit i is set if the piece at place i is bad. The 8 places of

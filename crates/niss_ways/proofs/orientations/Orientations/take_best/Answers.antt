@@ -1,23 +1,18 @@
-use Rattle.std.proofs.Common.{subst}
-use Rattle.niss_ways.specs.Truth.{Origin, IsWay}
-use Rattle.niss_ways.proofs.RoomLemmas.{keeps_looks, keeps_taken}
+use Rattle.niss_ways.proofs.RoomLemmas.{keeps_looks, keeps_more}
 use Rattle.niss_ways.proofs.orientations.Orientations.take_best.Goals as goal
 
-pub returns-in_err-found : goal.returns-in_err-found
-returns-in_err-found g c =
-    let s = c.args.self.now in keeps_looks s.start.now s.looks.most c.best.new.looks.most s.room.ghost_name s.count s.room.now c.best.ensures
-
-pub returns-in_default : goal.returns-in_default
-returns-in_default g c =
-    let s = c.args.self.now in keeps_looks s.start.now s.looks.most c.best.new.looks.most s.room.ghost_name s.count s.room.now c.best.ensures
-
-pub returns-in_default-row : goal.returns-in_default-row
-returns-in_default-row g c =
+pub returns-in_err-best : goal.returns-in_err-best
+returns-in_err-best g c =
     let s = c.args.self.now in keeps_looks s.start.now s.looks.most c.best.new.looks.most s.room.ghost_name s.count s.room.now c.best.ensures
 
 pub returns : goal.returns
 returns g c =
     let s = c.args.self.now in
-    let is : IsWay s.start.now c.in-Some-row.way = subst (λ (o : Origin). IsWay o c.in-Some-row.way) c.requires c.in-Some-row.ensures in
-    keeps_taken s.start.now s.looks.most c.best.new.looks.most s.room.ghost_name s.count s.room.now c.in-Some-row.way c.take-self.result
-    c.take-self.new.room c.best.ensures is c.take-self.ensures.from c.take-self.ensures.sorted c.take-self.ensures.within c.take-self.ensures.length
+    let t = c.take_row.new.self in
+    let u = c.take_row-2.new.self in
+    keeps_more s.start.now s.looks.most s.room.ghost_name s.count s.room.now t.start.now t.looks.most t.room.ghost_name t.count t.room.now
+    u.start.now u.looks.most u.room.ghost_name u.count u.room.now
+    (keeps_more s.start.now s.looks.most s.room.ghost_name s.count s.room.now s.start.now c.best.new.looks.most s.room.ghost_name s.count s.room.now
+    t.start.now t.looks.most t.room.ghost_name t.count t.room.now
+    (keeps_looks s.start.now s.looks.most c.best.new.looks.most s.room.ghost_name s.count s.room.now c.best.ensures) c.take_row.ensures)
+    c.take_row-2.ensures
