@@ -315,13 +315,13 @@ typedef struct nissy_ways_answer {
  * scramble; those so far, and the ways, name the faces as the moves outside brackets leave the cube.
  *
  * `tables` are nine, in the order of nissy_steps: eofb, eorl, eoud, drud-eofb, drrl-eofb, drud-eorl, drfb-eorl, drrl-eoud, drfb-eoud. `wanted`
- * may name some axes and lengths only: so a search goes in parts, between which a caller tells how far it is, or ends it. The ways of all
- * parts come into one room, if each call is told how many are there: the best of them stay, as many as have place, whatever the order of the
- * parts. It looks at no more than `most_nodes` positions: before it would look at more it ends with NISSY_CUT, and each way that is
- * there is a true one.
+ * may name some axes and lengths only: so a search goes in parts, between which a caller tells how far it is, or ends it. If it names one
+ * axis, the tables of the others may be NISSY_NO_TABLES. The ways of all parts come into one room, if each call is told how many are there:
+ * the best of them stay, as many as have place, whatever the order of the parts. It looks at no more than `most_nodes` positions: before it
+ * would look at more it ends with NISSY_CUT, and each way that is there is a true one.
  *
- * It takes no memory, but 64 KiB of stack. NISSY_USAGE: the tables aren't those of the nine steps in this order, a number is out of its range,
- * or `there` is more than the room. NISSY_STOPPED, NISSY_FAULT: as of nissy_check; NISSY_TOO_LONG of line 2 without a column if both lines
+ * It takes no memory, but 64 KiB of stack. NISSY_USAGE: tables that it asks aren't those of their steps, a number is out of its range, or
+ * `there` is more than the room. NISSY_STOPPED, NISSY_FAULT: as of nissy_check; NISSY_TOO_LONG of line 2 without a column if both lines
  * have too many moves together. After these three the room is as it was. */
 nissy_ways_answer nissy_best(const nissy_tables *tables, const uint8_t *scramble, size_t scramble_length, const uint8_t *so_far,
                              size_t so_far_length, const nissy_ways_wanted *wanted, nissy_way *room, size_t room_length);

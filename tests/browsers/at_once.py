@@ -73,6 +73,7 @@ def best_of_many(tally: Tally, browser: Browser) -> None:
     tally.holds(f"there are more than are kept: {kept} of {every}", kept == CUT < every)
     while len(rows := browser.script(ROWS)) < SHOWN:
         browser.script("part('best-more').click()")
+        browser.wait_best()
     totals = [int(row[0]) for row in rows]
     tally.equal("the first are the best", totals, sorted(totals))
     # with one move more there is no row less

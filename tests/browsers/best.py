@@ -21,7 +21,12 @@ ROWS = """return [...document.querySelectorAll('#best-body tr')].map((row) => {
 DETAILS = """return [...document.querySelectorAll('#best-body tr')].map((row) => [row.querySelector('.first').textContent,
     ...[...row.querySelectorAll('.times')].map((each) => each.textContent)])"""
 SHOWN_FILTERS = "return ['best-filters', 'best-turns'].map((name) => !document.getElementById(name).hidden)"
-MORE = "const more = document.getElementById('best-more'); if (more.hidden) return true; more.click(); return false"
+# shows more rows, of which the later ones are found once they are asked for, until there are no more
+MORE = """const more = part('best-more');
+    if (part('best').ariaBusy === 'true') return false;
+    if (more.hidden) return true;
+    more.click();
+    return false"""
 
 
 def address_of(scramble: str) -> str:

@@ -45,6 +45,7 @@ def of_many(tally: Tally, browser: Browser) -> None:
     browser.open(address_of(LONGER))
     browser.wait_best()
     browser.click("#best-more")
+    browser.wait_best()
     count = len(browser.texts("#best-body tr"))
     place = "return document.getElementById('best-options').getBoundingClientRect().top"
     browser.script("scrollTo({ top: 0, behavior: 'instant' })")

@@ -43,6 +43,7 @@ def shows_all(browser: Browser) -> list[list[str]]:
     browser.script("const it = part('best-new'); if (!it.hidden) it.click()")
     while len(rows := browser.script(ROWS)) < 48:
         browser.script("part('best-more').click()")
+        browser.wait_best()
     return rows
 
 

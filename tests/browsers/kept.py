@@ -4,14 +4,25 @@ from itertools import combinations
 
 from best import ROWS
 from browser import Browser
+from program import program_answers
 from steps import ADDRESS, EXAMPLE, SCRAMBLE
 from tally import Tally
+from ways import line_of, ways
 
 KEPT_SAID = "return [...document.querySelectorAll('#kept-list .total')].every((each) => each.textContent !== '')"
 # what is said by a popover, and whether that is seen just below a button
 UNDER = """const [said, button] = arguments.length === 2 && [...arguments].map((name) => document.getElementById(name));
     const [over, under] = [button, said].map((each) => each.getBoundingClientRect());
     return [said.textContent, said.matches(':popover-open') && Math.abs(under.top - over.bottom) < 20];"""
+ADDRESS_OF_EXAMPLE = "#scramble=" + EXAMPLE.replace(" ", "_").replace("'", "-")
+# goes on with the first line that is kept as soon as it is there
+PRESS = """new MutationObserver((_, observer) => {
+        const line = document.querySelector('#kept-list li');
+        if (line === null) return;
+        observer.disconnect();
+        window.known = line.querySelector('.total').textContent;
+        line.querySelector('button').click();
+    }).observe(document, { childList: true, subtree: true })"""
 KEPT_WORDS = """return [...document.querySelectorAll('#kept-list li')]
     .map((each) => [...each.querySelectorAll('.moves, .chip, .case')].map((one) => one.textContent))"""
 
@@ -103,6 +114,7 @@ def keeps_reductions(tally: Tally, browser: Browser) -> None:
     browser.wait_best()
     # two rows of one orientation may stand further down
     browser.click("#best-more")
+    browser.wait_best()
     rows = browser.script(ROWS)
     one, other = next(pair for pair in combinations(range(len(rows)), 2) if rows[pair[0]][1] == rows[pair[1]][1])
     stars = "return [...document.querySelectorAll('#best-body .star')].map((each) => each.ariaPressed === 'true')"
@@ -183,6 +195,20 @@ def reads_reductions(tally: Tally, browser: Browser, said: str, step: str) -> No
     tally.equal("a reduction that may not follow is not said", browser.script(KEPT_WORDS), [["R"], ["R"]])
 
 
+def goes_on_at_once(tally: Tally, browser: Browser) -> None:
+    """Who goes on with a line as soon as it is seen comes to its reductions over both sides, since the side of the best isn't known yet."""
+    script = browser.before_page(PRESS)
+    browser.open(f"{ADDRESS_OF_EXAMPLE}&kept=inverse.B_D_R_F2_B_D;;drrl-eoud")
+    browser.no_longer(script)
+    tally.equal("it is pressed before more is known of it", browser.script("return window.known"), "")
+    browser.settle("return document.activeElement.closest('#solutions-groups') !== null")
+    tally.equal("it goes on", (browser.text("bracketed"), browser.text("solutions-heading")), ("(B D R F2 B D)", "DR R/L after EO U/D, both sides"))
+    inverted = program_answers(browser.program, ["invert"], ["B D R F2 B D"])[0]
+    found = [way for way in ways(f"0 ; {inverted} {EXAMPLE} ; ; B D R F2 B D") if way.step == "drrl-eoud"]
+    least = min(way.length for way in found)
+    tally.equal("the list of its reduction", browser.listed(), [line_of(way.dr) for way in found if way.length == least])
+
+
 def keeps_a_note(tally: Tally, browser: Browser) -> None:
     """The press that ends a note is heard: the row of its button stays where it is."""
     browser.open(f"{ADDRESS}&kept=normal.R,normal.U")
@@ -246,7 +272,7 @@ def keeps_stages(tally: Tally, browser: Browser) -> None:
         browser.until(KEPT_SAID)
         return browser.script(KEPT_WORDS.replace(".moves", ".moves, .total"))
 
-    example = "#scramble=" + EXAMPLE.replace(" ", "_").replace("'", "-")
+    example = ADDRESS_OF_EXAMPLE
     steps = "inverse.B_D_R_F2_B_D", "normal.R_B-", "normal.D2_R"
     browser.open(f"{example}&steps={steps[0]}")
     [case] = [head.split()[2] for head in browser.texts("#steps-body th") if head.startswith("DR F/B")]
@@ -290,8 +316,6 @@ def leads_to_kept(tally: Tally, browser: Browser) -> None:
     browser.script("scrollTo({ top: 0, behavior: 'instant' })")
     tally.holds("whoever leaves isn't led back", browser.until(leaves))
     browser.click("#bar-kept")
-    # the side of its reduction is known by then
-    browser.until(KEPT_SAID)
     browser.act("#kept-list li:nth-child(1) button")
     tally.equal("whoever goes on comes to what follows", (browser.script(seen), browser.until(leaves)), ([True, True, True], True))
     is_there = "return document.activeElement.closest('#solutions-groups') !== null"

@@ -101,6 +101,7 @@ def has_rows(tally: Tally, browser: Browser) -> None:
         browser.choose("best-sort", "case")
         for _ in range(3):
             browser.script("part('best-more').click()")
+        browser.wait_best()
         rows = browser.script(ROWS_OF_BEST)
         longest = max(len(row["moves"]) for row in rows)
         tally.holds(f"{after}: there are long rows and twins: {longest}", longest > 15 and any(row["hasTwins"] for row in rows))

@@ -96,6 +96,7 @@ def returns(tally: Tally, browser: Browser) -> None:
         browser.open(ADDRESS + address)
         browser.wait_best()
         browser.script("part('best-more').click()")
+        browser.wait_best()
         browser.script(focus, rows, at)
         before = browser.script(place)
         browser.walk(tally, "a row", ("script", "document.activeElement.click()", {}), ("comes", "steps", 1, {}))

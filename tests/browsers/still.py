@@ -159,6 +159,7 @@ def filters(tally: Tally, browser: Browser, width: int) -> None:
     browser.open(SCRAMBLE)
     browser.wait_best()
     browser.script("part('best-options').open = true; part('best-more').click(); part('best').scrollIntoView({ block: 'start', behavior: 'instant' })")
+    browser.wait_best()
     time.sleep(QUIET)
     since, [count, *before] = browser.script("return performance.now()"), browser.script(FILTERED)
     least = browser.texts("#best-body th")[0]

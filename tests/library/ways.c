@@ -190,6 +190,30 @@ static void what_is_wrong_is_refused(void) {
     let_go(room);
 }
 
+/* Of one axis alone its three tables are asked, of several, or of none, all nine. */
+static void an_axis_asks_its_own_tables(void) {
+    for (int axes = 0; axes <= NISSY_ALL_AXES; axes++) {
+        guarded room = untouched(MOST_ROWS * sizeof(nissy_way)), other = untouched(MOST_ROWS * sizeof(nissy_way));
+        nissy_ways_wanted wanted = all_of(0);
+        wanted.axes = (uint8_t)axes;
+        nissy_ways_answer whole = best_of("R U F", "", wanted, room);
+        for (int at = 0; at < WAY_TABLES; at++) {
+            const char *axis = STEPS[at] + strlen(STEPS[at]) - 2;
+            int own = strcmp(axis, "fb") == 0 ? 1 : strcmp(axis, "rl") == 0 ? 2 : 4, is_alone = axes == 1 || axes == 2 || axes == 4;
+            nissy_tables right = tables[at], none = NISSY_NO_TABLES;
+            tables[at] = none;
+            nissy_ways_answer got = best_of("R U F", "", wanted, other);
+            tables[at] = right;
+            if (axes == own || !is_alone) holds(is_refused(got, NISSY_USAGE, 0, 0, 0), "tables that it asks", STEPS[at]);
+            else {
+                holds(got.status == NISSY_DONE && got.rows == whole.rows && got.nodes == whole.nodes, "tables that it doesn't ask", STEPS[at]);
+                holds(whole.rows > 0 && memcmp(room.bytes, other.bytes, room.size) == 0, "the same rows", STEPS[at]);
+            }
+        }
+        let_go(room), let_go(other);
+    }
+}
+
 /* A way that stood in the room stays as it was after a fault. */
 static void rows_stay_after_faults(void) {
     guarded room = untouched(sizeof(nissy_way));
@@ -266,6 +290,7 @@ int main(int count, char **words) {
     small_rooms_have_the_first();
     bounds_are_kept();
     what_is_wrong_is_refused();
+    an_axis_asks_its_own_tables();
     rows_stay_after_faults();
     lines_are_written();
     too_many_together();

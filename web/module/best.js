@@ -35,6 +35,9 @@ import { STEPS } from "./steps.js";
 
 const OF_WAYS = STEPS.slice(0, 9);
 
+/** What stands for the tables of a step that isn't asked. */
+const NO_TABLES = new Uint8Array(TABLES);
+
 /** @type {Found} */
 const NOTHING = { ways: new Uint8Array(0), tried: 0, nodes: 0 };
 
@@ -52,14 +55,16 @@ const MORE_ROWS = 4;
  * @returns {PieceFound | NoValue & {line: number}}
  */
 function pieceFound(instance, { scramble, soFar, slack, nodes }, { axis, length }, found, rows) {
-  const built = OF_WAYS.map((step) => instance.tablesOf(step));
+  // of one axis alone its orientation and the reductions after it are asked
+  const built = OF_WAYS.map((step) => (step.endsWith(OF_WAYS[axis]) ? instance.tablesOf(step) : null));
   const { memory, answer, free: tables } = instance;
   const wanted = aligned(tables + OF_WAYS.length * TABLES);
   const line = aligned(wanted + WAYS_WANTED.bytes);
   const other = aligned(line + roomFor(scramble));
   const room = aligned(other + roomFor(soFar));
   memory.reach(room + rows * WAY.bytes);
-  built.forEach((at, place) => memory.putLine(tables + place * TABLES, memory.bytes(at, TABLES)));
+  built.forEach((at, place) =>
+    memory.putLine(tables + place * TABLES, at === null ? NO_TABLES : memory.bytes(at, TABLES)));
   for (const [field, number] of Object.entries({ slack, axes: 1 << axis, from: length, to: length })) {
     memory.putNumber(wanted + WAYS_WANTED[/** @type {"slack"} */ (field)], 1, number);
   }

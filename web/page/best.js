@@ -130,6 +130,7 @@ export class BestContinuations {
     const isSeen = part("best-head").getBoundingClientRect().top >= 0;
     this.#room.style.minHeight = isSeen ? `${Math.min(height, Math.max(0, innerHeight - top))}px` : "";
     withoutMoving(part(isSeen ? "best-head" : "best-options"), () => this.#draw());
+    this.#complete();
     return this.#progress !== null;
   }
 
@@ -139,6 +140,8 @@ export class BestContinuations {
     const placeIn = (progress) => (this.#rows(progress) ?? []).findIndex((row) => row.key === key);
     if (placeIn(this.#progress) < 0) this.#takeNewer();
     const at = placeIn(this.#progress);
+    // it may be among those that are still to be found
+    if (at < 0 && / dr/.test(key)) this.#shown = Math.max(this.#shown, (this.#progress?.rows.length ?? 0) + 1);
     if (at < 0) return null;
     this.#shown = Math.max(this.#shown, at + 1);
     this.#draw();
@@ -163,18 +166,29 @@ export class BestContinuations {
     this.#stop();
     this.#newer = null;
     this.#tellNewer(0);
-    this.#question = { ...this.#question, slack: Number(part("best-slack").value) };
-    const known = this.#found.of(this.#question);
-    if (!known) return void this.#find(this.#question, this.#found.shorter(this.#question));
+    const question = { ...this.#question, slack: Number(part("best-slack").value) };
+    this.#question = question;
+    const known = this.#found.of(question);
+    if (!known) return void this.#find(question, this.#found.shorter(question));
     this.#show(known);
     this.#goFurther();
+  }
+
+  /** Has all rows found, if the first ones are too few for what is shown, or counted. */
+  #complete() {
+    if (this.#isAsked || !this.#progress || this.#progress.isWhole) return;
+    const isEnough = this.#progress.rows.length >= this.#shown && this.#filters.count === 0;
+    if (isEnough && part("best-sort").value !== "case") return;
+    this.#stop();
+    this.#find(this.#question, this.#progress, true);
   }
 
   /** Goes on by itself from what was found, if it may. */
   #goFurther() {
     this.#working(false);
-    const { slack } = this.#progress;
-    if (part("best-further").checked) this.#further.begin({ ...this.#question, slack });
+    this.#complete();
+    if (this.#isAsked || !part("best-further").checked) return;
+    this.#further.begin({ ...this.#question, slack: this.#progress.slack });
   }
 
   #turnFurther() {
@@ -194,7 +208,7 @@ export class BestContinuations {
     if (!seen.every((key, at) => rows[at]?.key === key)) this.#tellNewer(newAmong(rows, seen), rows[0]);
     else this.#takeNewer();
     if (seen.length < Math.min(rows.length, this.#shown)) this.#draw();
-    this.#tellRows(rows.length);
+    this.#tellRows(rows);
   }
 
   /** @param {Error | null} fault why no longer ones are looked for, or null if they are found */
@@ -230,8 +244,10 @@ export class BestContinuations {
   }
 
   /** Finds what is asked for. The shortest are shown first, and stay until all are found.
-   * @param {Question} question @param {Further} [known] what was found of fewer moves more */
-  async #find(question, known) {
+   * @param {Question} question @param {Further} [known] what was found before: of fewer moves more, or its first rows
+   * @param {boolean} [isWhole] whether all rows of that are asked for */
+  async #find(question, known, isWhole = false) {
+    const { slack: wanted } = isWhole ? known : question;
     const isStill = () => question === this.#question;
     const tell = (progress) => isStill() && this.#looked(progress);
     this.#progress = known ?? null;
@@ -240,8 +256,8 @@ export class BestContinuations {
     this.#working(true);
     part("best-note").textContent = LOOKING_FOR_BEST;
     try {
-      for (const slack of known || question.slack === 0 ? [question.slack] : [0, question.slack]) {
-        const found = { ...await findAll(this.#finders, { ...question, slack }, tell), slack };
+      for (const slack of known || wanted === 0 ? [wanted] : [0, wanted]) {
+        const found = { ...await findAll(this.#finders, { ...question, slack, isWhole }, tell), slack };
         if (!isStill()) return;
         this.#found.keep({ ...question, slack }, found);
         [this.#progress, this.#newer] = [found, null];
@@ -272,7 +288,8 @@ export class BestContinuations {
 
   #brokenOff(fault) {
     this.#stop();
-    const text = fault instanceof Stopped ? `Stopped. ${this.#noteOfRows()}`.trim() : fault.message;
+    const note = this.#progress ? part("best-note").textContent : "";
+    const text = fault instanceof Stopped ? `Stopped. ${note}`.trim() : fault.message;
     part("best-note").textContent = text;
     announce(text);
   }
@@ -321,31 +338,29 @@ export class BestContinuations {
     this.#showRows(shown);
     if (this.#progress === null) return;
     if (!this.#isAsked) this.#counts.tell(this.#question, shown);
-    this.#tellRows(left === null ? null : rows.length);
+    this.#tellRows(left);
   }
 
   /** Says how many rows there are, and whether more may be shown.
-   * @param {number | null} left how many the filters leave; null if what is typed isn't moves */
-  #tellRows(left) {
-    part("best-more").hidden = this.#shown >= (left ?? 0);
+   * @param {Row[] | null} rows what the filters leave; null if what is typed isn't moves */
+  #tellRows(rows) {
+    // with those that are still to be found
+    const { count } = this.#newer ?? this.#progress;
+    const left = this.#filters.count > 0 ? rows?.length ?? 0 : count;
+    part("best-more").hidden = this.#shown >= left;
     // on one line with what stands beside it
-    part("best-more").textContent = `${isNarrow() ? "More" : "Show more"} of ${(left ?? 0).toLocaleString("en")}`;
-    part("best-note").textContent = left === null ? NOT_MOVES : this.#note(left);
+    part("best-more").textContent = `${isNarrow() ? "More" : "Show more"} of ${left.toLocaleString("en")}`;
+    part("best-note").textContent = rows === null ? NOT_MOVES : this.#note(left);
   }
 
   /** @param {number} left how many rows are left */
   #note(left) {
-    const { rows, tried, slack } = this.#newer ?? this.#progress;
+    const { count, tried, slack } = this.#newer ?? this.#progress;
     const longer = slack > this.#question.slack ? `Up to ${slack} longer: ` : "";
-    const some = rows.length < tried ? `the best ${rows.length.toLocaleString("en")} of ` : "";
+    const some = count < tried ? `the best ${count.toLocaleString("en")} of ` : "";
     const all = some + counted(tried, "row");
-    const words = `${longer}${left === rows.length ? all : `${left.toLocaleString("en")} of ${all}`}.`;
+    const words = `${longer}${left === count ? all : `${left.toLocaleString("en")} of ${all}`}.`;
     return words[0].toUpperCase() + words.slice(1);
-  }
-
-  /** What is said of the rows that are shown, if there are any. */
-  #noteOfRows() {
-    return this.#progress ? this.#note(this.#rows(this.#progress)?.length ?? 0) : "";
   }
 
   #more() {
@@ -354,6 +369,7 @@ export class BestContinuations {
     this.#takeNewer();
     this.#draw();
     this.#body.querySelectorAll(".take")[from]?.focus();
+    this.#complete();
   }
 
   /** Shows rows below those that are seen, or in place of them. One that moved among others would be a shift of what is

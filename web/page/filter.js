@@ -159,10 +159,15 @@ export class Filters {
     return tests.includes(null) ? null : rows.filter((row) => tests.every((test) => test(row)));
   }
 
-  /** Says how many fields leave not all.
+  /** How many fields leave not all. */
+  get count() {
+    return this.#fields().filter(({ value }) => value.trim() !== "").length;
+  }
+
+  /** Says how many these are.
    * @param {boolean} isEmpty whether they leave nothing of something */
   show(isEmpty) {
-    const count = this.#fields().filter(({ value }) => value.trim() !== "").length;
+    const { count } = this;
     tell(this.#badge, count === 0 ? "" : `${count} on`);
     this.#button.hidden = count === 0;
     this.#none.hidden = count === 0 || !isEmpty;

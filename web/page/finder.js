@@ -10,14 +10,20 @@ import { ORIENTATIONS } from "./steps.js";
 /** @typedef {{total: number, part: Part, state: string, twins: string[], lines: string[], far: number,
  * next: Next | null, key: string, rank: number}} Row `twins`: their last turns; `lines`: the moves on each side of all
  * twins; `far`: how many pieces the case has; `key`: what the row is known by; `rank`: what rows are put in order by */
-/** @typedef {{scramble: string, parts: Part[], reached: string[], slack: number}} Question */
+/** @typedef {{scramble: string, parts: Part[], reached: string[], slack: number, isWhole?: boolean}} Question if it
+ * `isWhole` more than the first rows are asked for */
 /** @typedef {{tried: number, done: number, all: number}} Progress how many ways on were tried, and how many of all
  * axes are done */
-/** @typedef {{rows: Row[], tried: number}} Found of an axis, or of all: the best, and how many there are */
+/** @typedef {{rows: Row[], tried: number}} FoundOnAxis the best, and how many there are */
+/** @typedef {FoundOnAxis & {count: number, isWhole: boolean}} Found of all axes; `count`: of all that are kept */
 
 /** How many rows are kept, which are all but seldom; of longer ones, of which there are thousands, each takes time.
  * @param {number} slack */
-export const mostKept = (slack) => (slack === 0 ? 5000 : 200);
+const mostKept = (slack) => (slack === 0 ? 5000 : 200);
+
+/** How many rows of each axis are asked for: at first little more than are shown, of reductions alone all.
+ * @param {Question} question */
+const mostOf = ({ slack, reached, isWhole }) => (isWhole || reached.length > 0 ? mostKept(slack) : 12);
 
 /** Of how many searches what was found is kept. */
 const MOST_KEPT_SEARCHES = 8;
@@ -50,21 +56,26 @@ export class KnownSearches {
   }
 }
 
-/** What is found on some axes, as one list.
- * @param {Found[]} each @param {number} slack @returns {Found} */
-export function together(each, slack) {
-  const rows = each.flatMap((found) => found.rows).sort((one, other) => one.rank - other.rank);
-  return { rows: rows.slice(0, mostKept(slack)), tried: each.reduce((sum, { tried }) => sum + tried, 0) };
+/** What is found on some axes, as one list: up to where an axis may have more rows than were asked for.
+ * @param {FoundOnAxis[]} each @param {Question} question @returns {Found} */
+export function together(each, question) {
+  const [kept, most] = [mostKept(question.slack), mostOf(question)];
+  const end = Math.min(...each.map(({ rows }) => (rows.length < most ? Infinity : rows.at(-1).rank)));
+  const rows = each.flatMap((found) => found.rows.filter(({ rank }) => rank <= end));
+  const tried = each.reduce((sum, found) => sum + found.tried, 0);
+  rows.sort((one, other) => one.rank - other.rank).splice(kept);
+  const isWhole = most === kept || end === Infinity;
+  return { rows, tried, isWhole, count: isWhole ? rows.length : Math.min(tried, kept) };
 }
 
 /** Finds the best of one axis.
  * @param {Calls[]} finders one an axis @param {number} axis its number @param {Question} question
- * @param {(tried: number) => void} tell told how many were tried @returns {Promise<Found>} */
+ * @param {(tried: number) => void} tell told how many were tried @returns {Promise<FoundOnAxis>} */
 export function findOnAxis(finders, axis, question, tell) {
   const finder = finders[axis];
   // it is needed now, and its tables may wait
   finder.drop();
-  return finder.ask("bestOfAxis", { axis, question }, tell);
+  return finder.ask("bestOfAxis", { axis, question, most: mostOf(question) }, tell);
 }
 
 /** The numbers of the axes that are looked at: if some orientations hold, those of these.
@@ -91,5 +102,5 @@ export async function findAll(finders, question, tell) {
     told();
     return found;
   }));
-  return together(each, question.slack);
+  return together(each, question);
 }

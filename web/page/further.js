@@ -4,10 +4,10 @@ import { findOnAxis, together } from "./finder.js";
 import { ORIENTATIONS } from "./steps.js";
 import { waitsForAnswers } from "./view.js";
 
-/** @typedef {import("./finder.js").Found} Found */
+/** @typedef {import("./finder.js").FoundOnAxis} FoundOnAxis */
 /** @typedef {import("./finder.js").Question} Question */
-/** @typedef {Found & {slack: number}} Further by how many moves longer */
-/** @typedef {{question: Question, found: Map<number, Found>, left: number[], running: Set<number>}}
+/** @typedef {import("./finder.js").Found & {slack: number}} Further by how many moves longer */
+/** @typedef {{question: Question, found: Map<number, FoundOnAxis>, left: number[], running: Set<number>}}
  * Search `found`: of the axes that were looked through; `left`: those that are still to be looked at */
 
 /** How many moves longer than the shortest are looked for without being asked for. */
@@ -46,7 +46,7 @@ export class FurtherSearch {
     this.stop();
     if (question.reached.length > 0 || question.slack >= FURTHEST) return;
     this.#search = {
-      question: { ...question, slack: question.slack + 1 },
+      question: { ...question, slack: question.slack + 1, isWhole: true },
       found: new Map(),
       left: ORIENTATIONS.map((_, at) => at),
       running: new Set(),
@@ -113,7 +113,7 @@ export class FurtherSearch {
     this.#acts.looked(search.found.size, ORIENTATIONS.length);
     if (search.left.length > 0 || search.running.size > 0) return this.#goOn();
     const { question, found } = search;
-    this.#acts.found({ ...together([...found.values()], question.slack), slack: question.slack });
+    this.#acts.found({ ...together([...found.values()], question), slack: question.slack });
     this.begin(question);
     if (this.#search === null) this.#acts.ended(null);
   }

@@ -123,7 +123,7 @@ export class KeptCandidates {
   #way = new WayTo(part("bar-kept"), part("kept"), part("kept-heading"));
 
   /** @param {import("./calls.js").Calls} calls of its own
-   * @param {{goOn: (parts: Part[], next: {step: string, side: import("./address.js").List["side"]} | null) => void,
+   * @param {{goOn: (parts: Part[], list: import("./address.js").List | null) => void,
    * change: (kept: Candidate[]) => void}} acts */
   constructor(calls, acts) {
     this.#calls = calls;
@@ -248,7 +248,10 @@ export class KeptCandidates {
 
   #item({ candidate, walk, at }) {
     const { parts, note } = candidate;
-    const [name, said, next] = [nameOf(candidate), saidOf(candidate), walk?.next ?? null];
+    const [name, said] = [nameOf(candidate), saidOf(candidate)];
+    // as long as it isn't known where the best are, over both sides
+    const list = candidate.next === "" || walk?.next === null ? null
+      : { step: candidate.next, side: walk?.next.side ?? "both", slack: 0, isAll: false };
     const act = (word, control, click) =>
       button(word, { class: "quiet", "data-control": `${control} ${name}`, "aria-label": `${word}: ${said}`, click });
     const field = element("input", {
@@ -264,7 +267,7 @@ export class KeptCandidates {
       stepOf(parts, walk),
       element("span", { class: "row" },
         field,
-        act("Go on", "on", () => this.#acts.goOn(parts, next && { step: candidate.next, side: next.side })),
+        act("Go on", "on", () => this.#acts.goOn(parts, list)),
         act("Remove", "away", () => this.#remove(at))));
   }
 

@@ -1,7 +1,7 @@
 // The rows of a list, by the engine at hand: a step's solutions on a side, or over both, twins as one, each with the
 // cases after it; after moves the fewest in all first.
 import { stepNamed } from "./axes.js";
-import { positionAfter, totalWith, totalsWith } from "./cubes.js";
+import { positionAfter, totalsWith } from "./cubes.js";
 import { joined, partOn } from "./steps.js";
 import { mergeTwins, mergeTwinsOfBoth, withoutEarlier } from "./twins.js";
 
@@ -20,32 +20,23 @@ const MOST_LISTED = 1_000_000;
 const MOST_OF_BOTH = 50_000;
 const MOST_WITH_CASES = 50_000;
 
-/** The solutions of a step over both sides, and whether these are all.
+/** The solutions of a step on a side, or over both, and whether these are all.
  * @param {Nissy} nissy @param {List} list @param {Position["lines"]} now the cube
  * @returns {{solutions: Entry[], whole: boolean}} */
-function solutionsOfBoth(nissy, { step, slack }, now) {
-  const found = nissy.solve(step, now.normal, { sides: "both", slack, most: MOST_OF_BOTH + 1 });
-  const solutions = found.slice(0, MOST_OF_BOTH).map(({ normal, inverse, moves, length, twins }) => (
-    { part: { normal, inverse }, moves, length, twins, others: [] }));
-  return { solutions, whole: found.length <= MOST_OF_BOTH };
-}
-
-/** The solutions of a step on one side, and whether these are all.
- * @param {Nissy} nissy @param {List & {side: import("./steps.js").Side}} list @param {Position["lines"]} now the cube
- * @returns {{solutions: Entry[], whole: boolean}} */
-function solutionsOfSide(nissy, { step, side, slack }, now) {
-  const found = nissy.solve(step, now[side], { slack, most: MOST_LISTED + 1 });
-  const solutions = found.slice(0, MOST_LISTED)
-    .map((each) => ({ ...each, part: partOn(side, each.moves), others: [] }));
-  return { solutions, whole: found.length <= MOST_LISTED };
+function solutionsOf(nissy, { step, side, slack }, now) {
+  const most = side === "both" ? MOST_OF_BOTH : MOST_LISTED;
+  const [line, sides] = side === "both" ? [now.normal, { sides: side }] : [now[side], {}];
+  const found = nissy.solve(/** @type {any} */ (step), line, { ...sides, slack, most: most + 1 });
+  const partOf = ({ normal, inverse, moves }) => (side === "both" ? { normal, inverse } : partOn(side, moves));
+  const solutions = found.slice(0, most).map((each) => ({ ...each, part: partOf(each), others: [] }));
+  return { solutions, whole: found.length <= most };
 }
 
 /** Tells of solutions all moves with each, if moves were made before, and puts those with the fewest first.
  * @param {Nissy} nissy @param {Entry[]} solutions @param {Asked} asked @param {Position} position */
-function withTotals(nissy, solutions, { list: { side }, parts }, position) {
+function withTotals(nissy, solutions, { parts }, { made }) {
   if (parts.length === 0 || solutions.length > MOST_WITH_CASES) return solutions;
-  const totals = side === "both" ? solutions.map(({ part }) => totalWith(nissy, position, part))
-    : totalsWith(nissy, position, side, solutions);
+  const totals = totalsWith(nissy, made, solutions.map(({ part }) => part));
   return solutions.map((each, at) => ({ ...each, total: totals[at] }))
     .sort((one, other) => one.total - other.total || one.length - other.length);
 }
@@ -58,7 +49,7 @@ export function rowsOfList(nissy, asked) {
   const position = positionAfter(nissy, asked.scramble, asked.parts);
   const { lines: now } = position;
   const isBoth = list.side === "both";
-  const { solutions, whole } = (isBoth ? solutionsOfBoth : solutionsOfSide)(nissy, /** @type {any} */ (list), now);
+  const { solutions, whole } = solutionsOf(nissy, list, now);
   const wanted = list.isAll || isBoth ? solutions : withoutEarlier(solutions);
   const left = withTotals(nissy, wanted, asked, position);
   const merged = isBoth ? mergeTwinsOfBoth : mergeTwins;

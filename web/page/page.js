@@ -63,10 +63,7 @@ export class Page {
       isSeen: (added, next) => this.#seen.has(this.#state.scramble, [...this.#state.parts, ...added], next),
     };
     this.#kept = new KeptCandidates(this.#keptCalls, {
-      goOn: (parts, next) => {
-        const list = next && { ...next, slack: 0, isAll: false };
-        this.#change({ parts, list }, { focusNext: list ? "list" : "table" });
-      },
+      goOn: (parts, list) => this.#change({ parts, list }, { focusNext: list ? "list" : "table" }),
       change: (kept) => this.#change({ kept }),
     });
     const list = newCalls();

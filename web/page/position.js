@@ -1,7 +1,7 @@
 // What the engine at hand says of a scramble and the moves after it: the cube after each step, what is reached, which
 // steps may follow, and how many reductions follow a row of the best.
 import { NissyFault } from "../module/faults.js";
-import { countOf, positionAfter, totalsWith } from "./cubes.js";
+import { positionAfter, totalsWith } from "./cubes.js";
 import { readScramble } from "./lines.js";
 import {
   SIDES, bracketed, inGroups, isReduced, offeredAmong, openSteps, partOn, sideToward, stateOf, stepNamed, turnsOfStep,
@@ -34,7 +34,7 @@ function walkOf(nissy, scramble, parts) {
     parts,
     facts,
     reached: facts.map(({ holds }) => offeredAmong(holds)),
-    totals: positions.map(countOf),
+    totals: positions.map(({ count }) => count),
     turns: parts.map((part) => SIDES.reduce((sum, side) => sum + nissy.facts(part[side]).cleanMoves, 0)),
     now: positions.at(-1),
   };
@@ -78,8 +78,9 @@ export function framesOf(nissy, { scramble, parts }) {
 function offerOf(nissy, step, position) {
   const [normal, inverse] = SIDES.map((side) => {
     const count = nissy.count(step.name, position.lines[side]);
-    if (countOf(position) === 0) return { ...count, total: count.length ?? Infinity, best: count.solutions };
-    const totals = totalsWith(nissy, position, side, nissy.solve(step.name, position.lines[side]));
+    if (position.count === 0) return { ...count, total: count.length ?? Infinity, best: count.solutions };
+    const parts = nissy.solve(step.name, position.lines[side]).map(({ moves }) => partOn(side, moves));
+    const totals = totalsWith(nissy, position.made, parts);
     const total = totals.reduce((least, each) => Math.min(least, each), Infinity);
     return { ...count, total, best: totals.filter((each) => each === total).length };
   });

@@ -6,7 +6,6 @@ import { bestIn } from "../module/replies.js";
 import { bestRequest } from "../module/requests.js";
 import { serveBy } from "../module/serve.js";
 import { STEPS } from "../module/steps.js";
-import { mostKept } from "./finder.js";
 import { readAddressed, readByHand, readWritten } from "./lines.js";
 import { rowsOfList } from "./lists.js";
 import { countsAfter, examine, framesOf, walkKept } from "./position.js";
@@ -43,10 +42,10 @@ function rowInWords({ total, eo, dr, case: name }) {
 }
 
 /** The best of one axis, of which it is told how many were tried.
- * @param {Nissy} _ @param {{axis: number, question: import("./finder.js").Question}} asked
- * @param {(tried: number) => void} tell @param {Engine} engine @returns {import("./finder.js").Found} */
-function bestOfAxis(_, { axis, question: { scramble, parts, slack } }, tell, engine) {
-  const request = bestRequest(scramble, { soFar: bracketed(parts), slack, most: mostKept(slack) });
+ * @param {Nissy} _ @param {{axis: number, question: import("./finder.js").Question, most: number}} asked
+ * @param {(tried: number) => void} tell @param {Engine} engine @returns {import("./finder.js").FoundOnAxis} */
+function bestOfAxis(_, { axis, question: { scramble, parts, slack }, most }, tell, engine) {
+  const request = bestRequest(scramble, { soFar: bracketed(parts), slack, most });
   let tried = 0;
   const reply = engine.answer({ ...request, axes: [axis] }, ({ done }) => {
     tried = done;

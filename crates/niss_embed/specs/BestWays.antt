@@ -109,17 +109,19 @@ WritesLineAfter (Err why) out told = (told ≡ unwritten_line why) × (out.after
 WritesLineAfter (Ok lines) out told =
     ((told ≡ unwritten_line TooMany) × (out.after ≡ out.before)) ⊎ ((o : Origin) × Stands lines o × WritesTurns o.line out told)
 
--- A caller's tables are those of the nine steps, in their order.
-pub record AreTables {H : Type 0} (IsTable : H → Step → Type 0) (tables : List H) : Type 0 where
-  pub first : (d : H) → IsTable (get_or tables 0 d) Eofb
-  pub second : (d : H) → IsTable (get_or tables 1 d) Eorl
-  pub third : (d : H) → IsTable (get_or tables 2 d) Eoud
-  pub fourth : (d : H) → IsTable (get_or tables 3 d) DrudEofb
-  pub fifth : (d : H) → IsTable (get_or tables 4 d) DrrlEofb
-  pub sixth : (d : H) → IsTable (get_or tables 5 d) DrudEorl
-  pub seventh : (d : H) → IsTable (get_or tables 6 d) DrfbEorl
-  pub eighth : (d : H) → IsTable (get_or tables 7 d) DrrlEoud
-  pub ninth : (d : H) → IsTable (get_or tables 8 d) DrfbEoud
+-- A caller's tables at three places are those of an orientation and of the two reductions after it.
+pub record AreThree {H : Type 0} (IsTable : H → Step → Type 0) (tables : List H) (at_first at_second at_third : ℕ)
+    (orientation reduction other : Step) : Type 0 where
+  pub first : (d : H) → IsTable (get_or tables at_first d) orientation
+  pub second : (d : H) → IsTable (get_or tables at_second d) reduction
+  pub third : (d : H) → IsTable (get_or tables at_third d) other
+
+-- A caller's tables are those of the nine steps, in their order; if an axis alone is asked for, 1 F and B, 2 R and L, 4 U and D, its three are
+-- enough.
+pub record AreTables {H : Type 0} (IsTable : H → Step → Type 0) (axes : ℕ) (tables : List H) : Type 0 where
+  pub fb : (axes ≡ 2 → ⊥) → (axes ≡ 4 → ⊥) → AreThree IsTable tables 0 3 4 Eofb DrudEofb DrrlEofb
+  pub rl : (axes ≡ 1 → ⊥) → (axes ≡ 4 → ⊥) → AreThree IsTable tables 1 5 6 Eorl DrudEorl DrfbEorl
+  pub ud : (axes ≡ 1 → ⊥) → (axes ≡ 2 → ⊥) → AreThree IsTable tables 2 7 8 Eoud DrrlEoud DrfbEoud
 
 -- What the call does by tables that a caller keeps, which may be right or not.
 pub record FindsBestWith (AreRight : Type 0) (w : WaysWanted) (scramble so_far : List ℕ) (room room_now : List Way) (told : WaysAnswer)

@@ -1,7 +1,8 @@
 //! The calls on a scramble and the moves so far: the search for the best ways on, by the tables of nine steps, the solutions of
 //! one step over sides, and the line of the cube at which one stands.
 ghost use Rattle.std.specs.Prelude.{◌≡◌, ◌≢◌, ◌≤◌, true, MatchOption, length};
-ghost use Rattle.niss_embed.specs.BestWays.{AreTables, FindsBestWith, WritesLineAfter};
+ghost use Rattle.niss_embed.specs.BestWays.{AreTables, AreThree, FindsBestWith, WritesLineAfter};
+ghost use Rattle.niss_cube.specs.declared.step.Step.TheVariants.{Eofb, Eorl, Eoud, DrudEofb, DrrlEofb, DrudEorl, DrfbEorl, DrrlEoud, DrfbEoud};
 ghost use Rattle.niss_embed.specs.TwoLines.{both_of};
 ghost use Rattle.niss_embed.specs.LineCalls.{status_number};
 ghost use Rattle.niss_embed.specs.ListedSides.{ListsSidesWith};
@@ -30,21 +31,86 @@ fn table_of(held: &Held, step: Step) -> Option<&'static LentTables>
     }
 }
 
-/// The tables of the nine steps, if they are these, in their order.
-fn way_tables(held: &[Held; 9]) -> Option<WayTables<'static, &'static Arena>>
-    ensures { MatchOption result (AreTables IsTable held.now → ⊥) (λ tables. AreTables IsTable held.now) }
+/// The tables of the orientation on an axis, and of the two reductions after it.
+#[derive(Clone, Copy)]
+struct OnAxis {
+    orientation: &'static LentTables,
+    first: &'static LentTables,
+    second: &'static LentTables,
+}
+
+/// Those on the axis of F and B, if they are these.
+fn on_fb(held: &[Held; 9]) -> Option<OnAxis>
+    ensures { MatchOption result (AreThree IsTable held.now 0 3 4 Eofb DrudEofb DrrlEofb → ⊥)
+        (λ tables. AreThree IsTable held.now 0 3 4 Eofb DrudEofb DrrlEofb) }
 {
-    Some(WayTables {
-        eofb: table_of(&held[0], Step::Eofb)?,
-        eorl: table_of(&held[1], Step::Eorl)?,
-        eoud: table_of(&held[2], Step::Eoud)?,
-        drud_eofb: table_of(&held[3], Step::DrudEofb)?,
-        drrl_eofb: table_of(&held[4], Step::DrrlEofb)?,
-        drud_eorl: table_of(&held[5], Step::DrudEorl)?,
-        drfb_eorl: table_of(&held[6], Step::DrfbEorl)?,
-        drrl_eoud: table_of(&held[7], Step::DrrlEoud)?,
-        drfb_eoud: table_of(&held[8], Step::DrfbEoud)?,
+    Some(OnAxis {
+        orientation: table_of(&held[0], Step::Eofb)?,
+        first: table_of(&held[3], Step::DrudEofb)?,
+        second: table_of(&held[4], Step::DrrlEofb)?,
     })
+}
+
+/// Those on the axis of R and L.
+fn on_rl(held: &[Held; 9]) -> Option<OnAxis>
+    ensures { MatchOption result (AreThree IsTable held.now 1 5 6 Eorl DrudEorl DrfbEorl → ⊥)
+        (λ tables. AreThree IsTable held.now 1 5 6 Eorl DrudEorl DrfbEorl) }
+{
+    Some(OnAxis {
+        orientation: table_of(&held[1], Step::Eorl)?,
+        first: table_of(&held[5], Step::DrudEorl)?,
+        second: table_of(&held[6], Step::DrfbEorl)?,
+    })
+}
+
+/// Those on the axis of U and D.
+fn on_ud(held: &[Held; 9]) -> Option<OnAxis>
+    ensures { MatchOption result (AreThree IsTable held.now 2 7 8 Eoud DrrlEoud DrfbEoud → ⊥)
+        (λ tables. AreThree IsTable held.now 2 7 8 Eoud DrrlEoud DrfbEoud) }
+{
+    Some(OnAxis {
+        orientation: table_of(&held[2], Step::Eoud)?,
+        first: table_of(&held[7], Step::DrrlEoud)?,
+        second: table_of(&held[8], Step::DrfbEoud)?,
+    })
+}
+
+/// The tables of all axes.
+fn all_of(fb: OnAxis, rl: OnAxis, ud: OnAxis) -> WayTables<'static, &'static Arena> {
+    WayTables {
+        eofb: fb.orientation,
+        eorl: rl.orientation,
+        eoud: ud.orientation,
+        drud_eofb: fb.first,
+        drrl_eofb: fb.second,
+        drud_eorl: rl.first,
+        drfb_eorl: rl.second,
+        drrl_eoud: ud.first,
+        drfb_eoud: ud.second,
+    }
+}
+
+/// The tables that a search on these axes needs, if they are these: of one alone its own stand for those of the others, which are
+/// never asked.
+fn way_tables(held: &[Held; 9], axes: u8) -> Option<WayTables<'static, &'static Arena>>
+    ensures { MatchOption result (AreTables IsTable axes held.now → ⊥) (λ tables. AreTables IsTable axes held.now) }
+{
+    let (fb, rl, ud) = match axes {
+        1 => {
+            let fb = on_fb(held)?;
+            (fb, fb, fb)
+        }
+        2 => {
+            let rl = on_rl(held)?;
+            (rl, rl, rl)
+        }
+        4 => {
+            let ud = on_ud(held)?;
+            (ud, ud, ud)
+        }
+        _ => (on_fb(held)?, on_rl(held)?, on_ud(held)?),
+    };
+    Some(all_of(fb, rl, ud))
 }
 
 /// Puts the best ways on from a scramble and the moves so far into the room, as `best_ways` of `niss_embed`.
@@ -56,9 +122,9 @@ pub extern "C" fn nissy_best(
     wanted: &WaysWanted,
     room: &mut [Way],
 ) -> WaysAnswer
-    ensures { FindsBestWith (AreTables IsTable tables.now) wanted.now scramble.now so_far.now room.old room.new result }
+    ensures { FindsBestWith (AreTables IsTable wanted.now.axes tables.now) wanted.now scramble.now so_far.now room.old room.new result }
 {
-    match way_tables(tables) {
+    match way_tables(tables, wanted.axes) {
         Some(tables) => best_ways(&tables, scramble, so_far, wanted, room),
         None => WaysAnswer::misused(),
     }
