@@ -1,2 +1,1 @@
-pub mod BestCall
 pub mod Version

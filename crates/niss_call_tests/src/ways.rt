@@ -4,7 +4,7 @@ use crate::searches::tables_of;
 use niss_cube::Step;
 use niss_moves::{Niss, read};
 use niss_search::{Limit, Meter};
-use niss_ways::{Axes, SideTurns, Start, Way, WayTables, Wish, find_ways};
+use niss_ways::{Axes, AxisTables, SideTurns, Start, Way, WayTables, Wish, find_ways};
 use std::alloc::Global;
 use std::process::Abort;
 
@@ -212,15 +212,21 @@ fn the_best_rows_are_those_of_the_definition(rt: HostRuntime) {
     let drrl_eoud = tables_of(&rt, rt.alloc(), Step::DrrlEoud, &mut Meter::new());
     let drfb_eoud = tables_of(&rt, rt.alloc(), Step::DrfbEoud, &mut Meter::new());
     let tables = WayTables {
-        eofb: &eofb,
-        eorl: &eorl,
-        eoud: &eoud,
-        drud_eofb: &drud_eofb,
-        drrl_eofb: &drrl_eofb,
-        drud_eorl: &drud_eorl,
-        drfb_eorl: &drfb_eorl,
-        drrl_eoud: &drrl_eoud,
-        drfb_eoud: &drfb_eoud,
+        fb: Some(AxisTables {
+            orientation: &eofb,
+            first: &drud_eofb,
+            second: &drrl_eofb,
+        }),
+        rl: Some(AxisTables {
+            orientation: &eorl,
+            first: &drud_eorl,
+            second: &drfb_eorl,
+        }),
+        ud: Some(AxisTables {
+            orientation: &eoud,
+            first: &drrl_eoud,
+            second: &drfb_eoud,
+        }),
     };
     for question in QUESTIONS {
         check_rows(&rt, &tables, question);

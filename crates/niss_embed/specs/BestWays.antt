@@ -1,10 +1,8 @@
 -- What the calls on a scramble and the moves so far leave and tell: the search for the best ways on, and the line of the cube at which
 -- one stands.
-use Rattle.std.specs.Prelude.{◌≡◌, ◌⊎◌, ℕ, ◌<◌, ◌≤◌, if◌then◌else◌, false, Result, Ok, Err, List, [], length, get_or, min}
+use Rattle.std.specs.Prelude.{◌≡◌, ◌⊎◌, ℕ, ◌<◌, ◌≤◌, if◌then◌else◌, false, Result, Ok, Err, List, [], length, min}
 use Rattle.niss_moves.specs.Cleaning.{clean_turns}
 use Rattle.niss_moves.specs.Text.{with_words, turn_words}
-use Rattle.niss_cube.specs.declared.step.Step.{Step}
-use Rattle.niss_cube.specs.declared.step.Step.TheVariants.{Eofb, Eorl, Eoud, DrudEofb, DrrlEofb, DrudEorl, DrfbEorl, DrrlEoud, DrfbEoud}
 use Rattle.niss_shell.specs.Words.{most_limit}
 use Rattle.niss_ways.specs.Rooms.{Grows}
 use Rattle.niss_ways.specs.Truth.{Origin}
@@ -108,20 +106,6 @@ abbrev pub WritesLineAfter : Result Both Nowhere → Memory → LineAfterAnswer 
 WritesLineAfter (Err why) out told = (told ≡ unwritten_line why) × (out.after ≡ out.before)
 WritesLineAfter (Ok lines) out told =
     ((told ≡ unwritten_line TooMany) × (out.after ≡ out.before)) ⊎ ((o : Origin) × Stands lines o × WritesTurns o.line out told)
-
--- A caller's tables at three places are those of an orientation and of the two reductions after it.
-pub record AreThree {H : Type 0} (IsTable : H → Step → Type 0) (tables : List H) (at_first at_second at_third : ℕ)
-    (orientation reduction other : Step) : Type 0 where
-  pub first : (d : H) → IsTable (get_or tables at_first d) orientation
-  pub second : (d : H) → IsTable (get_or tables at_second d) reduction
-  pub third : (d : H) → IsTable (get_or tables at_third d) other
-
--- A caller's tables are those of the nine steps, in their order; if an axis alone is asked for, 1 F and B, 2 R and L, 4 U and D, its three are
--- enough.
-pub record AreTables {H : Type 0} (IsTable : H → Step → Type 0) (axes : ℕ) (tables : List H) : Type 0 where
-  pub fb : (axes ≡ 2 → ⊥) → (axes ≡ 4 → ⊥) → AreThree IsTable tables 0 3 4 Eofb DrudEofb DrrlEofb
-  pub rl : (axes ≡ 1 → ⊥) → (axes ≡ 4 → ⊥) → AreThree IsTable tables 1 5 6 Eorl DrudEorl DrfbEorl
-  pub ud : (axes ≡ 1 → ⊥) → (axes ≡ 2 → ⊥) → AreThree IsTable tables 2 7 8 Eoud DrrlEoud DrfbEoud
 
 -- What the call does by tables that a caller keeps, which may be right or not.
 pub record FindsBestWith (AreRight : Type 0) (w : WaysWanted) (scramble so_far : List ℕ) (room room_now : List Way) (told : WaysAnswer)

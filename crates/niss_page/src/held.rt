@@ -2,9 +2,10 @@
 ghost use Rattle.std.specs.Prelude.{◌≡◌, Bool, true, false, MatchOption};
 ghost use Rattle.niss_page.specs.Ownership.{TheStep, step_coded, kept_owns};
 
-use crate::arena::{LentTables, arena_in, tables_in};
+use crate::arena::{Arena, LentTables, arena_in, tables_in};
 use crate::room::Room;
 use niss_cube::Step;
+use niss_ways::HoldsTables;
 use std::marker::Model;
 use std::ptr::null_mut;
 
@@ -99,6 +100,23 @@ impl Held {
         match tables_in(arena, step) {
             Some(tables) => Held::of(tables),
             None => Held::none(),
+        }
+    }
+}
+
+impl HoldsTables for Held {
+    ghost use Rattle.niss_page.specs.IsTable.{IsTable};
+
+    type Alloc = &'static Arena;
+
+    ghost is_table = { IsTable };
+
+    fn tables_of(&self, step: Step) -> Option<&'static LentTables> {
+        let tables = self.tables()?;
+        if tables.step() == step {
+            Some(tables)
+        } else {
+            None
         }
     }
 }

@@ -9,3 +9,4 @@ pub mod Rooms
 pub mod Searched
 pub mod Sinks
 pub mod Listing
+pub mod HeldTables

@@ -92,7 +92,7 @@ impl FoundWays {
     }
 
     /// Nothing came.
-    fn none(rows: usize) -> FoundWays
+    pub(crate) fn none(rows: usize) -> FoundWays
         ensures rows { result.rows ≡ rows }
         ensures looks { result.looks ≡ 0 }
     {

@@ -34,5 +34,5 @@ mod way;
 pub use finding::{Axes, FoundWays, Wish, find_ways};
 pub use listing::{FoundSolutions, Listed, list_solutions};
 pub use start::Start;
-pub use tables::WayTables;
+pub use tables::{AxisTables, HoldsTables, WayTables, tables_on};
 pub use way::{NO_STEP, NO_TURN, Part, SideTurns, Way};

@@ -90,10 +90,11 @@ fn admitted_on<A: Allocator>(
 ) -> Result<Admitted, Cut>
     ensures { looks.new.most ≡ looks.old.most }
 {
-    if wish.axes.has(axis) {
-        Admitted::find(tables.orientation(axis), start.cube(), wish.slack, looks)
-    } else {
-        Ok(Admitted::NONE)
+    match tables.on(axis) {
+        Some(on_axis) if wish.axes.has(axis) => {
+            Admitted::find(on_axis.orientation, start.cube(), wish.slack, looks)
+        }
+        _ => Ok(Admitted::NONE),
     }
 }
 
@@ -118,7 +119,10 @@ impl<A: Allocator> Orientations<'_, A> {
     fn take_class(&mut self, class: &Solution) -> Result<(), Cut>
         ensures { KeepsOrientations self.old self.new }
     {
-        let Some(reductions) = ReductionsAfter::of(self.start, self.tables, self.axis) else {
+        let Some(tables) = self.tables.on(self.axis) else {
+            return Ok(());
+        };
+        let Some(reductions) = ReductionsAfter::of(self.start, tables, self.axis) else {
             return Ok(());
         };
         match self.task {
@@ -236,10 +240,12 @@ impl<A: Allocator> Orientations<'_, A> {
         let Some(length) = Limit::new(length) else {
             return Ok(());
         };
-        let tables = self.tables.orientation(self.axis);
+        let Some(tables) = self.tables.on(self.axis) else {
+            return Ok(());
+        };
         let cube = *self.start.cube();
         let exactly = Exactly { sides, length };
-        match outer.search(tables, &cube, exactly, self) {
+        match outer.search(tables.orientation, &cube, exactly, self) {
             Ok(_) => Ok(()),
             Err(_) => Err(Cut),
         }

@@ -179,11 +179,14 @@ impl<'a, A: Allocator> Reductions<'a, A> {
         ensures most { looks.new.most ≡ looks.old.most }
         ensures room { KeepsReductions self.old self.new }
     {
+        let Some(on_axis) = tables.on(axis) else {
+            return Ok(());
+        };
         if !wish.axes.has(axis) || !holds(self.reached, axis) {
             return Ok(());
         }
-        self.find(tables.first_after(axis), wish, looks)?;
-        self.find(tables.second_after(axis), wish, looks)
+        self.find(on_axis.first, wish, looks)?;
+        self.find(on_axis.second, wish, looks)
     }
 }
 
@@ -224,9 +227,12 @@ pub fn find_reductions<'a, A: Allocator>(
     ensures grows { Grows start.now there room.old result.rows room.new }
 {
     let mut looks = Looks::new(wish.most_looks);
+    let Some(some) = tables.some() else {
+        return FoundWays::none(there);
+    };
     let mut sink = Reductions {
         start,
-        reduction: tables.first_after(Axis::Fb),
+        reduction: some.first,
         reached: Step::all_reached(start.cube()),
         on_normal: 0,
         on_inverse: 0,

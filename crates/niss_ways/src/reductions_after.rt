@@ -6,7 +6,7 @@ use crate::looks::{Cut, Looks};
 use crate::oriented::Oriented;
 use crate::solution::Solution;
 use crate::start::Start;
-use crate::tables::WayTables;
+use crate::tables::AxisTables;
 use niss_cube::Axis;
 use std::alloc::Allocator;
 
@@ -30,14 +30,14 @@ impl<'a, A: Allocator> ReductionsAfter<'a, A> {
     /// Those after the orientation on an axis.
     pub fn of(
         start: &'a Start,
-        tables: &WayTables<'a, A>,
+        tables: &AxisTables<'a, A>,
         axis: Axis,
     ) -> Option<ReductionsAfter<'a, A>>
         ensures first { IfSome result (λ both. both.first.start.now ≡ start.now) }
         ensures second { IfSome result (λ both. both.second.start.now ≡ start.now) }
     {
-        let first = Following::of(start, tables.first_after(axis))?;
-        let second = Following::of(start, tables.second_after(axis))?;
+        let first = Following::of(start, tables.first)?;
+        let second = Following::of(start, tables.second)?;
         Some(ReductionsAfter {
             start,
             axis,

@@ -1,7 +1,7 @@
--- What the caller's tables are to be.
+-- What holds the tables of a step.
 use Rattle.std.specs.Prelude.{◌≡◌, true}
 use Rattle.niss_cube.specs.declared.step.Step.{Step}
-use Rattle.niss_page.specs.declared.held.Held.{Held}
+use Rattle.niss_kept.specs.declared.held.Held.{Held}
 
 -- There are tables, and of this step.
 abbrev pub IsTable : Held → Step → Type 0
