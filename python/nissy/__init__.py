@@ -21,7 +21,7 @@ for an answer, and ends nothing. The first search of a step builds its tables, w
 Tables). A call lets go of Python's lock, so calls of several threads run side by side. The library is the file that
 NISSY_LIBRARY names, else the one that was installed or built with this package, else the system's.
 """
-from ._attempts import Attempt, AttemptCandidate, read_attempts
+from ._attempts import Attempt, AttemptCandidate, AttemptDoubt, read_attempts
 from ._best import best, best_all, line_after
 from ._checks import AttemptCheck, FormInText, check_attempts
 from ._continuations import Continuation, Continuations, Lengths, Orientation, Reduction
@@ -40,9 +40,9 @@ from ._written import PlainLine, TextPlace, place_of, plain_line
 
 __all__ = [
     "AXES", "CORNER_PLACES", "DONE", "EDGE_PLACES", "FAULT", "MOST_INPUT", "NET", "STOPPED", "USAGE",
-    "Answer", "Attempt", "AttemptCandidate", "AttemptCheck", "Case", "Check", "Continuation", "Continuations", "Count",
-    "Cut", "Facts", "Fault", "FormInText", "FormPlace", "Lengths", "LineFault", "Orientation", "Pieces", "PlainLine",
-    "Reduction", "Solution", "Solutions", "StartFault", "Tables", "TextPlace", "Token",
+    "Answer", "Attempt", "AttemptCandidate", "AttemptCheck", "AttemptDoubt", "Case", "Check", "Continuation",
+    "Continuations", "Count", "Cut", "Facts", "Fault", "FormInText", "FormPlace", "Lengths", "LineFault", "Orientation",
+    "Pieces", "PlainLine", "Reduction", "Solution", "Solutions", "StartFault", "Tables", "TextPlace", "Token",
     "best", "best_all", "check", "check_attempts", "cleanup", "count", "count_all", "facelets", "facts", "facts_all",
     "form_places", "invert", "line_after", "near", "place_of", "plain_line", "raising", "read_attempts", "run",
     "scramble", "scrambles", "solutions", "solve", "solve_all", "start_of", "steps", "stickers_of", "tokens", "unniss",
@@ -53,9 +53,9 @@ del version
 
 # what others see of these, as in a traceback or in what was pickled, is named by the package
 for _public in (
-    Answer, Attempt, AttemptCandidate, AttemptCheck, Case, Check, Continuation, Continuations, Count, Cut, Facts, Fault,
-    FormInText, FormPlace, Lengths, LineFault, Orientation, Pieces, PlainLine, Reduction, Solution, Solutions,
-    StartFault, Tables, TextPlace, Token,
+    Answer, Attempt, AttemptCandidate, AttemptCheck, AttemptDoubt, Case, Check, Continuation, Continuations, Count, Cut,
+    Facts, Fault, FormInText, FormPlace, Lengths, LineFault, Orientation, Pieces, PlainLine, Reduction, Solution,
+    Solutions, StartFault, Tables, TextPlace, Token,
 ):
     _public.__module__ = __name__
 del _public

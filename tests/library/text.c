@@ -1,4 +1,5 @@
-/* The calls that read text as solvers write it, on rows by hand and on drawn texts, in rooms behind which no memory is. */
+/* The calls that read text as solvers write it, on rows by hand and on drawn texts, in rooms behind which no memory is. What each text is read as,
+   tests/library/kinds.py and tests/hosts say. */
 #include "trial.h"
 
 #include "nissy_text.h"
