@@ -25,7 +25,7 @@ from ._attempts import Attempt, AttemptCandidate, AttemptDoubt, read_attempts
 from ._best import best, best_all, line_after
 from ._checks import AttemptCheck, FormInText, check_attempts
 from ._continuations import Continuation, Continuations, Lengths, Orientation, Reduction
-from ._facts import Case, Check, Facts, Pieces, check, facts, facts_all
+from ._facts import Case, Check, Facts, Pieces, check, check_all, facts, facts_all
 from ._given import Step as Step, Text as Text
 from ._library import DONE, FAULT, MOST_INPUT, STOPPED, USAGE
 from ._lines import cleanup, facelets, invert, scramble, steps, unniss, version

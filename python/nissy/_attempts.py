@@ -8,7 +8,7 @@ from ._given import Text
 from ._library import TEXT_LINE
 from ._written import LEFT_OUT, PlainLine, TextPlace, Written
 
-_BEFORE, _SCRAMBLE, _STEP, _NOTE = range(1, 5)
+BLANK, _BEFORE, SCRAMBLE, STEP, _NOTE = range(5)
 # the white space of the web's scripts
 _WHITE = ("\n\t\v\f\r \u00a0\u1680\u2000\u2001\u2002\u2003\u2004\u2005\u2006\u2007\u2008\u2009\u200a\u2028\u2029\u202f"
           "\u205f\u3000\ufeff")
@@ -58,7 +58,7 @@ class Attempt(NamedTuple):
     """What makes one doubt the reading if the solution doesn't solve the scramble, or None."""
 
 
-class _Line(NamedTuple):
+class TextLine(NamedTuple):
     """`nissy_text_line` of nissy_text.h."""
 
     kind: int
@@ -79,25 +79,25 @@ class _Line(NamedTuple):
     doubt_at: int
 
 
-def _lines_of(data: bytes) -> List[_Line]:
+def lines_of(data: bytes) -> List[TextLine]:
     """Returns what the library tells of each line of a text."""
     most = data.count(b"\n") + data.count(b"\r") + 1
     size = TEXT_LINE.size * most
     room = _rooms.take() if size <= _rooms.ORDINARY else _rooms.Room(size)
     answer = _library.nissy_text_lines(data, len(data), room.address, most)
-    lines = list(map(_Line._make, TEXT_LINE.iter_unpack(room.memory[:TEXT_LINE.size * answer.lines])))
+    lines = list(map(TextLine._make, TEXT_LINE.iter_unpack(room.memory[:TEXT_LINE.size * answer.lines])))
     if size <= _rooms.ORDINARY:
         _rooms.put_back(room)
     return lines
 
 
-class _Reader:
+class Reader:
     """A text that is read."""
 
     def __init__(self, whole: Written) -> None:
         self.whole = whole
 
-    def plain(self, line: _Line) -> PlainLine:
+    def plain(self, line: TextLine) -> PlainLine:
         """Returns the moves of a line, in brackets if they are on the inverse."""
         plain = self.whole.plain(line.head_end, line.end)
         begin, end = self.whole.at(line.moves), self.whole.at(line.comment)
@@ -109,12 +109,12 @@ class _Reader:
         return PlainLine("".join(sign for sign, _ in own), tuple(at for _, at in own),
                          tuple(name for name in LEFT_OUT if name in names))
 
-    def doubt(self, lines: List[_Line]) -> Optional[AttemptDoubt]:
+    def doubt(self, lines: List[TextLine]) -> Optional[AttemptDoubt]:
         """Returns what makes one doubt the first of the lines of an attempt of which one is in doubt."""
         return next((AttemptDoubt(_DOUBTS[line.doubt], self.whole.place(self.whole.at(line.doubt_at)))
                      for line in lines if line.doubt), None)
 
-    def joined(self, lines: List[_Line]) -> PlainLine:
+    def joined(self, lines: List[TextLine]) -> PlainLine:
         """Returns some lines as one, with a blank for the end of each but the last."""
         parts = [self.plain(line) for line in lines]
         places = list(parts[0].places) if parts else []
@@ -123,7 +123,7 @@ class _Reader:
         left_out = dict.fromkeys(chain(*(part.left_out for part in parts)))
         return PlainLine(" ".join(part.line for part in parts), tuple(places), tuple(left_out))
 
-    def note(self, line: _Line) -> str:
+    def note(self, line: TextLine) -> str:
         """Returns what a line without moves says: its label, if nothing follows that, else all of it."""
         rest = self.whole.part(line.moves, line.end).strip(_WHITE)
         if line.label_begin < line.label_end and not rest:
@@ -131,26 +131,29 @@ class _Reader:
         said = self.whole.part(line.head_end, line.end).strip(_WHITE)
         return said[2:].strip(_WHITE) if said.startswith("//") else said
 
-    def label(self, line: _Line) -> str:
+    def name(self, lines: List[TextLine]) -> str:
+        """Returns the first head of some lines, or nothing."""
+        return next((self.whole.part(it.begin, it.head_end).strip(_WHITE) for it in lines if it.is_headed), "")
+
+    def label(self, line: TextLine) -> str:
         """Returns the words of a line's label."""
         return self.whole.part(line.label_begin, line.label_end).strip(_WHITE)
 
-    def candidate(self, lines: List[_Line]) -> AttemptCandidate:
+    def candidate(self, lines: List[TextLine]) -> AttemptCandidate:
         """Returns a group of lines."""
-        steps = [line for line in lines if line.kind == _STEP]
+        steps = [line for line in lines if line.kind == STEP]
         note = " ".join(self.note(line) for line in lines if line.kind == _NOTE)
         told = next((self.label(line) for line in lines if line.says_solution), "")
         return AttemptCandidate(tuple(map(self.plain, steps)), self.joined(steps), note or told)
 
-    def attempt(self, lines: List[_Line]) -> Attempt:
+    def attempt(self, lines: List[TextLine]) -> Attempt:
         """Returns the attempt of its lines."""
-        name = next((self.whole.part(line.begin, line.head_end).strip(_WHITE) for line in lines if line.is_headed), "")
-        groups = [list(group) for _, group in groupby((it for it in lines if it.kind >= _STEP), lambda it: it.group)]
-        moved = [group for group in groups if any(line.kind == _STEP for line in group)]
-        told = [line for line in lines if line.kind == _STEP and line.is_solution]
-        steps = [line for line in lines if line.kind == _STEP and line.group == 0] or told
+        groups = [list(group) for _, group in groupby((it for it in lines if it.kind >= STEP), lambda it: it.group)]
+        moved = [group for group in groups if any(line.kind == STEP for line in group)]
+        told = [line for line in lines if line.kind == STEP and line.is_solution]
+        steps = [line for line in lines if line.kind == STEP and line.group == 0] or told
         return Attempt(
-            name, self.joined([line for line in lines if line.kind == _SCRAMBLE]), tuple(map(self.plain, steps)),
+            self.name(lines), self.joined([line for line in lines if line.kind == SCRAMBLE]), tuple(map(self.plain, steps)),
             self.joined(told) if told else None,
             tuple(self.candidate(group) for group in moved if group[0].group > 0),
             sum(line.kind == _BEFORE for line in lines), self.doubt(lines))
@@ -158,9 +161,9 @@ class _Reader:
 
 def attempts_of(whole: Written) -> List[Attempt]:
     """Returns the attempts of a text."""
-    reader = _Reader(whole)
-    attempts = [list(lines) for _, lines in groupby(_lines_of(whole.data), lambda line: line.attempt)]
-    read = [reader.attempt(lines) for lines in attempts if any(line.kind == _SCRAMBLE for line in lines)]
+    reader = Reader(whole)
+    attempts = [list(lines) for _, lines in groupby(lines_of(whole.data), lambda line: line.attempt)]
+    read = [reader.attempt(lines) for lines in attempts if any(line.kind == SCRAMBLE for line in lines)]
     return read or [Attempt("", PlainLine("", (), ()), (), None, (), 0)]
 
 

@@ -193,6 +193,14 @@ std::string checks_of(std::string_view text) {
     return joined(said, "\n");
 }
 
+// What makes one doubt each attempt of a text, and where, each on a line.
+std::string doubts_of(std::string_view text) {
+    std::vector<std::string> said;
+    for (const nissy::attempt_check &it : nissy::check_attempts(text))
+        said.push_back(it.doubt ? nissy::doubt_name(it.doubt->reason) + said_of(it.doubt->place) : "");
+    return joined(said, "\n");
+}
+
 // How many attempts a text has, and their steps and candidates.
 std::string counts_of(std::string_view text) {
     const std::vector<nissy::attempt> attempts = nissy::read_attempts(text);
@@ -263,6 +271,7 @@ std::string called(const std::string &call, std::istream &asked) {
     if (call == "plain_line") return plain_of(line.view());
     if (call == "read_attempts") return attempts_of(line.view());
     if (call == "check_attempts") return checks_of(line.view());
+    if (call == "attempt_doubts") return doubts_of(line.view());
     if (call == "attempt_counts") return counts_of(line.view());
     if (call == "form_places") return forms_of(line.view());
     if (call == "invert") return nissy::invert(line.view());

@@ -228,6 +228,11 @@ def attempt_check(it: nissy.AttemptCheck) -> str:
     return "|".join(["" if it.check is None else checked(it.check), fault, forms])
 
 
+def attempt_doubt(it: nissy.AttemptCheck) -> str:
+    """What makes one doubt an attempt, and where."""
+    return f"{it.doubt.reason}@{line_and_column(it.doubt.place)}" if it.doubt else ""
+
+
 class Python(Host):
     """The package, with a line in one form after another, and searches by one call after another."""
 
@@ -274,6 +279,8 @@ class Python(Host):
             return attempts(given[0].decode(), self.line(given[0]))
         if call == "check_attempts":
             return "\n".join(map(attempt_check, nissy.check_attempts(self.line(given[0]))))
+        if call == "attempt_doubts":
+            return "\n".join(map(attempt_doubt, nissy.check_attempts(self.line(given[0]))))
         if call == "attempt_counts":
             return attempt_counts(self.line(given[0]))
         written: Any = {"facts": facts, "tokens": tokens, "form_places": form_places, "check": checked, "plain_line": plain_line}.get(call, str)

@@ -1,7 +1,7 @@
 #!/usr/bin/env python3
-"""Texts as solvers write them, read by each host as one line and as attempts: the rows of tests/calls.tsv, and drawn texts. Python reads them by
-the library, and tells of checks what its other calls tell. The others have rules of their own, by which they read some rows otherwise: they read
-drawn texts as the first of them does.
+"""Texts as solvers write them, read by each host as one line and as attempts: the rows of tests/calls.tsv, and drawn texts. Python and C++ read
+them by the library; Python tells of checks what its other calls tell, and C++ all as Python does. JavaScript has rules of its own, by which it reads
+some rows otherwise.
 
     tests/hosts/plain.py SEED COUNT HOST..
 
@@ -154,24 +154,27 @@ def main() -> None:
     tally, python, (seed, count) = Tally(), Python(), map(int, sys.argv[1:3])
     draw = random.Random(seed)
     texts = {"plain_line": [each_sign(), *drawn(draw, count)], "read_attempts": list(drawn_sheets(draw, count))}
-    texts["check_attempts"] = [*texts["read_attempts"], *drawn_solutions(draw, count)]
+    kinds = [kind.text for kind in called.kinds()]
+    texts["check_attempts"] = texts["attempt_doubts"] = [*texts["read_attempts"], *drawn_solutions(draw, count), *kinds]
     rows: Texts = {"plain_line": list(wanted_lines("plain")), "read_attempts": list(called.rows("attempts"))}
     older = {"plain_line": dict(wanted_lines("older-plain")), "read_attempts": dict(called.rows("older-attempts"))}
-    ours = by_host(python, {call: texts[call] for call in rows})
-    ours["check_attempts"] = [[text, checks_by_calls(text)] for text in [*texts["check_attempts"], *(text for text, _ in rows["read_attempts"])]]
-    is_told(tally, python, {**rows, "check_attempts": ours["check_attempts"]})
+    by_calls = [[text, checks_by_calls(text)] for text in [*texts["check_attempts"], *(text for text, _ in rows["read_attempts"])]]
+    is_told(tally, python, {**rows, "check_attempts": by_calls})
     times_of(tally, python, LONG)
-    others = [host for host in hosts_of(sys.argv[3:]) if not isinstance(host, Python)]
-    theirs = by_host(others[0], texts) if others[1:] else {}
-    for host in others:
-        is_told(tally, host, {call: [[text, older[call].get(text, wanted)] for text, wanted in those] for call, those in rows.items()})
-        is_told(tally, host, {} if host is others[0] else theirs)
-        times_of(tally, host, {**LONG, **OLDER})
+    ours = by_host(python, texts)
+    for host in hosts_of(sys.argv[3:]):
+        if host.name == "JavaScript":
+            is_told(tally, host, {call: [[text, older[call].get(text, wanted)] for text, wanted in those] for call, those in rows.items()})
+            times_of(tally, host, {**LONG, **OLDER})
+        elif not isinstance(host, Python):
+            is_told(tally, host, rows)
+            is_told(tally, host, ours)
+            times_of(tally, host, LONG)
         tally.equal(f"{host.name} ends, and has said no more", host.end(), 0)
     for call, check in (("plain_line", names_of), ("read_attempts", kinds_of)):
         check(tally, [wanted for _, wanted in rows[call]])
         check(tally, [wanted for _, wanted in ours[call]])
-    checks_of(tally, [wanted for _, wanted in ours["check_attempts"]])
+    checks_of(tally, [wanted for _, wanted in by_calls])
     tally.end()
 
 

@@ -9,16 +9,15 @@ import random
 import sys
 import time
 from pathlib import Path
-from typing import Dict, Iterator, List, NamedTuple, Optional
+from typing import Dict, Iterator
 
 sys.path[:0] = [str(Path(__file__).resolve().parents[1]), str(Path(__file__).resolve().parents[2] / "python")]
 
 import nissy
+from called import Kind, kinds as listed
 from nissy import _library
-from runs import bytes_of
 from tally import Tally, tried
 
-FILE = Path(__file__).resolve().parents[1] / "attempts.tsv"
 FIRST = "R' U' F D2 L2 F R2 U2 R2 B D2 L B2 D' B2 L' R' B' D2 B2 R' U' F"
 SECOND = "R' U' F L2 D B2 U R2 F2 D2 B U2 L R' U' F"
 # what undoes them, and that in steps
@@ -33,23 +32,6 @@ ENDS = """Final|Total|Full|Result|All|Sol|Answer|Submitted|Together|Summary|Clea
 SIDES = "Inverse|Reverse|Inverted|Inversed|Inverso|Invers|Other side|Second side|EOinv|Backwards|NISSed|DR premoved|Odwrotnie|Obratno".split("|")
 COMMENTS = "on inverse|DR (inv)|NISS|premoves|inverse|reverse|on the inverse|DR on inv|EOinv".split("|")
 WORDS = "F2L LL xD BLD LUL FML LS ELL SB Dry Bu DR FR EO".split()
-
-
-class Kind(NamedTuple):
-    """A way to write attempts: a text, and whether each of its solutions solves, or None if there is none."""
-
-    name: str
-    text: str
-    wanted: List[Optional[bool]]
-
-
-def listed() -> Iterator[Kind]:
-    """Each row of the table."""
-    results: Dict[str, Optional[bool]] = {"solved": True, "unsolved": False, "none": None}
-    for line in FILE.read_text(encoding="ascii").splitlines():
-        if not line.startswith("#"):
-            name, text, wanted = line.split("\t")
-            yield Kind(name, bytes_of(text).decode(), [results[it] for it in wanted.split(",")])
 
 
 def of_words() -> Iterator[Kind]:
