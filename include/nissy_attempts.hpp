@@ -23,13 +23,14 @@ enum class doubt_reason {
     letters = NISSY_LETTERS,
     small_letters = NISSY_SMALL_LETTERS,
     comment = NISSY_COMMENT,
-    a_part // of a check: some of its steps alone solve the scramble, or its solution with other brackets
+    a_part,        // of a check: some of its steps alone solve the scramble, or its solution with other brackets
+    which_scramble // of a check: it isn't told which of the known scrambles this is a solution of
 };
 
 // A reason as the library for Python names it, such as "another scramble".
 inline std::string doubt_name(doubt_reason reason) {
-    static constexpr std::array<const char *, 8> NAMES = {"",        "another scramble", "several solutions", "side",
-                                                          "letters", "small letters",    "comment",           "a part"};
+    static constexpr std::array<const char *, 9> NAMES = {"",        "another scramble", "several solutions", "side",          "letters",
+                                                          "small letters", "comment",    "a part",            "which scramble"};
     return NAMES[static_cast<std::size_t>(reason)];
 }
 
@@ -105,6 +106,12 @@ inline std::string trimmed(std::string_view text) {
 inline std::string words_of(std::string_view text, std::size_t begin, std::size_t end) { return trimmed(text.substr(begin, end - begin)); }
 
 inline std::string label_of(std::string_view text, const nissy_text_line &line) { return words_of(text, line.label_begin, line.label_end); }
+
+// The first head of some lines, or nothing.
+inline std::string name_of(std::string_view text, text_lines lines) {
+    const nissy_text_line *const headed = lines.find([](const nissy_text_line &it) { return it.headed; });
+    return headed == lines.last ? std::string() : words_of(text, headed->begin, headed->head_end);
+}
 
 // What a line without moves says: its label, if nothing follows that, else all of it.
 inline std::string said(std::string_view text, const nissy_text_line &line) {
@@ -203,9 +210,7 @@ inline std::vector<plain> steps_in(std::string_view text, text_lines lines) {
 }
 
 inline attempt attempt_of(std::string_view text, text_lines lines, place_counter &places) {
-    attempt made = {{}, moves_in(text, lines, moves_of::scramble), steps_in(text, lines), {}, candidates_in(text, lines), 0, {}};
-    const auto headed = lines.find([](const nissy_text_line &it) { return it.headed; });
-    if (headed != lines.last) made.name = words_of(text, headed->begin, headed->head_end);
+    attempt made = {name_of(text, lines), moves_in(text, lines, moves_of::scramble), steps_in(text, lines), {}, candidates_in(text, lines), 0, {}};
     if (lines.has(is_of_solution)) made.solution = moves_in(text, lines, moves_of::solution);
     for (const nissy_text_line &line : lines) made.before += line.kind == NISSY_LINE_BEFORE;
     const auto doubted = lines.find([](const nissy_text_line &it) { return it.doubt != NISSY_NO_DOUBT; });

@@ -1,9 +1,9 @@
 // nissy for C++17 and later: checks each attempt of a text as solvers write it, and says where in the text faults and forms stand. Header alone,
-// over nissy_names.hpp and nissy_attempts.hpp, with the library.
+// over nissy_names.hpp and nissy_known.hpp, with the library.
 #ifndef NISSY_CHECKS_HPP
 #define NISSY_CHECKS_HPP
 
-#include "nissy_attempts.hpp"
+#include "nissy_known.hpp"
 #include "nissy_names.hpp"
 
 namespace nissy {
@@ -25,13 +25,36 @@ struct attempt_check {
     std::optional<attempt_doubt> doubt; // that it is read as it was meant; none if its solution solves, or has a fault
 };
 
+// The answer to one of many pairs of a scramble and a solution: a verdict, or what is wrong with one of them.
+class pair_answer : public answer<verdict> {
+public:
+    explicit pair_answer(const nissy_check_answer &said)
+        : answer<verdict>(said, {said.solved != 0, said.moves, said.clean_moves, said.forms}), line_(said.status == NISSY_DONE ? 0 : said.line) {}
+
+    int line() const noexcept { return line_; } // which one the fault is of: 1 the scramble, 2 the solution; 0 if none is
+    std::string_view part() const noexcept { return line_ == 0 ? "" : line_ == 1 ? "scramble" : "solution"; }
+
+private:
+    int line_;
+};
+
+// Whether each of many solutions solves its scramble, of pairs of a scramble and a solution, such as two columns of a table.
+template <typename Pairs> std::vector<pair_answer> check_all(const Pairs &pairs) {
+    std::vector<pair_answer> answers;
+    for (const auto &[first, second] : pairs) {
+        const std::string_view scramble = first, solution = second;
+        answers.emplace_back(nissy_check(detail::bytes(scramble), scramble.size(), detail::bytes(solution), solution.size()));
+    }
+    return answers;
+}
+
 namespace detail {
 
-// Counts the places of faults and forms, and those of doubts: neither fall from one attempt to the next.
+// Counts the places of faults and forms, those of doubts, and those of doubts that are read: none fall from one attempt to the next.
 struct text_places {
-    explicit text_places(std::string_view text) : found(text), doubted(text) {}
+    explicit text_places(std::string_view text) : found(text), doubted(text), read(text) {}
 
-    place_counter found, doubted;
+    place_counter found, doubted, read;
 };
 
 // Whether a line has moves, and solves a scramble.
@@ -93,11 +116,44 @@ inline attempt_check check_of(std::string_view text, const attempt &found, text_
         if (!made.check || !told.solved) made.doubt = doubt_of(found, places.doubted);
     } catch (const fault &thrown) {
         made.fault = thrown;
-        made.place = place(thrown, thrown.line() == 1 ? found.scramble : found.solution.value());
+        // a scramble that is known has no place in the text
+        const plain &part = thrown.line() == 1 ? found.scramble : found.solution.value();
+        if (thrown.line() == 2 || !part.places.empty()) made.place = place(thrown, part);
     }
     if (!made.check) return made;
     for (const form_place &it : form_places(found.solution->line)) made.forms.push_back({it.text, it.forms, place(it, *found.solution)});
     return made;
+}
+
+inline attempt with_scramble(attempt found, std::string_view scramble) {
+    found.scramble = {std::string(scramble), {}, {}};
+    return found;
+}
+
+inline bool is_same_cube(const std::string &scramble, std::string_view other) {
+    try {
+        return facelets(scramble) == facelets(other);
+    } catch (const std::exception &) {
+        return false;
+    }
+}
+
+// What is said of a part of a text of solutions.
+inline attempt_check check_of(std::string_view text, known_part &part, const std::vector<std::string> &scrambles, text_places &places) {
+    attempt &first = part.attempts[0];
+    if (!part.scramble) {
+        first.doubt = attempt_doubt{doubt_reason::which_scramble, places.doubted.at(part.begin)};
+        return {first, {}, {}, {}, {}, first.doubt};
+    }
+    const std::string &scramble = scrambles[*part.scramble];
+    // who writes the scramble too says nothing else by it
+    if (part.attempts.size() == 2 && !first.solution && is_same_cube(part.attempts[1].scramble.line, scramble)) {
+        part.attempts[1].name = part.name;
+        return check_of(text, part.attempts[1], places);
+    }
+    if (part.attempts.size() > 1)
+        first.doubt = attempt_doubt{doubt_reason::another_scramble, places.doubted.at(part.attempts[1].scramble.places.front())};
+    return check_of(text, with_scramble(first, scramble), places);
 }
 
 } // namespace detail
@@ -107,6 +163,21 @@ inline std::vector<attempt_check> check_attempts(std::string_view text) {
     std::vector<attempt_check> checks;
     detail::text_places places(text);
     for (const attempt &found : read_attempts(text)) checks.push_back(detail::check_of(text, found, places));
+    return checks;
+}
+
+// Checks the solutions that a text has of known scrambles, each under a head with the number of its scramble in this list, such as "2." or "Attempt
+// 2 of 3"; or as many without numbers, in its order. There is a check for each scramble in its order, without a solution if none is found; then one
+// for each part of the text that may be of another scramble, in doubt.
+inline std::vector<attempt_check> check_attempts(std::string_view text, const std::vector<std::string> &scrambles) {
+    std::vector<attempt_check> checks, others;
+    detail::text_places places(text);
+    for (const std::string &scramble : scrambles) checks.push_back(detail::check_of(text, detail::with_scramble({}, scramble), places));
+    for (detail::known_part &part : detail::solutions_in(text, scrambles.size(), places.read)) {
+        attempt_check made = detail::check_of(text, part, scrambles, places);
+        (part.scramble ? checks[*part.scramble] : others.emplace_back(made)) = std::move(made);
+    }
+    checks.insert(checks.end(), std::make_move_iterator(others.begin()), std::make_move_iterator(others.end()));
     return checks;
 }
 

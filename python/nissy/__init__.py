@@ -43,9 +43,10 @@ __all__ = [
     "Answer", "Attempt", "AttemptCandidate", "AttemptCheck", "AttemptDoubt", "Case", "Check", "Continuation",
     "Continuations", "Count", "Cut", "Facts", "Fault", "FormInText", "FormPlace", "Lengths", "LineFault", "Orientation",
     "Pieces", "PlainLine", "Reduction", "Solution", "Solutions", "StartFault", "Tables", "TextPlace", "Token",
-    "best", "best_all", "check", "check_attempts", "cleanup", "count", "count_all", "facelets", "facts", "facts_all",
-    "form_places", "invert", "line_after", "near", "place_of", "plain_line", "raising", "read_attempts", "run",
-    "scramble", "scrambles", "solutions", "solve", "solve_all", "start_of", "steps", "stickers_of", "tokens", "unniss",
+    "best", "best_all", "check", "check_all", "check_attempts", "cleanup", "count", "count_all", "facelets", "facts",
+    "facts_all", "form_places", "invert", "line_after", "near", "place_of", "plain_line", "raising", "read_attempts",
+    "run", "scramble", "scrambles", "solutions", "solve", "solve_all", "start_of", "steps", "stickers_of", "tokens",
+    "unniss",
 ]
 
 __version__ = version()

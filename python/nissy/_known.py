@@ -11,7 +11,7 @@ from ._written import Written
 # a whole scramble, behind which the library reads lines as steps
 _BEFORE = b"R' U' F D R' U' F\n"
 # the number of a head; extras, such as E1, have others
-_NUMBER = re.compile("[^0-9Ee]*0*([0-9]+)")
+_NUMBER = re.compile("(?![^A-Za-z0-9]*[Ee])[^0-9]*0*([0-9]+)")
 # where the places of a line stand in it
 _FIRST_PLACE = TextLine._fields.index("begin")
 

@@ -233,6 +233,16 @@ def attempt_doubt(it: nissy.AttemptCheck) -> str:
     return f"{it.doubt.reason}@{line_and_column(it.doubt.place)}" if it.doubt else ""
 
 
+def known_check(it: nissy.AttemptCheck) -> str:
+    """What is said of a known scramble, or of what isn't told to be of one."""
+    return "|".join([it.attempt.name, attempt_check(it), attempt_doubt(it)])
+
+
+def pair_check(it: nissy.Check | nissy.Fault) -> str:
+    """What is said of one of many pairs."""
+    return f"{it.part}:{getattr(it, 'column', 0)}:{it.text}" if isinstance(it, nissy.Fault) else checked(it)
+
+
 class Python(Host):
     """The package, with a line in one form after another, and searches by one call after another."""
 
@@ -281,6 +291,12 @@ class Python(Host):
             return "\n".join(map(attempt_check, nissy.check_attempts(self.line(given[0]))))
         if call == "attempt_doubts":
             return "\n".join(map(attempt_doubt, nissy.check_attempts(self.line(given[0]))))
+        if call == "known_checks":
+            scrambles = given[1].decode().splitlines()
+            return "\n".join(map(known_check, nissy.check_attempts(self.line(given[0]), scrambles=map(self.line, map(str.encode, scrambles)))))
+        if call == "check_all":
+            lines_of = given[0].decode("utf-8", "surrogateescape").split("\n")
+            return "\n".join(map(pair_check, nissy.check_all(zip(lines_of[::2], lines_of[1::2]))))
         if call == "attempt_counts":
             return attempt_counts(self.line(given[0]))
         written: Any = {"facts": facts, "tokens": tokens, "form_places": form_places, "check": checked, "plain_line": plain_line}.get(call, str)

@@ -13,7 +13,7 @@ import random
 import sys
 import time
 import unicodedata
-from typing import Dict, Iterator, List
+from typing import Dict, Iterator, List, Tuple
 
 from hosts import Host, Python, checked, hosts_of, line_and_column, told  # isort: skip
 
@@ -21,7 +21,7 @@ import called
 import nissy
 from tally import Tally
 
-# by each call texts, each with what is told of it
+# by each call what is given to it, texts mostly, each with what is told of it
 Texts = Dict[str, List[List[str]]]
 # of the letters that C++ knows from other signs
 PARTS = """R U2 F' L\u2019 B\u2032 ( ) ` ' \u02bc EO DR Final finale R\u00e9duction re\u0301 \u042d\u041e \u89e3 \U00010400 F2L EO\u00b2 \u00bd A
@@ -140,31 +140,54 @@ def times_of(tally: Tally, host: Host, counts: Dict[str, str]) -> None:
 def is_told(tally: Tally, host: Host, texts: Texts) -> None:
     """A host tells of texts what is wanted."""
     for call, those in texts.items():
-        for text, wanted in those:
-            tally.equal(f"{call} of {text!r} in {host.name}", told(host, call, text.encode()), wanted)
+        for *given, wanted in those:
+            tally.equal(f"{call} of {given!r} in {host.name}", told(host, call, *(text.encode() for text in given)), wanted)
 
 
-def by_host(host: Host, drawn_texts: Dict[str, List[str]]) -> Texts:
-    """Texts by their calls, each with what a host tells of it."""
-    return {call: [[text, told(host, call, text.encode())] for text in those] for call, those in drawn_texts.items()}
+def drawn_pairs(draw: random.Random, count: int) -> Iterator[List[str]]:
+    """Several pairs of a scramble and a solution, each on a line, with what is told of each pair alone."""
+    lines = [line for line in CHECKED if "\u2028" not in line]
+    for _ in range(count):
+        pairs = [(draw.choice(lines), draw.choice(lines)) for _ in range(draw.randrange(1, 5))]
+        yield ["".join(f"{line}\n" for pair in pairs for line in pair), "\n".join(map(check_alone, pairs))]
+
+
+def check_alone(pair: Tuple[str, str]) -> str:
+    """What is told of a pair alone."""
+    try:
+        return checked(nissy.check(*pair))
+    except nissy.LineFault as fault:
+        return f"{fault.part}:{fault.column}:{fault.text}"
+
+
+def drawn_known(draw: random.Random, count: int) -> Iterator[List[str]]:
+    """Texts of several lines, with some scrambles that are known."""
+    for text in drawn_sheets(draw, count):
+        yield [text, "".join(f"{line}\n" for line in draw.sample(["R U", "F", "R' U' F D R' U' F", "q", ""], draw.randrange(5)))]
+
+
+def by_host(host: Host, drawn_texts: Dict[str, List[List[str]]]) -> Texts:
+    """What is given to calls, each with what a host tells of it."""
+    return {call: [[*given, told(host, call, *(text.encode() for text in given))] for given in those] for call, those in drawn_texts.items()}
 
 
 def main() -> None:
     """All rows and texts, by each host."""
     tally, python, (seed, count) = Tally(), Python(), map(int, sys.argv[1:3])
     draw = random.Random(seed)
-    texts = {"plain_line": [each_sign(), *drawn(draw, count)], "read_attempts": list(drawn_sheets(draw, count))}
-    kinds = [kind.text for kind in called.kinds()]
-    texts["check_attempts"] = texts["attempt_doubts"] = [*texts["read_attempts"], *drawn_solutions(draw, count), *kinds]
-    rows: Texts = {"plain_line": list(wanted_lines("plain")), "read_attempts": list(called.rows("attempts"))}
+    sheets, kinds = list(drawn_sheets(draw, count)), [kind.text for kind in called.kinds()]
+    solved = [*sheets, *drawn_solutions(draw, count), *kinds]
+    rows: Texts = {"plain_line": list(wanted_lines("plain")), "read_attempts": list(called.rows("attempts")), "known_checks": list(called.rows("known"))}
     older = {"plain_line": dict(wanted_lines("older-plain")), "read_attempts": dict(called.rows("older-attempts"))}
-    by_calls = [[text, checks_by_calls(text)] for text in [*texts["check_attempts"], *(text for text, _ in rows["read_attempts"])]]
-    is_told(tally, python, {**rows, "check_attempts": by_calls})
+    by_calls = [[text, checks_by_calls(text)] for text in [*solved, *(text for text, _ in rows["read_attempts"])]]
+    is_told(tally, python, {**rows, "check_attempts": by_calls, "check_all": list(drawn_pairs(draw, count // 10))})
     times_of(tally, python, LONG)
-    ours = by_host(python, texts)
+    ours = by_host(python, {"plain_line": [[it] for it in (each_sign(), *drawn(draw, count))], "read_attempts": [[it] for it in sheets],
+                            "check_attempts": [[it] for it in solved], "attempt_doubts": [[it] for it in solved],
+                            "known_checks": list(drawn_known(draw, count)), "check_all": [[it] for it, _ in drawn_pairs(draw, count // 10)]})
     for host in hosts_of(sys.argv[3:]):
         if host.name == "JavaScript":
-            is_told(tally, host, {call: [[text, older[call].get(text, wanted)] for text, wanted in those] for call, those in rows.items()})
+            is_told(tally, host, {call: [[text, of.get(text, wanted)] for text, wanted in rows[call]] for call, of in older.items()})
             times_of(tally, host, {**LONG, **OLDER})
         elif not isinstance(host, Python):
             is_told(tally, host, rows)

@@ -60,7 +60,7 @@ def names(tally: Tally) -> None:
               "tokens", "Token", "solutions", "best", "best_all", "Continuation", "Continuations", "Orientation", "Reduction", "Lengths", "form_places", "FormPlace",
               "start_of", "plain_line", "PlainLine", "AXES", "EDGE_PLACES", "CORNER_PLACES", "NET", "stickers_of",
               "read_attempts", "Attempt", "AttemptCandidate", "place_of", "TextPlace", "line_after",
-              "check_attempts", "AttemptCheck", "AttemptDoubt", "FormInText"}
+              "check_attempts", "AttemptCheck", "AttemptDoubt", "FormInText", "check_all"}
     tally.equal("what an import of all brings", set(brought), wanted)
     public = [getattr(nissy, name) for name in nissy.__all__ if callable(getattr(nissy, name))]
     tally.holds("each function and each class says what it does", len(public) > 10 and all(it.__doc__ for it in public))
@@ -88,7 +88,8 @@ def classes(tally: Tally) -> None:
                               "place": Optional[nissy.TextPlace], "forms": Tuple[nissy.FormInText, ...],
                               "doubt": Optional[nissy.AttemptDoubt]}),
         (nissy.FormPlace, {"text": str, "forms": Tuple[str, ...], "column": int, "character": int}),
-        (nissy.solve_all, {"return": Iterator[Union[nissy.Solutions, nissy.Fault, nissy.Cut]]}), (nissy.run, {"return": nissy.Answer})]
+        (nissy.solve_all, {"return": Iterator[Union[nissy.Solutions, nissy.Fault, nissy.Cut]]}), (nissy.run, {"return": nissy.Answer}),
+        (nissy.check_all, {"return": Iterator[Union[nissy.Check, nissy.Fault]]})]
     for of, wanted in hints:
         got = get_type_hints(of)
         tally.equal(f"the types of {of.__name__}", {name: got[name] for name in (wanted if "return" in wanted else got)}, wanted)

@@ -155,6 +155,39 @@ void doubts_are_told() {
         holds(!nissy::check_attempts(text).at(0).doubt, "no doubt", text);
 }
 
+// What the rows of tests/calls.tsv say of known scrambles, the hosts try; this is what they can't tell.
+void known_are_checked() {
+    static constexpr char TEXT[] = "Attempt 2 of 3: U\xe2\x80\x99\nAttempt 1 of 3: R\xe2\x80\x99 q";
+    const std::vector<nissy::attempt_check> all = nissy::check_attempts(TEXT, {"R", "U", "F"});
+    is_at_fault(all.at(0), "solution", 6, {42, 2, 20}, TEXT);
+    holds(all.at(1).check && all[1].check->solved && all[1].attempt.name == "Attempt 2 of 3:", "what is solved", TEXT);
+    holds(all[1].attempt.scramble.line == "U" && all[1].attempt.scramble.places.empty(), "the scramble that it is of", TEXT);
+    holds(all.size() == 3 && !all[2].check && !all[2].fault && !all[2].doubt && !all[2].attempt.solution, "one without a solution", TEXT);
+    try {
+        nissy::check_attempts("", {std::string(NISSY_MOST_INPUT + 1, ' ')});
+        holds(0, "it throws", "16,777,217 blanks");
+    } catch (const std::length_error &thrown) {
+        holds(thrown.what()[0] != 0, "it says what", "16,777,217 blanks");
+    }
+}
+
+// Many pairs, each with its verdict or its fault.
+void pairs_are_checked() {
+    const std::vector<std::pair<std::string_view, const char *>> pairs = {{"R", "R'"}, {"R", "U"}, {"R q", "R"}, {"R", "R q"}};
+    const std::vector<nissy::pair_answer> answers = nissy::check_all(pairs);
+    holds(answers.at(0) && answers[0].value().solved && answers[0].line() == 0 && answers[0].part().empty(), "a verdict", "R, R'");
+    holds(answers.at(1) && !answers[1].value().solved && answers[1].value().moves == 1, "another one", "R, U");
+    holds(!answers.at(2) && answers[2].column() == 3 && answers[2].part() == "scramble" && answers[2].line() == 1, "a fault", "R q, R");
+    holds(!answers.at(3) && answers[3].text() == "not a move" && answers[3].part() == "solution", "another fault", "R, R q");
+    try {
+        (void)answers[3].value();
+        holds(0, "it throws", "R, R q");
+    } catch (const nissy::fault &thrown) {
+        holds(thrown.code() == NISSY_NOT_A_MOVE && thrown.column() == 3, "it says what", "R, R q");
+    }
+    holds(answers.size() == 4 && nissy::check_all(std::map<std::string, std::string>{}).empty(), "none of none", "no pair");
+}
+
 // Where the forms of a solution stand in its text: beside a byte that isn't UTF-8, of apostrophes that the line has otherwise, and two in one move.
 void forms_are_placed() {
     static constexpr char TEXT[] = "1. R // \xff\n\nR\xe2\x80\xb2 M (f U2\xe2\x80\xb2)";

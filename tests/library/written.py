@@ -129,6 +129,22 @@ def checks(tally: Tally) -> None:
     tally.holds("no fault keeps its calls", all(it.fault is None or it.fault.__traceback__ is None for it in found))
 
 
+def known(tally: Tally) -> None:
+    """A text of solutions of known scrambles, of which an iterator gives each in any form."""
+    text = "Attempt 2 of 3: U\u2019\nAttempt 1 of 3: R\u2019 q"
+    scrambles: List[Any] = ["R", b"U", bytearray(b"F")]
+    for form in forms_of(text):
+        first, second, third = nissy.check_attempts(form, scrambles=iter(scrambles))
+        tally.equal("a fault of a solution", (str(first.fault), first.place), ("solution, column 6: not a move", (38, 2, 20)))
+        tally.equal("what is solved", second.check, (True, 1, 1, ("apostrophe",)))
+        tally.equal("the scramble that it is of", second.attempt.scramble, ("U", (), ()))
+        tally.equal("its forms", second.forms, (("U\u2019", ("apostrophe",), (16, 1, 17)),))
+        tally.equal("one without a solution", third, nissy.AttemptCheck(nissy.Attempt("", nissy.PlainLine("F", (), ()), (), None, (), 0), None, None, None, ()))
+    for wrong in ("R", 3, [4]):
+        tally.holds(f"no scrambles: {wrong}", raised(TypeError, lambda: untyped.check_attempts("R", scrambles=wrong)))
+    tally.holds("they are named", raised(TypeError, lambda: untyped.check_attempts("R", ["R"])))
+
+
 def odd_checks(tally: Tally) -> None:
     """Checks of a text that is none, of one without moves, and of one that is too long."""
     odds: List[Any] = [b"1. R \xff U\n2. D\nD'\xff // x", "1. R \udcff U\n2. D\nD'\udcff // x"]
@@ -176,4 +192,4 @@ def times(tally: Tally) -> None:
 
 
 if __name__ == "__main__":
-    tried(line, attempts, places, checks, odd_checks, wrong_types, times)
+    tried(line, attempts, places, checks, known, odd_checks, wrong_types, times)
