@@ -153,7 +153,8 @@ class Reader:
         told = [line for line in lines if line.kind == STEP and line.is_solution]
         steps = [line for line in lines if line.kind == STEP and line.group == 0] or told
         return Attempt(
-            self.name(lines), self.joined([line for line in lines if line.kind == SCRAMBLE]), tuple(map(self.plain, steps)),
+            self.name(lines), self.joined([line for line in lines if line.kind == SCRAMBLE]),
+            tuple(map(self.plain, steps)),
             self.joined(told) if told else None,
             tuple(self.candidate(group) for group in moved if group[0].group > 0),
             sum(line.kind == _BEFORE for line in lines), self.doubt(lines))
