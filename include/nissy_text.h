@@ -1,5 +1,4 @@
-/* nissy for other programs: text as solvers write it, read by the library. The module and nissy.c don't have these calls. Any bytes are a text,
- * and any number of threads may call. */
+/* nissy for other programs: text as solvers write it, read by the library. Any bytes are a text, and any number of threads may call. */
 #ifndef NISSY_TEXT_H
 #define NISSY_TEXT_H
 

@@ -172,5 +172,28 @@ nissy_sides_answer nissy_solve_sides(const nissy_tables *tables, const uint8_t *
     return nissy_sides_answer_at(address(answer));
 }
 
+/* --- text as solvers write it --- */
+
+nissy_plain_answer nissy_plain(const uint8_t *text, size_t text_length, uint8_t *out, size_t out_room, uint64_t *places, size_t places_room) {
+    STACK(STACK_OF_nissy_plain);
+    _Alignas(16) unsigned char answer[16];
+    w_nissy_plain(STACK_END, address(answer), address(text), text_length, address(out), out_room, address(places), places_room);
+    const nissy_plain_answer said = nissy_plain_answer_at(address(answer));
+    for (uint64_t at = 0; at < said.length; at += 1) places[at] = load8(address(places + at));
+    return said;
+}
+
+nissy_text_answer nissy_text_lines(const uint8_t *text, size_t text_length, nissy_text_line *lines, size_t room) {
+    STACK(STACK_OF_nissy_text_lines);
+    _Alignas(16) unsigned char answer[24];
+    _Static_assert(sizeof(nissy_text_line) == 88, "nissy_text_line has the size that it has in the engine");
+    w_nissy_text_lines(STACK_END, address(answer), address(text), text_length, address(lines), room);
+    const nissy_text_answer said = nissy_text_answer_at(address(answer));
+    /* a text may have more lines than there is room for */
+    const uint64_t written = said.lines < room ? said.lines : room;
+    for (uint64_t at = 0; at < written; at += 1) lines[at] = nissy_text_line_at(address(lines + at));
+    return said;
+}
+
 /* --- the calls that the engine has as they are --- */
 
