@@ -120,62 +120,21 @@ inline std::string said(std::string_view text, const nissy_text_line &line) {
     return all.compare(0, 2, "//") == 0 ? trimmed(std::string_view(all).substr(2)) : all;
 }
 
-// Which moves of some lines are asked for.
-enum class moves_of { scramble, steps, solution };
-
-inline bool has_moves(const nissy_text_line &line, moves_of which) {
-    return which == moves_of::scramble ? is_of_scramble(line) : which == moves_of::steps ? is_step(line) : is_of_solution(line);
-}
-
-// Adds a name that isn't there.
-inline void add_name(std::vector<std::string> &names, const std::string &name) {
-    if (std::find(names.begin(), names.end(), name) == names.end()) names.push_back(name);
-}
-
-// The moves of a line, in brackets if they are on the inverse.
-inline plain line_moves(std::string_view text, const nissy_text_line &line) {
-    const plain all = plain_line(text.substr(line.head_end, line.end - line.head_end));
-    plain made = {{}, {}, all.left_out};
-    for (std::size_t at = 0; at < all.line.size(); at++) {
-        const std::size_t place = line.head_end + all.places[at];
-        if (place < line.moves || place >= line.comment) continue;
-        made.line += all.line[at];
-        made.places.push_back(place);
-    }
-    if (line.inverse && !made.line.empty()) {
-        made.line = "(" + made.line + ")";
-        made.places.insert(made.places.begin(), made.places.front());
-        made.places.push_back(made.places.back());
-    }
-    if (line.label_begin < line.label_end) add_name(made.left_out, LEFT_OUT[0]);
-    if (line.comment < line.end) add_name(made.left_out, LEFT_OUT[2]);
-    return made;
-}
-
-// The moves of some lines as one line, with a blank for the end of each but the last.
-inline plain moves_in(std::string_view text, text_lines lines, moves_of which) {
-    plain all;
-    std::optional<std::size_t> end;
-    for (const nissy_text_line &line : lines) {
-        if (!has_moves(line, which)) continue;
-        const plain one = line_moves(text, line);
-        if (end) {
-            all.line += ' ';
-            all.places.push_back(*end);
-        }
-        end = line.end;
-        all.line += one.line;
-        all.places.insert(all.places.end(), one.places.begin(), one.places.end());
-        for (const std::string &name : one.left_out) add_name(all.left_out, name);
-    }
-    return all;
+// The moves of those of some lines that are wanted, one after another.
+inline plain moves_in(std::string_view text, text_lines lines, nissy_moves_of which) {
+    std::size_t most = 0;
+    for (const nissy_text_line &line : lines) most += line.comment - line.moves + 1;
+    const std::size_t room = 3 * most, count = static_cast<std::size_t>(lines.last - lines.first);
+    return written_by(room, [=](std::uint8_t *out, std::uint64_t *places) {
+        return nissy_text_moves(text_bytes(text), text.size(), lines.first, count, static_cast<std::uint8_t>(which), out, room, places, room);
+    });
 }
 
 // The moves of each of some lines that is such.
 template <typename Which> std::vector<plain> each_in(std::string_view text, text_lines lines, Which which) {
     std::vector<plain> all;
     for (const nissy_text_line &line : lines)
-        if (which(line)) all.push_back(moves_in(text, {&line, &line + 1}, moves_of::steps));
+        if (which(line)) all.push_back(moves_in(text, {&line, &line + 1}, NISSY_OF_STEPS));
     return all;
 }
 
@@ -197,7 +156,7 @@ inline std::vector<attempt_candidate> candidates_in(std::string_view text, text_
     while (lines.first != lines.last) {
         const text_lines group = lines.take([](const nissy_text_line &it) { return it.group; });
         if (group.first->group > 0 && group.has(is_step))
-            candidates.push_back({each_in(text, group, is_step), moves_in(text, group, moves_of::steps), note_of(text, group)});
+            candidates.push_back({each_in(text, group, is_step), moves_in(text, group, NISSY_OF_STEPS), note_of(text, group)});
     }
     return candidates;
 }
@@ -210,8 +169,8 @@ inline std::vector<plain> steps_in(std::string_view text, text_lines lines) {
 }
 
 inline attempt attempt_of(std::string_view text, text_lines lines, place_counter &places) {
-    attempt made = {name_of(text, lines), moves_in(text, lines, moves_of::scramble), steps_in(text, lines), {}, candidates_in(text, lines), 0, {}};
-    if (lines.has(is_of_solution)) made.solution = moves_in(text, lines, moves_of::solution);
+    attempt made = {name_of(text, lines), moves_in(text, lines, NISSY_OF_SCRAMBLE), steps_in(text, lines), {}, candidates_in(text, lines), 0, {}};
+    if (lines.has(is_of_solution)) made.solution = moves_in(text, lines, NISSY_OF_SOLUTION);
     for (const nissy_text_line &line : lines) made.before += line.kind == NISSY_LINE_BEFORE;
     const auto doubted = lines.find([](const nissy_text_line &it) { return it.doubt != NISSY_NO_DOUBT; });
     if (doubted != lines.last) made.doubt = attempt_doubt{static_cast<doubt_reason>(doubted->doubt), places.at(doubted->doubt_at)};

@@ -32,6 +32,7 @@ inline std::string number_in(const std::string &head) {
 
 inline bool is_headed(const nissy_text_line &line) { return line.headed; }
 inline bool is_blank(const nissy_text_line &line) { return line.kind == NISSY_BLANK_LINE; }
+inline bool is_something(const nissy_text_line &line) { return is_headed(line) || !is_blank(line); }
 inline bool is_of_moves(const nissy_text_line &line) { return is_step(line) || is_of_scramble(line); }
 
 // Takes the lines up to the next head that begins a part. Before moves there may be two, but not of two numbers.
@@ -63,9 +64,12 @@ inline std::vector<text_lines> parts_in(std::string_view text, text_lines lines,
 // What is told of the lines of a part if they stand behind a scramble, with their places in the text.
 inline std::vector<nissy_text_line> lines_behind_scramble(std::string_view text, text_lines part) {
     static constexpr std::string_view BEFORE = "R' U' F D R' U' F\n";
-    std::size_t begin = part.first->begin;
+    const nissy_text_line *head = part.first;
     for (const nissy_text_line &line : part)
-        if (is_headed(line)) begin = line.head_end;
+        if (is_headed(line)) head = &line;
+    // what stands a blank line below the head is directly under it too
+    const nissy_text_line *const first = text_lines{head, part.last}.find([](const nissy_text_line &it) { return !is_blank(it); });
+    const std::size_t begin = first == part.last ? head->head_end : std::max(first->begin, head->head_end);
     std::vector<nissy_text_line> lines = lines_in(std::string(BEFORE) += text.substr(begin, (part.last - 1)->end - begin));
     lines.erase(lines.begin());
     for (nissy_text_line &line : lines)
@@ -106,7 +110,7 @@ inline std::vector<known_part> solutions_in(std::string_view text, std::size_t c
     const std::vector<nissy_text_line> all = lines_in(text);
     std::vector<known_part> parts;
     for (const text_lines &part : parts_in(text, {all.data(), all.data() + all.size()}, count))
-        parts.push_back({name_of(text, part), {}, part.first->begin, attempts_in(text, part, places)});
+        parts.push_back({name_of(text, part), {}, part.find(is_something)->begin, attempts_in(text, part, places)});
     assign(parts, count);
     return parts;
 }

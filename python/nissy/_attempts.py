@@ -1,19 +1,21 @@
 """Reads what solvers write down of their attempts, by the library: scrambles, each with the steps of a solution and
 candidates beside it. Nothing of it is called at fault here: what is no line of moves is at fault where it is used."""
-from itertools import chain, groupby
-from typing import Iterable, List, NamedTuple, Optional, Tuple
+from itertools import groupby
+from typing import Dict, List, NamedTuple, Optional, Sequence, Tuple
 
 from . import _library, _rooms
 from ._given import Text
 from ._library import TEXT_LINE
-from ._written import LEFT_OUT, PlainLine, TextPlace, Written
+from ._written import PlainLine, TextPlace, Written
 
-BLANK, _BEFORE, SCRAMBLE, STEP, _NOTE = range(5)
+_BEFORE, SCRAMBLE, STEP, _NOTE = range(1, 5)
+# whose moves the library writes
+_OF_SCRAMBLE, _OF_STEPS, _OF_SOLUTION = range(3)
 # the white space of the web's scripts
 _WHITE = ("\n\t\v\f\r \u00a0\u1680\u2000\u2001\u2002\u2003\u2004\u2005\u2006\u2007\u2008\u2009\u200a\u2028\u2029\u202f"
           "\u205f\u3000\ufeff")
-
-
+# which byte of a line says whether it has a head
+_HEADED = 2
 # what makes one doubt a line, by the library's numbers
 _DOUBTS = ("", "another scramble", "several solutions", "side", "letters", "small letters", "comment")
 
@@ -58,9 +60,13 @@ class Attempt(NamedTuple):
     """What makes one doubt the reading if the solution doesn't solve the scramble, or None."""
 
 
-class TextLine(NamedTuple):
-    """`nissy_text_line` of nissy_text.h."""
+_NOTHING = PlainLine("", (), ())
 
+
+class TextLine(NamedTuple):
+    """`nissy_text_line` of nissy_text.h, and which line of the text it is, from 0."""
+
+    at: int
     kind: int
     is_solution: bool
     is_headed: bool
@@ -79,93 +85,99 @@ class TextLine(NamedTuple):
     doubt_at: int
 
 
-def lines_of(data: bytes) -> List[TextLine]:
-    """Returns what the library tells of each line of a text."""
-    most = data.count(b"\n") + data.count(b"\r") + 1
-    size = TEXT_LINE.size * most
-    room = _rooms.take() if size <= _rooms.ORDINARY else _rooms.Room(size)
-    answer = _library.nissy_text_lines(data, len(data), room.address, most)
-    lines = list(map(TextLine._make, TEXT_LINE.iter_unpack(room.memory[:TEXT_LINE.size * answer.lines])))
-    if size <= _rooms.ORDINARY:
-        _rooms.put_back(room)
-    return lines
-
-
 class Reader:
-    """A text that is read."""
+    """A text that is read by lines, or a part of one: some bytes, with so many of the whole text before them."""
 
-    def __init__(self, whole: Written) -> None:
-        self.whole = whole
+    def __init__(self, whole: Written, data: bytes, before: int = 0) -> None:
+        self.whole, self._data, self._before = whole, data, before
+        most = data.count(b"\n") + data.count(b"\r") + 1
+        # it stays, since the library reads lines there again
+        self._room = _rooms.Room(TEXT_LINE.size * most)
+        self._count = _library.nissy_text_lines(data, len(data), self._room.address, most).lines
+        self._steps: Dict[int, PlainLine] = {}
 
-    def plain(self, line: TextLine) -> PlainLine:
-        """Returns the moves of a line, in brackets if they are on the inverse."""
-        plain = self.whole.plain(line.head_end, line.end)
-        begin, end = self.whole.at(line.moves), self.whole.at(line.comment)
-        own = [(sign, at) for sign, at in zip(plain.line, plain.places) if begin <= at < end]
-        if line.is_inverse and own:
-            own = [("(", own[0][1]), *own, (")", own[-1][1])]
-        names = {*plain.left_out, *(["labels"] if line.label_begin < line.label_end else []),
-                 *(["comments"] if line.comment < line.end else [])}
-        return PlainLine("".join(sign for sign, _ in own), tuple(at for _, at in own),
-                         tuple(name for name in LEFT_OUT if name in names))
+    def lines(self) -> List[TextLine]:
+        """Returns the lines that aren't blank, or have a head alone."""
+        told = self._room.memory[:TEXT_LINE.size * self._count]
+        heads = told[_HEADED::TEXT_LINE.size]
+        return [TextLine._make((at, *TEXT_LINE.unpack_from(told, TEXT_LINE.size * at)))
+                for at, kind in enumerate(told[::TEXT_LINE.size]) if kind or heads[at]]
 
-    def doubt(self, lines: List[TextLine]) -> Optional[AttemptDoubt]:
-        """Returns what makes one doubt the first of the lines of an attempt of which one is in doubt."""
-        return next((AttemptDoubt(_DOUBTS[line.doubt], self.whole.place(self.whole.at(line.doubt_at)))
-                     for line in lines if line.doubt), None)
+    def moves(self, lines: Sequence[TextLine], which: int) -> PlainLine:
+        """Returns the moves of those of some lines that are wanted, one after another."""
+        if not lines:
+            return _NOTHING
+        count = lines[-1].at + 1 - lines[0].at
+        place, most = self._room.address + TEXT_LINE.size * lines[0].at, lines[-1].end - lines[0].begin + count
+        return self.whole.plain(3 * most, lambda *room: _library.nissy_text_moves(
+            self._data, len(self._data), place, count, which, *room), self._before)
 
-    def joined(self, lines: List[TextLine]) -> PlainLine:
-        """Returns some lines as one, with a blank for the end of each but the last."""
-        parts = [self.plain(line) for line in lines]
-        places = list(parts[0].places) if parts else []
-        for line, part in zip(lines, parts[1:]):
-            places += [self.whole.at(line.end), *part.places]
-        left_out = dict.fromkeys(chain(*(part.left_out for part in parts)))
-        return PlainLine(" ".join(part.line for part in parts), tuple(places), tuple(left_out))
+    def step(self, line: TextLine) -> PlainLine:
+        """Returns the moves of a step."""
+        if line.at not in self._steps:
+            self._steps[line.at] = self.moves([line], _OF_STEPS)
+        return self._steps[line.at]
 
-    def note(self, line: TextLine) -> str:
+    def place(self, byte: int) -> TextPlace:
+        """Returns the place of a byte in the whole text."""
+        return self.whole.place(self.whole.at(self._before + byte))
+
+    def _part(self, begin: int, end: int) -> str:
+        """Returns some bytes as words."""
+        return self.whole.part(self._before + begin, self._before + end).strip(_WHITE)
+
+    def _note(self, line: TextLine) -> str:
         """Returns what a line without moves says: its label, if nothing follows that, else all of it."""
-        rest = self.whole.part(line.moves, line.end).strip(_WHITE)
-        if line.label_begin < line.label_end and not rest:
-            return self.label(line)
-        said = self.whole.part(line.head_end, line.end).strip(_WHITE)
+        if line.label_begin < line.label_end and not self._part(line.moves, line.end):
+            return self._label(line)
+        said = self._part(line.head_end, line.end)
         return said[2:].strip(_WHITE) if said.startswith("//") else said
 
-    def name(self, lines: List[TextLine]) -> str:
+    def name(self, lines: Sequence[TextLine]) -> str:
         """Returns the first head of some lines, or nothing."""
-        return next((self.whole.part(it.begin, it.head_end).strip(_WHITE) for it in lines if it.is_headed), "")
+        return next((self._part(line.begin, line.head_end) for line in lines if line.is_headed), "")
 
-    def label(self, line: TextLine) -> str:
+    def _label(self, line: TextLine) -> str:
         """Returns the words of a line's label."""
-        return self.whole.part(line.label_begin, line.label_end).strip(_WHITE)
+        return self._part(line.label_begin, line.label_end)
 
-    def candidate(self, lines: List[TextLine]) -> AttemptCandidate:
+    def _joined(self, steps: Sequence[TextLine], lines: Sequence[TextLine], which: int) -> PlainLine:
+        """Returns some steps as one line, which are those that are wanted of some lines."""
+        return self.step(steps[0]) if len(steps) == 1 else self.moves(lines, which)
+
+    def _candidate(self, lines: List[TextLine]) -> AttemptCandidate:
         """Returns a group of lines."""
         steps = [line for line in lines if line.kind == STEP]
-        note = " ".join(self.note(line) for line in lines if line.kind == _NOTE)
-        told = next((self.label(line) for line in lines if line.says_solution), "")
-        return AttemptCandidate(tuple(map(self.plain, steps)), self.joined(steps), note or told)
+        note = " ".join(self._note(line) for line in lines if line.kind == _NOTE)
+        told = next((self._label(line) for line in lines if line.says_solution), "")
+        return AttemptCandidate(tuple(map(self.step, steps)), self._joined(steps, lines, _OF_STEPS), note or told)
 
-    def attempt(self, lines: List[TextLine]) -> Attempt:
+    def attempt(self, lines: Sequence[TextLine]) -> Attempt:
         """Returns the attempt of its lines."""
         groups = [list(group) for _, group in groupby((it for it in lines if it.kind >= STEP), lambda it: it.group)]
-        moved = [group for group in groups if any(line.kind == STEP for line in group)]
         told = [line for line in lines if line.kind == STEP and line.is_solution]
         steps = [line for line in lines if line.kind == STEP and line.group == 0] or told
+        doubted = next((line for line in lines if line.doubt), None)
         return Attempt(
-            self.name(lines), self.joined([line for line in lines if line.kind == SCRAMBLE]),
-            tuple(map(self.plain, steps)),
-            self.joined(told) if told else None,
-            tuple(self.candidate(group) for group in moved if group[0].group > 0),
-            sum(line.kind == _BEFORE for line in lines), self.doubt(lines))
+            self.name(lines), self.moves(lines, _OF_SCRAMBLE), tuple(map(self.step, steps)),
+            self._joined(told, lines, _OF_SOLUTION) if told else None,
+            tuple(self._candidate(group) for group in groups
+                  if group[0].group > 0 and any(line.kind == STEP for line in group)),
+            sum(line.kind == _BEFORE for line in lines),
+            doubted and AttemptDoubt(_DOUBTS[doubted.doubt], self.place(doubted.doubt_at)))
+
+
+def by_attempts(lines: List[TextLine]) -> List[List[TextLine]]:
+    """Returns the lines of each attempt."""
+    return [list(own) for _, own in groupby(lines, lambda line: line.attempt)]
 
 
 def attempts_of(whole: Written) -> List[Attempt]:
     """Returns the attempts of a text."""
-    reader = Reader(whole)
-    attempts = [list(lines) for _, lines in groupby(lines_of(whole.data), lambda line: line.attempt)]
-    read = [reader.attempt(lines) for lines in attempts if any(line.kind == SCRAMBLE for line in lines)]
-    return read or [Attempt("", PlainLine("", (), ()), (), None, (), 0)]
+    reader = Reader(whole, whole.data)
+    read = [reader.attempt(lines) for lines in by_attempts(reader.lines())
+            if any(line.kind == SCRAMBLE for line in lines)]
+    return read or [Attempt("", _NOTHING, (), None, (), 0)]
 
 
 def read_attempts(text: Text) -> List[Attempt]:

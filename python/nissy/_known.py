@@ -5,15 +5,13 @@ from collections import Counter
 from itertools import groupby
 from typing import List, NamedTuple, Optional
 
-from ._attempts import BLANK, SCRAMBLE, STEP, Attempt, Reader, TextLine, lines_of
+from ._attempts import SCRAMBLE, STEP, Attempt, Reader, TextLine, by_attempts
 from ._written import Written
 
 # a whole scramble, behind which the library reads lines as steps
 _BEFORE = b"R' U' F D R' U' F\n"
 # the number of a head; extras, such as E1, have others
 _NUMBER = re.compile("(?![^A-Za-z0-9]*[Ee])[^0-9]*0*([0-9]+)")
-# where the places of a line stand in it
-_FIRST_PLACE = TextLine._fields.index("begin")
 
 
 class Part(NamedTuple):
@@ -49,7 +47,7 @@ def _under_heads(reader: Reader, lines: List[TextLine]) -> List[List[TextLine]]:
 
 def _in_blocks(lines: List[TextLine]) -> List[List[TextLine]]:
     """Returns lines in parts, between which blank lines stand."""
-    return [list(part) for is_blank, part in groupby(lines, lambda line: line.kind == BLANK) if not is_blank]
+    return [[line for _, line in part] for _, part in groupby(enumerate(lines), lambda it: it[1].at - it[0])]
 
 
 def _is_moves(line: TextLine) -> bool:
@@ -66,17 +64,13 @@ def _parts(reader: Reader, lines: List[TextLine], count: int) -> List[List[TextL
 def _read(reader: Reader, part: List[TextLine]) -> List[Attempt]:
     """Returns what a part has, by how the library reads its lines behind a scramble, with those of which it says that
     they have another scramble behind that."""
-    heads = [line.head_end for line in part if line.is_headed]
-    begin, end = heads[-1] if heads else part[0].begin, part[-1].end
-    lines = [_moved(line, begin - len(_BEFORE)) for line in lines_of(_BEFORE + reader.whole.data[begin:end])]
-    each = [list(own) for _, own in groupby(lines, lambda line: line.attempt)]
-    first = reader.attempt(each[0][1:])
-    return [first._replace(name=reader.name(part)), *map(reader.attempt, each[1:])]
-
-
-def _moved(line: TextLine, behind: int) -> TextLine:
-    """Returns a line with its places so much further behind in the text."""
-    return TextLine._make([*line[:_FIRST_PLACE], *(place + behind for place in line[_FIRST_PLACE:])])
+    head = max((at for at, line in enumerate(part) if line.is_headed), default=0)
+    # what stands a blank line below the head is directly under it too
+    first = next((line for line in part[head:] if line.kind), part[head])
+    begin = max(first.begin, part[head].head_end)
+    own = Reader(reader.whole, _BEFORE + reader.whole.data[begin:part[-1].end], begin - len(_BEFORE))
+    first, *others = by_attempts(own.lines())
+    return [own.attempt(first[1:])._replace(name=reader.name(part)), *map(own.attempt, others)]
 
 
 def _scrambles_of(names: List[str], count: int) -> List[Optional[int]]:
@@ -91,7 +85,7 @@ def _scrambles_of(names: List[str], count: int) -> List[Optional[int]]:
 
 def solutions_of(whole: Written, count: int) -> List[Part]:
     """Returns the solutions in a text, of so many scrambles."""
-    reader = Reader(whole)
-    parts = _parts(reader, lines_of(whole.data), count)
+    reader = Reader(whole, whole.data)
+    parts = _parts(reader, reader.lines(), count)
     of = _scrambles_of([reader.name(part) for part in parts], count)
     return [Part(scramble, whole.at(part[0].begin), _read(reader, part)) for scramble, part in zip(of, parts)]

@@ -246,6 +246,7 @@ nissy_solve_sides = _call("nissy_solve_sides", SidesAnswer, _PLACE, *_READ, *_RE
 nissy_line_after = _call("nissy_line_after", LineAfterAnswer, *_READ, *_READ, *_WRITTEN)
 nissy_plain = _call("nissy_plain", PlainAnswer, *_READ, *_WRITTEN, *_WRITTEN)
 nissy_text_lines = _call("nissy_text_lines", TextAnswer, *_READ, *_WRITTEN)
+nissy_text_moves = _call("nissy_text_moves", PlainAnswer, *_READ, _PLACE, _NUMBER, _BYTE, *_WRITTEN, *_WRITTEN)
 nissy_scramble = _call("nissy_scramble", LineAnswer, _LONG, _LONG, _HALF, *_WRITTEN)
 nissy_steps = _call("nissy_steps", LineAnswer, *_WRITTEN)
 nissy_start = _call("nissy_start", LineAnswer, *_READ, *_WRITTEN)

@@ -4,19 +4,22 @@ import re
 import struct
 from bisect import bisect_right
 from itertools import accumulate, chain, compress
-from typing import List, NamedTuple, Optional, Tuple, Union, overload
+from typing import Any, Callable, List, NamedTuple, Optional, Tuple, Union, overload
 
 from . import _library, _rooms
 from ._given import Text, bytes_of, kind_of
 from ._tokens import FormPlace
 from ._values import Fault, LineFault
 
-# what the library leaves out, by its bits
-LEFT_OUT = ("labels", "numbers of moves", "comments", "line numbers", "commas", "signs that aren't seen")
+# what the library leaves out, by its bits, and what each number of them says
+_NAMES = ("labels", "numbers of moves", "comments", "line numbers", "commas", "signs that aren't seen")
+_LEFT_OUT = [tuple(name for bit, name in enumerate(_NAMES) if number >> bit & 1) for number in range(1 << len(_NAMES))]
 # the apostrophes for which the library writes U+2019, and of these those that have fewer bytes
 _APOSTROPHES = "\u2018\u02bc\u2032\u00b4`"
 _SHORTER = ((b"`", 2), (b"\xc2\xb4", 1), (b"\xca\xbc", 1))
 _PLACE = 8
+# bytes that a line may have in place of others
+_OWN = b" ()"
 # 1 for each byte with which a sign begins, of a text in UTF-8
 _BEGINS = bytes(byte & 0xc0 != 0x80 for byte in range(256))
 
@@ -93,45 +96,44 @@ class Written:
         """Returns the characters from one byte to another."""
         return self.text[self.at(begin):self.at(end)]
 
-    def plain(self, begin: int, end: int) -> PlainLine:
-        """Returns what stands from one byte to another as one line."""
-        line, places, left_out = _plain(self.data[begin:end])
-        names = tuple(name for bit, name in enumerate(LEFT_OUT) if left_out >> bit & 1)
+    def plain(self, most: int, call: Callable[..., Any], before: int = 0) -> PlainLine:
+        """Returns what a call writes as a line into a room of so many bytes and places, which have so many fewer bytes
+        before them than in this text."""
+        size = (1 + _PLACE) * most
+        room = _rooms.take() if size <= _rooms.ORDINARY else _rooms.Room(size)
+        answer = call(room.address + _PLACE * most, most, room.address, most)
+        line = room.memory[_PLACE * most:_PLACE * most + answer.length]
+        places = struct.unpack(f"={answer.length}Q", room.memory[:_PLACE * answer.length])
+        if size <= _rooms.ORDINARY:
+            _rooms.put_back(room)
+        return self._plain(line, tuple(map(before.__add__, places)) if before else places, _LEFT_OUT[answer.left_out])
+
+    def _plain(self, line: bytes, places: Tuple[int, ...], left_out: Tuple[str, ...]) -> PlainLine:
+        """Returns a line, with its places in bytes, in characters."""
         if self._characters is None and line.isascii():
-            return PlainLine(line.decode("ascii"), tuple(begin + place for place in places), names)
+            return PlainLine(line.decode("ascii"), places, left_out)
         if self._is_text:
             firsts = compress(places, line.translate(_BEGINS))
-            return PlainLine(line.decode(), tuple(self.at(begin + place) for place in firsts), names)
-        # of a sign that has several bytes the first one counts
+            return PlainLine(line.decode(), tuple(map(self.at, firsts)), left_out)
+        # of a sign that has several bytes the first one counts; what a line has of its own isn't of the text
         signs, own, last = [], [], -1
-        for byte, place in zip(line, places):
-            at = self.at(begin + place)
-            if at != last:
-                sign = self.text[at]
-                signs.append(" " if byte == ord(" ") else "\u2019" if sign in _APOSTROPHES else sign)
+        for byte, at in zip(line, map(self.at, places)):
+            if byte in _OWN or at != last:
+                sign = self.text[at:at + 1]
+                signs.append(chr(byte) if byte in _OWN else "\u2019" if sign in _APOSTROPHES else sign)
                 own.append(at)
-            last = at
-        return PlainLine("".join(signs), tuple(own), names)
-
-
-def _plain(data: bytes) -> Tuple[bytes, Tuple[int, ...], int]:
-    """Returns what the library makes of bytes: the line, the place of each of its bytes, and what is left out."""
-    most = len(data) + sum(more * data.count(sign) for sign, more in _SHORTER)
-    size = (1 + _PLACE) * most
-    room = _rooms.take() if size <= _rooms.ORDINARY else _rooms.Room(size)
-    answer = _library.nissy_plain(data, len(data), room.address + _PLACE * most, most, room.address, most)
-    places = struct.unpack(f"={answer.length}Q", room.memory[:_PLACE * answer.length])
-    line = room.memory[_PLACE * most:_PLACE * most + answer.length]
-    if size <= _rooms.ORDINARY:
-        _rooms.put_back(room)
-    return line, places, answer.left_out
+            last = last if byte in _OWN else at
+        return PlainLine("".join(signs), tuple(own), left_out)
 
 
 def plain_line(text: Text) -> PlainLine:
     """A text as solvers write it as one line: without labels, comments, and numbers of lines and moves. `place_of` says
     where a fault or a form of the line stands in the text."""
     whole = Written(text)
-    return whole.plain(0, len(whole.data))
+    data = whole.data
+    # a sign is written as three bytes at most
+    most = len(data) + sum(more * data.count(sign) for sign, more in _SHORTER)
+    return whole.plain(most, lambda *room: _library.nissy_plain(data, len(data), *room))
 
 
 @overload

@@ -318,12 +318,14 @@ class Python(Host):
 
 
 def hosts_of(words: List[str]) -> List[Host]:
-    """The hosts that words name: `python`, `c++=CALLER`, `js=MODULE`, or `program=COMMAND`, of which blanks part the words."""
+    """The hosts that words name: `python`, `c=CALLER`, `c++=CALLER`, `js=MODULE`, or `program=COMMAND`, of which blanks part the words."""
     made: List[Host] = []
     for word in words:
         kind, _, what = word.partition("=")
         if kind == "js":
             made.append(Caller("JavaScript", ["node", os.path.join(os.path.dirname(os.path.abspath(__file__)), "caller.mjs"), what]))
+        elif kind in ("c", "c++"):
+            made.append(Caller(kind.upper(), [what]))
         else:
-            made.append(Python() if kind == "python" else Caller("C++", [what]) if kind == "c++" else Other(what.split(" ")))
+            made.append(Python() if kind == "python" else Other(what.split(" ")))
     return made

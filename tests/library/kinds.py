@@ -72,7 +72,7 @@ def kinds(tally: Tally) -> None:
         tally.holds(f"{kind.name} isn't silently wrong: {verdicts[kind.name]}", verdicts[kind.name] not in ("silent", "right, in doubt"))
     of_table = [verdicts[kind.name] for kind in listed()]
     # 32 of these were read right without the rules of the library, and 64 are to be
-    tally.holds(f"at least 75 of the table are right: {of_table.count('right')}", of_table.count("right") >= 75)
+    tally.holds(f"at least 135 of the table are right: {of_table.count('right')}", of_table.count("right") >= 135)
     tally.holds("and most that words make", list(verdicts.values()).count("right") > 150)
 
 
@@ -91,7 +91,7 @@ def slips(tally: Tally) -> None:
             doubts += any(it.doubt for it in told)
             count += 1
             tally.holds(f"a slip in {kind.name} is seen", not any(it.check and it.check.solved for it in told))
-    tally.holds(f"at most a tenth of {count} are in doubt: {doubts}", count > 200 and doubts * 10 <= count)
+    tally.holds(f"at most an eighth of {count} are in doubt: {doubts}", count > 200 and doubts * 8 <= count)
 
 
 def doubts(tally: Tally) -> None:
