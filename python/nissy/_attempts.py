@@ -1,9 +1,10 @@
 """Reads what solvers write down of their attempts, by the library: scrambles, each with the steps of a solution and
 candidates beside it. Nothing of it is called at fault here: what is no line of moves is at fault where it is used."""
+import ctypes
 from itertools import groupby
 from typing import Dict, List, NamedTuple, Optional, Sequence, Tuple
 
-from . import _library, _rooms
+from . import _library
 from ._given import Text
 from ._library import TEXT_LINE
 from ._written import PlainLine, TextPlace, Written
@@ -91,14 +92,15 @@ class Reader:
     def __init__(self, whole: Written, data: bytes, before: int = 0) -> None:
         self.whole, self._data, self._before = whole, data, before
         most = data.count(b"\n") + data.count(b"\r") + 1
-        # it stays, since the library reads lines there again
-        self._room = _rooms.Room(TEXT_LINE.size * most)
-        self._count = _library.nissy_text_lines(data, len(data), self._room.address, most).lines
+        # the library reads the lines there again
+        self._room = bytearray(TEXT_LINE.size * most)
+        self._address = ctypes.addressof(ctypes.c_char.from_buffer(self._room))
+        self._count = _library.nissy_text_lines(data, len(data), self._address, most).lines
         self._steps: Dict[int, PlainLine] = {}
 
     def lines(self) -> List[TextLine]:
         """Returns the lines that aren't blank, or have a head alone."""
-        told = self._room.memory[:TEXT_LINE.size * self._count]
+        told = self._room[:TEXT_LINE.size * self._count]
         heads = told[_HEADED::TEXT_LINE.size]
         return [TextLine._make((at, *TEXT_LINE.unpack_from(told, TEXT_LINE.size * at)))
                 for at, kind in enumerate(told[::TEXT_LINE.size]) if kind or heads[at]]
@@ -108,7 +110,7 @@ class Reader:
         if not lines:
             return _NOTHING
         count = lines[-1].at + 1 - lines[0].at
-        place, most = self._room.address + TEXT_LINE.size * lines[0].at, lines[-1].end - lines[0].begin + count
+        place, most = self._address + TEXT_LINE.size * lines[0].at, lines[-1].end - lines[0].begin + count
         return self.whole.plain(3 * most, lambda *room: _library.nissy_text_moves(
             self._data, len(self._data), place, count, which, *room), self._before)
 
