@@ -87,7 +87,10 @@ inline std::vector<attempt> attempts_in(std::string_view text, text_lines part, 
     rest.first = first.last;
     std::vector<attempt> attempts = {attempt_of(text, first, places)};
     attempts[0].name = name_of(text, part);
-    while (rest.first != rest.last) attempts.push_back(attempt_of(text, rest.take([](const nissy_text_line &it) { return it.attempt; }), places));
+    while (rest.first != rest.last) {
+        const text_lines own = rest.take([](const nissy_text_line &it) { return it.attempt; });
+        if (own.has(is_of_scramble)) attempts.push_back(attempt_of(text, own, places));
+    }
     return attempts;
 }
 

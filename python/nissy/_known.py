@@ -66,11 +66,12 @@ def _read(reader: Reader, part: List[TextLine]) -> List[Attempt]:
     they have another scramble behind that."""
     head = max((at for at, line in enumerate(part) if line.is_headed), default=0)
     # what stands a blank line below the head is directly under it too
-    first = next((line for line in part[head:] if line.kind), part[head])
-    begin = max(first.begin, part[head].head_end)
+    line = next((line for line in part[head:] if line.kind), part[head])
+    begin = max(line.begin, part[head].head_end)
     own = Reader(reader.whole, _BEFORE + reader.whole.data[begin:part[-1].end], begin - len(_BEFORE))
     first, *others = by_attempts(own.lines())
-    return [own.attempt(first[1:])._replace(name=reader.name(part)), *map(own.attempt, others)]
+    behind = [own.attempt(lines) for lines in others if any(it.kind == SCRAMBLE for it in lines)]
+    return [own.attempt(first[1:])._replace(name=reader.name(part)), *behind]
 
 
 def _scrambles_of(names: List[str], count: int) -> List[Optional[int]]:

@@ -66,7 +66,13 @@ def pairs(tally: Tally) -> None:
     solved, unsolved = nissy.Check(True, 1, 1, ()), nissy.Check(False, 1, 1, ())
     taken: List[Any] = []
     given: List[Any] = [("R", "R'"), [b"R", "R"], ("R q", "R"), {"R": 1, "R q": 2}, iter([bytearray(b"R"), "R'"])]
-    answers: Any = nissy.check_all((taken.append(it) or it for it in given))
+
+    def each() -> Iterator[Any]:
+        for pair in given:
+            taken.append(pair)
+            yield pair
+
+    answers: Any = nissy.check_all(each())
     tally.equal("nothing is taken before it is asked for", taken, [])
     tally.equal("the first two", (list(itertools.islice(answers, 2)), len(taken)), ([solved, unsolved], 2))
     first, second, last = answers
