@@ -101,6 +101,32 @@ enum nissy_moves_of {
 nissy_plain_answer nissy_text_moves(const uint8_t *text, size_t text_length, const nissy_text_line *lines, size_t count, uint8_t which,
                                     uint8_t *out, size_t out_room, uint64_t *places, size_t places_room);
 
+/* The most bytes of the steps in which a part is looked for. */
+#define NISSY_MOST_STEPS 65536
+
+/* What is to be done with some steps of an attempt, one after another, so that it solves. */
+enum nissy_part {
+    NISSY_NO_PART = 0,
+    NISSY_PART_ALONE = 1,           /* they stand alone */
+    NISSY_PART_LEFT_OUT = 2,        /* they are left out */
+    NISSY_PART_IN_BRACKETS = 3,     /* they are put in brackets */
+    NISSY_PART_WITHOUT_BRACKETS = 4 /* all steps lose their brackets */
+};
+
+/* What nissy_solving_part returns. */
+typedef struct nissy_part_answer {
+    uint8_t status; /* NISSY_DONE; NISSY_STOPPED: the scramble has more than NISSY_MOST_INPUT bytes, or the steps more than NISSY_MOST_STEPS */
+    uint8_t how;    /* one of nissy_part */
+    uint8_t first;  /* the first of these steps, from 0 */
+    uint8_t last;   /* the last of them */
+} nissy_part_answer;
+
+/* Whether a part of an attempt solves its scramble: who wrote more than the solution, or the side of a step not at all, may have meant that. The
+ * steps are those of one text, a line each, such as nissy_text_moves writes them; the first eight are looked at. Told is the first part that
+ * solves, by its first step, then its last one, then in the order of nissy_part; all steps without their brackets come last. A part that can't be
+ * read, or has no moves, doesn't solve. It takes no memory. */
+nissy_part_answer nissy_solving_part(const uint8_t *scramble, size_t scramble_length, const uint8_t *steps, size_t steps_length);
+
 #ifdef __cplusplus
 }
 #endif

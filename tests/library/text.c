@@ -72,6 +72,23 @@ static void lines_are_of_the_text(guarded text, const char *name) {
     let_go(room);
 }
 
+/* The moves of each line of a text: each byte is that of its place, from `moves` to `comment`. */
+static void moves_are_of_the_text(guarded text, const char *name) {
+    nissy_text_line lines[32 * MOST_PARTS];
+    uint8_t out[96 * MOST_PARTS];
+    uint64_t places[96 * MOST_PARTS];
+    const nissy_text_answer got = nissy_text_lines(text.bytes, text.size, lines, 32 * MOST_PARTS);
+    for (uint64_t at = 0; at < got.lines; at++) {
+        const nissy_plain_answer told = nissy_text_moves(text.bytes, text.size, lines + at, 1, NISSY_OF_STEPS, out, sizeof out, places, sizeof out);
+        int is_right = told.status == NISSY_DONE && (lines[at].kind == NISSY_STEP_LINE || told.length == 0);
+        const uint64_t skipped = lines[at].inverse && told.length > 0;
+        for (uint64_t byte = skipped; byte + skipped < told.length; byte++) {
+            is_right = is_right && places[byte] >= lines[at].moves && places[byte] < lines[at].comment && is_of_its_place(text, out, places, byte);
+        }
+        holds(is_right, "the moves of a line", name);
+    }
+}
+
 static void drawn_texts(void) {
     static const char *const PARTS[] = {"R U F", "\n", "\r\n", "\r", "// ", "EO: ", "Solution: ", "1. ", "#2 ", "R' U' F D R' U' F", "(", ")", "(2)",
                                         "\xe2\x80\x99", "\xe2", "\xff", "\xc2\xa0", "`", ",", "DR", "F2L", "on inverse", " - ", "[0:12] ", "r u",
@@ -161,21 +178,42 @@ static void lines_of_no_text(void) {
     moves_are(TEXT, &line, 1, NISSY_OF_STEPS, "", PLACES, 0);
 }
 
-/* The moves of each line of a drawn text, beside its plain line: each byte is that of its place, from `moves` to `comment`. */
-static void moves_are_of_the_text(guarded text, const char *name) {
-    nissy_text_line lines[32 * MOST_PARTS];
-    uint8_t out[96 * MOST_PARTS];
-    uint64_t places[96 * MOST_PARTS];
-    const nissy_text_answer got = nissy_text_lines(text.bytes, text.size, lines, 32 * MOST_PARTS);
-    for (uint64_t at = 0; at < got.lines; at++) {
-        const nissy_plain_answer told = nissy_text_moves(text.bytes, text.size, lines + at, 1, NISSY_OF_STEPS, out, sizeof out, places, sizeof out);
-        int is_right = told.status == NISSY_DONE && (lines[at].kind == NISSY_STEP_LINE || told.length == 0);
-        const uint64_t skipped = lines[at].inverse && told.length > 0;
-        for (uint64_t byte = skipped; byte + skipped < told.length; byte++) {
-            is_right = is_right && places[byte] >= lines[at].moves && places[byte] < lines[at].comment && is_of_its_place(text, out, places, byte);
-        }
-        holds(is_right, "the moves of a line", name);
-    }
+/* Whether this is said of the parts of some steps. */
+static void part_is(const char *scramble, const char *steps, uint8_t how, uint8_t first, uint8_t last) {
+    guarded one = copied(scramble, strlen(scramble)), other = copied(steps, strlen(steps));
+    const nissy_part_answer got = nissy_solving_part(one.bytes, one.size, other.bytes, other.size);
+    holds(got.status == NISSY_DONE && got.how == how, "what solves", steps);
+    holds(got.first == first && got.last == last, "which steps", steps);
+    let_go(one), let_go(other);
+}
+
+/* Steps of which a part solves: the first one in order, if several do. */
+static void parts_of_steps(void) {
+    part_is("R U F", "F'\nU' R'", NISSY_PART_ALONE, 0, 1);
+    part_is("R U F", "L\nF' U' R'\nD", NISSY_PART_ALONE, 1, 1);
+    part_is("R U F", "F'\nL\nU' R'", NISSY_PART_LEFT_OUT, 1, 1);
+    /* R is undone on the inverse, and (R) stands for R' at the end */
+    part_is("R U F", "F' U'\nR", NISSY_PART_IN_BRACKETS, 1, 1);
+    /* both steps alone are tried before the first one in brackets, and the second in brackets after them */
+    part_is("R", "R'\nR", NISSY_PART_ALONE, 0, 0);
+    part_is("R U F", "(F'\nU')\nR'", NISSY_PART_WITHOUT_BRACKETS, 0, 2);
+    part_is("R U F", "(F' U' R')", NISSY_PART_WITHOUT_BRACKETS, 0, 0);
+    part_is("R U F", "F' U'\nQ\nR'", NISSY_PART_LEFT_OUT, 1, 1);
+    part_is("R U F", "F' U' R", NISSY_NO_PART, 0, 0);
+    part_is("R U F", "", NISSY_NO_PART, 0, 0);
+    part_is("R U Q", "F' U' R'", NISSY_NO_PART, 0, 0);
+    part_is("", "R\n\nL", NISSY_NO_PART, 0, 0);
+    /* eight steps are looked at, and no ninth */
+    part_is("R", "L\nL\nL\nL\nL\nL\nL\nR'", NISSY_PART_ALONE, 7, 7);
+    part_is("R", "L\nL\nL\nD\nL\nL\nL\nL\nR'", NISSY_NO_PART, 0, 0);
+    guarded steps = guard(NISSY_MOST_STEPS + 1);
+    memset(steps.bytes, ' ', steps.size);
+    memcpy(steps.bytes, "R'", 2);
+    const nissy_part_answer few = nissy_solving_part((const uint8_t *)"R", 1, steps.bytes, NISSY_MOST_STEPS);
+    const nissy_part_answer many = nissy_solving_part((const uint8_t *)"R", 1, steps.bytes, NISSY_MOST_STEPS + 1);
+    holds(few.status == NISSY_DONE && few.how == NISSY_PART_ALONE, "as many bytes as may be", "long steps");
+    holds(many.status == NISSY_STOPPED && many.how == NISSY_NO_PART, "one byte more", "long steps");
+    let_go(steps);
 }
 
 /* No byte, and a pointer to none. */
@@ -191,6 +229,7 @@ int main(void) {
     a_sheet();
     moves_of_a_sheet();
     lines_of_no_text();
+    parts_of_steps();
     nothing();
     return ended();
 }
