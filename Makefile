@@ -98,7 +98,7 @@ build/niss_page.a: $(SOURCES) tools/page-archive tools/kit.py
 build/nissy.wasm: build/niss_page.a tools/web-module
 	tools/web-module build/niss_page.a build/nissy.wasm
 
-build/nissy.c: build/niss_page.a include/nissy.h tools/c-file $(wildcard tools/wasm_*.py) tools/c_calls.py $(wildcard portable/*.[ch])
+build/nissy.c: build/niss_page.a include/nissy.h include/nissy_text.h tools/c-file $(wildcard tools/wasm_*.py) tools/c_calls.py $(wildcard portable/*.[ch])
 	tools/c-file build/niss_page.a build/nissy.c
 
 # one file, with the engine's module in it

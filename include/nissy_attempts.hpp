@@ -1,180 +1,179 @@
-// nissy for C++17 and later: reads what solvers write down of their attempts: scrambles, each with the steps of a solution and candidates beside
-// it. Nothing of it is called at fault here: what is no line of moves is at fault where it is used. Header alone, over nissy_heads.hpp, without the
-// library.
+// nissy for C++17 and later: reads what solvers write down of their attempts, by the library: scrambles, each with the steps of a solution and
+// candidates beside it. Nothing of it is called at fault here: what is no line of moves is at fault where it is used. Header alone, over
+// nissy_written.hpp.
 #ifndef NISSY_ATTEMPTS_HPP
 #define NISSY_ATTEMPTS_HPP
 
-#include "nissy_heads.hpp"
-
-#include <iterator>
+#include "nissy_written.hpp"
 
 namespace nissy {
 
-// A way that was tried: its steps, these in one, and what is said of it on lines of their own.
+// A way that was tried.
 struct attempt_candidate {
-    std::vector<plain> steps;
-    plain solution;
-    std::string note;
+    std::vector<plain> steps; // its lines
+    plain solution;           // the steps in one
+    std::string note;         // what is said of it on lines of their own, else the label of a solution
 };
 
-// An attempt at a scramble, whose parts have their places in bytes of the whole text.
+// What makes one doubt that an attempt is read as it was meant; nissy_text.h says more of those that it has too.
+enum class doubt_reason {
+    another_scramble = NISSY_ANOTHER_SCRAMBLE,
+    several_solutions = NISSY_SEVERAL_SOLUTIONS,
+    side = NISSY_SIDE,
+    letters = NISSY_LETTERS,
+    small_letters = NISSY_SMALL_LETTERS,
+    comment = NISSY_COMMENT,
+    a_part,        // of a check: some of its steps alone solve the scramble, or its solution with other brackets
+    which_scramble // of a check: it isn't told which of the known scrambles this is a solution of
+};
+
+// A reason as the library for Python names it, such as "another scramble".
+inline std::string doubt_name(doubt_reason reason) {
+    static constexpr std::array<const char *, 9> NAMES = {"",        "another scramble", "several solutions", "side",          "letters",
+                                                          "small letters", "comment",    "a part",            "which scramble"};
+    return NAMES[static_cast<std::size_t>(reason)];
+}
+
+// A doubt, and where it is seen in the text.
+struct attempt_doubt {
+    doubt_reason reason;
+    text_place place;
+};
+
+// An attempt at a scramble, each part with its places in the whole text.
 struct attempt {
-    std::string name;                          // what tells the scramble from others, such as "2.", or empty
+    std::string name; // what tells the scramble from others, such as "2.", or empty
     plain scramble;
-    std::vector<plain> steps;                  // the lines of the solution, each of which a comment or a label may describe
-    std::optional<plain> solution;             // the block whose label says so, else the steps in one; none if it can't be told, or there is none
+    std::vector<plain> steps;      // the lines of the solution, each of which a comment or a label may describe
+    std::optional<plain> solution; // the block whose label says that it is the solution, else the steps in one; none if it can't be told
     std::vector<attempt_candidate> candidates; // the blocks after a blank line
-    std::size_t before = 0;                    // so many lines of prose stand before the scramble
+    std::size_t before = 0;                    // how many lines of prose stand before the scramble
+    std::optional<attempt_doubt> doubt;        // of the reading, if the solution doesn't solve the scramble
 };
 
 namespace detail {
 
-using written_blocks = std::vector<written_block>;
+// Lines of a text, one after another.
+struct text_lines {
+    const nissy_text_line *first, *last;
 
-inline bool has_moves(const written_block &block) {
-    return std::any_of(block.begin(), block.end(), [](const written_line &line) { return line.is_moves; });
-}
-inline written_block moves_of(const written_block &block) {
-    written_block moves;
-    std::copy_if(block.begin(), block.end(), std::back_inserter(moves), [](const written_line &line) { return line.is_moves; });
-    return moves;
-}
+    const nissy_text_line *begin() const { return first; }
+    const nissy_text_line *end() const { return last; }
+    // the first line for which it holds, or the end
+    template <typename Which> const nissy_text_line *find(Which which) const { return std::find_if(first, last, which); }
+    template <typename Which> bool has(Which which) const { return find(which) != last; }
 
-// Some lines of a text as one.
-inline plain read(std::string_view text, const written_block &lines) {
-    if (lines.empty()) return {};
-    const std::size_t from = lines.front().from;
-    plain made = plain_line(text.substr(from, lines.back().from + lines.back().text.size() - from));
-    for (std::size_t &place : made.places) place += from;
-    return made;
-}
-inline std::vector<plain> read_each(std::string_view text, const written_block &lines) {
-    std::vector<plain> made;
-    for (const written_line &line : lines) made.push_back(read(text, {line}));
-    return made;
-}
-
-// The lines between blank ones.
-inline written_blocks blocks_of(const written_block &lines) {
-    written_blocks blocks;
-    bool is_open = false;
-    for (const written_line &line : lines) {
-        if (!line.is_blank && !is_open) blocks.emplace_back();
-        if (!line.is_blank) blocks.back().push_back(line);
-        is_open = !line.is_blank;
+    // takes the lines that have the same number as the first one, of which there is one
+    template <typename Number> text_lines take(Number number) {
+        const auto is_other = [number, of_first = number(*first)](const nissy_text_line &it) { return number(it) != of_first; };
+        const text_lines those = {first, find(is_other)};
+        first = those.last;
+        return those;
     }
-    return blocks;
-}
-
-// Blocks after a scramble, of which the first goes on from its line, and which of them is the solution's, if a label says so.
-struct told_blocks {
-    written_blocks blocks;
-    std::optional<std::size_t> solution;
-    bool is_open = false; // several labels say so
 };
 
-inline bool is_solution(const written_line &line) { return has_word(line.label, "solution"); }
+inline bool is_step(const nissy_text_line &line) { return line.kind == NISSY_STEP_LINE; }
+inline bool is_of_solution(const nissy_text_line &line) { return is_step(line) && line.solution; }
+inline bool is_of_scramble(const nissy_text_line &line) { return line.kind == NISSY_SCRAMBLE_LINE; }
 
-// The lines whose labels say that the solution follows.
-inline written_block solutions_of(const written_blocks &blocks) {
-    written_block told;
-    for (const written_block &block : blocks) std::copy_if(block.begin(), block.end(), std::back_inserter(told), is_solution);
-    return told;
+// What the library tells of each line of a text.
+inline std::vector<nissy_text_line> lines_in(std::string_view text) {
+    std::vector<nissy_text_line> lines(line_ends(text) + 1);
+    lines.resize(nissy_text_lines(text_bytes(text), text.size(), lines.data(), lines.size()).lines);
+    return lines;
 }
 
-// Where the last of a row is for which it holds, counted from 1; 0 if there is none.
-template <typename Part, typename Which> std::size_t count_to_last(const std::vector<Part> &all, Which which) {
-    return static_cast<std::size_t>(all.rend() - std::find_if(all.rbegin(), all.rend(), which));
+// Signs that are blanks.
+inline constexpr std::array<std::string_view, 25> BLANKS = {
+    " ", "\t", "\v", "\f", "\r", "\n", "\xc2\xa0", "\xe1\x9a\x80", "\xe2\x80\x80", "\xe2\x80\x81", "\xe2\x80\x82", "\xe2\x80\x83", "\xe2\x80\x84",
+    "\xe2\x80\x85", "\xe2\x80\x86", "\xe2\x80\x87", "\xe2\x80\x88", "\xe2\x80\x89", "\xe2\x80\x8a", "\xe2\x80\xa8", "\xe2\x80\xa9", "\xe2\x80\xaf",
+    "\xe2\x81\x9f", "\xe3\x80\x80", "\xef\xbb\xbf"};
+
+// A text without the blanks around it.
+inline std::string trimmed(std::string_view text) {
+    const auto cut = [&text](std::string_view blank) {
+        const bool is_first = text.substr(0, blank.size()) == blank;
+        if (is_first) text.remove_prefix(blank.size());
+        const bool is_last = text.size() >= blank.size() && text.substr(text.size() - blank.size()) == blank;
+        if (is_last) text.remove_suffix(blank.size());
+        return is_first || is_last;
+    };
+    while (std::any_of(BLANKS.begin(), BLANKS.end(), cut)) {}
+    return std::string(text);
 }
 
-// The solution's in a block of its own, unless several labels say so of which the last one isn't the final one.
-inline told_blocks with_solution(const written_blocks &blocks) {
-    const written_block solutions = solutions_of(blocks);
-    if (solutions.empty()) return {blocks, {}};
-    if (solutions.size() > 1 && !has_word(solutions.back().label, "final")) return {blocks, {}, true};
-    const auto has_solution = [](const written_block &block) { return std::any_of(block.begin(), block.end(), is_solution); };
-    const std::size_t next = count_to_last(blocks, has_solution);
-    const written_block &block = blocks[next - 1];
-    const written_block before = between(block, 0, has_moves(block) ? count_to_last(block, is_solution) - 1 : 0);
-    written_block own = between(block, has_moves(before) ? before.size() : 0, block.size());
-    // a label alone belongs to what follows it
-    const bool is_alone = !has_moves(own) && next < blocks.size();
-    if (is_alone) append(own, blocks[next]);
-    told_blocks told = {between(blocks, 0, next - 1), {}};
-    if (has_moves(before)) told.blocks.push_back(before);
-    told.solution = told.blocks.size();
-    told.blocks.push_back(own);
-    append(told.blocks, between(blocks, is_alone ? next + 1 : next, blocks.size()));
-    return told;
+// Some bytes of a text without the blanks around them.
+inline std::string words_of(std::string_view text, std::size_t begin, std::size_t end) { return trimmed(text.substr(begin, end - begin)); }
+
+inline std::string label_of(std::string_view text, const nissy_text_line &line) { return words_of(text, line.label_begin, line.label_end); }
+
+// The first head of some lines, or nothing.
+inline std::string name_of(std::string_view text, text_lines lines) {
+    const nissy_text_line *const headed = lines.find([](const nissy_text_line &it) { return it.headed; });
+    return headed == lines.last ? std::string() : words_of(text, headed->begin, headed->head_end);
 }
 
-// What a line of prose says.
-inline std::string_view said(const written_line &line) {
-    const std::size_t comment = line.text.find("//");
-    return trimmed(comment < line.text.size() ? line.text.substr(comment + 2) : line.label.empty() ? line.text : line.label);
+// What a line without moves says: its label, if nothing follows that, else all of it.
+inline std::string said(std::string_view text, const nissy_text_line &line) {
+    if (line.label_begin < line.label_end && words_of(text, line.moves, line.end).empty()) return label_of(text, line);
+    const std::string all = words_of(text, line.head_end, line.end);
+    return all.compare(0, 2, "//") == 0 ? trimmed(std::string_view(all).substr(2)) : all;
 }
 
-inline std::string note_of(const written_block &block) {
+// The moves of those of some lines that are wanted, one after another.
+inline plain moves_in(std::string_view text, text_lines lines, nissy_moves_of which) {
+    std::size_t most = 0;
+    for (const nissy_text_line &line : lines) most += line.comment - line.moves + 1;
+    const std::size_t room = 3 * most, count = static_cast<std::size_t>(lines.last - lines.first);
+    return written_by(room, [=](std::uint8_t *out, std::uint64_t *places) {
+        return nissy_text_moves(text_bytes(text), text.size(), lines.first, count, static_cast<std::uint8_t>(which), out, room, places, room);
+    });
+}
+
+// The moves of each of some lines that is such.
+template <typename Which> std::vector<plain> each_in(std::string_view text, text_lines lines, Which which) {
+    std::vector<plain> all;
+    for (const nissy_text_line &line : lines)
+        if (which(line)) all.push_back(moves_in(text, {&line, &line + 1}, NISSY_OF_STEPS));
+    return all;
+}
+
+// What is said of a candidate.
+inline std::string note_of(std::string_view text, text_lines group) {
     std::string note;
-    bool is_further = false;
-    for (const written_line &line : block) {
-        if (line.is_moves) continue;
-        note.append(is_further ? " " : "").append(said(line));
-        is_further = true;
+    bool is_first = true;
+    for (const nissy_text_line &line : group) {
+        if (line.kind != NISSY_NOTE_LINE) continue;
+        note += (is_first ? "" : " ") + said(text, line);
+        is_first = false;
     }
-    return note;
+    const nissy_text_line *const labelled = group.find([](const nissy_text_line &it) { return it.labelled; });
+    return note.empty() && labelled != group.last ? label_of(text, *labelled) : note;
 }
 
-inline attempt_candidate candidate_of(std::string_view text, const written_block &block) {
-    const auto solution = std::find_if(block.begin(), block.end(), is_solution);
-    const written_block moves = moves_of(block);
-    attempt_candidate made = {read_each(text, moves), read(text, moves), note_of(block)};
-    if (made.note.empty() && solution != block.end()) made.note = solution->label;
-    return made;
+inline std::vector<attempt_candidate> candidates_in(std::string_view text, text_lines lines) {
+    std::vector<attempt_candidate> candidates;
+    while (lines.first != lines.last) {
+        const text_lines group = lines.take([](const nissy_text_line &it) { return it.group; });
+        if (group.first->group > 0 && group.has(is_step))
+            candidates.push_back({each_in(text, group, is_step), moves_in(text, group, NISSY_OF_STEPS), note_of(text, group)});
+    }
+    return candidates;
 }
 
-// Reads what stands after a scramble. The lines that follow it are the steps, else the block that a label says to be the solution, or the only
-// one.
-inline void read_steps(attempt &made, std::string_view text, const written_blocks &after) {
-    const told_blocks told = with_solution(after);
-    written_blocks listed;
-    std::copy_if(told.blocks.begin() + 1, told.blocks.end(), std::back_inserter(listed), has_moves);
-    const written_block only = listed.size() == 1 ? listed.front() : written_block();
-    const written_block &solution = told.solution ? told.blocks[*told.solution] : only;
-    const written_block steps = moves_of(has_moves(told.blocks.front()) ? told.blocks.front() : solution);
-    const written_block moves = told.solution ? moves_of(solution) : steps;
-    made.steps = read_each(text, steps);
-    if (!moves.empty() && !told.is_open) made.solution = read(text, moves);
-    for (const written_block &block : listed) made.candidates.push_back(candidate_of(text, block));
+// The steps are those directly under the scramble, else those of the solution.
+inline std::vector<plain> steps_in(std::string_view text, text_lines lines) {
+    const auto is_first = [](const nissy_text_line &it) { return is_step(it) && it.group == 0; };
+    std::vector<plain> first = each_in(text, lines, is_first);
+    return first.empty() ? each_in(text, lines, is_of_solution) : first;
 }
 
-// How many lines a scramble has of its block. It may go on up to the label of the solution, else only its first line is one if others say what
-// they are, or if it has all of a scramble.
-inline std::size_t end_of_scramble(const written_block &first) {
-    if (first.empty() || first.front().is_whole) return std::min<std::size_t>(first.size(), 1);
-    const auto told = std::find_if(first.begin() + 1, first.end(), [](const written_line &line) { return line.is_told; });
-    return told == first.end() || is_solution(*told) ? static_cast<std::size_t>(told - first.begin()) : 1;
-}
-
-// An attempt of some lines, which have steps if one of them says what its moves are, if a blank one stands between moves, or if the first one has
-// all of a scramble.
-inline attempt attempt_of(std::string_view text, const written_attempt &found) {
-    const written_block &lines = found.lines;
-    const auto begin = std::find_if(lines.begin(), lines.end(), [](const written_line &line) { return line.is_moves; });
-    const std::size_t before = begin == lines.end() ? 0 : static_cast<std::size_t>(begin - lines.begin());
-    written_blocks blocks = blocks_of(between(lines, before, lines.size()));
-    blocks.resize(std::max<std::size_t>(blocks.size(), 1));
-    written_block &first = blocks.front();
-    const std::size_t end = end_of_scramble(first);
-    attempt made;
-    made.name = found.name;
-    // of a text without form nothing is left out, so that all else than moves is at fault
-    const bool is_formed = blocks.size() > 1 || end < first.size() || !found.name.empty();
-    made.scramble = read(text, is_formed ? between(first, 0, end) : lines);
-    if (!is_formed) return made;
-    for (const written_line &line : between(lines, 0, before)) made.before += !line.is_blank;
-    first = between(first, end, first.size());
-    read_steps(made, text, blocks);
+inline attempt attempt_of(std::string_view text, text_lines lines, place_counter &places) {
+    attempt made = {name_of(text, lines), moves_in(text, lines, NISSY_OF_SCRAMBLE), steps_in(text, lines), {}, candidates_in(text, lines), 0, {}};
+    if (lines.has(is_of_solution)) made.solution = moves_in(text, lines, NISSY_OF_SOLUTION);
+    for (const nissy_text_line &line : lines) made.before += line.kind == NISSY_LINE_BEFORE;
+    const auto doubted = lines.find([](const nissy_text_line &it) { return it.doubt != NISSY_NO_DOUBT; });
+    if (doubted != lines.last) made.doubt = attempt_doubt{static_cast<doubt_reason>(doubted->doubt), places.at(doubted->doubt_at)};
     return made;
 }
 
@@ -184,7 +183,14 @@ inline attempt attempt_of(std::string_view text, const written_attempt &found) {
 // and blocks of candidates after blank lines; and the same of several numbered scrambles. A text of another form is one scramble.
 inline std::vector<attempt> read_attempts(std::string_view text) {
     std::vector<attempt> attempts;
-    for (const detail::written_attempt &found : detail::attempts_of(detail::written_lines(text))) attempts.push_back(detail::attempt_of(text, found));
+    detail::place_counter places(text);
+    const std::vector<nissy_text_line> all = detail::lines_in(text);
+    detail::text_lines lines = {all.data(), all.data() + all.size()};
+    while (lines.first != lines.last) {
+        const detail::text_lines own = lines.take([](const nissy_text_line &it) { return it.attempt; });
+        if (own.has(detail::is_of_scramble)) attempts.push_back(detail::attempt_of(text, own, places));
+    }
+    if (attempts.empty()) attempts.emplace_back();
     return attempts;
 }
 

@@ -1,9 +1,9 @@
 // nissy for C++17 and later: checks each attempt of a text as solvers write it, and says where in the text faults and forms stand. Header alone,
-// over nissy_names.hpp and nissy_attempts.hpp, with the library.
+// over nissy_names.hpp and nissy_known.hpp, with the library.
 #ifndef NISSY_CHECKS_HPP
 #define NISSY_CHECKS_HPP
 
-#include "nissy_attempts.hpp"
+#include "nissy_known.hpp"
 #include "nissy_names.hpp"
 
 namespace nissy {
@@ -18,32 +18,142 @@ struct form_in_text {
 // What is said of an attempt that was checked.
 struct attempt_check {
     nissy::attempt attempt;
-    std::optional<verdict> check;      // none if it has no solution, or a fault
-    std::optional<nissy::fault> fault; // of its scramble, or else of its solution, as part() says
-    std::optional<text_place> place;   // where the fault stands in the text
-    std::vector<form_in_text> forms;   // where its solution has forms that the WCA's notation hasn't; none beside a fault
+    std::optional<verdict> check;       // none if it has no solution, or a fault
+    std::optional<nissy::fault> fault;  // of its scramble, or else of its solution, as part() says
+    std::optional<text_place> place;    // where the fault stands in the text
+    std::vector<form_in_text> forms;    // where its solution has forms that the WCA's notation hasn't; none beside a fault
+    std::optional<attempt_doubt> doubt; // that it is read as it was meant; none if its solution solves, or has a fault
 };
+
+// The answer to one of many pairs of a scramble and a solution: a verdict, or what is wrong with one of them.
+class pair_answer : public answer<verdict> {
+public:
+    explicit pair_answer(const nissy_check_answer &said)
+        : answer<verdict>(said, {said.solved != 0, said.moves, said.clean_moves, said.forms}), line_(said.status == NISSY_DONE ? 0 : said.line) {}
+
+    int line() const noexcept { return line_; } // which one the fault is of: 1 the scramble, 2 the solution; 0 if none is
+    std::string_view part() const noexcept { return line_ == 0 ? "" : line_ == 1 ? "scramble" : "solution"; }
+
+private:
+    int line_;
+};
+
+// Whether each of many solutions solves its scramble, of pairs of a scramble and a solution, such as two columns of a table.
+template <typename Pairs> std::vector<pair_answer> check_all(const Pairs &pairs) {
+    std::vector<pair_answer> answers;
+    for (const auto &[first, second] : pairs) {
+        const std::string_view scramble = first, solution = second;
+        answers.emplace_back(nissy_check(detail::bytes(scramble), scramble.size(), detail::bytes(solution), solution.size()));
+    }
+    return answers;
+}
 
 namespace detail {
 
-inline std::vector<form_in_text> forms_in(std::string_view text, const plain &part) {
-    std::vector<form_in_text> forms;
-    for (const form_place &it : form_places(part.line)) forms.push_back({it.text, it.forms, place_of(it, part, text).value()});
-    return forms;
+// Counts the places of faults and forms, those of doubts, and those of doubts that are read: none fall from one attempt to the next.
+struct text_places {
+    explicit text_places(std::string_view text) : found(text), doubted(text), read(text) {}
+
+    place_counter found, doubted, read;
+};
+
+// Whether a line has moves, and solves a scramble.
+inline bool is_solved_by(const std::string &scramble, const std::string &line) {
+    const nissy_check_answer told = nissy_check(bytes(scramble), scramble.size(), bytes(line), line.size());
+    return told.status == NISSY_DONE && told.solved && told.moves > 0;
 }
 
-inline attempt_check check_of(std::string_view text, const attempt &found) {
-    attempt_check made = {found, {}, {}, {}, {}};
+// Lines from one to another, one after another.
+inline std::string lines_between(const std::vector<plain> &lines, std::size_t begin, std::size_t end) {
+    std::string all;
+    for (std::size_t at = begin; at < end; at++) all += lines[at].line + " ";
+    return all;
+}
+
+// Adds steps that aren't there, up to eight: of more no part is looked for.
+inline void add_steps(std::vector<plain> &steps, const std::vector<plain> &more) {
+    constexpr std::size_t MOST = 8;
+    for (const plain &step : more) {
+        const auto is_same = [&step](const plain &it) { return it.places == step.places; };
+        if (steps.size() < MOST && !step.places.empty() && std::none_of(steps.begin(), steps.end(), is_same)) steps.push_back(step);
+    }
+}
+
+// Where a part of an attempt begins that solves its scramble: steps alone, left out or in brackets, or the solution without its brackets.
+inline std::optional<std::size_t> solved_part(const attempt &found) {
+    std::vector<plain> steps;
+    add_steps(steps, found.steps);
+    for (const attempt_candidate &it : found.candidates) add_steps(steps, it.steps);
+    const std::string &scramble = found.scramble.line;
+    for (std::size_t begin = 0; begin < steps.size(); begin++)
+        for (std::size_t end = begin + 1; end <= steps.size(); end++) {
+            const std::string before = lines_between(steps, 0, begin), own = lines_between(steps, begin, end);
+            const std::string after = lines_between(steps, end, steps.size());
+            for (const std::string &line : {own, before + after, before + "(" + own + ")" + after})
+                if (is_solved_by(scramble, line)) return steps[begin].places.front();
+        }
+    if (!found.solution || found.solution->places.empty()) return std::nullopt;
+    std::string line = found.solution->line;
+    std::replace_if(line.begin(), line.end(), [](char byte) { return byte == '(' || byte == ')'; }, ' ');
+    return is_solved_by(scramble, line) ? std::optional<std::size_t>(found.solution->places.front()) : std::nullopt;
+}
+
+// What makes one doubt an attempt that isn't solved.
+inline std::optional<attempt_doubt> doubt_of(const attempt &found, place_counter &places) {
+    if (found.doubt) return found.doubt;
+    const std::optional<std::size_t> part = solved_part(found);
+    if (!part) return std::nullopt;
+    return attempt_doubt{doubt_reason::a_part, places.at(*part)};
+}
+
+inline attempt_check check_of(std::string_view text, const attempt &found, text_places &places) {
+    attempt_check made = {found, {}, {}, {}, {}, {}};
+    const auto place = [&](const auto &it, const plain &part) { return places.found.at(place_in(part, column_of(it) - 1, text)); };
     try {
         // a scramble is read also if nothing solves it
         const verdict told = check(found.scramble.line, found.solution ? found.solution->line : std::string());
         if (found.solution) made.check = told;
+        if (!made.check || !told.solved) made.doubt = doubt_of(found, places.doubted);
     } catch (const fault &thrown) {
         made.fault = thrown;
-        made.place = place_of(thrown, thrown.line() == 1 ? found.scramble : found.solution.value(), text);
+        // a scramble that is known has no place in the text
+        const plain &part = thrown.line() == 1 ? found.scramble : found.solution.value();
+        if (thrown.line() == 2 || !part.places.empty()) made.place = place(thrown, part);
     }
-    if (made.check) made.forms = forms_in(text, *found.solution);
+    if (!made.check) return made;
+    for (const form_place &it : form_places(found.solution->line)) made.forms.push_back({it.text, it.forms, place(it, *found.solution)});
     return made;
+}
+
+inline attempt with_scramble(attempt found, std::string_view scramble) {
+    found.scramble = {std::string(scramble), {}, {}};
+    return found;
+}
+
+inline bool is_same_cube(const std::string &scramble, std::string_view other) {
+    try {
+        return facelets(scramble) == facelets(other);
+    } catch (const std::exception &) {
+        return false;
+    }
+}
+
+// What is said of a part of a text of solutions.
+inline attempt_check check_of(std::string_view text, known_part &part, const std::vector<std::string> &scrambles, text_places &places) {
+    attempt &first = part.attempts[0];
+    if (!part.scramble) {
+        first.doubt = attempt_doubt{doubt_reason::which_scramble, places.doubted.at(part.begin)};
+        return {first, {}, {}, {}, {}, first.doubt};
+    }
+    const std::string &scramble = scrambles[*part.scramble];
+    // who writes the scramble too says nothing else by it
+    if (part.attempts.size() == 2 && !first.solution && is_same_cube(part.attempts[1].scramble.line, scramble)) {
+        part.attempts[1].name = part.name;
+        return check_of(text, part.attempts[1], places);
+    }
+    if (part.attempts.size() > 1)
+        first.doubt = attempt_doubt{doubt_reason::another_scramble, places.doubted.at(part.attempts[1].scramble.places.front())};
+    return check_of(text, with_scramble(first, scramble), places);
 }
 
 } // namespace detail
@@ -51,7 +161,23 @@ inline attempt_check check_of(std::string_view text, const attempt &found) {
 // Checks each attempt that read_attempts finds in a text. Of a scramble or solution that is too long, it throws what check does.
 inline std::vector<attempt_check> check_attempts(std::string_view text) {
     std::vector<attempt_check> checks;
-    for (const attempt &found : read_attempts(text)) checks.push_back(detail::check_of(text, found));
+    detail::text_places places(text);
+    for (const attempt &found : read_attempts(text)) checks.push_back(detail::check_of(text, found, places));
+    return checks;
+}
+
+// Checks the solutions that a text has of known scrambles, each under a head with the number of its scramble in this list, such as "2." or "Attempt
+// 2 of 3"; or as many without numbers, in its order. There is a check for each scramble in its order, without a solution if none is found; then one
+// for each part of the text that may be of another scramble, in doubt.
+inline std::vector<attempt_check> check_attempts(std::string_view text, const std::vector<std::string> &scrambles) {
+    std::vector<attempt_check> checks, others;
+    detail::text_places places(text);
+    for (const std::string &scramble : scrambles) checks.push_back(detail::check_of(text, detail::with_scramble({}, scramble), places));
+    for (detail::known_part &part : detail::solutions_in(text, scrambles.size(), places.read)) {
+        attempt_check made = detail::check_of(text, part, scrambles, places);
+        (part.scramble ? checks[*part.scramble] : others.emplace_back(made)) = std::move(made);
+    }
+    checks.insert(checks.end(), std::make_move_iterator(others.begin()), std::make_move_iterator(others.end()));
     return checks;
 }
 

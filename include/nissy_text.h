@@ -1,5 +1,4 @@
-/* nissy for other programs: text as solvers write it, read by the library. The module and nissy.c don't have these calls. Any bytes are a text,
- * and any number of threads may call. */
+/* nissy for other programs: text as solvers write it, read by the library. Any bytes are a text, and any number of threads may call. */
 #ifndef NISSY_TEXT_H
 #define NISSY_TEXT_H
 
@@ -19,9 +18,9 @@ enum nissy_left_out {
     NISSY_UNSEEN = 32 /* signs that aren't seen */
 };
 
-/* What nissy_plain returns. */
+/* What nissy_plain and nissy_text_moves return. */
 typedef struct nissy_plain_answer {
-    uint8_t status;   /* NISSY_DONE or NISSY_ROOM */
+    uint8_t status;   /* NISSY_DONE or NISSY_ROOM; of nissy_text_moves also NISSY_USAGE */
     uint8_t left_out; /* the bits of nissy_left_out, added */
     uint64_t length;  /* how many bytes are written, and how many places */
 } nissy_plain_answer;
@@ -51,8 +50,8 @@ enum nissy_doubt {
     NISSY_COMMENT = 6            /* three moves stand one after another in a comment of a step */
 };
 
-/* A line of such a text. The places are in bytes of the text, from 0, and don't fall from one to the next, nor from line to line. Its moves are
- * what nissy_plain writes of head_end to end, as far as that comes from moves to comment; an `inverse` one is a line in brackets. */
+/* A line of such a text. The places are in bytes of the text, from 0, and don't fall from one to the next, nor from line to line. Its moves
+ * stand from `moves` to `comment`; nissy_text_moves writes them. */
 typedef struct nissy_text_line {
     uint8_t kind;     /* one of nissy_line_kind */
     uint8_t solution; /* it is of the group that is the solution */
@@ -83,6 +82,50 @@ typedef struct nissy_text_answer {
 /* Tells of each line of text as solvers write it what it is, as long as there is room. Lines end by a line feed, a return, or both. It takes no
  * memory. */
 nissy_text_answer nissy_text_lines(const uint8_t *text, size_t text_length, nissy_text_line *lines, size_t room);
+
+/* Whose moves are wanted. */
+enum nissy_moves_of {
+    NISSY_OF_SCRAMBLE = 0, /* the lines of the scramble */
+    NISSY_OF_STEPS = 1,    /* all steps */
+    NISSY_OF_SOLUTION = 2  /* the steps of the solution */
+};
+
+/* Writes the moves of those of some lines that are wanted, one of nissy_moves_of, as one line for the other calls, and for each byte of it its
+ * place in the text: in the order of the lines, joined by a blank, whose place is the end of the line before. Of each it reads the bytes from
+ * `moves` to `comment` as nissy_plain reads moves; those of an `inverse` one stand in brackets, whose places are `moves` and `comment`.
+ * `left_out` tells what one of these lines has left out, in its label and its comment too.
+ *
+ * Three bytes and places for each from `moves` to `comment`, and three for each line, are never too few. NISSY_USAGE: no moves have this
+ * number. It takes no memory. Any lines may be given: of a `comment` beyond the text what is in the text is read, of a `moves` not before that
+ * nothing; what isn't 0 says yes. */
+nissy_plain_answer nissy_text_moves(const uint8_t *text, size_t text_length, const nissy_text_line *lines, size_t count, uint8_t which,
+                                    uint8_t *out, size_t out_room, uint64_t *places, size_t places_room);
+
+/* The most bytes of the steps in which a part is looked for. */
+#define NISSY_MOST_STEPS 65536
+
+/* What is to be done with some steps of an attempt, one after another, so that it solves. */
+enum nissy_part {
+    NISSY_NO_PART = 0,
+    NISSY_PART_ALONE = 1,           /* they stand alone */
+    NISSY_PART_LEFT_OUT = 2,        /* they are left out */
+    NISSY_PART_IN_BRACKETS = 3,     /* they are put in brackets */
+    NISSY_PART_WITHOUT_BRACKETS = 4 /* all steps lose their brackets */
+};
+
+/* What nissy_solving_part returns. */
+typedef struct nissy_part_answer {
+    uint8_t status; /* NISSY_DONE; NISSY_STOPPED: the scramble has more than NISSY_MOST_INPUT bytes, or the steps more than NISSY_MOST_STEPS */
+    uint8_t how;    /* one of nissy_part */
+    uint8_t first;  /* the first of these steps, from 0 */
+    uint8_t last;   /* the last of them */
+} nissy_part_answer;
+
+/* Whether a part of an attempt solves its scramble: who wrote more than the solution, or the side of a step not at all, may have meant that. The
+ * steps are those of one text, a line each, such as nissy_text_moves writes them; the first eight are looked at. Told is the first part that
+ * solves, by its first step, then its last one, then in the order of nissy_part; all steps without their brackets come last. A part that can't be
+ * read, or has no moves, doesn't solve. It takes no memory. */
+nissy_part_answer nissy_solving_part(const uint8_t *scramble, size_t scramble_length, const uint8_t *steps, size_t steps_length);
 
 #ifdef __cplusplus
 }

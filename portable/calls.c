@@ -172,5 +172,70 @@ nissy_sides_answer nissy_solve_sides(const nissy_tables *tables, const uint8_t *
     return nissy_sides_answer_at(address(answer));
 }
 
+/* --- text as solvers write it --- */
+
+/* places in the form of C, as the engine wrote them */
+static void take_places(uint64_t *places, uint64_t count) {
+    for (uint64_t at = 0; at < count; at += 1) places[at] = load8(address(places + at));
+}
+
+nissy_plain_answer nissy_plain(const uint8_t *text, size_t text_length, uint8_t *out, size_t out_room, uint64_t *places, size_t places_room) {
+    STACK(STACK_OF_nissy_plain);
+    _Alignas(16) unsigned char answer[16];
+    w_nissy_plain(STACK_END, address(answer), address(text), text_length, address(out), out_room, address(places), places_room);
+    const nissy_plain_answer said = nissy_plain_answer_at(address(answer));
+    take_places(places, said.length);
+    return said;
+}
+
+nissy_text_answer nissy_text_lines(const uint8_t *text, size_t text_length, nissy_text_line *lines, size_t room) {
+    STACK(STACK_OF_nissy_text_lines);
+    _Alignas(16) unsigned char answer[24];
+    _Static_assert(sizeof(nissy_text_line) == 88, "nissy_text_line has the size that it has in the engine");
+    w_nissy_text_lines(STACK_END, address(answer), address(text), text_length, address(lines), room);
+    const nissy_text_answer said = nissy_text_answer_at(address(answer));
+    /* a text may have more lines than there is room for */
+    const uint64_t written = said.lines < room ? said.lines : room;
+    for (uint64_t at = 0; at < written; at += 1) lines[at] = nissy_text_line_at(address(lines + at));
+    return said;
+}
+
+#if NISSY_BYTEWISE
+/* A copy of lines whose numbers have the form of the engine, if there is memory for it. */
+static unsigned char *copied_lines(const nissy_text_line *lines, size_t count) {
+    unsigned char *const made = malloc(count * sizeof *lines + 1);
+    if (made == NULL) return NULL;
+    if (count > 0) memcpy(made, lines, count * sizeof *lines);
+    for (size_t at = 0; at < count; at += 1) {
+        for (size_t field = 8; field < sizeof *lines; field += 8) {
+            uint64_t value;
+            memcpy(&value, made + at * sizeof *lines + field, sizeof value);
+            store8(address(made + at * sizeof *lines + field), value);
+        }
+    }
+    return made;
+}
+#endif
+
+nissy_plain_answer nissy_text_moves(const uint8_t *text, size_t text_length, const nissy_text_line *lines, size_t count, uint8_t which,
+                                    uint8_t *out, size_t out_room, uint64_t *places, size_t places_room) {
+    STACK(STACK_OF_nissy_text_moves);
+    _Alignas(16) unsigned char answer[16];
+#if NISSY_BYTEWISE
+    unsigned char *const from = copied_lines(lines, count);
+    if (from == NULL) return (nissy_plain_answer){.status = NISSY_STOPPED};
+#else
+    const nissy_text_line *const from = lines;
+#endif
+    w_nissy_text_moves(STACK_END, address(answer), address(text), text_length, address(from), count, which, address(out), out_room,
+                       address(places), places_room);
+#if NISSY_BYTEWISE
+    free(from);
+#endif
+    const nissy_plain_answer said = nissy_plain_answer_at(address(answer));
+    take_places(places, said.length);
+    return said;
+}
+
 /* --- the calls that the engine has as they are --- */
 

@@ -1,4 +1,4 @@
-/* nissy.c: the engine of nissy in one file, for any system with a C compiler. It gives what nissy.h declares.
+/* nissy.c: the engine of nissy in one file, for any system with a C compiler. It gives what nissy.h and nissy_text.h declare.
  *
  *     cc -O2 -c nissy.c
  *
@@ -10,7 +10,7 @@
 #elif !defined(__STDC_VERSION__) || __STDC_VERSION__ < 201112L
 #error "nissy.c needs a compiler for C11 or later: gcc, clang and tcc take -std=c11, cl takes /std:c11"
 #else
-#include "nissy.h"
+#include "nissy_text.h"
 
 #include <stdbool.h>
 #include <stdlib.h>

@@ -1,10 +1,10 @@
-"""The calls of tests/calls.tsv."""
+"""The calls of tests/calls.tsv, and the texts of tests/attempts.tsv."""
 from pathlib import Path
-from typing import Iterator, List, NamedTuple, Optional, Tuple
+from typing import Dict, Iterator, List, NamedTuple, Optional, Tuple
 
 from runs import bytes_of
 
-FILE = Path(__file__).resolve().parent / "calls.tsv"
+FOLDER = Path(__file__).resolve().parent
 
 
 class Search(NamedTuple):
@@ -20,7 +20,7 @@ class Search(NamedTuple):
 
 def rows(kind: str) -> Iterator[List[str]]:
     """The fields of each row of a kind."""
-    for line in FILE.read_text(encoding="ascii").splitlines():
+    for line in (FOLDER / "calls.tsv").read_text(encoding="ascii").splitlines():
         if line.startswith(kind + "\t"):
             yield [bytes_of(field).decode("utf-8", "surrogateescape") for field in line.split("\t")[1:]]
 
@@ -31,3 +31,20 @@ def searches() -> Iterator[Search]:
         parts = [it.rstrip(")").rpartition("(") for it in solutions.split("|") if it]
         found = [(moves.rstrip(), int(length)) for moves, _, length in parts]
         yield Search(step, line, int(limit), int(slack), None if nodes == "-" else int(nodes), found)
+
+
+class Kind(NamedTuple):
+    """A way to write attempts: a text, and whether each of its solutions solves, or None if there is none."""
+
+    name: str
+    text: str
+    wanted: List[Optional[bool]]
+
+
+def kinds() -> Iterator[Kind]:
+    """Each way of the table."""
+    results: Dict[str, Optional[bool]] = {"solved": True, "unsolved": False, "none": None}
+    for line in (FOLDER / "attempts.tsv").read_text(encoding="ascii").splitlines():
+        if not line.startswith("#"):
+            name, text, wanted = line.split("\t")
+            yield Kind(name, bytes_of(text).decode(), [results[it] for it in wanted.split(",")])

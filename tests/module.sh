@@ -14,7 +14,7 @@ module=$(realpath -m -- "${2:-build/nissy.wasm}")
 if [ ! -e "$module" ] || missing node; then
     skips_all "there is no module that make build/nissy.wasm built, or no node"
 fi
-for trial in typed in_worker inherited growing rows plain net lists best sides pool address; do part node "tests/module/$trial.mjs" "$module"; done
+for trial in typed in_worker inherited growing rows plain text net lists best sides pool address; do part node "tests/module/$trial.mjs" "$module"; done
 
 if missing tsc; then
     skips "the types of the module's JavaScript, since there is no tsc"

@@ -94,7 +94,7 @@ linked() { # COMPILER NAME TEST WORD..: the test of this name with the file as i
         "tests/library/$3.c" "$room/$2.o"
 }
 rows_in_c "$room/rows"
-for trial in "calls few" facts "ways few" "sides few" fuzz "threads 0 10"; do
+for trial in "calls few" facts "ways few" "sides few" text fuzz "threads 0 10"; do
     name=${trial%% *} words=()
     [ "$name" = "$trial" ] || read -ra words <<< "${trial#* }"
     holds "$name.c is linked with nissy.c" linked gcc sanitized "$name" "${sanitized[@]:2}"
@@ -105,8 +105,8 @@ by_other() { # TEST NAME COMPILER [RUNNER]: each number of an answer, by a proce
     holds "$1.c is linked with it for $2" linked "$3" "$2" "$1" -static
     add "${@:4}" "$room/$2.$1" few
 }
-for name in calls facts ways sides; do by_other $name i686 i686-linux-gnu-gcc; done
-for name in facts ways sides; do missing qemu-s390x || by_other $name s390x s390x-linux-gnu-gcc qemu-s390x; done
+for name in calls facts ways sides text; do by_other $name i686 i686-linux-gnu-gcc; done
+for name in facts ways sides text; do missing qemu-s390x || by_other $name s390x s390x-linux-gnu-gcc qemu-s390x; done
 holds "threads.c is linked with it for races" linked gcc raced threads -fsanitize=thread
 add "$room/raced.threads" 0 5
 in_c_plus_plus() { # the headers in C++ over it

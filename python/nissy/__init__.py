@@ -21,11 +21,11 @@ for an answer, and ends nothing. The first search of a step builds its tables, w
 Tables). A call lets go of Python's lock, so calls of several threads run side by side. The library is the file that
 NISSY_LIBRARY names, else the one that was installed or built with this package, else the system's.
 """
-from ._attempts import Attempt, AttemptCandidate, read_attempts
+from ._attempts import Attempt, AttemptCandidate, AttemptDoubt, read_attempts
 from ._best import best, best_all, line_after
 from ._checks import AttemptCheck, FormInText, check_attempts
 from ._continuations import Continuation, Continuations, Lengths, Orientation, Reduction
-from ._facts import Case, Check, Facts, Pieces, check, facts, facts_all
+from ._facts import Case, Check, Facts, Pieces, check, check_all, facts, facts_all
 from ._given import Step as Step, Text as Text
 from ._library import DONE, FAULT, MOST_INPUT, STOPPED, USAGE
 from ._lines import cleanup, facelets, invert, scramble, steps, unniss, version
@@ -40,12 +40,13 @@ from ._written import PlainLine, TextPlace, place_of, plain_line
 
 __all__ = [
     "AXES", "CORNER_PLACES", "DONE", "EDGE_PLACES", "FAULT", "MOST_INPUT", "NET", "STOPPED", "USAGE",
-    "Answer", "Attempt", "AttemptCandidate", "AttemptCheck", "Case", "Check", "Continuation", "Continuations", "Count",
-    "Cut", "Facts", "Fault", "FormInText", "FormPlace", "Lengths", "LineFault", "Orientation", "Pieces", "PlainLine",
-    "Reduction", "Solution", "Solutions", "StartFault", "Tables", "TextPlace", "Token",
-    "best", "best_all", "check", "check_attempts", "cleanup", "count", "count_all", "facelets", "facts", "facts_all",
-    "form_places", "invert", "line_after", "near", "place_of", "plain_line", "raising", "read_attempts", "run",
-    "scramble", "scrambles", "solutions", "solve", "solve_all", "start_of", "steps", "stickers_of", "tokens", "unniss",
+    "Answer", "Attempt", "AttemptCandidate", "AttemptCheck", "AttemptDoubt", "Case", "Check", "Continuation",
+    "Continuations", "Count", "Cut", "Facts", "Fault", "FormInText", "FormPlace", "Lengths", "LineFault", "Orientation",
+    "Pieces", "PlainLine", "Reduction", "Solution", "Solutions", "StartFault", "Tables", "TextPlace", "Token",
+    "best", "best_all", "check", "check_all", "check_attempts", "cleanup", "count", "count_all", "facelets", "facts",
+    "facts_all", "form_places", "invert", "line_after", "near", "place_of", "plain_line", "raising", "read_attempts",
+    "run", "scramble", "scrambles", "solutions", "solve", "solve_all", "start_of", "steps", "stickers_of", "tokens",
+    "unniss",
 ]
 
 __version__ = version()
@@ -53,9 +54,9 @@ del version
 
 # what others see of these, as in a traceback or in what was pickled, is named by the package
 for _public in (
-    Answer, Attempt, AttemptCandidate, AttemptCheck, Case, Check, Continuation, Continuations, Count, Cut, Facts, Fault,
-    FormInText, FormPlace, Lengths, LineFault, Orientation, Pieces, PlainLine, Reduction, Solution, Solutions,
-    StartFault, Tables, TextPlace, Token,
+    Answer, Attempt, AttemptCandidate, AttemptCheck, AttemptDoubt, Case, Check, Continuation, Continuations, Count, Cut,
+    Facts, Fault, FormInText, FormPlace, Lengths, LineFault, Orientation, Pieces, PlainLine, Reduction, Solution,
+    Solutions, StartFault, Tables, TextPlace, Token,
 ):
     _public.__module__ = __name__
 del _public

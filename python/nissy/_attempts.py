@@ -1,34 +1,34 @@
-"""Reads what solvers write down of their attempts: scrambles, each with the steps of a solution and candidates beside
-it. Nothing of it is called at fault here: what is no line of moves is at fault where it is used."""
-import re
-from itertools import chain, groupby
-from typing import Iterable, List, Match, NamedTuple, Optional, Pattern, Tuple
+"""Reads what solvers write down of their attempts, by the library: scrambles, each with the steps of a solution and
+candidates beside it. Nothing of it is called at fault here: what is no line of moves is at fault where it is used."""
+import ctypes
+from itertools import groupby
+from typing import Dict, List, NamedTuple, Optional, Sequence, Tuple
 
+from . import _library
 from ._given import Text
-from ._written import BLANKS, WHITE, PlainLine, label_of, plain_part, string_of
+from ._library import TEXT_LINE
+from ._written import PlainLine, TextPlace, Written
 
-# What stands before each of several scrambles: a word, or a number as lists and the WCA's sheets have it. Both beside
-# each other are a third way to tell them apart: a word has to have a number then.
-_WORD_AND_NUMBER = (
-    f"[{BLANKS}]*(?:[0-9]+[.)][{BLANKS}]*)?(?:scramble|attempt)[{BLANKS}]*"
-    f"(?:#?[0-9]+(?:[{BLANKS}]*(?:of|/)[{BLANKS}]*[0-9]+)?(?:[{BLANKS}]*[-\u2013.):]|(?=[{BLANKS}]|\\Z))")
-_BEHIND_NUMBER = f"(?:[.):](?![0-9])|(?=[{BLANKS}]|\\Z))"
-_LISTED = f"[{BLANKS}]*(?:[#(]?[0-9]+|extra[{BLANKS}]*[0-9]+){_BEHIND_NUMBER}"
-_WORD = re.compile(_WORD_AND_NUMBER + "|:)", re.IGNORECASE | re.ASCII)
-_NUMBER = re.compile(_LISTED, re.IGNORECASE | re.ASCII)
-_NUMBERED = re.compile(f"{_WORD_AND_NUMBER})|{_LISTED}", re.IGNORECASE | re.ASCII)
-# the extras of such a sheet: E2 is a move too, but not beside E1, which is none
-_EXTRA = re.compile(f"[{BLANKS}]*E1(?=[{BLANKS}]|\\Z)")
-_NUMBER_OR_EXTRA = re.compile(f"[{BLANKS}]*(?:[#(]?[0-9]+|E[0-9]+){_BEHIND_NUMBER}")
-# each three signs that may be small letters: isalpha tells letters from numbers
-_THREE = re.compile("(?=([^\\W_A-Z]{3}))")
-# a sentence has three such letters in a row, which no moves have, and no moves by themselves
-_WRITTEN_MOVES = re.compile("(?<![^ ()])(?:(?:[UDRLFBMES]w?[2'\u2019]*)+|[udrlfbxyz][2'\u2019]*)(?![^ ()])")
-# what the WCA's scrambles begin and end with: such a line has all of one
-_WHOLE_SCRAMBLE = re.compile("R['\u2019] *U['\u2019] *F(?![w2'\u2019]).*R['\u2019] *U['\u2019] *F")
-# what solvers call the steps of a solution
-_STEPS = {"eo", "dr", "htr", "fr", "finish", "skeleton", "slice"}
-_NOTHING = PlainLine("", (), ())
+_BEFORE, SCRAMBLE, STEP, _NOTE = range(1, 5)
+# whose moves the library writes
+_OF_SCRAMBLE, _OF_STEPS, _OF_SOLUTION = range(3)
+# the white space of the web's scripts
+_WHITE = ("\n\t\v\f\r \u00a0\u1680\u2000\u2001\u2002\u2003\u2004\u2005\u2006\u2007\u2008\u2009\u200a\u2028\u2029\u202f"
+          "\u205f\u3000\ufeff")
+# which byte of a line says whether it has a head
+_HEADED = 2
+# what makes one doubt a line, by the library's numbers
+_DOUBTS = ("", "another scramble", "several solutions", "side", "letters", "small letters", "comment")
+
+
+class AttemptDoubt(NamedTuple):
+    """What makes one doubt that an attempt is read as it was meant."""
+
+    reason: str
+    """"another scramble", "several solutions", "side", "letters", "small letters", "comment", or of a check
+    "a part"."""
+    place: TextPlace
+    """Where it is seen in the text."""
 
 
 class AttemptCandidate(NamedTuple):
@@ -57,197 +57,133 @@ class Attempt(NamedTuple):
     """The blocks after a blank line."""
     before: int
     """How many lines of prose stand before the scramble."""
+    doubt: Optional[AttemptDoubt] = None
+    """What makes one doubt the reading if the solution doesn't solve the scramble, or None."""
 
 
-class _Line:
-    """A line of the text, which begins at a place there."""
-
-    __slots__ = ("begin", "text", "plain", "moves", "is_moves", "is_blank")
-
-    def __init__(self, begin: int, text: str) -> None:
-        self.begin, self.text, self.plain = begin, text, plain_part(text, begin) if text else _NOTHING
-        self.moves, self.is_blank = self.plain.line.strip(" "), text.strip(WHITE) == ""
-        # it has letters, and isn't a sentence: what it has is to be read
-        self.is_moves = any(map(str.isalpha, self.moves)) and (
-            not any(it[1].isalpha() for it in _THREE.finditer(self.moves)) or bool(_WRITTEN_MOVES.search(self.moves)))
-
-    @property
-    def end(self) -> int:
-        """The place behind it."""
-        return self.begin + len(self.text)
-
-    @property
-    def is_told(self) -> bool:
-        """Whether it says what its moves are."""
-        return "//" in self.text or label_of(self.text) != ""
-
-    @property
-    def is_whole(self) -> bool:
-        """Whether it has all of a scramble."""
-        return _WHOLE_SCRAMBLE.fullmatch(self.moves) is not None
-
-    def is_labelled(self, word: str) -> bool:
-        """Whether its label has such a word."""
-        return word in label_of(self.text).lower().split(" ")
-
-    @property
-    def is_solution(self) -> bool:
-        """Whether its label says that the solution follows."""
-        return self.is_labelled("solution")
-
-    @property
-    def is_step(self) -> bool:
-        """Whether its label or its comment says that it is a step."""
-        said = f"{label_of(self.text)} {self.text.partition('//')[2]}"
-        words = "".join(sign if sign.isalpha() else " " for sign in said).lower().split(" ")
-        return not _STEPS.isdisjoint(words)
-
-    @property
-    def note(self) -> str:
-        """What it says, if it has no moves."""
-        _, mark, comment = self.text.partition("//")
-        return (comment if mark else label_of(self.text) or self.text).strip(WHITE)
+_NOTHING = PlainLine("", (), ())
 
 
-_Lines = List[_Line]
+class TextLine(NamedTuple):
+    """`nissy_text_line` of nissy_text.h, and which line of the text it is, from 0."""
+
+    at: int
+    kind: int
+    is_solution: bool
+    is_headed: bool
+    says_solution: bool
+    is_inverse: bool
+    doubt: int
+    attempt: int
+    group: int
+    begin: int
+    head_end: int
+    label_begin: int
+    label_end: int
+    moves: int
+    comment: int
+    end: int
+    doubt_at: int
 
 
-def _lines_of(text: str) -> _Lines:
-    lines, begin = [], 0
-    for each in text.split("\n"):
-        lines.append(_Line(begin, each))
-        begin += len(each) + 1
-    return lines
+class Reader:
+    """A text that is read by lines, or a part of one: some bytes, with so many of the whole text before them."""
+
+    def __init__(self, whole: Written, data: bytes, before: int = 0) -> None:
+        self.whole, self._data, self._before = whole, data, before
+        most = data.count(b"\n") + data.count(b"\r") + 1
+        # the library reads the lines there again
+        self._room = bytearray(TEXT_LINE.size * most)
+        self._address = ctypes.addressof(ctypes.c_char.from_buffer(self._room))
+        self._count = _library.nissy_text_lines(data, len(data), self._address, most).lines
+        self._steps: Dict[int, PlainLine] = {}
+
+    def lines(self) -> List[TextLine]:
+        """Returns the lines that aren't blank, or have a head alone."""
+        told = self._room[:TEXT_LINE.size * self._count]
+        heads = told[_HEADED::TEXT_LINE.size]
+        return [TextLine._make((at, *TEXT_LINE.unpack_from(told, TEXT_LINE.size * at)))
+                for at, kind in enumerate(told[::TEXT_LINE.size]) if kind or heads[at]]
+
+    def moves(self, lines: Sequence[TextLine], which: int) -> PlainLine:
+        """Returns the moves of those of some lines that are wanted, one after another."""
+        if not lines:
+            return _NOTHING
+        count = lines[-1].at + 1 - lines[0].at
+        place, most = self._address + TEXT_LINE.size * lines[0].at, lines[-1].end - lines[0].begin + count
+        return self.whole.plain(3 * most, lambda *room: _library.nissy_text_moves(
+            self._data, len(self._data), place, count, which, *room), self._before)
+
+    def step(self, line: TextLine) -> PlainLine:
+        """Returns the moves of a step."""
+        if line.at not in self._steps:
+            self._steps[line.at] = self.moves([line], _OF_STEPS)
+        return self._steps[line.at]
+
+    def place(self, byte: int) -> TextPlace:
+        """Returns the place of a byte in the whole text."""
+        return self.whole.place(self.whole.at(self._before + byte))
+
+    def _part(self, begin: int, end: int) -> str:
+        """Returns some bytes as words."""
+        return self.whole.part(self._before + begin, self._before + end).strip(_WHITE)
+
+    def _note(self, line: TextLine) -> str:
+        """Returns what a line without moves says: its label, if nothing follows that, else all of it."""
+        if line.label_begin < line.label_end and not self._part(line.moves, line.end):
+            return self._label(line)
+        said = self._part(line.head_end, line.end)
+        return said[2:].strip(_WHITE) if said.startswith("//") else said
+
+    def name(self, lines: Sequence[TextLine]) -> str:
+        """Returns the first head of some lines, or nothing."""
+        return next((self._part(line.begin, line.head_end) for line in lines if line.is_headed), "")
+
+    def _label(self, line: TextLine) -> str:
+        """Returns the words of a line's label."""
+        return self._part(line.label_begin, line.label_end)
+
+    def _joined(self, steps: Sequence[TextLine], lines: Sequence[TextLine], which: int) -> PlainLine:
+        """Returns some steps as one line, which are those that are wanted of some lines."""
+        return self.step(steps[0]) if len(steps) == 1 else self.moves(lines, which)
+
+    def _candidate(self, lines: List[TextLine]) -> AttemptCandidate:
+        """Returns a group of lines."""
+        steps = [line for line in lines if line.kind == STEP]
+        note = " ".join(self._note(line) for line in lines if line.kind == _NOTE)
+        told = next((self._label(line) for line in lines if line.says_solution), "")
+        return AttemptCandidate(tuple(map(self.step, steps)), self._joined(steps, lines, _OF_STEPS), note or told)
+
+    def attempt(self, lines: Sequence[TextLine]) -> Attempt:
+        """Returns the attempt of its lines."""
+        groups = [list(group) for _, group in groupby((it for it in lines if it.kind >= STEP), lambda it: it.group)]
+        told = [line for line in lines if line.kind == STEP and line.is_solution]
+        steps = [line for line in lines if line.kind == STEP and line.group == 0] or told
+        doubted = next((line for line in lines if line.doubt), None)
+        return Attempt(
+            self.name(lines), self.moves(lines, _OF_SCRAMBLE), tuple(map(self.step, steps)),
+            self._joined(told, lines, _OF_SOLUTION) if told else None,
+            tuple(self._candidate(group) for group in groups
+                  if group[0].group > 0 and any(line.kind == STEP for line in group)),
+            sum(line.kind == _BEFORE for line in lines),
+            doubted and AttemptDoubt(_DOUBTS[doubted.doubt], self.place(doubted.doubt_at)))
 
 
-def _with_moves(lines: Iterable[_Line]) -> _Lines:
-    return [line for line in lines if line.is_moves]
+def by_attempts(lines: List[TextLine]) -> List[List[TextLine]]:
+    """Returns the lines of each attempt."""
+    return [list(own) for _, own in groupby(lines, lambda line: line.attempt)]
 
 
-def _have_moves(lines: Iterable[_Line]) -> bool:
-    return any(line.is_moves for line in lines)
-
-
-def _read(text: str, lines: _Lines) -> PlainLine:
-    """Returns the part of a text from the first of some lines to the last as one line."""
-    if len(lines) < 2:
-        return lines[0].plain if lines else _NOTHING
-    return plain_part(text[lines[0].begin:lines[-1].end], lines[0].begin)
-
-
-def _rest(line: _Line, head: Match[str]) -> _Line:
-    return _Line(line.begin + head.end(), line.text[head.end():])
-
-
-def _names(heads: List[Match[str]], are_own: List[bool]) -> List[str]:
-    """Returns the name of each scramble with moves of its own. A head alone, such as that of a page, names the one that
-    follows it."""
-    own = (place for place, is_own in enumerate(are_own) if is_own)
-    named = (place - 1 if place > 0 and not are_own[place - 1] else place for place in own)
-    return [heads[place][0].strip(WHITE) for place in named]
-
-
-def _headed(lines: _Lines, head: Pattern[str]) -> List[Tuple[str, _Lines]]:
-    """Returns the scrambles that a text tells apart by heads, each with its name and the lines up to the next one; the
-    first has those before it too. There are none if there is one without a number, or if they are steps of one
-    scramble: moves without a head stand before them, or it is said of one that it is a step."""
-    found = [head.match(line.text) for line in lines]
-    rests = [_rest(line, it) if it else line for line, it in zip(lines, found)]
-    heads = {at: it for at, it in enumerate(found) if it and (rests[at].is_blank or rests[at].is_moves)}
-    spans = list(zip(heads, [*list(heads)[1:], len(lines)]))
-    are_own = [_have_moves(rests[begin:end]) for begin, end in spans]
-    names = _names(list(heads.values()), are_own)
-    own = [span for span, is_own in zip(spans, are_own) if is_own]
-    is_numbered = any(re.search("[0-9]", name) and (head is _WORD or re.search("[#:]", name)) for name in names)
-    if len(own) < (1 if is_numbered else 2) or _have_moves(rests[:spans[0][0]]):
-        return []
-    if head is not _WORD and any(rests[begin].is_step for begin, _ in own[1:]):
-        return []
-    parts = [[rests[begin], *lines[begin + 1:end]] for begin, end in own]
-    parts[0][:0] = lines[:own[0][0]]
-    return list(zip(names, parts))
-
-
-def _blocks_of(lines: _Lines) -> List[_Lines]:
-    """Returns the lines between blank ones."""
-    return [list(block) for is_blank, block in groupby(lines, lambda line: line.is_blank) if not is_blank]
-
-
-def _last_solution(flags: Iterable[bool]) -> int:
-    """Returns the last place at which a solution is, or -1."""
-    return max((at for at, is_solution in enumerate(flags) if is_solution), default=-1)
-
-
-def _with_solution(blocks: List[_Lines]) -> Tuple[List[_Lines], Optional[_Lines]]:
-    """Returns blocks after a scramble, of which the first goes on from its line, with the solution's in one of its own,
-    and that one; None if no label says so, and nothing of it if several do of which the last isn't the final one."""
-    told = [line for line in chain(*blocks) if line.is_solution]
-    if not told:
-        return blocks, None
-    if len(told) > 1 and not told[-1].is_labelled("final"):
-        return blocks, []
-    at = _last_solution(any(line.is_solution for line in block) for block in blocks)
-    block = blocks[at]
-    begin = _last_solution(line.is_solution for line in block) if _have_moves(block) else 0
-    others = [block[:begin]] if _have_moves(block[:begin]) else []
-    own = block[begin:] if others else block
-    # a label alone belongs to what follows it
-    end = at + 1 if _have_moves(own) else at + 2
-    solution = [*own, *chain(*blocks[at + 1:end])]
-    return [*blocks[:at], *others, solution, *blocks[end:]], solution
-
-
-def _candidate_of(text: str, block: _Lines) -> AttemptCandidate:
-    moves = _with_moves(block)
-    note = " ".join(line.note for line in block if not line.is_moves)
-    label = next((label_of(line.text) for line in block if line.is_solution), "")
-    return AttemptCandidate(tuple(line.plain for line in moves), _read(text, moves), note or label)
-
-
-def _attempt_with(text: str, name: str, scramble: _Lines, after: List[_Lines], before: int) -> Attempt:
-    """Returns an attempt with what stands after its scramble. The lines that follow that are the steps, else the block
-    that a label says to be the solution, or the only one."""
-    blocks, told = _with_solution(after)
-    listed = [block for block in blocks[1:] if _have_moves(block)]
-    # a block that can't be told among several labels has no lines
-    solution = _with_moves(told or (listed[0] if len(listed) == 1 else []))
-    steps = _with_moves(blocks[0]) or solution
-    moves = steps if told is None else _with_moves(told)
-    return Attempt(
-        name, _read(text, scramble), tuple(line.plain for line in steps), _read(text, moves) if moves else None,
-        tuple(_candidate_of(text, block) for block in listed), before)
-
-
-def _end_of_scramble(first: _Lines) -> int:
-    """Returns how many lines a scramble has of its block. It may go on up to the label of the solution, else only its
-    first line is one if others say what they are, or if it has all of a scramble."""
-    told = next((at for at, line in enumerate(first) if at > 0 and line.is_told), len(first))
-    is_open = told == len(first) or first[told].is_solution
-    return told if is_open and not first[0].is_whole else 1
-
-
-def _attempt_of(text: str, name: str, lines: _Lines) -> Attempt:
-    """Returns the attempt of some lines, which have steps if one of them says what its moves are, if a blank one stands
-    between moves, or if the first one has all of a scramble."""
-    begin = next((at for at, line in enumerate(lines) if line.is_moves), 0)
-    blocks = _blocks_of(lines[begin:])
-    all_lines = list(chain(*blocks))
-    before = sum(not line.is_blank for line in lines[:begin])
-    has_whole = len(all_lines) > 1 and all_lines[0].is_whole
-    if len(blocks) > 1 or has_whole or any(line.is_told for line in all_lines[1:]):
-        first = blocks[0]
-        end = _end_of_scramble(first)
-        return _attempt_with(text, name, first[:end], [first[end:], *blocks[1:]], before)
-    # of a text without form nothing is left out, so that all else than moves is at fault
-    return _attempt_with(text, name, all_lines, [[]], before) if name else _attempt_with(text, name, lines, [[]], 0)
+def attempts_of(whole: Written) -> List[Attempt]:
+    """Returns the attempts of a text."""
+    reader = Reader(whole, whole.data)
+    read = [reader.attempt(lines) for lines in by_attempts(reader.lines())
+            if any(line.kind == SCRAMBLE for line in lines)]
+    return read or [Attempt("", _NOTHING, (), None, (), 0)]
 
 
 def read_attempts(text: Text) -> List[Attempt]:
     """The attempts of a text as solvers write it, at least one: a scramble, then the steps of its solution, each on a
     line with a comment or a label, and blocks of candidates after blank lines; and the same of several numbered
     scrambles. A text of another form is one scramble."""
-    written = string_of(text)
-    lines = _lines_of(written)
-    number = _NUMBER_OR_EXTRA if any(_EXTRA.match(line.text) for line in lines) else _NUMBER
-    heads = (_headed(lines, head) for head in (_WORD, number, _NUMBERED))
-    return [_attempt_of(written, *each) for each in next(filter(None, heads), [("", lines)])]
+    return attempts_of(Written(text))

@@ -1,12 +1,18 @@
 """Checks the attempts of a text as solvers write it, by the calls for one scramble, one solution and one place."""
-from typing import Any, Dict, List, NamedTuple, Optional, Tuple
+from itertools import chain, combinations
+from typing import Any, Dict, Iterable, Iterator, List, NamedTuple, Optional, Tuple
 
-from ._attempts import Attempt, read_attempts
+from ._attempts import Attempt, AttemptDoubt, attempts_of
 from ._facts import Check, check
-from ._given import Text
+from ._given import Text, each_of
+from ._known import Part, solutions_of
+from ._lines import facelets
 from ._tokens import form_places
-from ._values import LineFault
-from ._written import TextPlace, place_of, string_of
+from ._values import Fault, LineFault
+from ._written import PlainLine, TextPlace, Written, place_in, string_of
+
+# of how many steps a part is looked for
+_MOST_STEPS = 8
 
 
 class FormInText(NamedTuple):
@@ -36,15 +42,50 @@ class AttemptCheck(NamedTuple):
     """Where that fault stands in the text."""
     forms: Tuple[FormInText, ...]
     """Where the solution has its forms; none if there is no check."""
+    doubt: Optional[AttemptDoubt] = None
+    """What makes one doubt that the attempt is read as it was meant; None if its solution solves, or has a fault."""
 
     def as_dict(self) -> Dict[str, Any]:
         """What is told of it, as json.dumps takes it, with the `name` of the attempt."""
         checked = self.check and {**self.check._asdict(), "forms": list(self.check.forms)}
         return {"name": self.attempt.name, "check": checked, "fault": self.fault and self.fault.as_dict(),
-                "place": self.place and self.place._asdict(), "forms": [it.as_dict() for it in self.forms]}
+                "place": self.place and self.place._asdict(), "forms": [it.as_dict() for it in self.forms],
+                "doubt": self.doubt and {"reason": self.doubt.reason, "place": self.doubt.place._asdict()}}
 
 
-def _checked(attempt: Attempt, text: str) -> AttemptCheck:
+def _solves(scramble: str, line: str) -> bool:
+    """Returns whether a line has moves, and solves a scramble."""
+    try:
+        told = check(scramble, line)
+        return told.solved and told.moves > 0
+    except Fault:
+        return False
+
+
+def _parts(attempt: Attempt) -> Iterator[Tuple[str, PlainLine]]:
+    """Returns other lines that may be the solution, each with one where it begins: some steps, one after another,
+    alone, left out, or in brackets, and the solution without its brackets."""
+    each = chain(attempt.steps, *(it.steps for it in attempt.candidates))
+    steps = list({step.places: step for step in each if step.places}.values())[:_MOST_STEPS]
+    lines = [step.line for step in steps]
+    for begin, end in combinations(range(len(lines) + 1), 2):
+        own, before, after = " ".join(lines[begin:end]), lines[:begin], lines[end:]
+        yield own, steps[begin]
+        yield " ".join([*before, *after]), steps[begin]
+        yield " ".join([*before, "(", own, ")", *after]), steps[begin]
+    if attempt.solution is not None:
+        yield attempt.solution.line.replace("(", " ").replace(")", " "), attempt.solution
+
+
+def _doubt_of(attempt: Attempt, whole: Written) -> Optional[AttemptDoubt]:
+    """Returns what makes one doubt an attempt that isn't solved: its reading, or that a part of it solves."""
+    if attempt.doubt is not None:
+        return attempt.doubt
+    part = next((own for line, own in _parts(attempt) if _solves(attempt.scramble.line, line)), None)
+    return part and AttemptDoubt("a part", whole.place(part.places[0]))
+
+
+def _checked(attempt: Attempt, whole: Written) -> AttemptCheck:
     """Returns what is told of an attempt of a text."""
     scramble, solution = attempt.scramble, attempt.solution
     try:
@@ -52,17 +93,59 @@ def _checked(attempt: Attempt, text: str) -> AttemptCheck:
         told = check(scramble.line, "" if solution is None else solution.line)
     except LineFault as fault:
         faulty = scramble if solution is None or fault.part == "scramble" else solution
+        # a scramble that is known has no place in the text
+        place = whole.place(place_in(fault, faulty)) if faulty.places or faulty is solution else None
         # the traceback would keep what the calls had, as long as the fault is kept
-        return AttemptCheck(attempt, None, fault.with_traceback(None), place_of(fault, faulty, text), ())
+        return AttemptCheck(attempt, None, fault.with_traceback(None), place, ())
     if solution is None:
-        return AttemptCheck(attempt, None, None, None, ())
-    forms = (FormInText(it.text, it.forms, place_of(it, solution, text)) for it in form_places(solution.line))
-    return AttemptCheck(attempt, told, None, None, tuple(forms))
+        return AttemptCheck(attempt, None, None, None, (), _doubt_of(attempt, whole))
+    forms = (FormInText(it.text, it.forms, whole.place(place_in(it, solution))) for it in form_places(solution.line))
+    doubt = None if told.solved else _doubt_of(attempt, whole)
+    return AttemptCheck(attempt, told, None, None, tuple(forms), doubt)
 
 
-def check_attempts(text: Text) -> List[AttemptCheck]:
+def _is_same(scramble: str, other: str) -> bool:
+    """Returns whether two scrambles make the same cube."""
+    try:
+        return facelets(scramble) == facelets(other)
+    except Fault:
+        return False
+
+
+def _checked_part(part: Part, scrambles: List[str], whole: Written) -> AttemptCheck:
+    """Returns what is told of a part of a text of solutions."""
+    first, *others = part.attempts
+    if part.scramble is None:
+        doubt = AttemptDoubt("which scramble", whole.place(part.begin))
+        return AttemptCheck(first._replace(doubt=doubt), None, None, None, (), doubt)
+    scramble = scrambles[part.scramble]
+    # who writes the scramble too says nothing else by it
+    if len(others) == 1 and first.solution is None and _is_same(scramble, others[0].scramble.line):
+        return _checked(others[0]._replace(name=first.name), whole)
+    if others:
+        first = first._replace(doubt=AttemptDoubt("another scramble", whole.place(others[0].scramble.places[0])))
+    return _checked(first._replace(scramble=PlainLine(scramble, (), ())), whole)
+
+
+def _checked_solutions(whole: Written, scrambles: List[str]) -> List[AttemptCheck]:
+    """Returns what is told of the solutions of known scrambles, and then of what is no such solution."""
+    parts = solutions_of(whole, len(scrambles))
+    told = [(part.scramble, _checked_part(part, scrambles, whole)) for part in parts]
+    of = {at: it for at, it in told if at is not None}
+    nothing = (_checked(Attempt("", PlainLine(line, (), ()), (), None, (), 0), whole) for line in scrambles)
+    return [of.get(at, it) for at, it in enumerate(nothing)] + [it for at, it in told if at is None]
+
+
+def check_attempts(text: Text, *, scrambles: Optional[Iterable[Text]] = None) -> List[AttemptCheck]:
     """The attempts of a text as solvers write it, as `read_attempts` returns them, each with what `check` tells of its
-    scramble and solution, or the fault of one of them, and where fault and forms stand in the text. Raises Fault if one
-    has too many bytes."""
-    written = string_of(text)
-    return [_checked(attempt, written) for attempt in read_attempts(written)]
+    scramble and solution, or the fault of one of them, and where fault and forms stand in the text; and what makes one
+    doubt the reading of one that isn't solved. Raises Fault if one has too many bytes.
+
+    With `scrambles` the text has solutions alone, each under a head with the number of its scramble in this list, such
+    as `2.` or `Attempt 2 of 3`; or as many without numbers, in its order. There is a check for each scramble in its
+    order, without a solution if none is found; then one for each part of the text that may be of another scramble,
+    in doubt."""
+    whole = Written(text)
+    if scrambles is None:
+        return [_checked(attempt, whole) for attempt in attempts_of(whole)]
+    return _checked_solutions(whole, [string_of(it) for it in each_of(scrambles, "the scrambles")])

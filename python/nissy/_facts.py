@@ -9,9 +9,9 @@ from . import _library, _rooms
 from ._given import Progress, Step, Text, bytes_of
 from ._library import DONE, FACTS_ANSWER
 from ._lines import fault_of, steps
-from ._many import Asking, Piece, in_pieces
+from ._many import Asking, Piece, in_pieces, pair_by_pair
 from ._stickers import AXES, CORNER_PLACES, EDGE_PLACES, Axis
-from ._values import Fault, named
+from ._values import Fault, named, of_pair
 
 # the forms by the bits of the library's masks
 _FORMS = ("slices", "lower_case", "brackets", "apostrophe", "half_prime")
@@ -230,6 +230,20 @@ def check(scramble: Text, solution: Text) -> Check:
     """Whether a solution solves a scramble, how many moves it has, and which forms that the WCA's notation hasn't. Both
     may have brackets. Raises LineFault, with `line` 1 for the scramble and 2 for the solution."""
     return checked((bytes_of(scramble, "the scramble"), bytes_of(solution, "the solution")), "solution")
+
+
+def check_all(pairs: Iterable[Iterable[Text]],
+              progress: Optional[Progress] = None) -> Iterator[Union[Check, Fault]]:
+    """Whether each of many solutions solves its scramble, of pairs of a scramble and a solution, such as two columns of
+    a table: what `check` returns; of a pair for which it raises, what it raises, with the number of the pair, from 1,
+    as `line` (`raising` raises it). Takes a pair when its answer is asked for, and `progress` as `solve_all` does."""
+    def ask(number: int, pair: Tuple[bytes, bytes]) -> Union[Check, Fault]:
+        try:
+            return checked(pair, "solution")
+        except Fault as fault:
+            return of_pair(fault, number).with_traceback(None)
+
+    return pair_by_pair(pairs, ask, progress)
 
 
 def checked(given: Tuple[bytes, bytes], other: str) -> Check:

@@ -72,6 +72,16 @@ class LinesAnswer(ctypes.Structure):
     _fields_ = [("status", ctypes.c_uint8), ("lines", ctypes.c_uint64), ("bytes", ctypes.c_uint64)]
 
 
+class PlainAnswer(ctypes.Structure):
+    """`nissy_plain_answer` of nissy_text.h."""
+    _fields_ = [("status", ctypes.c_uint8), ("left_out", ctypes.c_uint8), ("length", ctypes.c_uint64)]
+
+
+class TextAnswer(ctypes.Structure):
+    """`nissy_text_answer` of nissy_text.h."""
+    _fields_ = [("status", ctypes.c_uint8), ("lines", ctypes.c_uint64), ("attempts", ctypes.c_uint64)]
+
+
 class WaysWanted(ctypes.Structure):
     """`nissy_ways_wanted` of nissy.h."""
     _fields_ = [("slack", ctypes.c_uint8), ("axes", ctypes.c_uint8), ("least", ctypes.c_uint8),
@@ -111,6 +121,7 @@ SEARCH_ANSWER = struct.Struct("=4BI3Q")
 FACTS_ANSWER = struct.Struct("=3BxI3H" + 3 * "3H3Bx")
 PART = struct.Struct("=B" + 2 * "2B20s")
 WAY = struct.Struct("=H4B" + 2 * PART.format[1:])
+TEXT_LINE = struct.Struct("=B4?B2x10Q")
 
 _NAME = {"win32": "nissy.dll", "cygwin": "nissy.dll", "darwin": "libnissy.2.dylib"}.get(sys.platform, "libnissy.so.2")
 """What the library is called on this system."""
@@ -233,6 +244,9 @@ nissy_check = _call("nissy_check", CheckAnswer, *_READ, *_READ)
 nissy_best = _call("nissy_best", WaysAnswer, _PLACE, *_READ, *_READ, _PLACE, *_WRITTEN)
 nissy_solve_sides = _call("nissy_solve_sides", SidesAnswer, _PLACE, *_READ, *_READ, _PLACE, *_WRITTEN)
 nissy_line_after = _call("nissy_line_after", LineAfterAnswer, *_READ, *_READ, *_WRITTEN)
+nissy_plain = _call("nissy_plain", PlainAnswer, *_READ, *_WRITTEN, *_WRITTEN)
+nissy_text_lines = _call("nissy_text_lines", TextAnswer, *_READ, *_WRITTEN)
+nissy_text_moves = _call("nissy_text_moves", PlainAnswer, *_READ, _PLACE, _NUMBER, _BYTE, *_WRITTEN, *_WRITTEN)
 nissy_scramble = _call("nissy_scramble", LineAnswer, _LONG, _LONG, _HALF, *_WRITTEN)
 nissy_steps = _call("nissy_steps", LineAnswer, *_WRITTEN)
 nissy_start = _call("nissy_start", LineAnswer, *_READ, *_WRITTEN)

@@ -5,7 +5,7 @@ from __future__ import annotations
 from collections import deque
 from itertools import islice
 from time import perf_counter, sleep
-from typing import Any, Callable, Deque, Generic, Iterable, Iterator, List, NamedTuple, Optional, Tuple, TypeVar
+from typing import Any, Callable, Deque, Generic, Iterable, Iterator, List, NamedTuple, Optional, Tuple, Type, TypeVar
 
 from ._given import Progress, Text, bytes_of, each_of, function_of, number_of
 
@@ -59,7 +59,7 @@ class Asking(Generic[Value]):
 class _Telling:
     """Tells how many lines are done, and of how many."""
 
-    def __init__(self, lines: Iterable[Text], progress: Optional[Progress]) -> None:
+    def __init__(self, lines: Iterable[Any], progress: Optional[Progress]) -> None:
         self._progress, self._done, self._all = function_of(progress, "the progress"), 0, _count_of(lines)
         self._told: Optional[int] = None
         self._next = 0.0
@@ -166,7 +166,7 @@ class _Taking:
             sleep(_REST)
 
 
-def _count_of(lines: Iterable[Text]) -> Optional[int]:
+def _count_of(lines: Iterable[Any]) -> Optional[int]:
     """Returns how many lines there are, as a list or a tuple says: one of another kind may say anything."""
     return len(lines) if type(lines) in (list, tuple) else None  # type: ignore[arg-type]
 
@@ -211,8 +211,7 @@ def one_by_one(lines: Iterable[Text], ask: Callable[[int, bytes], Value], thread
     one thread. Several take pieces. A line is asked by its number, from 1, and its bytes."""
     each = each_of(lines, "the lines")
     if number_of(threads, "threads", _MOST_THREADS, 1) == 1:
-        telling = _Telling(lines, progress)
-        return _each(each, ask) if progress is None else _each_told(_each(each, ask), telling)
+        return _told(lines, (ask(number, _bytes_of(number, line)) for number, line in enumerate(each, 1)), progress)
 
     def of_piece(piece: Piece) -> List[Value]:
         return [ask(*piece.line(at)) for at in range(len(piece.lines))]
@@ -223,10 +222,28 @@ def one_by_one(lines: Iterable[Text], ask: Callable[[int, bytes], Value], thread
     return _by_threads(lines, each, Asking(of_piece, found), threads, progress)
 
 
-def _each(lines: Iterator[Text], ask: Callable[[int, bytes], Value]) -> Iterator[Value]:
-    """Yields the answer to each line."""
-    for number, line in enumerate(lines, 1):
-        yield ask(number, _bytes_of(number, line))
+def pair_by_pair(pairs: Iterable[Iterable[Text]], ask: Callable[[int, Tuple[bytes, bytes]], Value],
+                 progress: Optional[Progress]) -> Iterator[Value]:
+    """Returns an iterator of the answers to pairs of a scramble and a solution, each of which is taken when its answer
+    is asked for. A pair is asked by its number, from 1, and its bytes."""
+    each = enumerate(each_of(pairs, "the pairs"), 1)
+    return _told(pairs, (ask(number, _pair_of(number, pair)) for number, pair in each), progress)
+
+
+def _pair_of(number: int, pair: Iterable[Text]) -> Tuple[bytes, bytes]:
+    """Returns the bytes of one of many pairs. What is raised of it has its number."""
+    try:
+        lines = list(each_of(pair, "a scramble and a solution"))
+        if len(lines) != 2:
+            raise ValueError(f"a scramble and a solution are two, not {len(lines)}")
+        return bytes_of(lines[0], "the scramble"), bytes_of(lines[1], "the solution")
+    except (TypeError, ValueError) as error:
+        raise _kind_of(error)(f"pair {number}: {error}") from None
+
+
+def _told(given: Iterable[Any], answers: Iterator[Value], progress: Optional[Progress]) -> Iterator[Value]:
+    """Returns the same answers, of which progress is told if anyone asks."""
+    return answers if progress is None else _each_told(answers, _Telling(given, progress))
 
 
 def _each_told(answers: Iterator[Value], telling: _Telling) -> Iterator[Value]:
@@ -242,8 +259,12 @@ def _bytes_of(number: int, line: Text) -> bytes:
     try:
         return bytes_of(line, "the line")
     except (TypeError, ValueError) as error:
-        kind = TypeError if isinstance(error, TypeError) else ValueError
-        raise kind(f"line {number}: {error}") from None
+        raise _kind_of(error)(f"line {number}: {error}") from None
+
+
+def _kind_of(error: Exception) -> Type[Exception]:
+    """Returns the kind of exception that tells of the same with a number."""
+    return TypeError if isinstance(error, TypeError) else ValueError
 
 
 def _in_turn(taking: _Taking, asking: Asking[Value], telling: _Telling) -> Iterator[Value]:

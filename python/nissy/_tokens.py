@@ -84,7 +84,14 @@ def form_places(line: Text) -> List[FormPlace]:
     of `check`. Raises LineFault."""
     data = bytes_of(line, "the line")
     unniss(data)
+    found, item_end, column = [], 0, 1
     text = data.decode()
-    items = ((it, _forms_of(it.group())) for it in _ITEM.finditer(text))
-    return [FormPlace(it.group(), forms, len(text[:it.start()].encode()) + 1, it.start() + 1)
-            for it, forms in items if forms]
+    for it in _ITEM.finditer(text):
+        # what was counted before isn't counted again
+        column += len(text[item_end:it.start()].encode())
+        forms = _forms_of(it.group())
+        if forms:
+            found.append(FormPlace(it.group(), forms, column, it.start() + 1))
+        column += len(it.group().encode())
+        item_end = it.end()
+    return found

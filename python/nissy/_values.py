@@ -67,7 +67,8 @@ class Fault(ValueError):
 
     part: str = ""
     """What the line is called, if the call has two, such as "scramble": `str` of the fault says that in place of a
-    number."""
+    number, or behind the number of a pair."""
+    _is_of_pairs: bool = False
 
     def __init__(self, text: str, line: Optional[int] = None) -> None:
         super().__init__(text)
@@ -79,7 +80,8 @@ class Fault(ValueError):
 
     def _of_line(self, then: str) -> str:
         """Returns the words for its line, if there are others."""
-        return f"{self.part}, " if self.part else _place(self.line, then)
+        number = _place(self.line, ", " if self.part else then) if self._is_of_pairs or not self.part else ""
+        return f"{number}{self.part}, " if self.part else number
 
     def as_dict(self) -> Dict[str, Any]:
         """What it has, by the same names, as json.dumps takes it."""
@@ -164,6 +166,12 @@ def raising(answers: Iterable[Union[Value, Fault, Cut]]) -> Iterator[Value]:
 def named(fault: AnyFault, name: str) -> AnyFault:
     """Returns the fault of a call on two lines, whose text begins with the name of the one that has it."""
     fault.part = name
+    return fault
+
+
+def of_pair(fault: AnyFault, number: int) -> AnyFault:
+    """Returns the fault of one of many pairs, by its number."""
+    fault.line, fault._is_of_pairs = number, True
     return fault
 
 

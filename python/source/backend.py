@@ -70,7 +70,8 @@ def command(compiler: List[str], made: str) -> List[str]:
     """Returns the words by which a compiler makes the library."""
     source = os.path.join(HERE, "engine", "nissy.c")
     if os.path.basename(compiler[0]).lower() in ("cl", "cl.exe"):
-        calls = re.findall(r"^\w+ (nissy_\w+)\(", read("engine", "nissy.h").decode(), re.MULTILINE)
+        headers = read("engine", "nissy.h") + read("engine", "nissy_text.h")
+        calls = re.findall(r"^\w+ (nissy_\w+)\(", headers.decode(), re.MULTILINE)
         return [*compiler, "/nologo", "/std:c11", "/O2", "/LD", "/Fe" + made, source, "/link", *("/EXPORT:" + it for it in calls)]
     more = shlex.split(os.environ.get("CFLAGS", ""))
     if MACOS:

@@ -178,18 +178,49 @@ std::string attempts_of(std::string_view text) {
 std::string said_of(const nissy::text_place &it) { return "@" + std::to_string(it.line) + ":" + std::to_string(it.column); }
 
 std::string said_of(const nissy::fault &it, const std::optional<nissy::text_place> &place) {
-    return std::string(it.part()) + ":" + std::to_string(it.column()) + ":" + std::string(it.text()) + (place ? said_of(*place) : "");
+    return std::string(it.part()) + ":" + std::to_string(it.column()) + ":" + std::string(it.text()) + (place ? said_of(*place) : "@nowhere");
 }
 
-// What is said of each attempt of a text, each on a line: of its solution, of its fault, and of its forms.
-std::string checks_of(std::string_view text) {
+// What is said of an attempt of a text: of its solution, of its fault, and of its forms.
+std::string said_of(const nissy::attempt_check &it) {
+    std::vector<std::string> forms;
+    for (const nissy::form_in_text &each : it.forms) forms.push_back(each.text + "/" + joined(nissy::form_names(each.forms)) + said_of(each.place));
+    return (it.check ? said_of(*it.check) : "") + "|" + (it.fault ? said_of(*it.fault, it.place) : "") + "|" + joined(forms, " ");
+}
+
+// What makes one doubt it, and where.
+std::string doubt_of(const nissy::attempt_check &it) {
+    return it.doubt ? nissy::doubt_name(it.doubt->reason) + said_of(it.doubt->place) : "";
+}
+
+// Something of each check, each on a line.
+template <typename Said> std::string each_on_a_line(const std::vector<nissy::attempt_check> &checks, Said said) {
+    std::vector<std::string> lines;
+    for (const nissy::attempt_check &it : checks) lines.push_back(said(it));
+    return joined(lines, "\n");
+}
+
+std::vector<std::string> split(std::string_view text) {
+    std::vector<std::string> parts;
+    for (std::size_t end; (end = text.find('\n')) != std::string_view::npos; text.remove_prefix(end + 1)) parts.emplace_back(text.substr(0, end));
+    if (!text.empty()) parts.emplace_back(text);
+    return parts;
+}
+
+// What is said of known scrambles, of which there is one on each line.
+std::string known_of(std::string_view text, std::string_view scrambles) {
+    const auto said = [](const nissy::attempt_check &it) { return it.attempt.name + "|" + said_of(it) + "|" + doubt_of(it); };
+    return each_on_a_line(nissy::check_attempts(text, split(scrambles)), said);
+}
+
+// What is said of pairs, of which there are two lines each.
+std::string pairs_of(std::string_view text) {
+    const std::vector<std::string> all = split(text);
+    std::vector<std::pair<std::string, std::string>> pairs;
+    for (std::size_t at = 0; at + 1 < all.size(); at += 2) pairs.emplace_back(all[at], all[at + 1]);
     std::vector<std::string> said;
-    for (const nissy::attempt_check &it : nissy::check_attempts(text)) {
-        std::vector<std::string> forms;
-        for (const nissy::form_in_text &each : it.forms)
-            forms.push_back(each.text + "/" + joined(nissy::form_names(each.forms)) + said_of(each.place));
-        said.push_back((it.check ? said_of(*it.check) : "") + "|" + (it.fault ? said_of(*it.fault, it.place) : "") + "|" + joined(forms, " "));
-    }
+    for (const nissy::pair_answer &it : nissy::check_all(pairs))
+        said.push_back(it ? said_of(it.value()) : std::string(it.part()) + ":" + std::to_string(it.column()) + ":" + it.text());
     return joined(said, "\n");
 }
 
@@ -262,7 +293,10 @@ std::string called(const std::string &call, std::istream &asked) {
     if (call == "tokens") return moves_of(line.view());
     if (call == "plain_line") return plain_of(line.view());
     if (call == "read_attempts") return attempts_of(line.view());
-    if (call == "check_attempts") return checks_of(line.view());
+    if (call == "check_attempts") return each_on_a_line(nissy::check_attempts(line.view()), [](const auto &it) { return said_of(it); });
+    if (call == "attempt_doubts") return each_on_a_line(nissy::check_attempts(line.view()), doubt_of);
+    if (call == "known_checks") return known_of(line.view(), exact(other).view());
+    if (call == "check_all") return pairs_of(line.view());
     if (call == "attempt_counts") return counts_of(line.view());
     if (call == "form_places") return forms_of(line.view());
     if (call == "invert") return nissy::invert(line.view());

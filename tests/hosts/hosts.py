@@ -228,6 +228,21 @@ def attempt_check(it: nissy.AttemptCheck) -> str:
     return "|".join(["" if it.check is None else checked(it.check), fault, forms])
 
 
+def attempt_doubt(it: nissy.AttemptCheck) -> str:
+    """What makes one doubt an attempt, and where."""
+    return f"{it.doubt.reason}@{line_and_column(it.doubt.place)}" if it.doubt else ""
+
+
+def known_check(it: nissy.AttemptCheck) -> str:
+    """What is said of a known scramble, or of what isn't told to be of one."""
+    return "|".join([it.attempt.name, attempt_check(it), attempt_doubt(it)])
+
+
+def pair_check(it: nissy.Check | nissy.Fault) -> str:
+    """What is said of one of many pairs."""
+    return f"{it.part}:{getattr(it, 'column', 0)}:{it.text}" if isinstance(it, nissy.Fault) else checked(it)
+
+
 class Python(Host):
     """The package, with a line in one form after another, and searches by one call after another."""
 
@@ -274,6 +289,14 @@ class Python(Host):
             return attempts(given[0].decode(), self.line(given[0]))
         if call == "check_attempts":
             return "\n".join(map(attempt_check, nissy.check_attempts(self.line(given[0]))))
+        if call == "attempt_doubts":
+            return "\n".join(map(attempt_doubt, nissy.check_attempts(self.line(given[0]))))
+        if call == "known_checks":
+            scrambles = given[1].decode().splitlines()
+            return "\n".join(map(known_check, nissy.check_attempts(self.line(given[0]), scrambles=map(self.line, map(str.encode, scrambles)))))
+        if call == "check_all":
+            lines_of = given[0].decode("utf-8", "surrogateescape").split("\n")
+            return "\n".join(map(pair_check, nissy.check_all(zip(lines_of[::2], lines_of[1::2]))))
         if call == "attempt_counts":
             return attempt_counts(self.line(given[0]))
         written: Any = {"facts": facts, "tokens": tokens, "form_places": form_places, "check": checked, "plain_line": plain_line}.get(call, str)
@@ -295,12 +318,14 @@ class Python(Host):
 
 
 def hosts_of(words: List[str]) -> List[Host]:
-    """The hosts that words name: `python`, `c++=CALLER`, `js=MODULE`, or `program=COMMAND`, of which blanks part the words."""
+    """The hosts that words name: `python`, `c=CALLER`, `c++=CALLER`, `js=MODULE`, or `program=COMMAND`, of which blanks part the words."""
     made: List[Host] = []
     for word in words:
         kind, _, what = word.partition("=")
         if kind == "js":
             made.append(Caller("JavaScript", ["node", os.path.join(os.path.dirname(os.path.abspath(__file__)), "caller.mjs"), what]))
+        elif kind in ("c", "c++"):
+            made.append(Caller(kind.upper(), [what]))
         else:
-            made.append(Python() if kind == "python" else Caller("C++", [what]) if kind == "c++" else Other(what.split(" ")))
+            made.append(Python() if kind == "python" else Other(what.split(" ")))
     return made

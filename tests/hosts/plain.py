@@ -1,6 +1,7 @@
 #!/usr/bin/env python3
-"""Texts as solvers write them, read by each host as one line and as attempts: the rows of tests/calls.tsv, and drawn texts, which all hosts read as
-Python does. The same attempts and others are checked, of which each host tells what other calls of Python's tell.
+"""Texts as solvers write them, read by each host as one line and as attempts: the rows of tests/calls.tsv, and drawn texts. Python and C++ read
+them by the library; Python tells of checks what its other calls tell, and C++ all as Python does. JavaScript has rules of its own, by which it reads
+some rows otherwise.
 
     tests/hosts/plain.py SEED COUNT HOST..
 
@@ -12,7 +13,7 @@ import random
 import sys
 import time
 import unicodedata
-from typing import Iterator, List
+from typing import Dict, Iterator, List, Tuple
 
 from hosts import Host, Python, checked, hosts_of, line_and_column, told  # isort: skip
 
@@ -20,6 +21,8 @@ import called
 import nissy
 from tally import Tally
 
+# by each call what is given to it, texts mostly, each with what is told of it
+Texts = Dict[str, List[List[str]]]
 # of the letters that C++ knows from other signs
 PARTS = """R U2 F' L\u2019 B\u2032 ( ) ` ' \u02bc EO DR Final finale R\u00e9duction re\u0301 \u042d\u041e \u89e3 \U00010400 F2L EO\u00b2 \u00bd A
     Inverse NISS premoves R2w Scramble SCRAMBLE scramble 1. 23) 4 . // / , ; _ - \u2192 \U0001f600 \u200b \u2060 \ufeff
@@ -28,7 +31,7 @@ BLANKS = [" ", " ", " ", ": ", ":", "\n", "\n", "\r\n", "\r", "\t", "\u00a0", "\
 # Latin, Greek, Cyrillic, the punctuation of all, Japanese and Korean, and the middle of Chinese, which C++ reads by a table of its own
 SCRIPTS = [*range(0xa0, 0x530), *range(0x2010, 0x2030), *range(0x3000, 0x3100), *range(0x4e00, 0x4f00), *range(0xac00, 0xad00),
            *range(0xff00, 0xfff0)]
-ALL_NAMES = {"labels", "numbers of moves", "comments", "line numbers", "the word Scramble", "commas", "signs that aren't seen"}
+ALL_NAMES = {"labels", "numbers of moves", "comments", "line numbers", "commas", "signs that aren't seen"}
 # what lines of attempts begin with, and go on with
 HEADS = ["", "", "", "", " ", "1. ", "2) ", "(3)", "#4 ", "5 ", "6.07 ", "E1 ", "E2 ", "Extra 1: ", "Scramble 2:", "scramble: ", "Attempt 3 of 3",
          "Attempt 4/5 - ", "attempt", "EO: ", "Solution: ", "\u00c9tape finale\u00a0: ", "my solution :", "R\u00e9solution: ", "Inverse: ", "NISS: ",
@@ -40,17 +43,19 @@ RESTS = ["", "", "", " ", "\r", "R U", "(F2 D\u2019)", "L, B // hello", "// a no
 # long texts, with the numbers of their attempts, and of all steps and candidates of these
 LONG = {"\r" * 1_000_000: "1 0 0", "1.\n" * 100_000: "1 0 0", "R U // x\n" * 50_000: "1 49999 0", "Inverse:\r" * 50_000: "1 0 0",
         "1. R\n" * 20_000: "20000 0 0", "R U\n\n" * 20_000: "1 0 19999", "Solution: R\n\n" * 20_000: "1 0 19999",
-        "Final solution: R\n\n" * 20_000: "1 1 19999", "1. Scramble: R\n" * 20_000: "20000 0 0", "R' U' F D R' U' F\n" * 15_000: "1 14999 0",
-        "Solution (1): R\nR (2) // EO\n" * 10_000: "1 19999 0"}
+        "Final solution: R\n\n" * 20_000: "1 1 19999", "1. Scramble: R\n" * 20_000: "20000 0 0", "R' U' F D R' U' F\n" * 15_000: "15000 0 0",
+        "Solution (1): R\nR (2) // EO\n" * 10_000: "1 1 19998"}
+# the same of those that hosts with rules of their own read otherwise
+OLDER = {"R' U' F D R' U' F\n" * 15_000: "1 14999 0", "Solution (1): R\nR (2) // EO\n" * 10_000: "1 19999 0"}
 SOON = 60
 # scrambles and solutions, of which many belong together, some have forms, and others are at fault
 CHECKED = ["R", "R'", "R\u2032", "R2", "R2'", "(R)", "(R')", "M", "M\u2019", "r Lw'", "x", "", "D (M2 r2\u2019)", "\u2028R, U", "U' R'", "R q", "(R",
            "R\u00b4 \u00c9F", "R " * 257, "\U0001f600 R"]
 
 
-def wanted_lines() -> Iterator[List[str]]:
+def wanted_lines(kind: str) -> Iterator[List[str]]:
     """Each row of the table that is a line: a text, and what is told of it."""
-    for text, line, places, names in called.rows("plain"):
+    for text, line, places, names in called.rows(kind):
         ranges = (it.partition("-") for it in places.split())
         each = [str(at) for first, _, last in ranges for at in range(int(first), int(last or first) + 1)]
         yield [text, f"{line}\n{' '.join(each)}\n{names}"]
@@ -124,35 +129,75 @@ def checks_of(tally: Tally, sheets: List[str]) -> None:
     tally.equal("each kind of check is there", seen, {"1", "0", "1forms", "0forms", "scramble", "solution", ""})
 
 
-def times_of(tally: Tally, host: Host) -> None:
+def times_of(tally: Tally, host: Host, counts: Dict[str, str]) -> None:
     """A host reads long texts in a time by their length: by its square they would take minutes."""
-    for text, wanted in LONG.items():
+    for text, wanted in counts.items():
         begun = time.monotonic()
         tally.equal(f"attempt_counts of {text[:12]!r} and so on in {host.name}", told(host, "attempt_counts", text.encode()), wanted)
         tally.holds(f"{text[:12]!r} and so on soon in {host.name}", time.monotonic() - begun < SOON)
+
+
+def is_told(tally: Tally, host: Host, texts: Texts) -> None:
+    """A host tells of texts what is wanted."""
+    for call, those in texts.items():
+        for *given, wanted in those:
+            tally.equal(f"{call} of {given!r} in {host.name}", told(host, call, *(text.encode() for text in given)), wanted)
+
+
+def drawn_pairs(draw: random.Random, count: int) -> Iterator[List[str]]:
+    """Several pairs of a scramble and a solution, each on a line, with what is told of each pair alone."""
+    lines = [line for line in CHECKED if "\u2028" not in line]
+    for _ in range(count):
+        pairs = [(draw.choice(lines), draw.choice(lines)) for _ in range(draw.randrange(1, 5))]
+        yield ["".join(f"{line}\n" for pair in pairs for line in pair), "\n".join(map(check_alone, pairs))]
+
+
+def check_alone(pair: Tuple[str, str]) -> str:
+    """What is told of a pair alone."""
+    try:
+        return checked(nissy.check(*pair))
+    except nissy.LineFault as fault:
+        return f"{fault.part}:{fault.column}:{fault.text}"
+
+
+def drawn_known(draw: random.Random, count: int) -> Iterator[List[str]]:
+    """Texts of several lines, with some scrambles that are known."""
+    for text in drawn_sheets(draw, count):
+        yield [text, "".join(f"{line}\n" for line in draw.sample(["R U", "F", "R' U' F D R' U' F", "q", ""], draw.randrange(5)))]
+
+
+def by_host(host: Host, drawn_texts: Dict[str, List[List[str]]]) -> Texts:
+    """What is given to calls, each with what a host tells of it."""
+    return {call: [[*given, told(host, call, *(text.encode() for text in given))] for given in those] for call, those in drawn_texts.items()}
 
 
 def main() -> None:
     """All rows and texts, by each host."""
     tally, python, (seed, count) = Tally(), Python(), map(int, sys.argv[1:3])
     draw = random.Random(seed)
-    texts = {"plain_line": [each_sign(), *drawn(draw, count)], "read_attempts": list(drawn_sheets(draw, count))}
-    attempts = list(called.rows("attempts"))
-    rows = {"plain_line": list(wanted_lines()), "read_attempts": attempts,
-            "check_attempts": [[text, checks_by_calls(text)] for text, _ in attempts]}
-    ours = {call: [told(python, call, text.encode()) for text in those] for call, those in texts.items()}
-    texts["check_attempts"] = [*texts["read_attempts"], *drawn_solutions(draw, count)]
-    ours["check_attempts"] = list(map(checks_by_calls, texts["check_attempts"]))
+    sheets, kinds = list(drawn_sheets(draw, count)), [kind.text for kind in called.kinds()]
+    solved = [*sheets, *drawn_solutions(draw, count), *kinds]
+    rows: Texts = {"plain_line": list(wanted_lines("plain")), "read_attempts": list(called.rows("attempts")), "known_checks": list(called.rows("known"))}
+    older = {"plain_line": dict(wanted_lines("older-plain")), "read_attempts": dict(called.rows("older-attempts"))}
+    by_calls = [[text, checks_by_calls(text)] for text in [*solved, *(text for text, _ in rows["read_attempts"])]]
+    is_told(tally, python, {**rows, "check_attempts": by_calls, "check_all": list(drawn_pairs(draw, count // 10))})
+    times_of(tally, python, LONG)
+    ours = by_host(python, {"plain_line": [[it] for it in (each_sign(), *drawn(draw, count))], "read_attempts": [[it] for it in sheets],
+                            "check_attempts": [[it] for it in solved], "attempt_doubts": [[it] for it in solved],
+                            "known_checks": list(drawn_known(draw, count)), "check_all": [[it] for it, _ in drawn_pairs(draw, count // 10)]})
     for host in hosts_of(sys.argv[3:]):
-        for call, those in texts.items():
-            for text, wanted in [*rows[call], *zip(those, ours[call])]:
-                tally.equal(f"{call} of {text!r} in {host.name}", told(host, call, text.encode()), wanted)
-        times_of(tally, host)
+        if host.name == "JavaScript":
+            is_told(tally, host, {call: [[text, of.get(text, wanted)] for text, wanted in rows[call]] for call, of in older.items()})
+            times_of(tally, host, {**LONG, **OLDER})
+        elif not isinstance(host, Python):
+            is_told(tally, host, rows)
+            is_told(tally, host, ours)
+            times_of(tally, host, LONG)
         tally.equal(f"{host.name} ends, and has said no more", host.end(), 0)
     for call, check in (("plain_line", names_of), ("read_attempts", kinds_of)):
         check(tally, [wanted for _, wanted in rows[call]])
-        check(tally, ours[call])
-    checks_of(tally, ours["check_attempts"])
+        check(tally, [wanted for _, wanted in ours[call]])
+    checks_of(tally, [wanted for _, wanted in by_calls])
     tally.end()
 
 

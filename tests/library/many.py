@@ -6,6 +6,7 @@
 The library is that of NISSY_LIBRARY. The answers themselves are tried by values.py.
 """
 import itertools
+import pickle
 import sys
 import threading
 import time
@@ -58,6 +59,38 @@ def iterables(tally: Tally) -> None:
         tally.equal("the first two of lines without end", [it[:2] for it in itertools.islice(answers, 2)], [(1, 2)] * 2)
         answers.close()
         tally.holds("one that was closed is at its end", raised(StopIteration, lambda: next(answers)))
+
+
+def pairs(tally: Tally) -> None:
+    """Pairs of a scramble and a solution, of any kind, come one at a time; what is wrong with one has its number."""
+    solved, unsolved = nissy.Check(True, 1, 1, ()), nissy.Check(False, 1, 1, ())
+    taken: List[Any] = []
+    given: List[Any] = [("R", "R'"), [b"R", "R"], ("R q", "R"), {"R": 1, "R q": 2}, iter([bytearray(b"R"), "R'"])]
+
+    def each() -> Iterator[Any]:
+        for pair in given:
+            taken.append(pair)
+            yield pair
+
+    answers: Any = nissy.check_all(each())
+    tally.equal("nothing is taken before it is asked for", taken, [])
+    tally.equal("the first two", (list(itertools.islice(answers, 2)), len(taken)), ([solved, unsolved], 2))
+    first, second, last = answers
+    for fault, number, part, said in ((first, 3, "scramble", "line 3, scramble, column 3: not a move"), (second, 4, "solution", "line 4, solution, column 3: not a move")):
+        tally.equal(f"the fault of {number}", (type(fault), fault.line, fault.part, str(fault)), (nissy.LineFault, number, part, said))
+        tally.equal("a copy of it", str(pickle.loads(pickle.dumps(fault))), said)
+    tally.equal("the last one", last, solved)
+    told: List[Any] = []
+    tally.equal("pairs of a list", list(nissy.check_all([("R", "R'")] * 2, progress=lambda *it: told.append(it))), [solved] * 2)
+    tally.equal("how many are told", told[-1], (2, 2))
+    for wrong, kind, words in (("R U", TypeError, "a scramble and a solution are a list or another iterable, not str"),
+                               (("R",), ValueError, "a scramble and a solution are two, not 1"),
+                               (("R", 1), TypeError, "the solution is a str or bytes, not int")):
+        answers = untyped.check_all([("R", "R'"), wrong])
+        tally.equal("the one before", next(answers), solved)
+        tally.equal(f"what is wrong with {wrong}", str(raised(kind, lambda: next(answers))), f"pair 2: {words}")
+    tally.holds("arguments are judged at the call", raised(TypeError, lambda: untyped.check_all("R")))
+    tally.holds("so is progress", raised(TypeError, lambda: untyped.check_all([], progress=3)))
 
 
 def plain(answer: Any) -> Any:
@@ -163,4 +196,4 @@ def progress(tally: Tally) -> None:
 
 
 if __name__ == "__main__":
-    tried(iterables, many, refilled, progress)
+    tried(iterables, pairs, many, refilled, progress)

@@ -60,7 +60,7 @@ def names(tally: Tally) -> None:
               "tokens", "Token", "solutions", "best", "best_all", "Continuation", "Continuations", "Orientation", "Reduction", "Lengths", "form_places", "FormPlace",
               "start_of", "plain_line", "PlainLine", "AXES", "EDGE_PLACES", "CORNER_PLACES", "NET", "stickers_of",
               "read_attempts", "Attempt", "AttemptCandidate", "place_of", "TextPlace", "line_after",
-              "check_attempts", "AttemptCheck", "FormInText"}
+              "check_attempts", "AttemptCheck", "AttemptDoubt", "FormInText", "check_all"}
     tally.equal("what an import of all brings", set(brought), wanted)
     public = [getattr(nissy, name) for name in nissy.__all__ if callable(getattr(nissy, name))]
     tally.holds("each function and each class says what it does", len(public) > 10 and all(it.__doc__ for it in public))
@@ -80,12 +80,16 @@ def classes(tally: Tally) -> None:
         (nissy.TextPlace, {"at": int, "line": int, "column": int}),
         (nissy.AttemptCandidate, {"steps": Tuple[nissy.PlainLine, ...], "solution": nissy.PlainLine, "note": str}),
         (nissy.Attempt, {"name": str, "scramble": nissy.PlainLine, "steps": Tuple[nissy.PlainLine, ...],
-                         "solution": Optional[nissy.PlainLine], "candidates": Tuple[nissy.AttemptCandidate, ...], "before": int}),
+                         "solution": Optional[nissy.PlainLine], "candidates": Tuple[nissy.AttemptCandidate, ...], "before": int,
+                         "doubt": Optional[nissy.AttemptDoubt]}),
+        (nissy.AttemptDoubt, {"reason": str, "place": nissy.TextPlace}),
         (nissy.FormInText, {"text": str, "forms": Tuple[str, ...], "place": nissy.TextPlace}),
         (nissy.AttemptCheck, {"attempt": nissy.Attempt, "check": Optional[nissy.Check], "fault": Optional[nissy.LineFault],
-                              "place": Optional[nissy.TextPlace], "forms": Tuple[nissy.FormInText, ...]}),
+                              "place": Optional[nissy.TextPlace], "forms": Tuple[nissy.FormInText, ...],
+                              "doubt": Optional[nissy.AttemptDoubt]}),
         (nissy.FormPlace, {"text": str, "forms": Tuple[str, ...], "column": int, "character": int}),
-        (nissy.solve_all, {"return": Iterator[Union[nissy.Solutions, nissy.Fault, nissy.Cut]]}), (nissy.run, {"return": nissy.Answer})]
+        (nissy.solve_all, {"return": Iterator[Union[nissy.Solutions, nissy.Fault, nissy.Cut]]}), (nissy.run, {"return": nissy.Answer}),
+        (nissy.check_all, {"return": Iterator[Union[nissy.Check, nissy.Fault]]})]
     for of, wanted in hints:
         got = get_type_hints(of)
         tally.equal(f"the types of {of.__name__}", {name: got[name] for name in (wanted if "return" in wanted else got)}, wanted)

@@ -331,7 +331,8 @@ int main() {
     threads_agree();
     for (const search_row &row : SEARCHES) solves(nissy::tables(row.step), row);
     for (const auto trial : {lines_are_read, faults_are_thrown, columns_are_counted, text_is_read, places_are_found, forms_are_found,
-                             attempts_are_read, attempts_are_checked, forms_are_placed, misuse_is_thrown, many_lines_are_answered,
+                             attempts_are_read, attempts_are_checked, known_are_checked, pairs_are_checked, doubts_are_told, forms_are_placed,
+                             misuse_is_thrown, many_lines_are_answered,
                              searches_are_cut, progress_is_told, best_is_stopped, all_have_their_best, many_rows_have_room, sides_are_listed,
                              stickers_are_found, refused_memory_is_thrown, many_are_whole, objects_are_values})
         trial();

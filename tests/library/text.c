@@ -1,4 +1,5 @@
-/* The calls that read text as solvers write it, on rows by hand and on drawn texts, in rooms behind which no memory is. */
+/* The calls that read text as solvers write it, on rows by hand and on drawn texts, in rooms behind which no memory is. What each text is read as,
+   tests/library/kinds.py and tests/hosts say. */
 #include "trial.h"
 
 #include "nissy_text.h"
@@ -71,6 +72,23 @@ static void lines_are_of_the_text(guarded text, const char *name) {
     let_go(room);
 }
 
+/* The moves of each line of a text: each byte is that of its place, from `moves` to `comment`. */
+static void moves_are_of_the_text(guarded text, const char *name) {
+    nissy_text_line lines[32 * MOST_PARTS];
+    uint8_t out[96 * MOST_PARTS];
+    uint64_t places[96 * MOST_PARTS];
+    const nissy_text_answer got = nissy_text_lines(text.bytes, text.size, lines, 32 * MOST_PARTS);
+    for (uint64_t at = 0; at < got.lines; at++) {
+        const nissy_plain_answer told = nissy_text_moves(text.bytes, text.size, lines + at, 1, NISSY_OF_STEPS, out, sizeof out, places, sizeof out);
+        int is_right = told.status == NISSY_DONE && (lines[at].kind == NISSY_STEP_LINE || told.length == 0);
+        const uint64_t skipped = lines[at].inverse && told.length > 0;
+        for (uint64_t byte = skipped; byte + skipped < told.length; byte++) {
+            is_right = is_right && places[byte] >= lines[at].moves && places[byte] < lines[at].comment && is_of_its_place(text, out, places, byte);
+        }
+        holds(is_right, "the moves of a line", name);
+    }
+}
+
 static void drawn_texts(void) {
     static const char *const PARTS[] = {"R U F", "\n", "\r\n", "\r", "// ", "EO: ", "Solution: ", "1. ", "#2 ", "R' U' F D R' U' F", "(", ")", "(2)",
                                         "\xe2\x80\x99", "\xe2", "\xff", "\xc2\xa0", "`", ",", "DR", "F2L", "on inverse", " - ", "[0:12] ", "r u",
@@ -86,6 +104,7 @@ static void drawn_texts(void) {
         guarded read = copied(text, strlen(text));
         plain_is_of_the_text(read, text);
         lines_are_of_the_text(read, text);
+        moves_are_of_the_text(read, text);
         let_go(read);
     }
 }
@@ -104,6 +123,99 @@ static void a_sheet(void) {
     holds(lines[4].doubt == NISSY_SIDE && lines[4].doubt_at == 51 && lines[1].doubt == NISSY_NO_DOUBT, "its doubt", "a sheet");
 }
 
+/* Whether the moves of some lines of a text are this line, with these places, and leave this out. */
+static void moves_are(const char *text, const nissy_text_line *lines, size_t count, uint8_t which, const char *line, const uint64_t *places,
+                      uint8_t left_out) {
+    guarded read = copied(text, strlen(text)), out = untouched(strlen(line) + 3), of = guard(8 * (strlen(line) + 3));
+    const nissy_plain_answer got = nissy_text_moves(read.bytes, read.size, lines, count, which, out.bytes, out.size, (uint64_t *)(void *)of.bytes,
+                                                    strlen(line) + 3);
+    holds(got.status == NISSY_DONE && got.length == strlen(line) && memcmp(out.bytes, line, got.length) == 0, "the moves", line);
+    holds(memcmp(of.bytes, places, 8 * strlen(line)) == 0, "their places", line);
+    holds(got.left_out == left_out, "what they leave out", line);
+    holds(are_all(out.bytes + strlen(line), 3, UNTOUCHED), "what stands behind them", line);
+    if (got.length > 0) {
+        guarded small = guard(got.length - 1);
+        const nissy_plain_answer few = nissy_text_moves(read.bytes, read.size, lines, count, which, small.bytes, small.size,
+                                                        (uint64_t *)(void *)of.bytes, strlen(line) + 3);
+        holds(few.status == NISSY_ROOM && few.length < got.length, "too small a room for them", line);
+        let_go(small);
+    }
+    let_go(read), let_go(out), let_go(of);
+}
+
+/* The moves of a sheet: of a scramble on two lines, of steps after a blank line, of which one is on the inverse, and of a solution. */
+static void moves_of_a_sheet(void) {
+    static const char TEXT[] = "R U\nF,\n\nEO: R' // inverse\n2. L (2)\n\nSolution: D`\nB";
+    static const uint64_t SCRAMBLE[] = {0, 1, 2, 3, 4, 5};
+    static const uint64_t STEPS[] = {12, 12, 13, 14, 15, 25, 29, 30, 34, 46, 47, 47, 47, 48, 49};
+    static const uint64_t SOLUTION[] = {46, 47, 47, 47, 48, 49};
+    nissy_text_line lines[8];
+    const nissy_text_answer got = nissy_text_lines((const uint8_t *)TEXT, sizeof TEXT - 1, lines, 8);
+    holds(got.status == NISSY_DONE && got.lines == 8 && got.attempts == 1, "its lines", "moves of a sheet");
+    moves_are(TEXT, lines, 8, NISSY_OF_SCRAMBLE, "R U F ", SCRAMBLE, NISSY_COMMAS);
+    moves_are(TEXT, lines, 8, NISSY_OF_STEPS, "(R' ) L  D\xe2\x80\x99 B", STEPS,
+              NISSY_LABELS | NISSY_COMMENTS | NISSY_NUMBERS_OF_MOVES | NISSY_LINE_NUMBERS);
+    moves_are(TEXT, lines, 8, NISSY_OF_SOLUTION, "D\xe2\x80\x99 B", SOLUTION, NISSY_LABELS);
+    moves_are(TEXT, lines, 0, NISSY_OF_STEPS, "", SOLUTION, 0);
+    moves_are(TEXT, lines + 6, 1, NISSY_OF_SCRAMBLE, "", SOLUTION, 0);
+    uint8_t byte = UNTOUCHED;
+    uint64_t place = 0;
+    const nissy_plain_answer none = nissy_text_moves((const uint8_t *)TEXT, sizeof TEXT - 1, lines, 8, 3, &byte, 1, &place, 1);
+    holds(none.status == NISSY_USAGE && none.length == 0 && none.left_out == 0 && byte == UNTOUCHED, "an unknown number", "moves of a sheet");
+}
+
+/* Lines that no text has: places beyond it and in no order, and numbers that are none. What is in the text is read. */
+static void lines_of_no_text(void) {
+    static const char TEXT[] = "R U F";
+    static const uint64_t PLACES[] = {2, 3, 4};
+    nissy_text_line line = {.kind = NISSY_STEP_LINE, .solution = 7, .moves = 2, .comment = UINT64_MAX, .head_end = 9, .label_begin = 1};
+    moves_are(TEXT, &line, 1, NISSY_OF_SOLUTION, "U F", PLACES, 0);
+    line.moves = UINT64_MAX, line.label_end = 2, line.end = UINT64_MAX;
+    moves_are(TEXT, &line, 1, NISSY_OF_SOLUTION, "", PLACES, NISSY_LABELS);
+    line.moves = 4, line.comment = 2;
+    moves_are(TEXT, &line, 1, NISSY_OF_STEPS, "", PLACES, NISSY_LABELS | NISSY_COMMENTS);
+    line.kind = 200;
+    moves_are(TEXT, &line, 1, NISSY_OF_STEPS, "", PLACES, 0);
+}
+
+/* Whether this is said of the parts of some steps. */
+static void part_is(const char *scramble, const char *steps, uint8_t how, uint8_t first, uint8_t last) {
+    guarded one = copied(scramble, strlen(scramble)), other = copied(steps, strlen(steps));
+    const nissy_part_answer got = nissy_solving_part(one.bytes, one.size, other.bytes, other.size);
+    holds(got.status == NISSY_DONE && got.how == how, "what solves", steps);
+    holds(got.first == first && got.last == last, "which steps", steps);
+    let_go(one), let_go(other);
+}
+
+/* Steps of which a part solves: the first one in order, if several do. */
+static void parts_of_steps(void) {
+    part_is("R U F", "F'\nU' R'", NISSY_PART_ALONE, 0, 1);
+    part_is("R U F", "L\nF' U' R'\nD", NISSY_PART_ALONE, 1, 1);
+    part_is("R U F", "F'\nL\nU' R'", NISSY_PART_LEFT_OUT, 1, 1);
+    /* R is undone on the inverse, and (R) stands for R' at the end */
+    part_is("R U F", "F' U'\nR", NISSY_PART_IN_BRACKETS, 1, 1);
+    /* both steps alone are tried before the first one in brackets, and the second in brackets after them */
+    part_is("R", "R'\nR", NISSY_PART_ALONE, 0, 0);
+    part_is("R U F", "(F'\nU')\nR'", NISSY_PART_WITHOUT_BRACKETS, 0, 2);
+    part_is("R U F", "(F' U' R')", NISSY_PART_WITHOUT_BRACKETS, 0, 0);
+    part_is("R U F", "F' U'\nQ\nR'", NISSY_PART_LEFT_OUT, 1, 1);
+    part_is("R U F", "F' U' R", NISSY_NO_PART, 0, 0);
+    part_is("R U F", "", NISSY_NO_PART, 0, 0);
+    part_is("R U Q", "F' U' R'", NISSY_NO_PART, 0, 0);
+    part_is("", "R\n\nL", NISSY_NO_PART, 0, 0);
+    /* eight steps are looked at, and no ninth */
+    part_is("R", "L\nL\nL\nL\nL\nL\nL\nR'", NISSY_PART_ALONE, 7, 7);
+    part_is("R", "L\nL\nL\nD\nL\nL\nL\nL\nR'", NISSY_NO_PART, 0, 0);
+    guarded steps = guard(NISSY_MOST_STEPS + 1);
+    memset(steps.bytes, ' ', steps.size);
+    memcpy(steps.bytes, "R'", 2);
+    const nissy_part_answer few = nissy_solving_part((const uint8_t *)"R", 1, steps.bytes, NISSY_MOST_STEPS);
+    const nissy_part_answer many = nissy_solving_part((const uint8_t *)"R", 1, steps.bytes, NISSY_MOST_STEPS + 1);
+    holds(few.status == NISSY_DONE && few.how == NISSY_PART_ALONE, "as many bytes as may be", "long steps");
+    holds(many.status == NISSY_STOPPED && many.how == NISSY_NO_PART, "one byte more", "long steps");
+    let_go(steps);
+}
+
 /* No byte, and a pointer to none. */
 static void nothing(void) {
     holds(nissy_plain(NULL, 0, NULL, 0, NULL, 0).status == NISSY_DONE, "its line", "no text");
@@ -115,6 +227,9 @@ static void nothing(void) {
 int main(void) {
     drawn_texts();
     a_sheet();
+    moves_of_a_sheet();
+    lines_of_no_text();
+    parts_of_steps();
     nothing();
     return ended();
 }

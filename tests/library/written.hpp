@@ -25,7 +25,7 @@ void text_is_read() {
     }
     // what begins a sign and has too few bytes, or more than it needs, is no blank and no letter
     for (const char *text : {"\xc2", "\xe2\x80", "\xc0\xa0", "\xe0\x82\xa0", "\xf0\x80\x82\xa0", "\xed\xa0\x80", "\xf4\x90\x80\x80", "\x80"})
-        holds(nissy::plain_line(std::string("EO") + text + ": R").line == std::string("EO") + text + ": R", "bytes that aren't UTF-8", text);
+        holds(nissy::plain_line(std::string("R") + text + " R").line == std::string("R") + text + " R", "bytes that aren't UTF-8", text);
     holds(nissy::plain_line({}).line.empty() && nissy::plain_line(std::string_view("//", 1)).line == "/", "nothing behind its end", "/");
 }
 
@@ -37,8 +37,8 @@ void places_are_found() {
         std::size_t column; // in the line
         nissy::text_place place;
     };
-    static constexpr row ROWS[] = {{1, {3, 1, 4}}, {2, {4, 1, 5}}, {5, {7, 1, 7}}, {6, {8, 1, 8}}, {11, {13, 2, 1}}, {16, {18, 2, 3}},
-                                   {19, {21, 3, 1}}, {21, {23, 4, 1}}, {22, {24, 4, 2}}, {25, {27, 4, 3}}, {99, {27, 4, 3}}};
+    static constexpr row ROWS[] = {{1, {3, 1, 4}}, {2, {4, 1, 5}}, {5, {7, 1, 7}}, {6, {8, 1, 8}}, {10, {13, 2, 1}}, {15, {18, 2, 3}},
+                                   {18, {21, 3, 1}}, {20, {23, 4, 1}}, {21, {24, 4, 2}}, {24, {27, 4, 3}}, {99, {27, 4, 3}}};
     for (const auto &[column, place] : ROWS) {
         const nissy::fault fault(NISSY_NOT_A_MOVE, column, "");
         holds(nissy::place_of(fault, plain, TEXT) == place, "its place in the text", fault.what());
@@ -67,19 +67,19 @@ void forms_are_found() {
 void attempts_are_read() {
     static constexpr std::string_view TEXT = "Hello\n1. R\xe2\x80\x99 U\nF // EO\n\n// short\nB q\nL\n\n2) D\n";
     const std::vector<nissy::attempt> attempts = nissy::read_attempts(TEXT);
-    const auto &[name, scramble, steps, solution, candidates, before] = attempts.at(0);
+    const auto &[name, scramble, steps, solution, candidates, before, doubt] = attempts.at(0);
     const auto is = [](const nissy::plain &part, const char *line, const std::vector<std::size_t> &places, const names &left_out) {
         holds(part.line == line && part.places == places && part.left_out == left_out, "a part of an attempt", line);
     };
-    is(scramble, " R\xe2\x80\x99 U", {8, 9, 10, 11, 12, 13, 14}, {});
+    is(scramble, "R\xe2\x80\x99 U", {9, 10, 11, 12, 13, 14}, {});
     is(steps.at(0), "F ", {16, 17}, {"comments"});
     is(solution.value(), "F ", {16, 17}, {"comments"});
     is(candidates.at(0).steps.at(0), "B q", {34, 35, 36}, {});
     is(candidates[0].solution, "B q L", {34, 35, 36, 37, 38}, {});
     holds(name == "1." && before == 1 && steps.size() == 1 && candidates.size() == 1 && candidates[0].note == "short", "the first one", "1.");
-    is(attempts.at(1).scramble, " D", {43, 44}, {});
+    is(attempts.at(1).scramble, "D", {44}, {});
     holds(attempts.size() == 2 && attempts[1].name == "2)" && attempts[1].steps.empty() && attempts[1].before == 0, "the other one", "2)");
-    holds(!attempts[1].solution, "it has no solution", "2)");
+    holds(!attempts[1].solution && !doubt && !attempts[1].doubt, "it has no solution, and nothing is in doubt", "2)");
     try {
         nissy::check(scramble.line, candidates[0].steps[0].line);
         holds(0, "it has a fault", "B q");
@@ -114,24 +114,78 @@ void attempts_are_checked() {
     const std::vector<nissy::attempt_check> all =
         nissy::check_attempts("\xf0\x9f\x98\x80 caf\xc3\xa9\n1. R\n\nR'\n2) U\nEO\xc3\xa9: U\xe2\x80\x99 q\n3) D q\n4) q\n\nq\n5) L\n");
     is_checked(all.at(0), true, 1, "the first of many");
-    is_at_fault(all.at(1), "solution", 7, {36, 6, 9}, "EOé: U’ q");
-    is_at_fault(all.at(2), "scramble", 4, {43, 7, 6}, "3) D q");
-    is_at_fault(all.at(3), "scramble", 2, {48, 8, 4}, "4) q, which q is to solve");
-    holds(all.size() == 5 && all[4].attempt.name == "5)" && all[4].attempt.scramble.line == " L", "the last one", "5) L");
+    is_at_fault(all.at(1), "solution", 6, {36, 6, 9}, "EOé: U’ q");
+    is_at_fault(all.at(2), "scramble", 3, {43, 7, 6}, "3) D q");
+    is_at_fault(all.at(3), "scramble", 1, {48, 8, 4}, "4) q, which q is to solve");
+    holds(all.size() == 5 && all[4].attempt.name == "5)" && all[4].attempt.scramble.line == "L", "the last one", "5) L");
     holds(!all[4].check && !all[4].fault && !all[4].place && all[4].forms.empty(), "nothing is said without a solution", "5) L");
-    is_at_fault(nissy::check_attempts("R \xff\n\nU").at(0), "scramble", 3, {2, 1, 3}, "a byte that isn't UTF-8");
-    is_at_fault(nissy::check_attempts("1. R // \xff\n\nR2 \xff").at(0), "solution", 4, {14, 3, 4}, "one behind such a byte");
+    is_at_fault(nissy::check_attempts("R \xff U\n\nU").at(0), "scramble", 3, {2, 1, 3}, "a byte that isn't UTF-8");
+    is_at_fault(nissy::check_attempts("1. R // \xff\n\nR2 \xff U").at(0), "solution", 4, {14, 3, 4}, "one behind such a byte");
     const std::vector<nissy::attempt_check> empty = nissy::check_attempts({});
     holds(empty.size() == 1 && !empty[0].check && !empty[0].fault && empty[0].forms.empty(), "one that is empty", "no text");
     // valgrind takes half a minute to read so many bytes out of a text, so the attempt is made here
     nissy::attempt of_blanks;
     of_blanks.scramble.line.assign(NISSY_MOST_INPUT + 1, ' ');
+    nissy::detail::text_places places({});
     try {
-        nissy::detail::check_of({}, of_blanks);
+        nissy::detail::check_of({}, of_blanks, places);
         holds(0, "it throws", "16,777,217 blanks");
     } catch (const std::length_error &thrown) {
         holds(thrown.what()[0] != 0, "it says what", "16,777,217 blanks");
     }
+}
+
+// Each reason for a doubt, and where it is seen, of the rows of tests/library/kinds.py; a solution that solves is in none.
+void doubts_are_told() {
+    struct row {
+        const char *text;
+        const char *reason;
+        std::size_t line, column;
+    };
+    static constexpr row ROWS[] = {{"R' U' F D R' U' F R U", "another scramble", 1, 1}, {"R U F\n\nEO: D\n\nDR: L\n\nD L B", "several solutions", 3, 5},
+                                   {"R U F\n\nR U // premoves\nF' // EO", "side", 3, 8}, {"R U F\n\nF' U' R LUL", "letters", 3, 10},
+                                   {"r u f\n\nF' U' R'", "small letters", 1, 1}, {"R U F\n\nF' // EO U' R' D", "comment", 3, 4},
+                                   {"R U F\n\nAnna: F' U' R'\nBert: F' U' D", "a part", 3, 7}, {"R U F\n\n(F') U' R'", "a part", 3, 1}};
+    for (const auto &[text, reason, line, column] : ROWS) {
+        const auto doubt = nissy::check_attempts(text).at(0).doubt;
+        holds(doubt && nissy::doubt_name(doubt->reason) == reason, "its reason", text);
+        holds(doubt && doubt->place.line == line && doubt->place.column == column, "where it is seen", text);
+    }
+    for (const char *text : {"R U F\n\nF' U' R'", "R U F\n\nF' U' R", "R U F", "R U F\n\nR U // premoves\nF q"})
+        holds(!nissy::check_attempts(text).at(0).doubt, "no doubt", text);
+}
+
+// What the rows of tests/calls.tsv say of known scrambles, the hosts try; this is what they can't tell.
+void known_are_checked() {
+    static constexpr char TEXT[] = "Attempt 2 of 3: U\xe2\x80\x99\nAttempt 1 of 3: R\xe2\x80\x99 q";
+    const std::vector<nissy::attempt_check> all = nissy::check_attempts(TEXT, {"R", "U", "F"});
+    is_at_fault(all.at(0), "solution", 6, {42, 2, 20}, TEXT);
+    holds(all.at(1).check && all[1].check->solved && all[1].attempt.name == "Attempt 2 of 3:", "what is solved", TEXT);
+    holds(all[1].attempt.scramble.line == "U" && all[1].attempt.scramble.places.empty(), "the scramble that it is of", TEXT);
+    holds(all.size() == 3 && !all[2].check && !all[2].fault && !all[2].doubt && !all[2].attempt.solution, "one without a solution", TEXT);
+    try {
+        nissy::check_attempts("", {std::string(NISSY_MOST_INPUT + 1, ' ')});
+        holds(0, "it throws", "16,777,217 blanks");
+    } catch (const std::length_error &thrown) {
+        holds(thrown.what()[0] != 0, "it says what", "16,777,217 blanks");
+    }
+}
+
+// Many pairs, each with its verdict or its fault.
+void pairs_are_checked() {
+    const std::vector<std::pair<std::string_view, const char *>> pairs = {{"R", "R'"}, {"R", "U"}, {"R q", "R"}, {"R", "R q"}};
+    const std::vector<nissy::pair_answer> answers = nissy::check_all(pairs);
+    holds(answers.at(0) && answers[0].value().solved && answers[0].line() == 0 && answers[0].part().empty(), "a verdict", "R, R'");
+    holds(answers.at(1) && !answers[1].value().solved && answers[1].value().moves == 1, "another one", "R, U");
+    holds(!answers.at(2) && answers[2].column() == 3 && answers[2].part() == "scramble" && answers[2].line() == 1, "a fault", "R q, R");
+    holds(!answers.at(3) && answers[3].text() == "not a move" && answers[3].part() == "solution", "another fault", "R, R q");
+    try {
+        (void)answers[3].value();
+        holds(0, "it throws", "R, R q");
+    } catch (const nissy::fault &thrown) {
+        holds(thrown.code() == NISSY_NOT_A_MOVE && thrown.column() == 3, "it says what", "R, R q");
+    }
+    holds(answers.size() == 4 && nissy::check_all(std::map<std::string, std::string>{}).empty(), "none of none", "no pair");
 }
 
 // Where the forms of a solution stand in its text: beside a byte that isn't UTF-8, of apostrophes that the line has otherwise, and two in one move.

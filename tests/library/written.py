@@ -28,8 +28,8 @@ CHECKED: List[Tuple[str, Any, Any, List[Any]]] = [
     ("1. R U F\nEO: F' U\u2032 R' // \U0001f600", (True, 3, 3, ("apostrophe",)), None, [("U\u2019", ("apostrophe",), "U\u2032", 2, 8)]),
     ("2. R U\nU' R // \u00e9", (False, 2, 2, ()), None, []),
     ("3. D", None, None, []),
-    ("4. D q", None, (1, "scramble", 4, 4, "not a move", "q", 6, 6), []),
-    ("5. R (U\nU' M // not read", None, (1, "scramble", 4, 4, "bracket not closed", "(", 7, 6), []),
+    ("4. D q", None, (1, "scramble", 3, 3, "not a move", "q", 6, 6), []),
+    ("5. R (U\nU' M // not read", None, (1, "scramble", 3, 3, "bracket not closed", "(", 7, 6), []),
     ("6. R\nR\u2019 F\u2032 Q // more", None, (2, "solution", 11, 7, "not a move", "Q", 10, 7), []),
     # M' r is R and two of M's quarters back, so r' M is L2 R as faces
     ("7. M' r\nr' M // slices", (True, 3, 2, ("slices", "lower_case")), None,
@@ -65,18 +65,18 @@ def line(tally: Tally) -> None:
 
 def attempts(tally: Tally) -> None:
     """A text as attempts, by hand: the first has a step, a solution with a note, and prose before it."""
-    step = nissy.PlainLine(" F ", (17, 18, 19), ("labels", "comments"))
-    solution = nissy.PlainLine(" F U\u2019 q", (40, 41, 42, 43, 44, 45, 46), ("labels",))
-    second = nissy.Attempt("2.", nissy.PlainLine(" D", (59, 60), ()), (), None, (), 0)
-    wanted = [nissy.Attempt("1.", nissy.PlainLine(" R U ", (8, 9, 10, 11, 12), ()), (step,), solution,
-                            (nissy.AttemptCandidate((solution,), solution, "a try"),), 1), second]
+    step = nissy.PlainLine("F ", (18, 19), ("labels", "comments"))
+    solution = nissy.PlainLine("F U\u2019 q", (41, 42, 43, 44, 45, 46), ())
+    second = nissy.Attempt("2.", nissy.PlainLine("D", (60,), ()), (), None, (), 0)
+    wanted = [nissy.Attempt("1.", nissy.PlainLine("R U", (9, 10, 11), ()), (step,), solution,
+                            (nissy.AttemptCandidate((solution,), solution, "Solution a try"),), 1), second]
     for text in forms_of(SHEET):
         tally.equal(f"attempts of {type(text).__name__}", nissy.read_attempts(text), wanted)
     tally.equal("they can be pickled", pickle.loads(pickle.dumps(wanted)), wanted)
     tally.holds("they can be keys", {it: it.name for it in wanted}[second] == "2.")
     odds: List[Any] = [b"1. R \xff\n2. U\xff", "1. R \udcff\n2. U\udcff"]
     for odd in odds:
-        tally.equal("a byte that is no text", [it.scramble.line for it in nissy.read_attempts(odd)], [" R \udcff", " U\udcff"])
+        tally.equal("a byte that is no text", [it.scramble.line for it in nissy.read_attempts(odd)], ["R \udcff", "U\udcff"])
 
 
 def places(tally: Tally) -> None:
@@ -92,7 +92,7 @@ def places(tally: Tally) -> None:
     plain = nissy.plain_line(text)
     wanted = [(0, 1, 1), (1, 1, 2), (2, 2, 1), (3, 2, 2), (5, 3, 1), (6, 3, 2), (7, 4, 1), (8, 5, 1), (9, 5, 2), (10, 5, 3)]
     for at, line_at, column in wanted:
-        where = nissy.place_of(nissy.LineFault(99, "", character=at + 1), plain, text)
+        where = nissy.place_of(nissy.LineFault(99, "", character=plain.places.index(at) + 1), plain, text)
         tally.equal(f"the line and column of {at}", where, (at, line_at, column))
     text_of_forms = "EO: R // \U0001f600\r\n(r2 U\u00b4) (2)"
     plain_forms = nissy.plain_line(text_of_forms)
@@ -116,7 +116,7 @@ def checks(tally: Tally) -> None:
         said = check and {"solved": check[0], "moves": check[1], "clean_moves": check[2], "forms": list(check[3])}
         of = fault and {"line": fault[0], "part": fault[1], "column": fault[2], "character": fault[3], "text": fault[4]}
         each = [{"text": it[0], "forms": list(it[1]), "place": place(*it[2:])} for it in forms]
-        wanted.append({"name": f"{name}.", "check": said, "fault": of, "place": fault and place(*fault[5:]), "forms": each})
+        wanted.append({"name": f"{name}.", "check": said, "fault": of, "place": fault and place(*fault[5:]), "forms": each, "doubt": None})
         begin += len(attempt) + 1
     for form in forms_of(text):
         found = nissy.check_attempts(form)
@@ -129,15 +129,31 @@ def checks(tally: Tally) -> None:
     tally.holds("no fault keeps its calls", all(it.fault is None or it.fault.__traceback__ is None for it in found))
 
 
+def known(tally: Tally) -> None:
+    """A text of solutions of known scrambles, of which an iterator gives each in any form."""
+    text = "Attempt 2 of 3: U\u2019\nAttempt 1 of 3: R\u2019 q"
+    scrambles: List[Any] = ["R", b"U", bytearray(b"F")]
+    for form in forms_of(text):
+        first, second, third = nissy.check_attempts(form, scrambles=iter(scrambles))
+        tally.equal("a fault of a solution", (str(first.fault), first.place), ("solution, column 6: not a move", (38, 2, 20)))
+        tally.equal("what is solved", second.check, (True, 1, 1, ("apostrophe",)))
+        tally.equal("the scramble that it is of", second.attempt.scramble, ("U", (), ()))
+        tally.equal("its forms", second.forms, (("U\u2019", ("apostrophe",), (16, 1, 17)),))
+        tally.equal("one without a solution", third, nissy.AttemptCheck(nissy.Attempt("", nissy.PlainLine("F", (), ()), (), None, (), 0), None, None, None, ()))
+    for wrong in ("R", 3, [4]):
+        tally.holds(f"no scrambles: {wrong}", raised(TypeError, lambda: untyped.check_attempts("R", scrambles=wrong)))
+    tally.holds("they are named", raised(TypeError, lambda: untyped.check_attempts("R", ["R"])))
+
+
 def odd_checks(tally: Tally) -> None:
     """Checks of a text that is none, of one without moves, and of one that is too long."""
-    odds: List[Any] = [b"1. R U \xff\n2. D\nD'\xff // x", "1. R U \udcff\n2. D\nD'\udcff // x"]
+    odds: List[Any] = [b"1. R \xff U\n2. D\nD'\xff // x", "1. R \udcff U\n2. D\nD'\udcff // x"]
     for odd in odds:
         first, second = nissy.check_attempts(odd)
-        tally.equal("a byte", (first.check, str(first.fault), first.place), (None, "scramble, column 6: not a move", (7, 1, 8)))
+        tally.equal("a byte", (first.check, str(first.fault), first.place), (None, "scramble, column 3: not a move", (5, 1, 6)))
         tally.equal("a later one", (second.check, str(second.fault), second.place), (None, "solution, column 3: not a move", (16, 3, 3)))
     (none,) = nissy.check_attempts("")
-    tally.equal("no moves", none[1:], (None, None, None, ()))
+    tally.equal("no moves", none[1:], (None, None, None, (), None))
     long = "R" + "\U0001f600" * (nissy.MOST_INPUT // 4)
     fault = raised(nissy.Fault, lambda: nissy.check_attempts(long))
     tally.equal("too many bytes", fault and (fault.text, fault.line, fault.part), ("a line has at most 16,777,216 bytes", 1, "scramble"))
@@ -168,7 +184,7 @@ def times(tally: Tally) -> None:
     for long in ("\r" * 1_000_000, "R" * 1_000_000, "ab " * 300_000, "9" * 1_000_000, "\u2028 " * 500_000):
         nissy.plain_line(long)
     text = "R\r\n" * 100_000 + "\r" * 100_000
-    plain, fault = nissy.plain_line(text), nissy.LineFault(99, "", character=300_001)
+    plain, fault = nissy.plain_line(text), nissy.LineFault(99, "", character=200_001)
     for _ in range(1000):
         nissy.place_of(fault, plain, text)
     tally.equal("a place far below", nissy.place_of(fault, plain, text), (300_000, 100_001, 1))
@@ -176,4 +192,4 @@ def times(tally: Tally) -> None:
 
 
 if __name__ == "__main__":
-    tried(line, attempts, places, checks, odd_checks, wrong_types, times)
+    tried(line, attempts, places, checks, known, odd_checks, wrong_types, times)

@@ -3,9 +3,11 @@
 ghost use Rattle.std.specs.Prelude.{◌≡◌};
 ghost use Rattle.niss_embed.specs.LineFacts.{facts_of, check_of};
 ghost use Rattle.niss_embed.specs.ManyLines.{AnswersLines, TellsFacts};
+ghost use Rattle.niss_embed.specs.Parts.{TellsPart};
 
 use niss_embed::{
-    CheckAnswer, FactsAnswer, LinesAnswer, check_line, facts_of_line, facts_of_lines,
+    CheckAnswer, FactsAnswer, LinesAnswer, PartAnswer, check_line, facts_of_line, facts_of_lines,
+    solving_part,
 };
 
 /// Tells what is seen of the cube of a line, as `facts_of_line` of `niss_embed`.
@@ -30,4 +32,12 @@ pub extern "C" fn nissy_check(scramble: &[u8], solution: &[u8]) -> CheckAnswer
     ensures { result ≡ check_of scramble.now solution.now }
 {
     check_line(scramble, solution)
+}
+
+/// Tells which part of some steps solves a scramble, if one does, as `solving_part` of `niss_embed`.
+#[unsafe(no_mangle)]
+pub extern "C" fn nissy_solving_part(scramble: &[u8], steps: &[u8]) -> PartAnswer
+    ensures { TellsPart scramble.now steps.now result }
+{
+    solving_part(scramble, steps)
 }

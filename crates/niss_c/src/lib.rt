@@ -10,14 +10,14 @@ mod text_calls;
 mod version;
 
 pub use best_call::{nissy_best, nissy_line_after, nissy_solve_sides};
-pub use check_calls::{nissy_check, nissy_facts, nissy_facts_lines};
+pub use check_calls::{nissy_check, nissy_facts, nissy_facts_lines, nissy_solving_part};
 pub use niss_embed::{
     Answer, AxisFacts, CheckAnswer, FactsAnswer, LineAfterAnswer, LineAnswer, LinesAnswer,
-    SearchAnswer, WaysAnswer, WaysWanted,
+    PartAnswer, SearchAnswer, WaysAnswer, WaysWanted,
 };
 pub use niss_kept::Held;
 pub use niss_ways::{Part, SideTurns, Way};
-pub use reading_calls::{nissy_plain, nissy_text_lines};
+pub use reading_calls::{nissy_plain, nissy_text_lines, nissy_text_moves};
 pub use run_call::nissy_run;
 pub use table_calls::{
     nissy_build, nissy_count, nissy_count_lines, nissy_solve, nissy_solve_after,

@@ -2,8 +2,9 @@
 ghost use Rattle.std.specs.Prelude.{◌≡◌, ◌≤◌, ◌<◌, ◌*◌, length, take, drop};
 ghost use Rattle.niss_text.specs.Pieces.{IsPlain};
 ghost use Rattle.niss_text.specs.Lines.{Covers};
+ghost use Rattle.niss_text.specs.Moves.{WritesMoves};
 
-use niss_text::{PlainAnswer, TextAnswer, TextLine, plain_line, text_lines};
+use niss_text::{PlainAnswer, TextAnswer, TextLine, plain_line, text_lines, text_moves};
 
 /// Writes a text as one line, with the place of each byte, as `plain_line` of `niss_text`.
 #[unsafe(no_mangle)]
@@ -26,4 +27,18 @@ pub extern "C" fn nissy_text_lines(text: &[u8], lines: &mut [TextLine]) -> TextA
     ensures behind { drop result.lines lines.new ≡ drop result.lines lines.old }
 {
     text_lines(text, lines)
+}
+
+/// Writes the moves of some lines of a text as one line, as `text_moves` of `niss_text`.
+#[unsafe(no_mangle)]
+pub extern "C" fn nissy_text_moves(
+    text: &[u8],
+    lines: &[TextLine],
+    which: u8,
+    out: &mut [u8],
+    places: &mut [u64],
+) -> PlainAnswer
+    ensures { WritesMoves text.now lines.now which out.old out.new places.old places.new result }
+{
+    text_moves(text, lines, which, out, places)
 }

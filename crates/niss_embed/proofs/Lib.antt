@@ -11,3 +11,4 @@ pub mod AfterLemmas
 pub mod RestLemmas
 pub mod BestLemmas
 pub mod SidesLemmas
+pub mod PartLemmas

@@ -9,3 +9,4 @@ pub mod SolveAfter
 pub mod TwoLines
 pub mod BestWays
 pub mod ListedSides
+pub mod Parts

@@ -6,14 +6,16 @@ mod best_call;
 mod check_calls;
 mod held;
 mod one_block;
+mod reading_calls;
 mod room;
 mod run_call;
 mod table_calls;
 mod text_calls;
 
 pub use best_call::{nissy_best, nissy_line_after, nissy_solve_sides};
-pub use check_calls::{nissy_check, nissy_facts, nissy_facts_lines};
+pub use check_calls::{nissy_check, nissy_facts, nissy_facts_lines, nissy_solving_part};
 pub use held::{Held, Kept};
+pub use reading_calls::{nissy_plain, nissy_text_lines, nissy_text_moves};
 pub use room::{Block, Room};
 pub use run_call::nissy_run;
 pub use table_calls::{

@@ -2,3 +2,4 @@ pub mod SignLemmas
 pub mod PlainLemmas
 pub mod LineLemmas
 pub mod DoubtLemmas
+pub mod MovesLemmas

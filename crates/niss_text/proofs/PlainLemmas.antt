@@ -1,9 +1,16 @@
 -- A text as far as it is read, and one more piece of it.
-use Rattle.std.proofs.Common.{◌≡◌, ℕ, ◌+◌, ◌-◌, ◌<◌, List, [], ◌∷◌, ◌++◌, length, take, drop, replicate, refl, sym, ap, ◌∙◌, append_assoc, add-zero, arith, length-append}
+use Rattle.std.proofs.Common.{◌≡◌, ℕ, ◌+◌, ◌-◌, ◌<◌, ◌≤◌, false, List, [], ◌∷◌, ◌++◌, length, take, drop, replicate, refl, sym, ap, ◌∙◌, append_assoc, add-zero, arith, length-append}
+use Rattle.std.proofs.Math.Bool.{or_assoc, or_comm}
 use Rattle.std.proofs.lemmas.List.{append-nil, take-append-drop, length-take-le, drop-drop}
 use Rattle.niss_text.specs.declared.piece.Piece.{Piece}
-use Rattle.niss_text.specs.Pieces.{Part, part, IsPiece, IsFirst, IsPlain, written}
-unfoldable use Rattle.niss_text.specs.Pieces.{text_of, line_of, places_of, ArePieces}
+use Rattle.niss_text.specs.declared.piece.Place.TheVariants.{Among}
+use Rattle.niss_text.specs.declared.left_out.LeftOut.{LeftOut}
+use Rattle.niss_text.specs.declared.pen.Beginning.{Beginning}
+use Rattle.niss_text.specs.Pieces.{Part, part, IsPiece, IsFirst, IsPlain, written, is_title}
+use Rattle.niss_text.specs.LeftOut.{left_none, left_of, both}
+use Rattle.niss_text.specs.Written.{PutsPart}
+unfoldable use Rattle.niss_text.specs.Pieces.{text_of, line_of, places_of, ArePieces, HasNoTitle}
+unfoldable use Rattle.niss_text.specs.LeftOut.{left_of_all}
 
 text_more : (ps : List Part) (p : Part) → text_of (ps ++ p ∷ []) ≡ text_of ps ++ p.bytes
 unfolding text_of
@@ -34,53 +41,123 @@ unfolding ArePieces
 pieces_more [] p all some one = (some, one, tt)
 pieces_more (q ∷ ps) p all some one = (all.0, all.1, pieces_more ps p all.2 some one)
 
--- So much is read of a text, and this is left.
-pub record SoFar (text rest line places : List ℕ) : Type 0 where
+untitled_more : (ps : List Part) (p : Part) → HasNoTitle ps → is_title p.kind ≡ false → HasNoTitle (ps ++ p ∷ [])
+unfolding HasNoTitle
+untitled_more [] p all one = (one, tt)
+untitled_more (q ∷ ps) p all one = (all.0, untitled_more ps p all.1 one)
+
+pub both_none : (a : LeftOut) → both a left_none ≡ both left_none a
+both_none a = λ i. record {
+  labels = or_comm a.labels false i;
+  move_counts = or_comm a.move_counts false i;
+  comments = or_comm a.comments false i;
+  line_numbers = or_comm a.line_numbers false i;
+  commas = or_comm a.commas false i;
+  unseen = or_comm a.unseen false i;
+}
+
+pub both_assoc : (a b c : LeftOut) → both (both a b) c ≡ both a (both b c)
+both_assoc a b c = λ i. record {
+  labels = or_assoc a.labels b.labels c.labels i;
+  move_counts = or_assoc a.move_counts b.move_counts c.move_counts i;
+  comments = or_assoc a.comments b.comments c.comments i;
+  line_numbers = or_assoc a.line_numbers b.line_numbers c.line_numbers i;
+  commas = or_assoc a.commas b.commas c.commas i;
+  unseen = or_assoc a.unseen b.unseen c.unseen i;
+}
+
+left_more : (ps : List Part) (p : Part) → left_of_all (ps ++ p ∷ []) ≡ both (left_of_all ps) (left_of p.kind)
+unfolding left_of_all
+left_more [] p = both_none (left_of p.kind)
+left_more (q ∷ ps) p = ap (λ v. both (left_of q.kind) v) (left_more ps p) ∙ sym (both_assoc (left_of q.kind) (left_of_all ps) (left_of p.kind))
+
+-- So much of a part of a text is read, and this is left.
+pub record SoFar (part rest : List ℕ) (from : Beginning) (before bytes places_before places : List ℕ) (left : LeftOut) : Type 0 where
   pub parts : List Part
   pub are_pieces : ArePieces parts
-  pub whole : text_of parts ++ rest ≡ text
-  pub line_is : line_of parts ≡ line
-  pub places_are : places_of 0 parts ≡ places
+  pub untitled : from.place ≡ Among → HasNoTitle parts
+  pub whole : text_of parts ++ rest ≡ part
+  pub bytes_are : before ++ line_of parts ≡ bytes
+  pub places_are : places_before ++ places_of from.at parts ≡ places
+  pub left_is : left_of_all parts ≡ left
 
-pub nothing_read : (text : List ℕ) → SoFar text text [] []
-unfolding text_of line_of places_of ArePieces
-nothing_read text = record { parts = []; are_pieces = tt; whole = refl; line_is = refl; places_are = refl }
+pub nothing_read : (text : List ℕ) (from : Beginning) (before places_before : List ℕ) (left : LeftOut) → left ≡ left_none →
+    SoFar text text from before before places_before places_before left
+unfolding text_of line_of places_of ArePieces HasNoTitle left_of_all
+nothing_read text from before places_before left none = record {
+  parts = [];
+  are_pieces = tt;
+  untitled = λ among. tt;
+  whole = refl;
+  bytes_are = append-nil before;
+  places_are = append-nil places_before;
+  left_is = sym none;
+}
 
-pub one_more : (text rest line places : List ℕ) (kind : Piece) (n at : ℕ) (w : List ℕ) → SoFar text rest line places → IsFirst rest kind n →
-    w ≡ written kind (take n rest) → at ≡ length text - length rest → SoFar text (drop n rest) (line ++ w) (places ++ replicate (length w) at)
-one_more text rest line places kind n at w far first is here =
+pub one_more : (part rest : List ℕ) (from : Beginning) (before bytes places_before places : List ℕ) (left : LeftOut) (kind : Piece) (n at : ℕ) (w : List ℕ) →
+    SoFar part rest from before bytes places_before places left → IsFirst rest kind n → (from.place ≡ Among → is_title kind ≡ false) →
+    w ≡ written kind (take n rest) → at ≡ from.at + (length part - length rest) →
+    SoFar part (drop n rest) from before (bytes ++ w) places_before (places ++ replicate (length w) at) (both left (left_of kind))
+one_more text rest from before bytes places_before places left kind n at w far first untitled is here =
     let p : Part = part kind (take n rest) in
     let ps : List Part = far.parts in
-    let long : at ≡ 0 + length (text_of ps) = omega (arith, here, ap length far.whole, length-append (text_of ps) rest) in
+    let long : at ≡ from.at + length (text_of ps) = omega (arith, here, ap length far.whole, length-append (text_of ps) rest) in
     record {
       parts = ps ++ p ∷ [];
       are_pieces = pieces_more ps p far.are_pieces (omega (arith, length-take-le n rest first.fits, first.some)) first.is;
+      untitled = λ among. untitled_more ps p (far.untitled among) (untitled among);
       whole = ap (λ v. v ++ drop n rest) (text_more ps p) ∙ append_assoc (text_of ps) (take n rest) (drop n rest)
           ∙ ap (λ v. text_of ps ++ v) (take-append-drop n rest) ∙ far.whole;
-      line_is = line_more ps p ∙ ap (λ v. v ++ written kind (take n rest)) far.line_is ∙ ap (λ v. line ++ v) (sym is);
-      places_are = places_more 0 ps p ∙ ap (λ v. v ++ own p (0 + length (text_of ps))) far.places_are
-          ∙ ap (λ v. places ++ replicate (length v) (0 + length (text_of ps))) (sym is) ∙ ap (λ k. places ++ replicate (length w) k) (sym long);
+      bytes_are = ap (λ v. before ++ v) (line_more ps p) ∙ sym (append_assoc before (line_of ps) (written kind (take n rest)))
+          ∙ ap (λ v. v ++ written kind (take n rest)) far.bytes_are ∙ ap (λ v. bytes ++ v) (sym is);
+      places_are = ap (λ v. places_before ++ v) (places_more from.at ps p)
+          ∙ sym (append_assoc places_before (places_of from.at ps) (own p (from.at + length (text_of ps))))
+          ∙ ap (λ v. v ++ own p (from.at + length (text_of ps))) far.places_are
+          ∙ ap (λ v. places ++ replicate (length v) (from.at + length (text_of ps))) (sym is) ∙ ap (λ k. places ++ replicate (length w) k) (sym long);
+      left_is = left_more ps p ∙ ap (λ v. both v (left_of kind)) far.left_is;
     }
 
-pub all_read : (text line places : List ℕ) → SoFar text [] line places → IsPlain text line places
-all_read text line places far = record {
+pub all_read : (part : List ℕ) (from : Beginning) (before bytes places_before places : List ℕ) (left : LeftOut) →
+    SoFar part [] from before bytes places_before places left → PutsPart part from before bytes places_before places left
+all_read text from before bytes places_before places left far = record {
   parts = far.parts;
   are_pieces = far.are_pieces;
+  untitled = far.untitled;
   whole = sym (append-nil (text_of far.parts)) ∙ far.whole;
-  line_is = far.line_is;
+  bytes_are = far.bytes_are;
   places_are = far.places_are;
+  left_is = far.left_is;
 }
 
-pub so_far_is : (text rest line places rest' line' places' : List ℕ) → rest' ≡ rest → line' ≡ line → places' ≡ places → SoFar text rest line places →
-    SoFar text rest' line' places'
-so_far_is text rest line places rest' line' places' r l p far = record {
+pub so_far_is : (part : List ℕ) (from : Beginning) (before places_before rest bytes places rest' bytes' places' : List ℕ) (left left' : LeftOut) → rest' ≡ rest → bytes' ≡ bytes →
+    places' ≡ places → left' ≡ left → SoFar part rest from before bytes places_before places left → SoFar part rest' from before bytes' places_before places' left'
+so_far_is text from before places_before rest bytes places rest' bytes' places' left left' r l p g far = record {
   parts = far.parts;
   are_pieces = far.are_pieces;
+  untitled = far.untitled;
   whole = ap (λ v. text_of far.parts ++ v) r ∙ far.whole;
-  line_is = far.line_is ∙ sym l;
+  bytes_are = far.bytes_are ∙ sym l;
   places_are = far.places_are ∙ sym p;
+  left_is = far.left_is ∙ sym g;
+}
+
+-- a text that is written at the beginning of a line is read as that line
+pub whole_text : (text : List ℕ) (from : Beginning) (bytes places : List ℕ) (left : LeftOut) → from.at ≡ 0 → PutsPart text from [] bytes [] places left → IsPlain text bytes places
+whole_text text from bytes places left begins puts = record {
+  parts = puts.parts;
+  are_pieces = puts.are_pieces;
+  whole = puts.whole;
+  line_is = puts.bytes_are;
+  places_are = ap (λ at. places_of at puts.parts) (sym begins) ∙ puts.places_are;
 }
 
 -- what is after more of a list that is the same after some
 pub same_behind : (m n : ℕ) (old now first : List ℕ) → drop (n + m) now ≡ drop (n + m) old → drop n old ≡ drop n first → drop (n + m) now ≡ drop (n + m) first
 same_behind m n old now first new far = new ∙ sym (drop-drop m n old) ∙ ap (λ v. drop m v) far ∙ drop-drop m n first
+
+-- what is after a place is the same, if it was so after one before
+pub later_behind : (n more : ℕ) (old now first : List ℕ) → n ≤ more → drop more now ≡ drop more old → drop n old ≡ drop n first → drop more now ≡ drop more first
+later_behind n more old now first le new far =
+    let split : n + (more - n) ≡ more = omega arith in
+    ap (λ k. drop k now) (sym split) ∙ same_behind (more - n) n old now first (ap (λ k. drop k now) split ∙ new ∙ ap (λ k. drop k old) (sym split)) far
+    ∙ ap (λ k. drop k first) split

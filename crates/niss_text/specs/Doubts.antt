@@ -61,5 +61,5 @@ pub record IsDoubted (text : List ℕ) (line : TextLine) : Type 0 where
   pub small : line.doubt ≡ 5 → (line.kind ≡ 2) × (sees text Small line.doubt_at ≡ true)
   pub letters : line.doubt ≡ 4 → sees text Joined line.doubt_at ≡ true
   pub scramble : line.doubt ≡ 0 → line.kind ≡ 2 → IsAsWritten text line.moves line.comment
-  pub solution : line.doubt ≡ 0 → line.kind ≡ 3 → line.is_solution ≡ true → IsAsWritten text line.moves line.comment
+  pub solution : line.doubt ≡ 0 → line.kind ≡ 3 → line.is_solution ≡ 1 → IsAsWritten text line.moves line.comment
   pub no_small : line.doubt ≡ 0 → line.kind ≡ 2 → (k : ℕ) → line.moves ≤ k → k < line.comment → sees text Small k ≡ false

@@ -2,3 +2,6 @@ pub mod Signs
 pub mod Pieces
 pub mod Doubts
 pub mod Lines
+pub mod LeftOut
+pub mod Moves
+pub mod Written

@@ -1,5 +1,5 @@
 -- What a text is read as: pieces, one after another, of which each is written in its place or left out.
-use Rattle.std.specs.Prelude.{◌≡◌, ℕ, ◌+◌, ◌<◌, ◌≤◌, true, false, List, [], ◌∷◌, ◌++◌, length, replicate, take, slice_index}
+use Rattle.std.specs.Prelude.{◌≡◌, ℕ, ◌+◌, ◌<◌, ◌≤◌, Bool, true, false, List, [], ◌∷◌, ◌++◌, length, replicate, take, slice_index}
 use Rattle.niss_text.specs.declared.piece.Piece.{Piece}
 use Rattle.niss_text.specs.declared.piece.Piece.TheVariants.{Kept, Blank, LineEnd, Comma, Apostrophe, Unseen, Label, LineNumber, MoveCount, Comment}
 use Rattle.niss_text.specs.Signs.{HasNoMoves, is_letter, ends_line, begins_number, begins_count}
@@ -68,6 +68,24 @@ places_of at (p ∷ ps) = replicate (length (written p.kind p.bytes)) at ++ plac
 unfoldable pub ArePieces : List Part → Type 0
 ArePieces [] = Unit {0}
 ArePieces (p ∷ ps) = (0 < length p.bytes) × IsPiece p.kind p.bytes × ArePieces ps
+
+-- a piece that stands before the moves of a line
+abbrev pub is_title : Piece → Bool
+is_title Kept = false
+is_title Blank = false
+is_title LineEnd = false
+is_title Comma = false
+is_title Apostrophe = false
+is_title Unseen = false
+is_title Label = true
+is_title LineNumber = true
+is_title MoveCount = false
+is_title Comment = false
+
+-- none of some pieces stands before the moves of a line
+unfoldable pub HasNoTitle : List Part → Type 0
+HasNoTitle [] = Unit {0}
+HasNoTitle (p ∷ ps) = (is_title p.kind ≡ false) × HasNoTitle ps
 
 -- A text is read as this line, of which each byte has its place.
 pub record IsPlain (text line places : List ℕ) : Type 0 where

@@ -244,13 +244,13 @@ fn doubt_of(text: &[u8], told: &TextLine, line: &Line, has_solution: bool) -> (D
     ensures small { result.0 ≡ SmallLetters → (told.now.kind ≡ 2) × (sees text.now Small result.1 ≡ true) }
     ensures letters { result.0 ≡ Letters → sees text.now Joined result.1 ≡ true }
     ensures scramble { result.0 ≡ Nothing → told.now.kind ≡ 2 → IsAsWritten text.now told.now.moves told.now.comment }
-    ensures solution { result.0 ≡ Nothing → told.now.kind ≡ 3 → told.now.is_solution ≡ true → IsAsWritten text.now told.now.moves told.now.comment }
+    ensures solution { result.0 ≡ Nothing → told.now.kind ≡ 3 → told.now.is_solution ≡ 1 → IsAsWritten text.now told.now.moves told.now.comment }
     ensures no_small { result.0 ≡ Nothing → told.now.kind ≡ 2 → (k : ℕ) → told.now.moves ≤ k → k < told.now.comment → sees text.now Small k ≡ false }
 {
     if told.kind == 2 {
         return doubt_of_moves(text, told, line, has_solution);
     }
-    if told.kind < 2 || (has_solution && !told.is_solution) {
+    if told.kind < 2 || (has_solution && told.is_solution == 0) {
         return (Doubt::Nothing, told.end);
     }
     let side = side_at(text, told);
@@ -287,7 +287,7 @@ pub fn judged(text: &[u8], told: TextLine, line: &Line, has_solution: bool) -> T
 {
     let (doubt, at) = doubt_of(text, &told, line, has_solution);
     TextLine {
-        is_inverse: is_inverse(text, &told),
+        is_inverse: u8::from(is_inverse(text, &told)),
         doubt: doubt.number(),
         doubt_at: at,
         ..told

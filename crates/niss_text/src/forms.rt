@@ -8,6 +8,7 @@ use crate::sign::{
 use crate::words::{head_word_length, is_other_side, word_length};
 
 /// How many bytes the first sign of a text has if it is of this kind; else 0.
+#[inline(never)]
 fn sign_length(text: &[u8], kind: Kind) -> usize
     ensures { result ≤ length text.now }
 {
@@ -42,6 +43,7 @@ fn total_length(text: &[u8]) -> usize
 }
 
 /// How many bytes a number of moves has in front of a text, such as `(2)`, `[1/5]` or `(12 moves)`; 0 if there is none.
+#[inline(never)]
 pub fn count_length(text: &[u8]) -> usize
     ensures fits { result ≤ length text.now }
     ensures long { 0 < result → 2 < result }
@@ -64,6 +66,7 @@ pub fn count_length(text: &[u8]) -> usize
 }
 
 /// How many bytes of a text stand before the end of its first line.
+#[inline(never)]
 pub fn line_length(text: &[u8]) -> usize
     ensures fits { result ≤ length text.now }
     ensures whole { (k : ℕ) → k < result → ends_line (slice_index text.now k) ≡ false }
@@ -96,6 +99,7 @@ pub fn is_parted(line: &[u8]) -> bool {
 }
 
 /// How many bytes a sign has that ends a number in front of a text, if no digit follows it; else 0.
+#[inline(never)]
 fn number_end_length(text: &[u8]) -> usize
     ensures { result ≤ length text.now }
 {
@@ -112,6 +116,7 @@ fn number_end_length(text: &[u8]) -> usize
 }
 
 /// How many bytes the number of a line has in front of it, such as `2.` or `#2`; 0 if there is none.
+#[inline(never)]
 pub fn number_length(line: &[u8]) -> usize
     ensures { result ≤ length line.now }
 {

@@ -7,7 +7,10 @@ mod body;
 mod doubts;
 mod forms;
 mod groups;
+mod left_out;
 mod line;
+mod moves;
+mod pen;
 mod piece;
 mod plain;
 mod sign;
@@ -17,5 +20,6 @@ mod word;
 mod words;
 
 pub use attempts::{TextAnswer, text_lines};
+pub use moves::{MovesOf, text_moves};
 pub use plain::{PlainAnswer, plain_line};
 pub use text_line::TextLine;

@@ -248,6 +248,7 @@ pub fn cut_line(text: &[u8], numbers: Numbers) -> (Line, usize)
 }
 
 /// How many bytes the first line of a text has with what ends it.
+#[inline(never)]
 pub fn whole_length(text: &[u8]) -> usize
     requires { 0 < length text.now }
     ensures { (0 < result) × (result ≤ length text.now) }
@@ -272,6 +273,7 @@ pub fn may_begin(text: &[u8], numbers: Numbers) -> bool {
 }
 
 /// The first line of a text.
+#[inline(never)]
 pub fn first_line(text: &[u8], numbers: Numbers) -> Line
     ensures { result.length ≤ length text.now }
 {

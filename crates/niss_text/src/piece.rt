@@ -1,6 +1,7 @@
 //! The pieces of a text, one after another: single bytes of moves, and what is read otherwise or left out.
-ghost use Rattle.std.specs.Prelude.{◌≡◌, ◌<◌, ◌≤◌, length, IfSome};
-ghost use Rattle.niss_text.specs.Pieces.{IsFirst};
+ghost use Rattle.std.specs.Prelude.{◌≡◌, ◌<◌, ◌≤◌, false, length, IfSome};
+ghost use Rattle.niss_text.specs.Pieces.{IsFirst, is_title};
+ghost use Rattle.niss_text.specs.declared.piece.Place.TheVariants.{Among};
 ghost use Rattle.niss_text.specs.Signs.{begins_number, begins_count};
 
 use crate::forms::{count_length, head_length, label_of, line_length, number_length};
@@ -34,12 +35,24 @@ pub enum Place {
     Numbered,
     /// After what may be a label.
     Moves,
+    /// Among the moves of a line, of which nothing else follows.
+    Among,
 }
 
 impl Place {
+    /// Whether what stands before the moves of a line may follow.
+    fn has_titles(self) -> bool
+        ensures { self ≡ Among → result ≡ false }
+    {
+        matches!(self, Place::Begin | Place::Numbered)
+    }
+
     /// Where one is after a piece.
-    pub fn after(self, piece: Piece) -> Place {
+    pub fn after(self, piece: Piece) -> Place
+        ensures { self ≡ Among → result ≡ Among }
+    {
         match piece {
+            _ if self == Place::Among => self,
             Piece::LineEnd => Place::Begin,
             Piece::Blank | Piece::Unseen => self,
             Piece::LineNumber => Place::Numbered,
@@ -75,7 +88,8 @@ fn begins_count(first: u8, second: u8) -> bool
 /// What has a form of its own in front of a text among its moves, and how many bytes it has: a comment or a number of
 /// moves.
 fn form_of_moves(text: &[u8]) -> Option<(Piece, usize)>
-    ensures { IfSome result (λ first. IsFirst text.now first.0 first.1) }
+    ensures first { IfSome result (λ first. IsFirst text.now first.0 first.1) }
+    ensures untitled { IfSome result (λ first. is_title first.0 ≡ false) }
 {
     if text.len() < 2 {
         return None;
@@ -119,7 +133,8 @@ fn first_of_line(text: &[u8], place: Place) -> Option<(Piece, usize)>
 /// The piece in front of a text among its moves, and how many bytes it has.
 fn first_of_moves(text: &[u8]) -> (Piece, usize)
     requires { 0 < length text.now }
-    ensures { IsFirst text.now result.0 result.1 }
+    ensures first { IsFirst text.now result.0 result.1 }
+    ensures untitled { is_title result.0 ≡ false }
 {
     if let Some(form) = form_of_moves(text) {
         return form;
@@ -143,9 +158,10 @@ fn may_begin(kind: Kind) -> bool {
 /// The piece in front of a text, and how many bytes it has.
 pub fn first_piece(text: &[u8], place: Place) -> (Piece, usize)
     requires { 0 < length text.now }
-    ensures { IsFirst text.now result.0 result.1 }
+    ensures first { IsFirst text.now result.0 result.1 }
+    ensures untitled { place ≡ Among → is_title result.0 ≡ false }
 {
-    if place != Place::Moves && may_begin(first_sign(text).kind) {
+    if place.has_titles() && may_begin(first_sign(text).kind) {
         if let Some(first) = first_of_line(text, place) {
             return first;
         }

@@ -108,6 +108,7 @@ fn kind_of_three(first: u8, second: u8, third: u8) -> Option<Kind>
 }
 
 /// The first sign of a text.
+#[inline(never)]
 pub fn first_sign(text: &[u8]) -> Sign
     requires { 0 < length text.now }
     ensures some { 0 < result.length }
@@ -207,6 +208,7 @@ impl Class {
 }
 
 /// What is after the signs of a class in front of a text.
+#[inline(never)]
 pub fn behind(text: &[u8], class: Class) -> &[u8]
     ensures { length result.now ≤ length text.now }
 {

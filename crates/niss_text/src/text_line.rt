@@ -10,14 +10,14 @@ use crate::line::Line;
 pub struct TextLine {
     /// 0 a blank line, 1 prose before a scramble, 2 one of a scramble, 3 a step, 4 a note.
     pub kind: u8,
-    /// It is in the group that is the solution.
-    pub is_solution: bool,
-    /// A head stands before `head_end`: the first one of an attempt is its name.
-    pub is_headed: bool,
-    /// Its label says that the solution follows.
-    pub says_solution: bool,
-    /// What is said of it has its moves on the inverse, and they have no brackets.
-    pub is_inverse: bool,
+    /// 1: it is in the group that is the solution. 0 says no here and below, and what isn't 0 is read as yes.
+    pub is_solution: u8,
+    /// 1: a head stands before `head_end`. The first one of an attempt is its name.
+    pub is_headed: u8,
+    /// 1: its label says that the solution follows.
+    pub says_solution: u8,
+    /// 1: what is said of it has its moves on the inverse, and they have no brackets.
+    pub is_inverse: u8,
     /// What makes one doubt that it is read as it was meant, if its attempt isn't solved: the number of a `Doubt`, 0
     /// for nothing.
     pub doubt: u8,
@@ -57,10 +57,10 @@ pub fn told_line(role: &Role, line: &Line, begin: usize) -> TextLine
 {
     TextLine {
         kind: role.kind,
-        is_solution: role.is_solution,
-        is_headed: role.is_headed,
-        says_solution: line.is_solution,
-        is_inverse: false,
+        is_solution: u8::from(role.is_solution),
+        is_headed: u8::from(role.is_headed),
+        says_solution: u8::from(line.is_solution),
+        is_inverse: 0,
         doubt: 0,
         attempt: role.attempt,
         group: role.group,

@@ -13,6 +13,7 @@ fn small(byte: u8) -> u8 {
 }
 
 /// How many bytes this word has, which is written in small letters, if a text begins with it; else 0.
+#[inline(never)]
 pub fn word_length(text: &[u8], word: &[u8]) -> usize
     ensures { result ≤ length text.now }
 {

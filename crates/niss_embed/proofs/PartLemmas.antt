@@ -1,0 +1,153 @@
+-- The places where steps end, and the first part that solves.
+use Rattle.std.proofs.Common.{◌≡◌, ℕ, zero, suc, ◌+◌, ◌<◌, ◌≤◌, ◌⊎◌, Bool, true, false, cond, None, Some, List, [], ◌∷◌, ◌++◌, length, take, refl, sym, ap, ◌∙◌, inl, inr, add-zero, arith, length-append}
+use Rattle.std.specs.List.{filter, range_with_len}
+use Rattle.std.proofs.lemmas.Bool.{cases_lt}
+use Rattle.std.proofs.lemmas.List.{append-nil, take_all, take-append-le, length-take-le}
+use Rattle.std.proofs.lemmas.List.Elements.{filter-append}
+use Rattle.niss_embed.specs.declared.parts.How.{How}
+use Rattle.niss_embed.specs.declared.parts.How.TheVariants.{Alone, LeftOut, InBrackets}
+use Rattle.niss_embed.specs.declared.parts.Part.{Part}
+use Rattle.niss_embed.specs.declared.parts.Found.TheVariants as found
+use Rattle.niss_embed.specs.Parts.{is_end, how_number, part, IsHow, IsPart, IsBefore, IsFirstFrom, IsFound}
+unfoldable use Rattle.niss_embed.specs.Parts.{bounds_of}
+
+range_more : (a n : ℕ) → range_with_len a (n + 1) ≡ range_with_len a n ++ (a + n) ∷ []
+range_more a zero = ap (λ k. k ∷ []) (sym (add-zero a))
+range_more a (suc n) =
+    let one : suc n + 1 ≡ suc (n + 1) = omega arith in
+    let last : (a + 1) + n ≡ a + suc n = omega arith in
+    ap (λ k. range_with_len a k) one ∙ ap (λ v. a ∷ v) (range_more (a + 1) n) ∙ ap (λ k. a ∷ (range_with_len (a + 1) n ++ k ∷ [])) last
+
+range_one : (n : ℕ) → range_with_len 1 (n + 1) ≡ range_with_len 1 n ++ (n + 1) ∷ []
+range_one n =
+    let last : 1 + n ≡ n + 1 = omega arith in
+    range_more 1 n ∙ ap (λ k. range_with_len 1 n ++ k ∷ []) last
+
+-- the places so far
+abbrev pub bounds_to : List ℕ → ℕ → List ℕ
+bounds_to text n = 0 ∷ take 8 (filter (is_end text) (range_with_len 1 n))
+
+pub bounds_begin : (text : List ℕ) → 0 ∷ [] ≡ bounds_to text 0
+bounds_begin text = refl
+
+pub bounds_end : (text items : List ℕ) → items ≡ bounds_to text (length text) → items ≡ bounds_of text
+unfolding bounds_of
+bounds_end text items is = is
+
+-- the ends up to a place
+abbrev ends_to : List ℕ → ℕ → List ℕ
+ends_to text n = filter (is_end text) (range_with_len 1 n)
+
+ends_more : (text : List ℕ) (n : ℕ) (b : Bool) → is_end text (n + 1) ≡ b → ends_to text (n + 1) ≡ ends_to text n ++ cond b ((n + 1) ∷ []) []
+ends_more text n b is =
+    ap (λ v. filter (is_end text) v) (range_one n) ∙ filter-append (is_end text) (range_with_len 1 n) ((n + 1) ∷ [])
+    ∙ ap (λ v. ends_to text n ++ cond v ((n + 1) ∷ []) []) is
+
+pub bounds_passed : (text items : List ℕ) (n : ℕ) → is_end text (n + 1) ≡ false → items ≡ bounds_to text n → items ≡ bounds_to text (n + 1)
+bounds_passed text items n not is = is ∙ ap (λ v. 0 ∷ take 8 v) (sym (ends_more text n false not ∙ append-nil (ends_to text n)))
+
+added : (xs items more : List ℕ) (x : ℕ) → (length items < 9 → more ≡ items ++ x ∷ []) → (9 ≤ length items → more ≡ items) → items ≡ 0 ∷ take 8 xs →
+    (length xs < 8) ⊎ (8 ≤ length xs) → more ≡ 0 ∷ take 8 (xs ++ x ∷ [])
+added xs items more x room full is (inl few) =
+    let all : take 8 xs ≡ xs = take_all 8 xs (omega arith) in
+    let long : length items ≡ suc (length xs) = ap length is ∙ ap (λ v. suc (length v)) all in
+    let one : length (xs ++ x ∷ []) ≡ length xs + 1 = length-append xs (x ∷ []) in
+    room (omega (arith, long)) ∙ ap (λ v. v ++ x ∷ []) (is ∙ ap (λ v. 0 ∷ v) all) ∙ ap (λ v. 0 ∷ v) (sym (take_all 8 (xs ++ x ∷ []) (omega (arith, one))))
+added xs items more x room full is (inr many) =
+    let long : length items ≡ suc 8 = ap length is ∙ ap (λ k. suc k) (length-take-le 8 xs many) in
+    full (omega (arith, long)) ∙ is ∙ ap (λ v. 0 ∷ v) (sym (take-append-le 8 xs (x ∷ []) many))
+
+pub bounds_added : (text items more : List ℕ) (n : ℕ) → is_end text (n + 1) ≡ true → (length items < 9 → more ≡ items ++ (n + 1) ∷ []) →
+    (9 ≤ length items → more ≡ items) → items ≡ bounds_to text n → more ≡ bounds_to text (n + 1)
+bounds_added text items more n ends room full is =
+    added (ends_to text n) items more (n + 1) room full is (cases_lt (length (ends_to text n)) 8) ∙ ap (λ v. 0 ∷ take 8 v) (sym (ends_more text n true ends))
+
+few_taken : (xs : List ℕ) → (length xs < 8) ⊎ (8 ≤ length xs) → length (take 8 xs) ≤ 8
+few_taken xs (inl few) = omega (arith, ap length (take_all 8 xs (omega arith)))
+few_taken xs (inr many) = omega (arith, length-take-le 8 xs many)
+
+pub bounds_few : (text : List ℕ) → (0 < length (bounds_of text)) × (length (bounds_of text) ≤ 9)
+unfolding bounds_of
+bounds_few text =
+    let few : length (take 8 (ends_to text (length text))) ≤ 8 = few_taken (ends_to text (length text)) (cases_lt (length (ends_to text (length text))) 8) in
+    (omega arith, omega (arith, few))
+
+pub first_how : (solving : How → Bool) → solving Alone ≡ true → IsHow solving (Some Alone)
+first_how solving is = (is, λ other less. absurd (none other less))
+  where
+    none : (other : How) → how_number other < 1 → ⊥
+    none Alone less = omega arith
+    none LeftOut less = omega arith
+    none InBrackets less = omega arith
+
+pub second_how : (solving : How → Bool) → solving Alone ≡ false → solving LeftOut ≡ true → IsHow solving (Some LeftOut)
+second_how solving not is = (is, λ other less. earlier other less)
+  where
+    earlier : (other : How) → how_number other < 2 → solving other ≡ false
+    earlier Alone less = not
+    earlier LeftOut less = absurd (omega arith)
+    earlier InBrackets less = absurd (omega arith)
+
+pub third_how : (solving : How → Bool) → solving Alone ≡ false → solving LeftOut ≡ false → solving InBrackets ≡ true → IsHow solving (Some InBrackets)
+third_how solving not neither is = (is, λ other less. earlier other less)
+  where
+    earlier : (other : How) → how_number other < 3 → solving other ≡ false
+    earlier Alone less = not
+    earlier LeftOut less = neither
+    earlier InBrackets less = absurd (omega arith)
+
+pub no_how : (solving : How → Bool) → solving Alone ≡ false → solving LeftOut ≡ false → solving InBrackets ≡ false → IsHow solving None
+no_how solving one two three Alone = one
+no_how solving one two three LeftOut = two
+no_how solving one two three InBrackets = three
+
+-- a part is what is done with some steps
+same_part : (q : Part) (first behind : ℕ) → q.first ≡ first → q.behind ≡ behind → part q.how first behind ≡ q
+same_part q first behind e f = sym (λ i. record { how = q.how; first = e i; behind = f i })
+
+-- no part that begins with a step and ends before another solves
+abbrev pub NoneFrom : (Part → Bool) → (first behind : ℕ) → Type 0
+NoneFrom solving first behind = (q : Part) → q.first ≡ first → q.first < q.behind → q.behind < behind → solving q ≡ false
+
+pub from_more : (solving : Part → Bool) (first behind : ℕ) → NoneFrom solving first behind → IsHow (λ how. solving (part how first behind)) None →
+    NoneFrom solving first (behind + 1)
+from_more solving first behind none how q same some near = last (cases_lt q.behind behind)
+  where
+    last : (q.behind < behind) ⊎ (behind ≤ q.behind) → solving q ≡ false
+    last (inl less) = none q same some less
+    last (inr not) = ap solving (sym (same_part q first behind same (omega arith))) ∙ how q.how
+
+pub from_found : (solving : Part → Bool) (steps first behind : ℕ) (how : How) → first < behind → behind ≤ steps → NoneFrom solving first behind →
+    IsHow (λ h. solving (part h first behind)) (Some how) → IsFirstFrom steps solving first (Some (part how first behind))
+from_found solving steps first behind how some within none is = (refl, (some, within), is.0, λ q among same before. earlier q among.0 same before)
+  where
+    earlier : (q : Part) → q.first < q.behind → q.first ≡ first → IsBefore q (part how first behind) → solving q ≡ false
+    earlier q has same (inl less) = absurd (omega arith)
+    earlier q has same (inr (e, inl less)) = none q same has less
+    earlier q has same (inr (e, inr (f, less))) = ap solving (sym (same_part q first behind same f)) ∙ is.1 q.how less
+
+pub from_none : (solving : Part → Bool) (steps first behind : ℕ) → steps < behind → NoneFrom solving first behind → IsFirstFrom steps solving first None
+from_none solving steps first behind all none q among same = none q same among.0 (omega (arith, among.1))
+
+-- no part that begins before a step solves
+abbrev pub NoneBefore : ℕ → (Part → Bool) → ℕ → Type 0
+NoneBefore steps solving first = (q : Part) → IsPart steps q → q.first < first → solving q ≡ false
+
+pub none_more : (solving : Part → Bool) (steps first : ℕ) → NoneBefore steps solving first → IsFirstFrom steps solving first None →
+    NoneBefore steps solving (first + 1)
+none_more solving steps first none from q among near = last (cases_lt q.first first)
+  where
+    last : (q.first < first) ⊎ (first ≤ q.first) → solving q ≡ false
+    last (inl less) = none q among less
+    last (inr not) = from q among (omega arith)
+
+pub part_found : (solving : Part → Bool) (whole : Bool) (steps first : ℕ) (p : Part) → NoneBefore steps solving first → IsFirstFrom steps solving first (Some p) →
+    IsFound steps solving whole (found.Part p)
+part_found solving whole steps first p none is = (is.1, is.2, λ q among before. earlier q among before)
+  where
+    earlier : (q : Part) → IsPart steps q → IsBefore q p → solving q ≡ false
+    earlier q among (inl less) = none q among (omega (arith, is.0))
+    earlier q among (inr (e, later)) = is.3 q among (e ∙ is.0) (inr (e, later))
+
+pub none_at_all : (solving : Part → Bool) (steps first : ℕ) → steps < first → NoneBefore steps solving first → (q : Part) → IsPart steps q → solving q ≡ false
+none_at_all solving steps first all none q among = none q among (omega (arith, among.0, among.1))

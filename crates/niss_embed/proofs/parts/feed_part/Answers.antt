@@ -1,0 +1,21 @@
+use Rattle.std.proofs.Common.{◌≡◌, [], sym, subst}
+use Rattle.niss_moves.specs.Reader.{IsFed}
+use Rattle.niss_embed.specs.declared.parts.How.{How}
+use Rattle.niss_embed.specs.Parts.{arranged}
+use Rattle.niss_embed.proofs.parts.feed_part.Goals as goal
+
+pub returns-in-Alone : goal.returns-in-Alone
+returns-in-Alone c =
+    subst (λ (h : How). IsFed c.feed.new.reader (arranged h c.args.before.now c.args.own.now c.args.after.now)) (sym c.in-Alone.is)
+    (c.feed.ensures.bytes [] c.requires.new.1)
+
+pub returns-in-LeftOut : goal.returns-in-LeftOut
+returns-in-LeftOut c =
+    subst (λ (h : How). IsFed c.feed-in-LeftOut-2.new.reader (arranged h c.args.before.now c.args.own.now c.args.after.now)) (sym c.in-LeftOut.is)
+    (c.feed-in-LeftOut-2.ensures.bytes _ (c.feed-in-LeftOut.ensures.bytes [] c.requires.new.1))
+
+pub returns-in-InBrackets : goal.returns-in-InBrackets
+returns-in-InBrackets c =
+    subst (λ (h : How). IsFed c.feed-in-InBrackets-5.new.reader (arranged h c.args.before.now c.args.own.now c.args.after.now)) (sym c.in-InBrackets.is)
+    (c.feed-in-InBrackets-5.ensures.bytes _ (c.feed-in-InBrackets-4.ensures.bytes _ (c.feed-in-InBrackets-3.ensures.bytes _
+    (c.feed-in-InBrackets-2.ensures.bytes _ (c.feed-in-InBrackets.ensures.bytes [] c.requires.new.1)))))

@@ -1,0 +1,122 @@
+-- The parts of some steps, and the first of them that solves a scramble.
+use Rattle.std.specs.Prelude.{◌≡◌, ℕ, ◌+◌, ◌-◌, ◌<◌, ◌≤◌, ◌⊎◌, ◌==◌, nat_lt, if◌then◌else◌, Bool, true, false, ◌&&◌, ◌||◌, Option, None, Some, Result, Ok, Err, List, [], ◌∷◌, ◌++◌, length, map, take, slice_index, slice_range}
+use Rattle.std.specs.List.{filter, range_with_len}
+use Rattle.niss_moves.specs.declared.fault.ReadFault.{ReadFault}
+use Rattle.niss_moves.specs.Line.{Moves}
+use Rattle.niss_moves.specs.Reader.{read_line}
+use Rattle.niss_moves.specs.Solving.{solves, move_count}
+use Rattle.niss_shell.specs.Words.{most_bytes}
+use Rattle.niss_embed.specs.LineCalls.{status_number}
+use Rattle.niss_embed.specs.declared.answer.Status.{Status}
+use Rattle.niss_embed.specs.declared.answer.Status.TheVariants.{Done, Stopped}
+use Rattle.niss_embed.specs.declared.parts.How.{How}
+use Rattle.niss_embed.specs.declared.parts.How.TheVariants.{Alone, LeftOut, InBrackets}
+use Rattle.niss_embed.specs.declared.parts.Brackets.{Brackets}
+use Rattle.niss_embed.specs.declared.parts.Brackets.TheVariants.{Kept, Dropped}
+use Rattle.niss_embed.specs.declared.parts.Part.{Part}
+use Rattle.niss_embed.specs.declared.parts.Found.{Found}
+use Rattle.niss_embed.specs.declared.parts.Found.TheVariants as found
+use Rattle.niss_embed.specs.declared.parts.PartAnswer.{PartAnswer}
+
+-- a step ends before this place: a line feed does, or the text
+abbrev pub is_end : List ℕ → ℕ → Bool
+is_end text place = (slice_index text (place - 1) == 10) || (place == length text)
+
+-- where the first step begins, and where the first eight end
+unfoldable pub bounds_of : List ℕ → List ℕ
+bounds_of text = 0 ∷ take 8 (filter (is_end text) (range_with_len 1 (length text)))
+
+-- what a byte of steps is read as: a line feed, and a bracket that is dropped, is a blank
+abbrev pub read_byte : Brackets → ℕ → ℕ
+read_byte Kept byte = if byte == 10 then 32 else byte
+read_byte Dropped byte = if (byte == 10) || ((byte == 40) || (byte == 41)) then 32 else byte
+
+abbrev pub part : How → (first behind : ℕ) → Part
+part how first behind = record { how = how; first = first; behind = behind }
+
+-- the line of all steps, in three parts, if this is done with the second one
+abbrev pub arranged : How → (before own after : List ℕ) → List ℕ
+arranged Alone before own after = map (read_byte Kept) own
+arranged LeftOut before own after = map (read_byte Kept) before ++ map (read_byte Kept) after
+arranged InBrackets before own after =
+    map (read_byte Kept) before ++ 40 ∷ [] ++ map (read_byte Kept) own ++ 41 ∷ [] ++ map (read_byte Kept) after
+
+-- where the last step ends
+abbrev pub end_of_steps : List ℕ → ℕ
+end_of_steps bounds = slice_index bounds (length bounds - 1)
+
+-- the line of a part, by the places where steps begin and end
+abbrev pub part_line : List ℕ → List ℕ → Part → List ℕ
+part_line text bounds p =
+    arranged p.how (slice_range text 0 (slice_index bounds p.first)) (slice_range text (slice_index bounds p.first) (slice_index bounds p.behind))
+    (slice_range text (slice_index bounds p.behind) (end_of_steps bounds))
+
+-- A line that is read has moves and solves a scramble that is read. One that has a fault doesn't.
+abbrev pub solves_line : Result Moves ReadFault → Result Moves ReadFault → Bool
+solves_line (Ok scramble) (Ok line) = solves scramble line && nat_lt 0 (move_count line)
+solves_line (Ok scramble) (Err fault) = false
+solves_line (Err fault) line = false
+
+abbrev pub solves_part : Result Moves ReadFault → List ℕ → List ℕ → Part → Bool
+solves_part scramble text bounds p = solves_line scramble (read_line (part_line text bounds p))
+
+-- all steps solve without their brackets
+abbrev pub solves_whole : Result Moves ReadFault → List ℕ → List ℕ → Bool
+solves_whole scramble text bounds =
+    solves_line scramble (read_line (map (read_byte Dropped) (slice_range text 0 (end_of_steps bounds))))
+
+abbrev pub how_number : How → ℕ
+how_number Alone = 1
+how_number LeftOut = 2
+how_number InBrackets = 3
+
+-- some of so many steps
+abbrev pub IsPart : ℕ → Part → Type 0
+IsPart steps p = (p.first < p.behind) × (p.behind ≤ steps)
+
+-- a part that is tried before another: one with an earlier first step, of those the one with fewer steps, of those by what is done with them
+abbrev pub IsBefore : Part → Part → Type 0
+IsBefore p q =
+    (p.first < q.first) ⊎ ((p.first ≡ q.first) × ((p.behind < q.behind) ⊎ ((p.behind ≡ q.behind) × (how_number p.how < how_number q.how))))
+
+-- of what may be done with steps this is the first that solves, if one does
+abbrev pub IsHow : (How → Bool) → Option How → Type 0
+IsHow solving (Some how) = (solving how ≡ true) × ((other : How) → how_number other < how_number how → solving other ≡ false)
+IsHow solving None = (how : How) → solving how ≡ false
+
+-- of the parts that begin with a step this is the first that solves, if one does
+abbrev pub IsFirstFrom : ℕ → (Part → Bool) → ℕ → Option Part → Type 0
+IsFirstFrom steps solving first (Some p) =
+    (p.first ≡ first) × IsPart steps p × (solving p ≡ true) × ((q : Part) → IsPart steps q → q.first ≡ first → IsBefore q p → solving q ≡ false)
+IsFirstFrom steps solving first None = (q : Part) → IsPart steps q → q.first ≡ first → solving q ≡ false
+
+-- what is found is among so many steps
+abbrev pub IsWithin : ℕ → Found → Type 0
+IsWithin steps (found.Part p) = IsPart steps p
+IsWithin steps found.WithoutBrackets = Unit {0}
+IsWithin steps found.Nothing = Unit {0}
+
+-- What is found of so many steps, by which parts solve and whether all do without their brackets: the first part that
+-- solves, else these, else nothing.
+abbrev pub IsFound : ℕ → (Part → Bool) → Bool → Found → Type 0
+IsFound steps solving whole (found.Part p) =
+    IsPart steps p × (solving p ≡ true) × ((q : Part) → IsPart steps q → IsBefore q p → solving q ≡ false)
+IsFound steps solving whole found.WithoutBrackets = ((q : Part) → IsPart steps q → solving q ≡ false) × (whole ≡ true)
+IsFound steps solving whole found.Nothing = ((q : Part) → IsPart steps q → solving q ≡ false) × (whole ≡ false)
+
+abbrev pub no_part : Status → PartAnswer
+no_part status = record { status = status_number status; how = 0; first = 0; last = 0 }
+
+abbrev pub answer_of : ℕ → Found → PartAnswer
+answer_of steps (found.Part p) = record { status = status_number Done; how = how_number p.how; first = p.first; last = p.behind - 1 }
+answer_of steps found.WithoutBrackets = record { status = status_number Done; how = 4; first = 0; last = steps - 1 }
+answer_of steps found.Nothing = no_part Done
+
+-- What a call tells of a scramble and steps, of which one is too long or none is.
+abbrev pub Tells : Bool → (scramble steps : List ℕ) → PartAnswer → Type 0
+Tells true scramble steps answer = answer ≡ no_part Stopped
+Tells false scramble steps answer = let bounds = bounds_of steps in let count = length bounds - 1 in
+    (it : Found) × IsFound count (solves_part (read_line scramble) steps bounds) (solves_whole (read_line scramble) steps bounds) it × (answer ≡ answer_of count it)
+
+abbrev pub TellsPart : (scramble steps : List ℕ) → PartAnswer → Type 0
+TellsPart scramble steps answer = Tells (nat_lt most_bytes (length scramble) || nat_lt 65536 (length steps)) scramble steps answer

@@ -1,0 +1,332 @@
+//! Whether a part of the steps of an attempt solves its scramble.
+ghost use Rattle.std.specs.Prelude.{◌≡◌, ◌<◌, ◌≤◌, ◌+◌, ◌-◌, ◌++◌, ℕ, List, [], ◌∷◌, Ok, length, map, slice_range};
+ghost use Rattle.niss_moves.specs.Reader.{IsFed, read_line};
+ghost use Rattle.niss_embed.specs.Parts.{bounds_of, is_end, read_byte, how_number, arranged, solves_line, solves_part, solves_whole, part};
+ghost use Rattle.niss_embed.specs.Parts.{IsHow, IsFirstFrom, IsFound, IsWithin, TellsPart, answer_of, no_part};
+
+use crate::answer::Status;
+use crate::line_texts::read_by;
+use arrayvec::ArrayVec;
+use niss_moves::{LineReader, Niss};
+use niss_shell::{MOST_BYTES, move_count, solves};
+
+/// The most bytes that steps have in which a part is looked for.
+const MOST_STEP_BYTES: usize = 65_536;
+
+/// What `solving_part` returns.
+#[repr(C)]
+#[derive(Clone, Copy, Debug, PartialEq, Eq)]
+pub struct PartAnswer {
+    /// The number of a `Status`.
+    pub status: u8,
+    /// 0 if no part solves, 1 to 3 in the order of `How`, 4 if all steps solve without their brackets.
+    pub how: u8,
+    /// The first step of the part, from 0.
+    pub first: u8,
+    /// Its last step.
+    pub last: u8,
+}
+
+/// What is done with some steps, one after another, so that a line solves.
+#[derive(Clone, Copy, PartialEq, Eq)]
+pub enum How {
+    /// They stand alone.
+    Alone,
+    /// The others do.
+    LeftOut,
+    /// All do, and these are in brackets.
+    InBrackets,
+}
+
+impl How {
+    /// Its number in an answer.
+    fn number(self) -> u8
+        ensures { result ≡ how_number self }
+    {
+        match self {
+            How::Alone => 1,
+            How::LeftOut => 2,
+            How::InBrackets => 3,
+        }
+    }
+}
+
+/// Some steps, one after another, and what is done with them.
+#[derive(Clone, Copy)]
+pub struct Part {
+    pub how: How,
+    pub first: usize,
+    /// The first step after them.
+    pub behind: usize,
+}
+
+/// What is found.
+#[derive(Clone, Copy)]
+pub enum Found {
+    Part(Part),
+    /// All steps solve without their brackets.
+    WithoutBrackets,
+    Nothing,
+}
+
+/// What becomes of the brackets of steps.
+#[derive(Clone, Copy, PartialEq, Eq)]
+pub enum Brackets {
+    Kept,
+    Dropped,
+}
+
+impl Brackets {
+    /// What a byte of steps is read as: a line feed, and a bracket that is dropped, is a blank.
+    fn read(self, byte: u8) -> u8
+        ensures { result ≡ read_byte self byte }
+    {
+        match byte {
+            b'\n' => b' ',
+            b'(' | b')' if self == Brackets::Dropped => b' ',
+            _ => byte,
+        }
+    }
+}
+
+/// Whether a step ends before a place of a text.
+fn is_end(text: &[u8], place: usize) -> bool
+    requires { (0 < place) × (place ≤ length text.now) }
+    ensures { result ≡ is_end text.now place }
+{
+    text[place - 1] == b'\n' || place == text.len()
+}
+
+/// The place where the first step begins, and those where the first eight end.
+fn bounds_of(text: &[u8]) -> ArrayVec<usize, 9>
+    ensures are { result.items ≡ bounds_of text.now }
+    ensures few { (0 < length result.items) × (length result.items ≤ 9) }
+{
+    let mut bounds = ArrayVec::new();
+    bounds.push(0);
+    for at in 0..text.len() {
+        if !is_end(text, at + 1) {
+            continue;
+        }
+        push_bound(&mut bounds, at + 1);
+    }
+    bounds
+}
+
+/// Adds a place, if there is room.
+fn push_bound(bounds: &mut ArrayVec<usize, 9>, place: usize)
+    ensures room { length bounds.old.items < 9 → bounds.new.items ≡ bounds.old.items ++ place ∷ [] }
+    ensures full { 9 ≤ length bounds.old.items → bounds.new.items ≡ bounds.old.items }
+{
+    if !bounds.is_full() {
+        bounds.push(place);
+    }
+}
+
+/// What stands in a text from one place to another, as far as it goes.
+fn stretch(text: &[u8], begin: usize, end: usize) -> &[u8]
+    ensures is { result.now ≡ slice_range text.now begin end }
+    ensures fits { length result.now ≤ length text.now }
+{
+    let end = end.min(text.len());
+    if begin < end {
+        &text[begin..end]
+    } else {
+        &text[..0]
+    }
+}
+
+/// Has a reader read some steps.
+fn feed(reader: &mut LineReader, steps: &[u8], brackets: Brackets)
+    requires { reader.old.fed + length steps.now ≤ 16777216 }
+    ensures fed { reader.new.fed ≡ reader.old.fed + length steps.now }
+    ensures bytes { (front : List ℕ) → IsFed reader.old front → IsFed reader.new (front ++ map (read_byte brackets) steps.now) }
+{
+    for byte in steps {
+        // a fault comes again at the line's end
+        let _ = reader.feed(brackets.read(*byte));
+    }
+}
+
+/// Whether the line that was read has moves, and solves a scramble.
+fn solves_so(scramble: &Niss, reader: &mut LineReader) -> bool
+    ensures { (line : List ℕ) → IsFed reader.old line → result ≡ solves_line (Ok scramble.now) (read_line line) }
+{
+    match reader.end() {
+        Ok(()) => solves(scramble, reader.moves()) && move_count(reader.moves()) > 0,
+        Err(_) => false,
+    }
+}
+
+/// Has a reader read all steps, in three parts, and does with the second one what is to be done.
+fn feed_part(reader: &mut LineReader, how: How, before: &[u8], own: &[u8], after: &[u8])
+    requires new { (reader.old.fed ≡ 0) × IsFed reader.old [] }
+    requires room { length before.now + length own.now + length after.now < 16777214 }
+    ensures { IsFed reader.new (arranged how before.now own.now after.now) }
+{
+    match how {
+        How::Alone => feed(reader, own, Brackets::Kept),
+        How::LeftOut => {
+            feed(reader, before, Brackets::Kept);
+            feed(reader, after, Brackets::Kept);
+        }
+        How::InBrackets => {
+            feed(reader, before, Brackets::Kept);
+            feed(reader, b"(", Brackets::Kept);
+            feed(reader, own, Brackets::Kept);
+            feed(reader, b")", Brackets::Kept);
+            feed(reader, after, Brackets::Kept);
+        }
+    }
+}
+
+/// Whether a part of steps, which begin and end at these places, solves a scramble.
+fn solves_part(scramble: &Niss, text: &[u8], bounds: &[usize], part: Part) -> bool
+    requires steps { (part.first < length bounds.now) × (part.behind < length bounds.now) }
+    requires room { length text.now ≤ 65536 }
+    ensures { result ≡ solves_part (Ok scramble.now) text.now bounds.now part }
+{
+    let before = stretch(text, 0, bounds[part.first]);
+    let own = stretch(text, bounds[part.first], bounds[part.behind]);
+    let after = stretch(text, bounds[part.behind], bounds[bounds.len() - 1]);
+    let mut reader = LineReader::new();
+    feed_part(&mut reader, part.how, before, own, after);
+    solves_so(scramble, &mut reader)
+}
+
+/// Whether all steps solve a scramble without their brackets.
+fn solves_whole(scramble: &Niss, text: &[u8], bounds: &[usize]) -> bool
+    requires some { 0 < length bounds.now }
+    requires room { length text.now ≤ 65536 }
+    ensures { result ≡ solves_whole (Ok scramble.now) text.now bounds.now }
+{
+    let mut reader = LineReader::new();
+    let all = stretch(text, 0, bounds[bounds.len() - 1]);
+    feed(&mut reader, all, Brackets::Dropped);
+    solves_so(scramble, &mut reader)
+}
+
+/// What is done with the steps from one to another so that a scramble is solved, if anything does.
+fn solving_how(
+    scramble: &Niss,
+    text: &[u8],
+    bounds: &[usize],
+    first: usize,
+    behind: usize,
+) -> Option<How>
+    requires steps { (first < length bounds.now) × (behind < length bounds.now) }
+    requires room { length text.now ≤ 65536 }
+    ensures { IsHow (λ how. solves_part (Ok scramble.now) text.now bounds.now (part how first behind)) result }
+{
+    let alone = Part {
+        how: How::Alone,
+        first,
+        behind,
+    };
+    if solves_part(scramble, text, bounds, alone) {
+        return Some(How::Alone);
+    }
+    let left_out = Part {
+        how: How::LeftOut,
+        ..alone
+    };
+    if solves_part(scramble, text, bounds, left_out) {
+        return Some(How::LeftOut);
+    }
+    let in_brackets = Part {
+        how: How::InBrackets,
+        ..alone
+    };
+    if solves_part(scramble, text, bounds, in_brackets) {
+        return Some(How::InBrackets);
+    }
+    None
+}
+
+/// The first part that solves a scramble among those that begin with a step.
+fn part_from(scramble: &Niss, text: &[u8], bounds: &[usize], first: usize) -> Option<Part>
+    requires steps { first < length bounds.now }
+    requires room { length text.now ≤ 65536 }
+    ensures { IsFirstFrom (length bounds.now - 1) (solves_part (Ok scramble.now) text.now bounds.now) first result }
+{
+    for behind in first + 1..bounds.len() {
+        if let Some(how) = solving_how(scramble, text, bounds, first, behind) {
+            return Some(Part { how, first, behind });
+        }
+    }
+    None
+}
+
+/// What is found in steps.
+fn found_in(scramble: &Niss, text: &[u8], bounds: &[usize]) -> Found
+    requires some { 0 < length bounds.now }
+    requires room { length text.now ≤ 65536 }
+    ensures { IsFound (length bounds.now - 1) (solves_part (Ok scramble.now) text.now bounds.now)
+        (solves_whole (Ok scramble.now) text.now bounds.now) result }
+{
+    for first in 0..bounds.len() {
+        if let Some(part) = part_from(scramble, text, bounds, first) {
+            return Found::Part(part);
+        }
+    }
+    if solves_whole(scramble, text, bounds) {
+        Found::WithoutBrackets
+    } else {
+        Found::Nothing
+    }
+}
+
+impl PartAnswer {
+    /// The answer if nothing is found.
+    fn nothing(status: Status) -> PartAnswer
+        ensures { result ≡ no_part status }
+    {
+        PartAnswer {
+            status: status.number(),
+            how: 0,
+            first: 0,
+            last: 0,
+        }
+    }
+
+    /// The answer to so many steps.
+    fn of(found: Found, steps: usize) -> PartAnswer
+        requires few { steps ≤ 8 }
+        requires part { IsWithin steps found }
+        ensures { result ≡ answer_of steps found }
+    {
+        let done = PartAnswer::nothing(Status::Done);
+        match found {
+            Found::Part(part) => PartAnswer {
+                how: part.how.number(),
+                first: part.first as u8,
+                last: (part.behind - 1) as u8,
+                ..done
+            },
+            Found::WithoutBrackets => PartAnswer {
+                how: 4,
+                last: steps.saturating_sub(1) as u8,
+                ..done
+            },
+            Found::Nothing => done,
+        }
+    }
+}
+
+/// Whether a part of the first eight steps of an attempt solves its scramble, and which: the first in order of `IsBefore`.
+/// Steps stand a line each. A part that has a fault doesn't solve, and nothing does if the scramble has one. The answer
+/// says `Stopped` if one has too many bytes.
+pub fn solving_part(scramble: &[u8], steps: &[u8]) -> PartAnswer
+    ensures { TellsPart scramble.now steps.now result }
+{
+    if scramble.len() > MOST_BYTES || steps.len() > MOST_STEP_BYTES {
+        return PartAnswer::nothing(Status::Stopped);
+    }
+    let bounds = bounds_of(steps);
+    let mut reader = LineReader::new();
+    let found = match read_by(&mut reader, scramble) {
+        Ok(scramble) => found_in(scramble, steps, &bounds),
+        Err(_) => Found::Nothing,
+    };
+    PartAnswer::of(found, bounds.len() - 1)
+}

@@ -1,0 +1,178 @@
+-- The moves of some lines as far as they are written, and those of one more line.
+use Rattle.std.proofs.Common.{◌≡◌, ℕ, zero, suc, ◌+◌, ◌*◌, ◌-◌, ◌≤◌, true, false, cond, Option, None, Some, List, [], ◌∷◌, ◌++◌, map, slice_range, refl, sym, ap, ◌∙◌, append_assoc, arith}
+use Rattle.std.specs.List.{All, filter}
+use Rattle.std.proofs.lemmas.List.{append-nil}
+use Rattle.std.proofs.lemmas.List.Elements.{All-append}
+use Rattle.niss_text.specs.declared.left_out.LeftOut.{LeftOut}
+use Rattle.niss_text.specs.declared.moves.MovesOf.{MovesOf}
+use Rattle.niss_text.specs.declared.moves.MovesOf.TheVariants.{Scramble, Steps, Solution}
+use Rattle.niss_text.specs.declared.pen.Beginning.{Beginning}
+use Rattle.niss_text.specs.declared.piece.Place.TheVariants.{Among}
+use Rattle.niss_text.specs.declared.text_line.TextLine.{TextLine}
+use Rattle.niss_text.specs.Pieces.{line_of, places_of}
+use Rattle.niss_text.specs.LeftOut.{left_none, left_of_all, both}
+use Rattle.niss_text.specs.Moves.{LineMoves, AreMoves, AreJoined, opening, closing, opening_place, closing_place, bytes_of_moves, places_of_moves, blank_after, place_after, left_around, left_of_moves, is_wanted, number_of_moves}
+use Rattle.niss_text.specs.Written.{PutsPart, AddsLine}
+use Rattle.niss_text.proofs.PlainLemmas.{both_assoc, both_none}
+unfoldable use Rattle.niss_text.specs.Moves.{bytes_after, places_after, left_of_lines, most_bytes}
+
+pub same_moves : (a b : MovesOf) → number_of_moves a ≡ number_of_moves b → a ≡ b
+same_moves Scramble Scramble h = refl
+same_moves Scramble Steps h = absurd (omega arith)
+same_moves Scramble Solution h = absurd (omega arith)
+same_moves Steps Scramble h = absurd (omega arith)
+same_moves Steps Steps h = refl
+same_moves Steps Solution h = absurd (omega arith)
+same_moves Solution Scramble h = absurd (omega arith)
+same_moves Solution Steps h = absurd (omega arith)
+same_moves Solution Solution h = refl
+
+pub moves_known : (of : MovesOf) → number_of_moves of ≤ 2
+moves_known Scramble = omega arith
+moves_known Steps = omega arith
+moves_known Solution = omega arith
+
+-- what stands around the moves of a line, and these, make them with their brackets
+four : (a b c d e : List ℕ) → ((a ++ (b ++ c)) ++ d) ++ e ≡ a ++ (b ++ (c ++ d ++ e))
+four a b c d e = simp append_assoc
+
+pub one_line : (text part : List ℕ) (line : TextLine) (from : Beginning) (before : Option ℕ) (b0 b1 b2 b3 p0 p1 p2 p3 : List ℕ) (l0 around l1 rest l2 : LeftOut) →
+    from.at ≡ line.moves → from.place ≡ Among → part ≡ slice_range text line.moves line.comment →
+    b1 ≡ b0 ++ (blank_after before ++ opening line) → p1 ≡ p0 ++ (place_after before ++ opening_place line) → PutsPart part from b1 b2 p1 p2 l1 →
+    b3 ≡ b2 ++ closing line → p3 ≡ p2 ++ closing_place line → around ≡ left_around text line → rest ≡ both around l1 → l2 ≡ both l0 rest →
+    AddsLine text line before b0 b3 p0 p3 l0 l2
+one_line text part line from before b0 b1 b2 b3 p0 p1 p2 p3 l0 around l1 rest l2 at among is begun placed puts ended closed told joined all = record {
+  parts = puts.parts;
+  are_moves = record { are_pieces = puts.are_pieces; untitled = puts.untitled among; whole = puts.whole ∙ is };
+  bytes_are = sym (four b0 (blank_after before) (opening line) (line_of puts.parts) (closing line))
+      ∙ ap (λ v. (v ++ line_of puts.parts) ++ closing line) (sym begun) ∙ ap (λ v. v ++ closing line) puts.bytes_are ∙ sym ended;
+  places_are = sym (four p0 (place_after before) (opening_place line) (places_of line.moves puts.parts) (closing_place line))
+      ∙ ap (λ v. (v ++ places_of line.moves puts.parts) ++ closing_place line) (sym placed)
+      ∙ ap (λ n. (p1 ++ places_of n puts.parts) ++ closing_place line) (sym at) ∙ ap (λ v. v ++ closing_place line) puts.places_are ∙ sym closed;
+  left_is = ap (λ v. both l0 (both v (left_of_all puts.parts))) (sym told) ∙ ap (λ v. both l0 (both around v)) puts.left_is
+      ∙ ap (λ v. both l0 v) (sym joined) ∙ sym all;
+}
+
+-- where the last of some lines ends, or one before them if there is none
+unfoldable pub end_after : Option ℕ → List LineMoves → Option ℕ
+end_after before [] = before
+end_after before (m ∷ ms) = end_after (Some m.line.end) ms
+
+bytes_more : (before : Option ℕ) (ms : List LineMoves) (m : LineMoves) →
+    bytes_after before (ms ++ m ∷ []) ≡ bytes_after before ms ++ (blank_after (end_after before ms) ++ bytes_of_moves m)
+unfolding bytes_after end_after
+bytes_more before [] m = append-nil (blank_after before ++ bytes_of_moves m)
+bytes_more before (n ∷ ms) m =
+    ap (λ v. (blank_after before ++ bytes_of_moves n) ++ v) (bytes_more (Some n.line.end) ms m)
+    ∙ sym (append_assoc (blank_after before ++ bytes_of_moves n) (bytes_after (Some n.line.end) ms)
+    (blank_after (end_after (Some n.line.end) ms) ++ bytes_of_moves m))
+
+places_more : (before : Option ℕ) (ms : List LineMoves) (m : LineMoves) →
+    places_after before (ms ++ m ∷ []) ≡ places_after before ms ++ (place_after (end_after before ms) ++ places_of_moves m)
+unfolding places_after end_after
+places_more before [] m = append-nil (place_after before ++ places_of_moves m)
+places_more before (n ∷ ms) m =
+    ap (λ v. (place_after before ++ places_of_moves n) ++ v) (places_more (Some n.line.end) ms m)
+    ∙ sym (append_assoc (place_after before ++ places_of_moves n) (places_after (Some n.line.end) ms)
+    (place_after (end_after (Some n.line.end) ms) ++ places_of_moves m))
+
+end_more : (before : Option ℕ) (ms : List LineMoves) (m : LineMoves) → end_after before (ms ++ m ∷ []) ≡ Some m.line.end
+unfolding end_after
+end_more before [] m = refl
+end_more before (n ∷ ms) m = end_more (Some n.line.end) ms m
+
+left_more : (text : List ℕ) (ms : List LineMoves) (m : LineMoves) → left_of_lines text (ms ++ m ∷ []) ≡ both (left_of_lines text ms) (left_of_moves text m)
+unfolding left_of_lines
+left_more text [] m = both_none (left_of_moves text m)
+left_more text (n ∷ ms) m =
+    ap (λ v. both (left_of_moves text n) v) (left_more text ms m) ∙ sym (both_assoc (left_of_moves text n) (left_of_lines text ms) (left_of_moves text m))
+
+all_one : (text : List ℕ) (m : LineMoves) → AreMoves text m → All (AreMoves text) (m ∷ [])
+all_one text m one zero d lt = one
+all_one text m one (suc k) d lt = absurd (omega arith)
+
+lines_more : (ms : List LineMoves) (m : LineMoves) (rest : List TextLine) → map (λ n. n.line) (ms ++ m ∷ []) ++ rest ≡ map (λ n. n.line) ms ++ m.line ∷ rest
+lines_more [] m rest = refl
+lines_more (n ∷ ms) m rest = ap (λ v. n.line ∷ v) (lines_more ms m rest)
+
+-- The moves of the wanted ones of some lines are written so far, and these lines are left.
+pub record SoMany (text : List ℕ) (of : MovesOf) (lines rest : List TextLine) (before : Option ℕ) (bytes places : List ℕ) (left : LeftOut) : Type 0 where
+  pub moves : List LineMoves
+  pub are_moves : All (AreMoves text) moves
+  pub are_wanted : map (λ m. m.line) moves ++ filter (is_wanted of) rest ≡ filter (is_wanted of) lines
+  pub before_is : end_after None moves ≡ before
+  pub bytes_are : bytes_after None moves ≡ bytes
+  pub places_are : places_after None moves ≡ places
+  pub left_is : left_of_lines text moves ≡ left
+
+pub no_line : (text : List ℕ) (of : MovesOf) (lines : List TextLine) (bytes places : List ℕ) (left : LeftOut) → bytes ≡ [] → places ≡ [] → left ≡ left_none →
+    SoMany text of lines lines None bytes places left
+unfolding bytes_after places_after left_of_lines end_after
+no_line text of lines bytes places left no_bytes no_places none = record {
+  moves = [];
+  are_moves = λ k d lt. absurd (omega arith);
+  are_wanted = refl;
+  before_is = refl;
+  bytes_are = sym no_bytes;
+  places_are = sym no_places;
+  left_is = sym none;
+}
+
+filter_with : (of : MovesOf) (line : TextLine) (others : List TextLine) → is_wanted of line ≡ true → filter (is_wanted of) (line ∷ others) ≡ line ∷ filter (is_wanted of) others
+filter_with of line others is = ap (λ b. cond b (line ∷ filter (is_wanted of) others) (filter (is_wanted of) others)) is
+
+filter_without : (of : MovesOf) (line : TextLine) (others : List TextLine) → is_wanted of line ≡ false → filter (is_wanted of) (line ∷ others) ≡ filter (is_wanted of) others
+filter_without of line others is = ap (λ b. cond b (line ∷ filter (is_wanted of) others) (filter (is_wanted of) others)) is
+
+pub one_passed : (text : List ℕ) (of : MovesOf) (lines rest others : List TextLine) (line : TextLine) (before : Option ℕ) (bytes places : List ℕ) (left : LeftOut) →
+    rest ≡ line ∷ others → is_wanted of line ≡ false → SoMany text of lines rest before bytes places left → SoMany text of lines others before bytes places left
+one_passed text of lines rest others line before bytes places left is not far = record {
+  moves = far.moves;
+  are_moves = far.are_moves;
+  are_wanted = ap (λ v. map (λ m. m.line) far.moves ++ v) (sym (filter_without of line others not))
+      ∙ ap (λ v. map (λ m. m.line) far.moves ++ filter (is_wanted of) v) (sym is) ∙ far.are_wanted;
+  before_is = far.before_is;
+  bytes_are = far.bytes_are;
+  places_are = far.places_are;
+  left_is = far.left_is;
+}
+
+pub one_joined : (text : List ℕ) (of : MovesOf) (lines rest others : List TextLine) (line : TextLine) (before before' : Option ℕ) (bytes bytes' places places' : List ℕ)
+    (left left' : LeftOut) → rest ≡ line ∷ others → is_wanted of line ≡ true → SoMany text of lines rest before bytes places left →
+    AddsLine text line before bytes bytes' places places' left left' → before' ≡ Some line.end → SoMany text of lines others before' bytes' places' left'
+one_joined text of lines rest others line before before' bytes bytes' places places' left left' is wanted far adds ends =
+    let m : LineMoves = record { line = line; parts = adds.parts } in
+    let ms : List LineMoves = far.moves in
+    record {
+      moves = ms ++ m ∷ [];
+      are_moves = All-append (AreMoves text) ms (m ∷ []) far.are_moves (all_one text m adds.are_moves);
+      are_wanted = lines_more ms m (filter (is_wanted of) others) ∙ ap (λ v. map (λ n. n.line) ms ++ v) (sym (filter_with of line others wanted))
+          ∙ ap (λ v. map (λ n. n.line) ms ++ filter (is_wanted of) v) (sym is) ∙ far.are_wanted;
+      before_is = end_more None ms m ∙ sym ends;
+      bytes_are = bytes_more None ms m ∙ ap (λ v. v ++ (blank_after (end_after None ms) ++ bytes_of_moves m)) far.bytes_are
+          ∙ ap (λ b. bytes ++ (blank_after b ++ bytes_of_moves m)) far.before_is ∙ adds.bytes_are;
+      places_are = places_more None ms m ∙ ap (λ v. v ++ (place_after (end_after None ms) ++ places_of_moves m)) far.places_are
+          ∙ ap (λ b. places ++ (place_after b ++ places_of_moves m)) far.before_is ∙ adds.places_are;
+      left_is = left_more text ms m ∙ ap (λ v. both v (left_of_moves text m)) far.left_is ∙ adds.left_is;
+    }
+
+pub all_joined : (text : List ℕ) (of : MovesOf) (lines rest : List TextLine) (before : Option ℕ) (bytes places : List ℕ) (left : LeftOut) → rest ≡ [] →
+    SoMany text of lines rest before bytes places left → AreJoined text of lines bytes places left
+all_joined text of lines rest before bytes places left none far = record {
+  moves = far.moves;
+  are_moves = far.are_moves;
+  are_wanted = sym (append-nil (map (λ m. m.line) far.moves)) ∙ ap (λ v. map (λ m. m.line) far.moves ++ filter (is_wanted of) v) (sym none) ∙ far.are_wanted;
+  bytes_are = far.bytes_are;
+  places_are = far.places_are;
+  left_is = far.left_is;
+}
+
+-- what the moves of the wanted ones of some lines may take, by the first line
+pub most_with : (of : MovesOf) (rest others : List TextLine) (line : TextLine) → rest ≡ line ∷ others → is_wanted of line ≡ true →
+    most_bytes (filter (is_wanted of) rest) ≡ 3 * (line.comment - line.moves) + 3 + most_bytes (filter (is_wanted of) others)
+unfolding most_bytes
+most_with of rest others line is wanted = ap (λ v. most_bytes (filter (is_wanted of) v)) is ∙ ap most_bytes (filter_with of line others wanted)
+
+pub most_without : (of : MovesOf) (rest others : List TextLine) (line : TextLine) → rest ≡ line ∷ others → is_wanted of line ≡ false →
+    most_bytes (filter (is_wanted of) rest) ≡ most_bytes (filter (is_wanted of) others)
+most_without of rest others line is not = ap (λ v. most_bytes (filter (is_wanted of) v)) is ∙ ap most_bytes (filter_without of line others not)

@@ -1,0 +1,82 @@
+use Rattle.std.proofs.Common.{◌≡◌, ℕ, ◌∙◌, true, [], ◌∷◌, length, take, drop, refl, sym, ap, subst, arith, rules}
+use Rattle.std.proofs.lemmas.List.{nil_from_length}
+use Rattle.std.specs.List.{filter}
+use Rattle.niss_text.specs.declared.moves.MovesOf.{MovesOf}
+use Rattle.niss_text.specs.declared.text_line.TextLine.{TextLine}
+use Rattle.niss_text.specs.Moves.{AreJoined, is_wanted, most_bytes}
+use Rattle.niss_text.proofs.PlainLemmas.{later_behind}
+use Rattle.niss_text.proofs.MovesLemmas.{no_line, one_joined, all_joined, most_with, same_moves, moves_known}
+use Rattle.niss_text.proofs.moves.text_moves.Goals as goal
+
+pub loop-line-init : goal.loop-line-init
+loop-line-init c =
+    let none : c.new.result.length ≡ 0 = c.new.ensures.0 in
+    record {
+      joined = λ room. no_line c.args.text.now c.in-Some.of c.args.lines.now (take c.new.result.length c.args.out.now)
+          (take c.new.result.length c.args.places.now) c.none.result (ap (λ n. take n c.args.out.now) none) (ap (λ n. take n c.args.places.now) none) c.none.ensures;
+      spent = omega arith;
+      room = λ one two. c.new.ensures.1;
+      fits = omega arith;
+      fits_places = omega arith;
+      behind = refl;
+      behind_places = refl;
+    }
+
+pub loop-line-preserved : goal.loop-line-preserved
+loop-line-preserved c =
+    let is : c.loop-line.rest.now ≡ c.in-Some-split_first.line.now ∷ c.in-Some-split_first.others.now = search rules in
+    let wanted : is_wanted c.in-Some.of c.in-Some-split_first.line.now ≡ true = sym c.has.ensures ∙ c.if-not-has.false in
+    let line : TextLine = c.in-Some-split_first.line.now in
+    let more = c.with_line-joined.ensures in
+    let inv = c.loop-line.invariant in
+    let same : length c.with_line-joined.new.out ≡ length c.loop-line.out = c.with_line-joined.auto.out in
+    let same_places : length c.with_line-joined.new.places ≡ length c.loop-line.places = c.with_line-joined.auto.places in
+    let most = most_with c.in-Some.of c.loop-line.rest.now c.in-Some-split_first.others.now line is wanted in
+    record {
+      joined = λ room. one_joined c.args.text.now c.in-Some.of c.args.lines.now c.loop-line.rest.now c.in-Some-split_first.others.now line
+          c.loop-line.joined.before c.with_line-joined.result.before
+          (take c.loop-line.joined.pen.length c.loop-line.out) (take c.with_line-joined.result.pen.length c.with_line-joined.new.out)
+          (take c.loop-line.joined.pen.length c.loop-line.places) (take c.with_line-joined.result.pen.length c.with_line-joined.new.places)
+          c.loop-line.joined.left_out c.with_line-joined.result.left_out is wanted (inv.joined (more.had room)) (more.adds room) more.before;
+      spent = omega (arith, most, more.further.1, inv.spent);
+      room = λ one two. more.room (inv.room (omega (arith, same)) (omega (arith, same_places))) (omega (arith, most, inv.spent, same)) (omega (arith, most, inv.spent, same_places));
+      fits = omega (arith, more.within.0, same);
+      fits_places = omega (arith, more.within.1, same_places);
+      behind = later_behind c.loop-line.joined.pen.length c.with_line-joined.result.pen.length c.loop-line.out c.with_line-joined.new.out c.args.out.now
+          more.further.0 more.behind inv.behind;
+      behind_places = later_behind c.loop-line.joined.pen.length c.with_line-joined.result.pen.length c.loop-line.places c.with_line-joined.new.places
+          c.args.places.now more.further.0 more.behind_places inv.behind_places;
+    }
+
+pub returns : goal.returns
+returns c =
+    let here : MovesOf = c.in-Some.of in
+    let number = c.in-Some.ensures in
+    let inv = c.loop-line.invariant in
+    let far : ℕ = c.loop-line.joined.pen.length in
+    let long : c.written.result.length ≡ far = c.written.ensures.length in
+    let none : c.loop-line.rest.now ≡ [] = nil_from_length c.loop-line.rest.now c.in_default-split_first.ensures.cases in
+    let joined = λ (room : c.loop-line.joined.pen.has_room ≡ true).
+    all_joined c.args.text.now here c.args.lines.now c.loop-line.rest.now c.loop-line.joined.before (take far c.loop-line.out) (take far c.loop-line.places)
+    c.loop-line.joined.left_out none (inv.joined room) in
+    record {
+      joins = λ of same done.
+          let one : here ≡ of = same_moves here of (number ∙ sym same) in (
+            c.loop-line.joined.left_out,
+            sym c.written.ensures.left,
+            subst (λ (m : MovesOf). AreJoined c.args.text.now m c.args.lines.now (take c.written.result.length c.loop-line.out)
+                (take c.written.result.length c.loop-line.places) c.loop-line.joined.left_out) one
+                (subst (λ (n : ℕ). AreJoined c.args.text.now here c.args.lines.now (take n c.loop-line.out) (take n c.loop-line.places) c.loop-line.joined.left_out)
+                (sym long) (joined (c.written.ensures.room done))),
+          );
+      room = λ of same one two.
+          let is : of ≡ here = same_moves of here (same ∙ sym number) in
+          let most : most_bytes (filter (is_wanted of) c.args.lines.now) ≡ most_bytes (filter (is_wanted here) c.args.lines.now) =
+          ap (λ (m : MovesOf). most_bytes (filter (is_wanted m) c.args.lines.now)) is in
+          c.written.ensures.done (inv.room (omega (arith, most, c.loop-line.auto.out)) (omega (arith, most, c.loop-line.auto.places)));
+      known = λ low. c.written.ensures.known;
+      unknown = λ high. absurd (omega (arith, moves_known here, number));
+      within = (omega (arith, long, inv.fits, c.loop-line.auto.out), omega (arith, long, inv.fits_places, c.loop-line.auto.places));
+      behind = ap (λ n. drop n c.loop-line.out) long ∙ inv.behind ∙ ap (λ n. drop n c.args.out.now) (sym long);
+      behind_places = ap (λ n. drop n c.loop-line.places) long ∙ inv.behind_places ∙ ap (λ n. drop n c.args.places.now) (sym long);
+    }

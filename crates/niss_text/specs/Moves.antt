@@ -1,0 +1,118 @@
+-- The moves of some lines of a text, as one line.
+use Rattle.std.specs.Prelude.{◌≡◌, ℕ, ◌+◌, ◌-◌, ◌*◌, ◌==◌, ◌<◌, ◌≤◌, ◌⊎◌, nat_lt, Bool, ◌&&◌, not, if◌then◌else◌, Option, None, Some, List, [], ◌∷◌, ◌++◌, length, take, drop, map, slice_range}
+use Rattle.std.specs.List.{All, filter, list_any}
+use Rattle.niss_text.specs.Signs.{is_digit}
+use Rattle.niss_text.specs.Pieces.{Part, ArePieces, HasNoTitle, text_of, line_of, places_of}
+use Rattle.niss_text.specs.LeftOut.{left_none, both, left_of_all, bits_of}
+use Rattle.niss_text.specs.declared.left_out.LeftOut.{LeftOut}
+use Rattle.niss_text.specs.declared.text_line.TextLine.{TextLine}
+use Rattle.niss_text.specs.declared.plain.PlainAnswer.{PlainAnswer}
+use Rattle.niss_text.specs.declared.moves.MovesOf.{MovesOf}
+use Rattle.niss_text.specs.declared.moves.MovesOf.TheVariants.{Scramble, Steps, Solution}
+
+abbrev pub number_of_moves : MovesOf → ℕ
+number_of_moves Scramble = 0
+number_of_moves Steps = 1
+number_of_moves Solution = 2
+
+-- the lines whose moves are wanted: those of the scramble, all steps, or those of the solution
+abbrev pub is_wanted : MovesOf → TextLine → Bool
+is_wanted Scramble line = line.kind == 2
+is_wanted Steps line = line.kind == 3
+is_wanted Solution line = (line.kind == 3) && not (line.is_solution == 0)
+
+-- a line of a text, and the pieces of its moves
+pub record LineMoves : Type 0 where
+  pub line : TextLine
+  pub parts : List Part
+
+-- What stands from `moves` to `comment`, as far as that is in the text, is these pieces; none is what stands before moves.
+pub record AreMoves (text : List ℕ) (m : LineMoves) : Type 0 where
+  pub are_pieces : ArePieces m.parts
+  pub untitled : HasNoTitle m.parts
+  pub whole : text_of m.parts ≡ slice_range text m.line.moves m.line.comment
+
+abbrev pub is_inverse : TextLine → Bool
+is_inverse line = not (line.is_inverse == 0)
+
+-- what stands before and after the moves of a line: brackets if they are said to be on the inverse
+abbrev pub opening : TextLine → List ℕ
+opening line = if is_inverse line then 40 ∷ [] else []
+
+abbrev pub closing : TextLine → List ℕ
+closing line = if is_inverse line then 41 ∷ [] else []
+
+-- their places: where the moves begin and end
+abbrev pub opening_place : TextLine → List ℕ
+opening_place line = if is_inverse line then line.moves ∷ [] else []
+
+abbrev pub closing_place : TextLine → List ℕ
+closing_place line = if is_inverse line then line.comment ∷ [] else []
+
+-- the moves of a line with their brackets
+abbrev pub bytes_of_moves : LineMoves → List ℕ
+bytes_of_moves m = opening m.line ++ line_of m.parts ++ closing m.line
+
+abbrev pub places_of_moves : LineMoves → List ℕ
+places_of_moves m = opening_place m.line ++ places_of m.line.moves m.parts ++ closing_place m.line
+
+-- what stands between the moves of a line and those of one that ends there: a blank
+abbrev pub blank_after : Option ℕ → List ℕ
+blank_after None = []
+blank_after (Some end) = 32 ∷ []
+
+abbrev pub place_after : Option ℕ → List ℕ
+place_after None = []
+place_after (Some end) = end ∷ []
+
+-- the moves of lines after one that ends there, if there is one, joined by blanks
+unfoldable pub bytes_after : Option ℕ → List LineMoves → List ℕ
+bytes_after before [] = []
+bytes_after before (m ∷ ms) = (blank_after before ++ bytes_of_moves m) ++ bytes_after (Some m.line.end) ms
+
+unfoldable pub places_after : Option ℕ → List LineMoves → List ℕ
+places_after before [] = []
+places_after before (m ∷ ms) = (place_after before ++ places_of_moves m) ++ places_after (Some m.line.end) ms
+
+-- what a line has before and after its moves: the number of a line, a label, a comment
+abbrev pub left_around : List ℕ → TextLine → LeftOut
+left_around text line = record left_none {
+  labels = nat_lt line.label_begin line.label_end;
+  comments = nat_lt line.comment line.end;
+  line_numbers = list_any is_digit (slice_range text line.head_end line.label_begin);
+}
+
+abbrev pub left_of_moves : List ℕ → LineMoves → LeftOut
+left_of_moves text m = both (left_around text m.line) (left_of_all m.parts)
+
+-- what one of the lines leaves out
+unfoldable pub left_of_lines : List ℕ → List LineMoves → LeftOut
+left_of_lines text [] = left_none
+left_of_lines text (m ∷ ms) = both (left_of_moves text m) (left_of_lines text ms)
+
+-- The moves of the wanted ones of some lines are this line, in order, with these places, and this is left out.
+pub record AreJoined (text : List ℕ) (of : MovesOf) (lines : List TextLine) (bytes places : List ℕ) (left : LeftOut) : Type 0 where
+  pub moves : List LineMoves
+  pub are_moves : All (AreMoves text) moves
+  pub are_wanted : map (λ m. m.line) moves ≡ filter (is_wanted of) lines
+  pub bytes_are : bytes_after None moves ≡ bytes
+  pub places_are : places_after None moves ≡ places
+  pub left_is : left_of_lines text moves ≡ left
+
+-- how many bytes the moves of these lines have at most: three for each, and three for what is put around them
+unfoldable pub most_bytes : List TextLine → ℕ
+most_bytes [] = 0
+most_bytes (line ∷ lines) = 3 * (line.comment - line.moves) + 3 + most_bytes lines
+
+-- What a call does that writes the moves of some lines, those of a number, in rooms for bytes and for places.
+pub record WritesMoves (text : List ℕ) (lines : List TextLine) (which : ℕ) (out_old out_new places_old places_new : List ℕ)
+    (answer : PlainAnswer) : Type 0 where
+  pub joins : (of : MovesOf) → number_of_moves of ≡ which → answer.status ≡ 0 → (left : LeftOut) × (bits_of left ≡ answer.left_out)
+      × AreJoined text of lines (take answer.length out_new) (take answer.length places_new) left
+  pub room : (of : MovesOf) → number_of_moves of ≡ which → most_bytes (filter (is_wanted of) lines) ≤ length out_old →
+      most_bytes (filter (is_wanted of) lines) ≤ length places_old → answer.status ≡ 0
+  pub known : which ≤ 2 → (answer.status ≡ 0) ⊎ (answer.status ≡ 4)
+  pub unknown : 2 < which → (answer.status ≡ 2) × (answer.left_out ≡ 0) × (answer.length ≡ 0)
+  pub within : (answer.length ≤ length out_old) × (answer.length ≤ length places_old)
+  pub behind : drop answer.length out_new ≡ drop answer.length out_old
+  pub behind_places : drop answer.length places_new ≡ drop answer.length places_old

@@ -1,0 +1,125 @@
+#!/usr/bin/env python3
+"""Texts in the ways that solvers write attempts, those of tests/attempts.tsv and others made of words: none may be read wrongly without a word, and
+none that is read right may be in doubt.
+
+    tests/library/kinds.py
+"""
+import ctypes
+import random
+import sys
+import time
+from pathlib import Path
+from typing import Dict, Iterator
+
+sys.path[:0] = [str(Path(__file__).resolve().parents[1]), str(Path(__file__).resolve().parents[2] / "python")]
+
+import nissy
+from called import Kind, kinds as listed
+from nissy import _library
+from tally import Tally, tried
+
+FIRST = "R' U' F D2 L2 F R2 U2 R2 B D2 L B2 D' B2 L' R' B' D2 B2 R' U' F"
+SECOND = "R' U' F L2 D B2 U R2 F2 D2 B U2 L R' U' F"
+# what undoes them, and that in steps
+STEPS = ["F' U R B2 D2", "B R L B2 D B2", "L' D2 B' R2 U2 R2", "F' L2 D2 F' U R"]
+OF_FIRST, OF_SECOND = " ".join(STEPS), "F' U R L' U2 B' D2 F2 R2 U' B2 D' L2 F' U R"
+# the last two steps as they are on the inverse
+ON_INVERSE = "R' U' F D2 L2 F R2 U2 R2 B D2 L"
+# words before each of two scrambles, and before a solution behind its steps
+HEADS = """Solve %d|Day %d:|Week %d|Cube %d|Try %d:|FMC %d:|Mo3 %d:|Scr %d:|Puzzle %d|Versuch %d|Mezcla %d|\u6253\u4e71 %d:|Attempt no. %d
+Group 1 scramble %d|Attempt %d (23 moves)|Attempt %d - 23 moves|Attempt %d, 23 moves|%d. 23 moves|%d. 23|%d) (23)|[%d]|----%d""".replace("\n", "|").split("|")
+ENDS = """Final|Total|Full|Result|All|Sol|Answer|Submitted|Together|Summary|Cleaned|L\u00f6sung|Soluci\u00f3n|Rozwi\u0105zanie|\u89e3\u6cd5|Final answer""".split("|")
+SIDES = "Inverse|Reverse|Inverted|Inversed|Inverso|Invers|Other side|Second side|EOinv|Backwards|NISSed|DR premoved|Odwrotnie|Obratno".split("|")
+COMMENTS = "on inverse|DR (inv)|NISS|premoves|inverse|reverse|on the inverse|DR on inv|EOinv".split("|")
+WORDS = "F2L LL xD BLD LUL FML LS ELL SB Dry Bu DR FR EO".split()
+
+
+def of_words() -> Iterator[Kind]:
+    """Kinds that a word makes."""
+    labelled = "\n".join(f"{name}: {step}" for name, step in zip(("EO", "DR", "HTR", "finish"), STEPS))
+    for head in HEADS:
+        yield Kind(f"the head {head}", f"{head % 1}\n{FIRST}\n{OF_FIRST}\n\n{head % 2}\n{SECOND}\n{OF_SECOND}", [True, True])
+    for end in ENDS:
+        yield Kind(f"steps, then {end}", f"Scramble: {FIRST}\n\n{labelled}\n{end}: {OF_FIRST}", [True])
+    for side in SIDES:
+        yield Kind(f"the label {side}", f"{FIRST}\n\nEO: {STEPS[0]}\n{side}: {ON_INVERSE}\nfinish: {STEPS[1]}", [True])
+    for comment in COMMENTS:
+        yield Kind(f"the comment {comment}", f"{FIRST}\n\n{STEPS[0]} // EO\n{ON_INVERSE} // {comment}\n{STEPS[1]} // finish", [True])
+    for word in WORDS:
+        for form in ("{0} {1}", "{1} {0}", "{0}\t{1}", "{0}\n{1}", "{1}\n{0}", "{0} ({1})", "{0} - {1}", "{0}; {1}"):
+            yield Kind(f"{word} in {form!r}", f"Scramble: {FIRST}\n\n{form.format(OF_FIRST, word)}", [True])
+    yield Kind("a solution, then its steps", f"Scramble: {FIRST}\nSolution: {OF_FIRST}\n{labelled}", [True])
+    yield Kind("steps on one line", f"{FIRST}\nSolution: {STEPS[0]} // EO {STEPS[1]} // DR {' '.join(STEPS[2:])}", [True])
+
+
+def verdict(kind: Kind) -> str:
+    """How a text is read: right, at fault, in doubt, without a solution, or silently wrong."""
+    checks = nissy.check_attempts(kind.text)
+    found = [it.check and it.check.solved for it in checks]
+    is_doubted = any(it.doubt for it in checks)
+    if any(it.fault for it in checks):
+        return "fault"
+    if found == kind.wanted:
+        return "right, in doubt" if is_doubted else "right"
+    return "doubt" if is_doubted else "silent" if any(it is not None for it in found) else "none"
+
+
+def kinds(tally: Tally) -> None:
+    """No kind is read wrongly without a word."""
+    verdicts: Dict[str, str] = {}
+    for kind in [*listed(), *of_words()]:
+        verdicts[kind.name] = verdict(kind)
+        tally.holds(f"{kind.name} isn't silently wrong: {verdicts[kind.name]}", verdicts[kind.name] not in ("silent", "right, in doubt"))
+    of_table = [verdicts[kind.name] for kind in listed()]
+    # 32 of these were read right without the rules of the library, and 64 are to be
+    tally.holds(f"at least 135 of the table are right: {of_table.count('right')}", of_table.count("right") >= 135)
+    tally.holds("and most that words make", list(verdicts.values()).count("right") > 150)
+
+
+def slips(tally: Tally) -> None:
+    """A solution with a slip is unsolved, and mostly in no doubt."""
+    draw, doubts, count = random.Random(1), 0, 0
+    for kind in listed():
+        checks = nissy.check_attempts(kind.text)
+        solution = checks[0].attempt.solution
+        if verdict(kind) != "right" or kind.wanted != [True] or solution is None:
+            continue
+        places = [at for sign, at in zip(solution.line, solution.places) if sign in "URFDLB"]
+        for at in draw.sample(places, min(len(places), 5)):
+            other = draw.choice([sign for sign in "URFDLB" if sign != kind.text[at]])
+            told = nissy.check_attempts(kind.text[:at] + other + kind.text[at + 1:])
+            doubts += any(it.doubt for it in told)
+            count += 1
+            tally.holds(f"a slip in {kind.name} is seen", not any(it.check and it.check.solved for it in told))
+    tally.holds(f"at most an eighth of {count} are in doubt: {doubts}", count > 200 and doubts * 8 <= count)
+
+
+def doubts(tally: Tally) -> None:
+    """Each reason for a doubt, and where it is seen."""
+    texts = {f"{FIRST} R U": ("another scramble", 1, 1), "R U F\n\nEO: D\n\nDR: L\n\nD L B": ("several solutions", 3, 5),
+             "R U F\n\nR U // premoves\nF' // EO": ("side", 3, 8), "R U F\n\nF' U' R LUL": ("letters", 3, 10),
+             "r u f\n\nF' U' R'": ("small letters", 1, 1), "R U F\n\nF' // EO U' R' D": ("comment", 3, 4),
+             "R U F\n\nAnna: F' U' R'\nBert: F' U' D": ("a part", 3, 7)}
+    for text, wanted in texts.items():
+        (told,) = [it.doubt for it in nissy.check_attempts(text)]
+        tally.equal(f"the doubt of {text!r}", told and (told.reason, told.place.line, told.place.column), wanted)
+    for text in ("R U F\n\nF' U' R'", "R U F\n\nF' U' R", "R'U'F\n\nF'U'R", "R U F"):
+        tally.equal(f"no doubt of {text!r}", [it.doubt for it in nissy.check_attempts(text)], [None])
+
+
+def times(tally: Tally) -> None:
+    """A megabyte is read in a time by its length, on a processor, of which a busy machine has others' work too."""
+    for piece in ("1. R Q\n", "R\u2019 U Q ", "- ", "[0:12] ", "inverse ", "(1(1", "R' U' F ", "\r", "DR ", f"{FIRST}\n{OF_FIRST} // EO (5/5)\n\n"):
+        data = piece.encode() * (1_000_000 // len(piece.encode()))
+        room = ctypes.create_string_buffer(88 * (data.count(b"\n") + data.count(b"\r") + 1))
+        begun = time.process_time()
+        answer = _library.nissy_text_lines(data, len(data), ctypes.addressof(room), len(room) // 88)
+        tally.holds(f"a megabyte of {piece!r} soon", answer.status == 0 and time.process_time() - begun < 2)
+    begun = time.process_time()
+    nissy.check_attempts("R U F\n\nR'" + "()" * 20_000)
+    nissy.check_attempts("1. R Q\n" * 8000)
+    tally.holds("forms and faults soon", time.process_time() - begun < 10)
+
+
+if __name__ == "__main__":
+    tried(kinds, slips, doubts, times)
