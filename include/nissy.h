@@ -315,8 +315,8 @@ typedef struct nissy_ways_answer {
  * scramble; those so far, and the ways, name the faces as the moves outside brackets leave the cube.
  *
  * `tables` are nine, in the order of nissy_steps: eofb, eorl, eoud, drud-eofb, drrl-eofb, drud-eorl, drfb-eorl, drrl-eoud, drfb-eoud. `wanted`
- * may name some axes and lengths only: so a search goes in parts, between which a caller tells how far it is, or ends it. If it names one
- * axis, the tables of the others may be NISSY_NO_TABLES. The ways of all parts come into one room, if each call is told how many are there:
+ * may name some axes and lengths only: so a search goes in parts, between which a caller tells how far it is, or ends it. The tables of an
+ * axis that it doesn't name may be NISSY_NO_TABLES. The ways of all parts come into one room, if each call is told how many are there:
  * the best of them stay, as many as have place, whatever the order of the parts. It looks at no more than `most_nodes` positions: before it
  * would look at more it ends with NISSY_CUT, and each way that is there is a true one.
  *
