@@ -38,11 +38,13 @@ let mergedSome = 0;
 
 /** All moves with each solution of a step that merges with some of them. */
 function tryList(scramble, parts, step) {
-  const position = positionAfter(nissy, scramble, parts);
-  for (const side of SIDES) {
-    const list = nissy.solve(step, position.lines[side], { slack: 1 });
-    const totals = list.map(({ moves }) => inAll([...parts, partOn(side, moves)]));
-    same(`${scramble}, ${JSON.stringify(parts)}: ${step} on the ${side} side`, totalsWith(nissy, position, side, list), totals);
+  const { lines, made, count } = positionAfter(nissy, scramble, parts);
+  same(`${scramble}, ${JSON.stringify(parts)}: how many moves were made`, count, inAll(parts));
+  for (const side of [...SIDES, "both"]) {
+    const list = side === "both" ? nissy.solve(step, lines.normal, { sides: side }) : nissy.solve(step, lines[side], { slack: 1 });
+    const steps = list.map((each) => (side === "both" ? each : partOn(side, each.moves)));
+    const totals = steps.map((each) => inAll([...parts, each]));
+    same(`${scramble}, ${JSON.stringify(parts)}: ${step} on the ${side} side`, totalsWith(nissy, made, steps), totals);
     mergedSome += list.filter(({ length }, at) => totals[at] < inAll(parts) + length).length;
   }
 }

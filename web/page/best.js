@@ -333,7 +333,7 @@ export class BestContinuations {
   #draw() {
     const left = this.#rows(this.#progress);
     const rows = left ?? [];
-    this.#filters.show(rows.length === 0 && this.#progress?.rows.length > 0);
+    this.#filters.show(rows.length === 0 && this.#progress?.isWhole && this.#progress.rows.length > 0);
     const shown = rows.slice(0, this.#shown);
     this.#showRows(shown);
     if (this.#progress === null) return;
