@@ -111,7 +111,7 @@ impl HoldsTables for Held {
 
     ghost is_table = { IsTable };
 
-    fn tables_of(&self, step: Step) -> Option<&'static LentTables> {
+    fn tables_of<'a>(&'a self, step: Step) -> Option<&'a LentTables> {
         let tables = self.tables()?;
         if tables.step() == step {
             Some(tables)
