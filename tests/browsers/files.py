@@ -30,13 +30,18 @@ REFUSED = (("main.js", 'import { part } from "./element.js";\nconst part = 1;\n'
     ("main.js", 'const text = "<!--";\n', "a comment of the page"), ("main.js", "const text = `R\n  U`;\n", "a text of several lines"),
     ("style.css", "</style>", "an end of the style"), ("print.css", "</style>", "an end of the style in a part of it"),
     ("style.css", '@import url("./print.css");', "an import of another form in the style"),
-    ("main.js", 'const text = "\U0001f9e9";\n', "a sign that an escape hasn't"), ("main.js", "// " + "x" * MOST_BYTES, "a page that is too large"))
+    ("main.js", 'const text = "\U0001f9e9";\n', "a sign that an escape hasn't"), ("main.js", f"const text = '{'x' * MOST_BYTES}';\n", "a page that is too large"))
 
 
 def element(page: str, pattern: str) -> str:
     """The text in the one element whose tag has this form."""
     found = re.findall(f"<{pattern}>(.*?)</(?:script|style)>", page, re.DOTALL)
     return found[0] if len(found) == 1 else ""
+
+
+def packed(page: str, name: str) -> bytes:
+    """What is packed in the element of a name."""
+    return gzip.decompress(base64.b64decode(element(page, f'script type="text/plain" id="{name}"'), validate=True))
 
 
 def hash_of(text: str) -> str:
@@ -65,8 +70,8 @@ def is_closed(tally: Tally, page: str) -> None:
 
 def is_plain(tally: Tally, page: str) -> None:
     """The scripts make no markup and ask nothing."""
-    for name in ('script type="module"', 'script type="text/plain" id="worker-script"'):
-        script = re.sub(r"/\*[\s\S]*?\*/|^\s*//.*$", "", element(page, name), flags=re.MULTILINE)
+    for name, text in (("the script", element(page, 'script type="module"')), ("the worker's script", packed(page, "worker-script").decode("ascii"))):
+        script = re.sub(r"/\*[\s\S]*?\*/|^\s*//.*$", "", text, flags=re.MULTILINE)
         tally.holds(f"{name} is there", len(script) > 1000)
         tally.equal(f"{name}: lines with an indent", re.findall(r"^ +\S*", script, re.MULTILINE), [])
         tally.equal(f"{name}: markup", re.findall(MARKUP, script), [])
@@ -87,8 +92,7 @@ def is_whole(tally: Tally, page: str) -> None:
     # the one that a script opens has no button
     helps = sorted(set(re.findall(r'<div popover id="([^"]+)"', page)) - {"uncopied", "said"})
     tally.equal("each help has its button", sorted(re.findall(r'popovertarget="([^"]+)"', page)), helps)
-    module = gzip.decompress(base64.b64decode(element(page, 'script type="text/plain" id="engine-module"'), validate=True))
-    tally.equal("the module's first bytes", module[:4], b"\0asm")
+    tally.equal("the module's first bytes", packed(page, "engine-module")[:4], b"\0asm")
     tally.equal("marks that are left", re.findall(r">@\w+@<|\"@\w+@\"", page), [])
 
 

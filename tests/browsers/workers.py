@@ -5,13 +5,16 @@ from tally import Tally
 ADDRESS = "#scramble=R_U_F"
 # what is put before the script of each worker until `sound` is set; waits as long as the page's patience are shorter, but for a busy machine
 SPOILT = """
-    const [Sound, later] = [Worker, setTimeout];
+    const [Sound, later, addressOf] = [Worker, setTimeout, URL.createObjectURL.bind(URL)];
+    URL.createObjectURL = (script) => {
+        window.spoilt = addressOf(new Blob([%r, script]));
+        return addressOf(script);
+    };
     window.setTimeout = (act, wait, ...words) => later(act, wait >= 20000 ? 3000 : wait, ...words);
     window.made = [];
     window.Worker = class extends Sound {
         constructor(address, how) {
-            const script = document.getElementById("worker-script").textContent;
-            super(window.sound ? address : URL.createObjectURL(new Blob([%r, script])), how);
+            super(window.sound ? address : spoilt, how);
             made.push(this);
         }
     };

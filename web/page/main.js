@@ -1,4 +1,4 @@
-// Starts the page: the worker's script and the engine's module, packed by gzip, stand in the page itself. The module is
+// Starts the page: the worker's script and the engine's module stand in the page itself, packed by gzip. The module is
 // compiled once for all workers.
 import { compiled } from "../module/source.js";
 import { Calls, workersOf } from "./calls.js";
@@ -10,11 +10,10 @@ import { Reader } from "./reader.js";
 import { offerCover } from "./rows.js";
 import { offerThemes, placeHelp } from "./view.js";
 
-const newWorker = workersOf(part("worker-script").textContent);
-
-/** The bytes of the module. */
-async function unpacked() {
-  const base64 = part("engine-module").textContent.trim();
+/** The bytes of something that is packed.
+ * @param {string} name the name of its element */
+async function unpacked(name) {
+  const base64 = part(name).textContent.trim();
   const text = Uint8Array.fromBase64 ? "" : atob(base64);
   const packed = Uint8Array.fromBase64?.(base64) ?? new Uint8Array(text.length);
   // a call for each byte would take as long as all the rest here
@@ -26,8 +25,9 @@ async function unpacked() {
   return new Uint8Array(await new Response(readable).arrayBuffer());
 }
 
-/** @param {import("../module/worker-queue.js").SentModule} module */
-async function start(module) {
+/** @param {[import("../module/worker-queue.js").SentModule, Uint8Array]} _ the module, and the worker's script */
+async function start([module, script]) {
+  const newWorker = workersOf(new TextDecoder().decode(script));
   const page = new Page(() => new Calls(newWorker, module), await Reader.start(module));
   addEventListener("popstate", ({ state }) => page.returnTo(state));
   addEventListener("hashchange", () => page.begin(location.hash));
@@ -41,6 +41,5 @@ placeHelp();
 offerLast();
 part("copy-link").addEventListener("click", ({ currentTarget }) => copyLink(currentTarget));
 // if it can't be compiled each worker says why, once it is asked
-unpacked()
-  .then((bytes) => compiled(bytes).catch(() => bytes))
-  .then(start);
+const module = unpacked("engine-module").then((bytes) => compiled(bytes).catch(() => bytes));
+Promise.all([module, unpacked("worker-script")]).then(start);
