@@ -11,7 +11,15 @@ NOTES = "return all('#kept-list .note-field').map((each) => each.value)"
 ONE: tuple[tuple[str, str, str, list[str], str], ...] = (("R U F\n\nD L\n", "R U F", "D L", ["D L"], ""),
     ("Scramble 1: R U F", "Scramble 1: R U F", "", [], "Left out: “Scramble 1:”."),
     ("R U F\nD // EO\n\nSolution:\nD L2 B\n", "R U F", "D", ["D L2 B"], ""),
-    ("Inverse: (R U)", "Inverse: (R U)", "", [], "Left out: labels. Moves in brackets count as inverse moves."))
+    ("Inverse: (R U)", "Inverse: (R U)", "", [], "Left out: labels. Moves in brackets count as inverse moves."),
+    ("Inverse: R U", "R U", "", [], "Left out: labels."))
+# texts in doubt: the text, the scramble, the line so far, what is said, the word that is marked, and how many signs stand before it
+DOUBTS: tuple[tuple[str, str, str, str, str, int], ...] = (
+    ("R U F\n\nR U // premoves\nF' // EO", "R U F", "R U F'", "“premoves” names a side, and moves on the inverse belong in brackets", "p", 14),
+    ("R U F\n\nAnna: F' U' R'\nBert: F' U' D", "R U F", "F' U' R' F' U' D", "the steps don't solve the scramble, but some of them do", "F", 13),
+    ("R U F\n\nF' // EO U' R' D", "R U F", "F'", "moves stand in a comment, and are left out", "/", 10),
+    ("R U F\n\nEO: D\n\nDR: L\n\nD L B", "R U F", "", "of several solutions none is said to be the one that counts", "D", 11),
+    ("R' U' F D R' U' F R U", "R' U' F D R' U' F R U", "", "a whole scramble begins here, and more follows it", "R", 0))
 SHEET = "Hello!\nScramble 1 of 3\nR U F\nD // EO\n\nL2\n// a note\n\nScramble 2 of 3\nF' L2, U\nScramble 3 of 3\nB2 R q\n"
 SHEET_NAMES = [f"Scramble {number} of 3" for number in (1, 2, 3)]
 LEFT = "Left out: 2 other scrambles{}."
@@ -23,12 +31,25 @@ def nth(number: int) -> str:
 
 
 def reads_one(tally: Tally, browser: Browser) -> None:
-    """A scramble with a solution below it, one with a name, a solution beside the steps; a label of the inverse needs brackets behind it."""
+    """A scramble with a solution below it, one with a name, a solution beside the steps, a label before it."""
     for text, scramble, line, kept, said in ONE:
         browser.walk(tally, f"{text!r}", ("open", {}), ("script", PASTE, text, {}), ("comes", "bracketed", line, {}),
             ("comes", KEPT, kept, {"scramble=": scramble, "scramble-read": said, "scramble-fault": "", "attempts?": False}))
-    fault = {"#scramble-fault p": ["“Inverse:” is no move."], "#scramble-marks mark": ["Inverse:"]}
-    browser.walk(tally, "without brackets", ("script", PASTE, "Inverse: R U", fault))
+
+
+def doubts(tally: Tally, browser: Browser) -> None:
+    """A text that may be meant otherwise than it is read: why is said, with the place marked, until anything is changed, and not beside a fault."""
+    for text, scramble, line, said, sign, before in DOUBTS:
+        browser.walk(tally, f"{text!r}", ("open", {"scramble-doubt?": False}), ("script", PASTE, text, {}),
+            ("comes", "#scramble-doubt p", [f"In doubt: {said}."], {"#scramble-doubt mark": [sign], "scramble=": scramble, "bracketed": line}))
+        shown = browser.texts("#scramble-doubt pre")[0].split("\n")
+        tally.equal(f"the place of the doubt of {text!r}", (shown[1].index("^"), shown[0][before]), (before, sign))
+        browser.walk(tally, "it goes away", ("fill", "scramble", "R U", {"scramble-doubt?": False}), ("fill", "scramble", "r q", {"scramble-doubt?": False}))
+    small = ["In doubt: “r” is read as a wide turn."]
+    browser.walk(tally, "a scramble in small letters", ("open", {}), ("fill", "scramble", "r u f", {"#scramble-doubt p": small}),
+        ("submit", "own", "F", {}), ("comes", "steps", 1, {"scramble-doubt?": False}))
+    browser.walk(tally, "a solution that solves", ("open", {}), ("script", PASTE, "r u f\n\nf' u' r'", {}),
+        ("comes", "steps", 1, {"scramble-doubt?": False}))
 
 
 def chooses(tally: Tally, browser: Browser) -> None:

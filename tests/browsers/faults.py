@@ -11,11 +11,11 @@ from wanted import TITLES, Position, fault_column
 NO_MOVE = "\u201c{}\u201d is no move."
 ODD_MOVE = "\u201c{0}\u201d is no move: write {1}, {1}2 or {1}'."
 # a line, the sign that the fault's column names, one that isn't seen by a sign for it, and what is said; the column comes from the model
-LINES = (("R q", "q", NO_MOVE.format("q")), ("R U\u2019 F2 ?", "?", NO_MOVE.format("?")), ("\u00e9 R", "\u00e9", NO_MOVE.format("\u00e9")),
+LINES = (("R q", "q", NO_MOVE.format("q")), ("R U\u2019 F2 q?", "q", NO_MOVE.format("q?")), ("\u00e9 R", "\u00e9", NO_MOVE.format("\u00e9")),
     ("R (U (F))", "(", "A bracket stands inside a bracket."), ("R U) F", ")", "A bracket is closed that was not opened."),
     ("R (U F", "(", "A bracket isn't closed."), ("R " * 256 + "F", "F", "More than 256 moves."), ("R2 3Rw", "3", NO_MOVE.format("3Rw")),
     ("R <b>U</b>", "<", NO_MOVE.format("<b>U</b>")), ("R' U'\U0001f9e9", "\U0001f9e9", NO_MOVE.format("\U0001f9e9")),
-    ("R\tU2\tq", "q", NO_MOVE.format("q")), ("R U \u202eF2", "\ufffd", NO_MOVE.format("\ufffdF2")),
+    ("R\tU2\tq", "q", NO_MOVE.format("q")), ("R \u202eF2", "\ufffd", NO_MOVE.format("\ufffdF2")),
     ("R U \0F2", "\ufffd", NO_MOVE.format("\ufffdF2")), ("R U1", "1", ODD_MOVE.format("U1", "U")),
     ("F-1 R", "-", ODD_MOVE.format("F-1", "F")), ("U Ri D", "i", ODD_MOVE.format("Ri", "R")),
     ("U (Rw'2 D)", "2", ODD_MOVE.format("Rw'2", "Rw")), ("R Right", "i", NO_MOVE.format("ight")),
@@ -24,7 +24,7 @@ LINES = (("R q", "q", NO_MOVE.format("q")), ("R U\u2019 F2 ?", "?", NO_MOVE.form
 PASTED = (("R\u00a0U\u2009F2", "R U F2", ""), ("R\u200b U\u200b2\ufeff", "R U2", "Left out: signs that aren't seen."),
     ("R\u2032 U\u00b4 F` D\u2019 L\u2018", "R' U' F' D' L'", ""), ("R, U'; F2", "R U' F2", "Left out: commas."),
     ("1. R U F2", "R U F2", "Left out: line numbers."), ("3) R U F2 // the third", "R U F2", "Left out: comments, line numbers."),
-    ("Scramble: R U F2", "R U F2", "Left out: the word Scramble."), ("EO: R U F2", "R U F2", "Left out: labels."),
+    ("Scramble: R U F2", "R U F2", "Left out: “Scramble:”."), ("EO: R U F2", "R U F2", "Left out: labels."),
     ("Final solution : R U F2", "R U F2", "Left out: labels."), ("R U // up\nF2", "R U F2", "Left out: comments."),
     # one scramble on several lines, and several of them
     ("R U\nF2\nD L\n", "R U F2 D L", ""), ("1. R U\nF2\n2. D L\n", "R U F2", "Left out: 1 other scramble."),
@@ -116,7 +116,7 @@ def pasted_steps(tally: Tally, browser: Browser) -> None:
     said = f"The steps of this text are read up to the line \u201cB R1 L\u201d: {ODD_MOVE.format('R1', 'R')}"
     browser.walk(tally, "steps", ("fill", "scramble", "R' U' F\n\nD R // EO\n(L2) // DR\n", {}), ("comes", "steps", 2,
         {"bracketed": "D R (L2)", kept: ["D R (L2)"]}), ("fill", "scramble", labels, {}), ("comes", "steps", 3,
-        {"bracketed": "D R F (L2) U", "scramble-read": "Left out: the word Scramble."}), ("fill", "scramble",
+        {"bracketed": "D R F (L2) U", "scramble-read": "Left out: “Scramble:”."}), ("fill", "scramble",
         "R U F2\nD // EO\nB R1 L // DR\nU F\n\nL2\n", {}), ("comes", kept, ["L2"], {"alert": said, "bracketed": "D"}))
 
 

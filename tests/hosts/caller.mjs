@@ -5,8 +5,7 @@
 import { readFileSync } from "node:fs";
 import { createInterface } from "node:readline";
 import {
-  AXES, CORNER_PLACES, EDGE_PLACES, NET, Nissy, NissyFault, NissyWorker, SearchCut, placeOf, plainLine, readAttempts,
-  stickersOf,
+  AXES, CORNER_PLACES, EDGE_PLACES, NET, Nissy, NissyFault, NissyWorker, SearchCut, placeOf, stickersOf,
 } from "../../web/module/node.js";
 
 const ALL = 2n ** 64n - 1n;
@@ -14,6 +13,9 @@ const decoder = new TextDecoder("utf-8", { fatal: true, ignoreBOM: true });
 const bytesOf = (text) => new Uint8Array(Buffer.from(text.slice(1), "hex"));
 const toHex = (text) => `=${Buffer.from(text).toString("hex")}`;
 const numberOf = (text) => (BigInt(text) === ALL ? undefined : Number(text));
+
+/** The lines of a text, each of which a line feed ends, if not the last one. */
+const linesOf = (text) => Buffer.from(bytesOf(text)).toString().match(/[^\n]*\n|[^\n]+$/g)?.map((line) => line.replace("\n", "")) ?? [];
 
 /** Bytes of one's own among others. */
 function copied(bytes, buffer = new ArrayBuffer(bytes.length + 9), begin = 4) {
@@ -50,8 +52,7 @@ const seen = ({ solved: is, moves, cleanMoves, holds, cases, ...pieces }) => {
 };
 
 /** A text as one line, the places of its signs in characters, and what is left out. */
-function plain(text) {
-  const { line, places, leftOut } = plainLine(text);
+function plain(text, { line, places, leftOut }) {
   const begins = [...line].map((sign, at, signs) => signs.slice(0, at).join("").length);
   const goesOn = places.some((place, at) => !begins.includes(at) && place !== places[at - 1] + 1);
   if (goesOn || places.length !== line.length) return "another place";
@@ -75,15 +76,14 @@ function partIn(text, plain) {
 }
 
 /** The attempts of a text, each on a line. */
-const attempts = (text) => readAttempts(text).map(({ name, before, scramble, steps, solution, candidates }) => {
+const attempts = (text, found) => found.map(({ name, before, scramble, steps, solution, candidates }) => {
   const all = (each) => each.map((one) => partIn(text, one)).join("/");
   const others = candidates.map((each) => `${all(each.steps)}=${partIn(text, each.solution)}#${each.note}`).join(";");
   return [name, before, partIn(text, scramble), all(steps), partIn(text, solution), others].join("|");
 }).join("\n");
 
 /** How many attempts a text has, and how many steps and candidates all of them. */
-function attemptCounts(text) {
-  const found = readAttempts(text);
+function attemptCounts(found) {
   return [found.length, found.flatMap((it) => it.steps).length, found.flatMap((it) => it.candidates).length].join(" ");
 }
 
@@ -93,9 +93,12 @@ const judged = ({ solved: is, moves, cleanMoves, forms }) => [Number(is), moves,
 /** What is told of an attempt: its check, its fault, and the forms of its solution. */
 function attemptTold({ check, fault, place, forms }) {
   const at = ({ line, column }) => `@${line}:${column}`;
-  const wrong = fault ? `${fault.part}:${fault.column}:${fault.text}${at(place)}` : "";
+  const wrong = fault ? `${fault.part}:${fault.column}:${fault.text}${place ? at(place) : "@nowhere"}` : "";
   return [check ? judged(check) : "", wrong, forms.map((it) => `${it.text}/${formNames(it.forms)}${at(it.place)}`).join(" ")].join("|");
 }
+
+/** What makes one doubt an attempt, and where. */
+const doubtTold = ({ doubt }) => (doubt ? `${doubt.reason}@${doubt.place.line}:${doubt.place.column}` : "");
 
 // each call by an engine, and what is given to it
 const CALLS = {
@@ -104,15 +107,26 @@ const CALLS = {
     const told = (await engine.tokens(lineOf(line))).sort((one, other) => one.inverse - other.inverse);
     return told.map((it) => [it.text, it.axis, it.layers.join(), it.quarters, Number(it.inverse)].join("/")).join(" ");
   },
-  plain_line: async (_, text) => plain(string(bytesOf(text))),
-  read_attempts: async (_, text) => attempts(string(bytesOf(text))),
-  attempt_counts: async (_, text) => attemptCounts(string(bytesOf(text))),
+  plain_line: async (engine, text) => plain(string(bytesOf(text)), await engine.plainLine(string(bytesOf(text)))),
+  read_attempts: async (engine, text) => attempts(string(bytesOf(text)), await engine.readAttempts(string(bytesOf(text)))),
+  attempt_counts: async (engine, text) => attemptCounts(await engine.readAttempts(string(bytesOf(text)))),
   form_places: async (engine, line) => {
     const told = await engine.formPlaces(lineOf(line));
     return told.map(({ column, text, forms }) => [column, text, formNames(forms)].join("/")).join(" ");
   },
   check: async (engine, scramble, solution) => judged(await engine.check(lineOf(scramble), lineOf(solution))),
   check_attempts: async (engine, text) => (await engine.checkAttempts(string(bytesOf(text)))).map(attemptTold).join("\n"),
+  attempt_doubts: async (engine, text) => (await engine.checkAttempts(string(bytesOf(text)))).map(doubtTold).join("\n"),
+  known_checks: async (engine, text, scrambles) => {
+    const told = await engine.checkAttempts(string(bytesOf(text)), { scrambles: linesOf(scrambles) });
+    return told.map((it) => [it.attempt.name, attemptTold(it), doubtTold(it)].join("|")).join("\n");
+  },
+  check_all: async (engine, text) => {
+    const all = linesOf(text);
+    const pairs = all.filter((_, at) => at % 2 === 0).map((scramble, at) => [scramble, all[2 * at + 1]]);
+    const told = await engine.checkAll(pairs, { faults: "value" });
+    return told.map((it) => (it instanceof NissyFault ? `${it.part}:${it.column}:${it.text}` : judged(it))).join("\n");
+  },
   line_after: async (engine, scramble, soFar) => engine.lineAfter(lineOf(scramble), lineOf(soFar)),
   solve: async (engine, step, limit, slack, most, line) =>
     solved(await engine.solve(string(bytesOf(step)), lineOf(line), { limit: Number(limit), slack: Number(slack), most: numberOf(most) })),

@@ -1,7 +1,6 @@
 #!/usr/bin/env python3
-"""Texts as solvers write them, read by each host as one line and as attempts: the rows of tests/calls.tsv, and drawn texts. Python and C++ read
-them by the library; Python tells of checks what its other calls tell, and C++ all as Python does. JavaScript has rules of its own, by which it reads
-some rows otherwise.
+"""Texts as solvers write them, read by each host as one line and as attempts: the rows of tests/calls.tsv, and drawn texts. All hosts read them
+by the engine, C++ and JavaScript as Python does, which tells of checks what its other calls tell.
 
     tests/hosts/plain.py SEED COUNT HOST..
 
@@ -40,17 +39,15 @@ LONG = {"\r" * 1_000_000: "1 0 0", "1.\n" * 100_000: "1 0 0", "R U // x\n" * 50_
         "1. R\n" * 20_000: "20000 0 0", "R U\n\n" * 20_000: "1 0 19999", "Solution: R\n\n" * 20_000: "1 0 19999",
         "Final solution: R\n\n" * 20_000: "1 1 19999", "1. Scramble: R\n" * 20_000: "20000 0 0", "R' U' F D R' U' F\n" * 15_000: "15000 0 0",
         "Solution (1): R\nR (2) // EO\n" * 10_000: "1 1 19998"}
-# the same of those that hosts with rules of their own read otherwise
-OLDER = {"R' U' F D R' U' F\n" * 15_000: "1 14999 0", "Solution (1): R\nR (2) // EO\n" * 10_000: "1 19999 0"}
 SOON = 60
 # scrambles and solutions, of which many belong together, some have forms, and others are at fault
 CHECKED = ["R", "R'", "R\u2032", "R2", "R2'", "(R)", "(R')", "M", "M\u2019", "r Lw'", "x", "", "D (M2 r2\u2019)", "\u2028R, U", "U' R'", "R q", "(R",
            "R\u00b4 \u00c9F", "R " * 257, "\U0001f600 R"]
 
 
-def wanted_lines(kind: str) -> Iterator[List[str]]:
+def wanted_lines() -> Iterator[List[str]]:
     """Each row of the table that is a line: a text, and what is told of it."""
-    for text, line, places, names in called.rows(kind):
+    for text, line, places, names in called.rows("plain"):
         ranges = (it.partition("-") for it in places.split())
         each = [str(at) for first, _, last in ranges for at in range(int(first), int(last or first) + 1)]
         yield [text, f"{line}\n{' '.join(each)}\n{names}"]
@@ -118,9 +115,9 @@ def checks_of(tally: Tally, sheets: List[str]) -> None:
     tally.equal("each kind of check is there", seen, {"1", "0", "1forms", "0forms", "scramble", "solution", ""})
 
 
-def times_of(tally: Tally, host: Host, counts: Dict[str, str]) -> None:
+def times_of(tally: Tally, host: Host) -> None:
     """A host reads long texts in a time by their length: by its square they would take minutes."""
-    for text, wanted in counts.items():
+    for text, wanted in LONG.items():
         begun = time.monotonic()
         tally.equal(f"attempt_counts of {text[:12]!r} and so on in {host.name}", told(host, "attempt_counts", text.encode()), wanted)
         tally.holds(f"{text[:12]!r} and so on soon in {host.name}", time.monotonic() - begun < SOON)
@@ -166,22 +163,17 @@ def main() -> None:
     draw = random.Random(seed)
     sheets, kinds = list(drawn_sheets(draw, count)), [kind.text for kind in called.kinds()]
     solved = [*sheets, *drawn_solutions(draw, count), *kinds]
-    rows: Texts = {"plain_line": list(wanted_lines("plain")), "read_attempts": list(called.rows("attempts")), "known_checks": list(called.rows("known"))}
-    older = {"plain_line": dict(wanted_lines("older-plain")), "read_attempts": dict(called.rows("older-attempts"))}
+    rows: Texts = {"plain_line": list(wanted_lines()), "read_attempts": list(called.rows("attempts")), "known_checks": list(called.rows("known"))}
     by_calls = [[text, checks_by_calls(text)] for text in [*solved, *(text for text, _ in rows["read_attempts"])]]
     is_told(tally, python, {**rows, "check_attempts": by_calls, "check_all": list(drawn_pairs(draw, count // 10))})
-    times_of(tally, python, LONG)
     ours = by_host(python, {"plain_line": [[it] for it in drawn(draw, count)], "read_attempts": [[it] for it in sheets],
                             "check_attempts": [[it] for it in solved], "attempt_doubts": [[it] for it in solved],
                             "known_checks": list(drawn_known(draw, count)), "check_all": [[it] for it, _ in drawn_pairs(draw, count // 10)]})
     for host in hosts_of(sys.argv[3:]):
-        if host.name == "JavaScript":
-            is_told(tally, host, {call: [[text, of.get(text, wanted)] for text, wanted in rows[call]] for call, of in older.items()})
-            times_of(tally, host, {**LONG, **OLDER})
-        elif not isinstance(host, Python):
+        if not isinstance(host, Python):
             is_told(tally, host, rows)
             is_told(tally, host, ours)
-            times_of(tally, host, LONG)
+        times_of(tally, host)
         tally.equal(f"{host.name} ends, and has said no more", host.end(), 0)
     for call, check in (("plain_line", names_of), ("read_attempts", kinds_of)):
         check(tally, [wanted for _, wanted in rows[call]])

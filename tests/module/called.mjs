@@ -256,10 +256,20 @@ const NO_WORDS = [
   ["a set", new Set(["invert"])], ["bytes", Uint8Array.of(0x52)],
 ];
 
+// what is no array, though some would do as one
+const NO_ARRAY = [["null", null], ["a text", "RU"], ["a number", 2], ["lines by their places", { length: 2, 0: "R", 1: "R'" }], ["a set", new Set(["R", "U"])]];
+
 /** What each place of a call is called, how it is filled, and which values it doesn't take, with the words that refuse them. */
 const PLACES = [
   ...["invert", "unniss", "cleanup", "facelets", "formPlaces"].map((call) => [call, "the line", (value) => [value], WRONG, NO_TEXT]),
-  ["checkAttempts", "the text", (value) => [value], [...WRONG, ["bytes", Uint8Array.of(0x52)], ["nothing", undefined]], "is no string"],
+  ...["plainLine", "readAttempts", "checkAttempts"].map((call) =>
+    [call, "the text", (value) => [value], [...WRONG, ["bytes", Uint8Array.of(0x52)], ["nothing", undefined]], "is no string"]),
+  ["checkAttempts", "scramble 2", (value) => ["R", { scrambles: ["R", value] }], WRONG, NO_TEXT],
+  ["checkAttempts", "the scrambles", (scrambles) => ["R", { scrambles }], NO_ARRAY, "are no array"],
+  ["checkAll", "the pairs", (value) => [value], NO_ARRAY, "are no array"],
+  ["checkAll", "pair 1", (value) => [[value, ["R", "R'"]]], [...NO_ARRAY, ["one line", ["R"]], ["three lines", ["R", "U", "F"]]], "is no array of two lines"],
+  ["checkAll", "the scramble of pair 2", (value) => [[["R", "R'"], [value, "R"]]], WRONG, NO_TEXT],
+  ["checkAll", "the solution of pair 1", (value) => [[["R", value]]], WRONG, NO_TEXT],
   ["run", "the input", (value) => [["unniss"], value], WRONG, NO_TEXT],
   ["run", "word 1", (value) => [[value, value], value], WRONG, NO_TEXT],
   ["run", "word 2", (value) => [["unniss", value], "R"], WRONG, NO_TEXT],

@@ -4,7 +4,7 @@ import { performance } from "node:perf_hooks";
 import { Nissy, NissyWorker, loadNissy } from "../../web/module/node.js";
 import { WorkerCalls } from "../../web/module/worker-calls.js";
 import { tryEach, tryMany as tryManyLines, tryOptions, tryReadOptions, tryRows, tryWrongValues } from "./called.mjs";
-import { tryAttempts, tryBounds, tryChecks, tryMixed } from "./judged.mjs";
+import { tryAttempts, tryBounds, tryChecks, tryMixed, tryPairs } from "./judged.mjs";
 import { ended, moduleBytes, same, text, thrown } from "./tally.mjs";
 
 const LONG = ["count", "eo", "R U F2 L D R B", { slack: 14 }];
@@ -304,7 +304,7 @@ await tryReadOptions(worker);
 await tryOwnOptions(worker);
 await tryNoOptions(worker);
 await tryMany(worker);
-for (const judge of [tryChecks, tryAttempts, tryBounds, tryMixed]) await judge(worker);
+for (const judge of [tryChecks, tryAttempts, tryPairs, tryBounds, tryMixed]) await judge(worker);
 await tryBest(worker);
 await tryStopped(worker);
 await trySignals(worker);

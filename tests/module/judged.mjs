@@ -1,5 +1,5 @@
 // What is told of lines without a search, and searches with a bound on nodes: by `Nissy`, and by what has the same calls as promises.
-import { NissyFault, SearchCut, readAttempts } from "../../web/module/nissy.js";
+import { NissyFault, SearchCut } from "../../web/module/nissy.js";
 import { TURNS, same, thrown } from "./tally.mjs";
 
 // a call, and the fault that it throws: which line has it, its column and its message
@@ -24,8 +24,9 @@ export async function tryChecks(nissy) {
   same("no lines", await thrown(() => nissy.factsAll("R")), ["TypeError", "the lines are no array"]);
 }
 
-const NOTHING = { check: null, fault: null, place: null, forms: [] };
+const NOTHING = { check: null, fault: null, place: null, forms: [], doubt: null };
 const form = (text, name, at, line, column) => ({ text, forms: [name], place: { at, line, column } });
+const doubt = (reason, at, line, column) => ({ reason, place: { at, line, column } });
 const atFault = (part, column, character, at, line, inLine) =>
   ({ ...NOTHING, fault: [part, column, character, "not a move"], place: { at, line, column: inLine } });
 
@@ -35,13 +36,20 @@ const TEXTS = [
   ["a scramble alone", "R U", [NOTHING]],
   ["a solution", "R U\n\nU' R'", [{ ...NOTHING, check: { solved: true, moves: 2, cleanMoves: 2, forms: [] } }]],
   ["one that doesn't solve", "R U\n\nR R2", [{ ...NOTHING, check: { solved: false, moves: 2, cleanMoves: 1, forms: [] } }]],
-  ["a fault of a scramble alone", "1. R Q", [atFault("scramble", 4, 4, 5, 1, 6)]],
+  ["a fault of a scramble alone", "1. R Q", [atFault("scramble", 3, 3, 5, 1, 6)]],
   ["one beside a solution with a form", "R Q\n\nM", [atFault("scramble", 3, 3, 2, 1, 3)]],
   ["faults of both", "R Q\n\nM Q", [atFault("scramble", 3, 3, 2, 1, 3)]],
   ["one of a solution", "R\n\nM Q", [atFault("solution", 3, 3, 5, 3, 3)]],
   ["one behind signs of several bytes", "1. R // \u00e9\u{1f600}\nR' // done\n\n2. D // \u00e9\u{1f600}\nSolution: D\u2032 Q\n\n3. F", [
-    { ...NOTHING, check: { solved: true, moves: 1, cleanMoves: 1, forms: [] } }, atFault("solution", 7, 5, 49, 5, 14), NOTHING,
+    { ...NOTHING, check: { solved: true, moves: 1, cleanMoves: 1, forms: [] } }, atFault("solution", 6, 4, 49, 5, 14), NOTHING,
   ]],
+  ["steps of which the first two solve", "R U\n\nU' // one\nR' // two\nD // three", [{
+    ...NOTHING, check: { solved: false, moves: 3, cleanMoves: 3, forms: [] }, doubt: doubt("a part", 5, 3, 1),
+  }]],
+  ["a side without brackets, behind signs of several bytes", "R U F\n\nF' // \u{1f600} premoves\nR U", [{
+    ...NOTHING, check: { solved: false, moves: 3, cleanMoves: 3, forms: [] }, doubt: doubt("side", 16, 3, 9),
+  }]],
+  ["a scramble in small letters", "r u f", [{ ...NOTHING, doubt: doubt("small letters", 0, 1, 1) }]],
   // M r is R, as M is r' R
   ["forms", "R' D\n\nD\u2032 M r", [{
     ...NOTHING,
@@ -54,15 +62,68 @@ const TEXTS = [
 export async function tryAttempts(nissy) {
   for (const [what, text, wanted] of TEXTS) {
     const told = await nissy.checkAttempts(text);
-    same(`attempts of ${what}`, told.map(({ attempt }) => attempt), readAttempts(text));
+    same(`attempts of ${what}`, told.map(({ attempt }) => attempt), await nissy.readAttempts(text));
     same(`faults of ${what}`, told.every(({ fault }) => fault === null || fault instanceof NissyFault), true);
     const parts = (fault) => fault && [fault.part, fault.column, fault.character, fault.text];
-    same(`checks of ${what}`, told.map(({ check, fault, place, forms }) => ({ check, fault: parts(fault), place, forms })), wanted);
+    same(`checks of ${what}`, told.map(({ check, fault, place, forms, doubt: why }) => ({ check, fault: parts(fault), place, forms, doubt: why })), wanted);
   }
-  const beyond = "\u2019".repeat(5_592_406);
+  for (const call of ["plainLine", "readAttempts", "checkAttempts"]) {
+    const refused = ["RangeError", "the text has more bytes than the engine reads"];
+    same(`${call} of more bytes than are read`, await thrown(() => nissy[call]("\u2019".repeat(5_592_406))), refused);
+  }
+  // of each of these apostrophes three bytes are made
   const refused = ["RangeError", "the scramble has more bytes than the engine reads"];
-  same("an attempt of more bytes than are read", await thrown(() => nissy.checkAttempts(beyond)), refused);
+  same("a scramble of more bytes than are read", await thrown(() => nissy.checkAttempts("`".repeat(5_592_406))), refused);
+  const half = "R \ud800 U // \udc00";
+  same("halves of pairs stay", await nissy.plainLine(half), { line: "R \ud800 U ", places: [0, 1, 2, 3, 4, 5], leftOut: ["comments"] });
+  await tryTextPlaces(nissy);
+  await tryKnown(nissy);
 }
+
+/** Faults and forms of a line of two megabytes, whose places are counted once: one by one they would take minutes. */
+async function tryTextPlaces(nissy) {
+  const begun = performance.now();
+  const many = 300_000;
+  const [{ forms }] = await nissy.checkAttempts(`R // \u{1f600}\n\nR\u2032${"()".repeat(many)}`);
+  same("so many forms", forms.length, 2 * many + 1);
+  same("the place of the last", forms[2 * many].place, { at: 10 + 2 * many, line: 3, column: 2 * many + 2 });
+  const faults = await nissy.checkAttempts("1. R \u{1f600}\n".repeat(20_000));
+  same("so many faults", faults.filter(({ fault, place }, at) => fault.part === "scramble" && place.line === at + 1 && place.column === 6).length, 20_000);
+  same("soon", performance.now() - begun < 30_000, true);
+}
+
+/** Solutions of known scrambles: of each row of the table tests/hosts asks. */
+async function tryKnown(nissy) {
+  const told = await nissy.checkAttempts("2. D' // \u{1f600}\n7. R\n1. F'", { scrambles: ["F", Uint8Array.of(0x44)] });
+  const name = ({ attempt, check, doubt: why }) => [attempt.name, attempt.scramble.line, check && check.solved, why];
+  same("solutions of known scrambles", told.map(name), [["1.", "F", true, null], ["2.", "D", true, null], ["7.", "", null, doubt("which scramble", 12, 2, 1)]]);
+  same("none of none", await nissy.checkAttempts("", { scrambles: [] }), []);
+  same("one that is no text", (await nissy.checkAttempts("R", { scrambles: [Uint8Array.of(0x52, 0xff)] }))[0].fault.character, 2);
+  const beyond = ["RangeError", "scramble 1 has more bytes than the engine reads"];
+  same("one of more bytes than are read", await thrown(() => nissy.checkAttempts("R", { scrambles: ["\u2019".repeat(5_592_406)] })), beyond);
+}
+
+/** Pairs of a scramble and a solution: of drawn ones tests/hosts asks. */
+export async function tryPairs(nissy) {
+  const pairs = [["R U", "U' R'"], ["R", "U\u2019"], [Uint8Array.of(0x52), "M r"]];
+  const alone = await Promise.all(pairs.map(([scramble, solution]) => nissy.check(scramble, solution)));
+  same("checks of pairs", await nissy.checkAll(pairs), alone);
+  same("no pairs", await nissy.checkAll([]), []);
+  const told = await nissy.checkAll([["R", "q"], ["R", "R'"], ["q", "q"], ["R", " ".repeat(16_777_217)]], { faults: "value" });
+  same("faults in their places", told.map(({ message, line, part, solved }) => message ?? solved), [
+    "line 1, solution, column 1: not a move", true, "line 3, scramble, column 1: not a move", "line 4: the solution has more bytes than the engine reads",
+  ]);
+  same("their parts", told.map(({ line, part }) => [line, part]), [[1, "solution"], [undefined, undefined], [3, "scramble"], [undefined, undefined]]);
+  const first = ["NissyFault", "line 2, scramble, column 2: not a move"];
+  same("the first fault", await thrown(() => nissy.checkAll([["R", "R"], ["Rq", ""], ["q", ""]])), first);
+  const many = Array.from({ length: 2_000 }, (_, at) => [TURNS[at % 18], at % 5 === 0 ? "q" : TURNS[at % 6]]);
+  const each = await nissy.checkAll(many, { faults: "value" });
+  same("many pairs", each.map((one) => (one instanceof NissyFault ? one.line : one.solved)),
+    many.map(([scramble, solution], at) => (at % 5 === 0 ? at + 1 : isUndone(scramble, solution))));
+}
+
+/** Whether one turn undoes another. */
+const isUndone = (turn, other) => turn[0] === other[0] && [...`${turn} ${other}`.matchAll(/[A-Z](2|'|)/g)].reduce((sum, [, suffix]) => sum + { "": 1, 2: 2, "'": 3 }[suffix], 0) % 4 === 0;
 
 /** A search that looks at 75 positions, with each bound: it is cut exactly below 75, and what it found begins the whole list. */
 async function tryEachBound(nissy) {

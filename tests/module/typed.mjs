@@ -4,7 +4,7 @@ import { readFileSync } from "node:fs";
 import { Nissy, VERSION } from "../../web/module/nissy.js";
 import { tryTraps } from "./broken_off.mjs";
 import { F_OR_ITS_INVERSE, tryEach, tryMany, tryOptions, tryReadOptions, tryRows, tryTooLong, tryWrongValues } from "./called.mjs";
-import { tryAttempts, tryBounds, tryChecks, tryMixed } from "./judged.mjs";
+import { tryAttempts, tryBounds, tryChecks, tryMixed, tryPairs } from "./judged.mjs";
 import { elsewhere } from "./values.mjs";
 import { ended, loaded, moduleBytes, same, text, thrown } from "./tally.mjs";
 
@@ -117,7 +117,7 @@ await tryOptions(nissy);
 await tryReadOptions(nissy, memory);
 await tryMany(nissy);
 await tryEach(nissy);
-for (const judge of [tryChecks, tryAttempts, tryBounds, tryMixed]) await judge(nissy);
+for (const judge of [tryChecks, tryAttempts, tryPairs, tryBounds, tryMixed]) await judge(nissy);
 await tryRanges(nissy);
 await tryScrambles(nissy);
 await tryBeyond(nissy, memory);

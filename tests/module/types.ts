@@ -1,7 +1,7 @@
 // A caller in TypeScript, who is told of what is wrong: tests/module.sh has tsc read this beside the types of the module.
 import {
-  AXES, isStep, loadNissy, NET, Nissy, NissyFault, NissyPool, NissyWorker, placeOf, plainLine, readAttempts, SearchCut, startOf, stickersOf,
-  VERSION, type Attempt, type AttemptCheck, type Axis, type Best, type BestRow, type BestStep, type Check, type Count, type EdgePlace, type Facts, type Form,
+  AXES, isStep, loadNissy, NET, Nissy, NissyFault, NissyPool, NissyWorker, placeOf, SearchCut, startOf, stickersOf,
+  VERSION, type Attempt, type AttemptCheck, type AttemptDoubt, type Axis, type Best, type BestRow, type BestStep, type Check, type Count, type EdgePlace, type Facts, type Form,
   type FormInText, type FormPlace, type NetPlace, type PlainLine, type SideSolutions, type Solution, type Solutions, type Step, type TextPlace, type Token,
 } from "./node.js";
 import { NissyPool as NissyPoolOfBrowsers, NissyWorker as NissyWorkerOfBrowsers } from "./browser.js";
@@ -36,9 +36,9 @@ export async function callsInWorker(bytes: Uint8Array, signal: AbortSignal): Pro
   return [...drawn, ...solutions, ...all.flat()].map(({ length }) => length);
 }
 
-export function read(text: string, places: readonly EdgePlace[]): number {
-  const { line, places: at, leftOut }: PlainLine = plainLine(text);
-  const written: Attempt[] = readAttempts(text);
+export async function read(nissy: Nissy, worker: NissyWorker, text: string, places: readonly EdgePlace[]): Promise<number> {
+  const { line, places: at, leftOut }: PlainLine = nissy.plainLine(text);
+  const written: Attempt[] = [...nissy.readAttempts(text), ...(await worker.readAttempts((await worker.plainLine(text)).line))];
   const solution: PlainLine | null = written[0].solution;
   const place: TextPlace | null = placeOf({ character: 1 }, solution ?? written[0].scramble, text);
   const numbers: number[] = [...stickersOf([...places, "URF"]), ...stickersOf(places, text)];
@@ -59,18 +59,24 @@ export function judged(nissy: Nissy): string {
   const { cleanMoves, forms }: Check = nissy.check("R", "R'");
   const names: readonly Form[] = forms;
   const where: FormPlace[] = nissy.formPlaces("M");
-  const inText: TextPlace | null = placeOf(where[0], plainLine("M"), "M");
+  const inText: TextPlace | null = placeOf(where[0], nissy.plainLine("M"), "M");
   const [start, further]: (Step | null)[] = [startOf("dr-eofb"), startOf(steps[0])];
   return [solved, moves, cleanMoves, places, cases.ud, steps, names, where[0].forms, where[0].column, inText?.line, start, further].join(" ");
 }
 
 export async function checked(nissy: Nissy, worker: NissyWorker, pool: NissyPool, text: string, signal: AbortSignal): Promise<string> {
   const later: AttemptCheck[][] = [await worker.checkAttempts(text, { signal }), await pool.checkAttempts(text)];
-  const [{ attempt, check, fault, place, forms }]: AttemptCheck[] = [...nissy.checkAttempts(text), ...later.flat()];
+  const [{ attempt, check, fault, place, forms, doubt }]: AttemptCheck[] = [...nissy.checkAttempts(text), ...later.flat()];
   const each: FormInText[] = forms;
   const names: Form[] = each.flatMap((form) => [...form.forms]);
   const [of, told, wrong, where]: [Attempt, Check | null, NissyFault | null, TextPlace | null] = [attempt, check, fault, place];
-  return [of.name, told?.solved, wrong?.part, where?.line, each[0].text, each[0].place.column, names].join(" ");
+  const pairs: readonly (readonly [string, Uint8Array])[] = [["R", Uint8Array.of(0x52)]];
+  const both: Check[] = [...nissy.checkAll(pairs), ...(await worker.checkAll([["R", "R'"]], { signal }))];
+  const orFaults: (Check | NissyFault | RangeError)[] = await pool.checkAll(pairs, { faults: "value", onProgress: () => both.length });
+  const known: AttemptCheck[] = [...nissy.checkAttempts(text, { scrambles: ["R", Uint8Array.of(0x52)] }), ...(await pool.checkAttempts(text, { scrambles: ["R"], signal }))];
+  const why: AttemptDoubt | null = known[0].doubt ?? doubt ?? attempt.doubt;
+  const reason: "side" | "letters" | undefined = why?.reason === "side" || why?.reason === "letters" ? why.reason : undefined;
+  return [of.name, told?.solved, wrong?.part, where?.line, each[0].text, each[0].place.column, names, reason, why?.place.at, orFaults.length].join(" ");
 }
 
 export async function bounded(nissy: Nissy, worker: NissyWorker, step: string): Promise<number> {
@@ -173,11 +179,15 @@ export function wrong(nissy: Nissy, worker: NissyWorker): void {
   // @ts-expect-error also where it is asked what has to hold before it
   startOf("eofx");
   // @ts-expect-error an attempt may have no solution
-  readAttempts("R U F")[0].solution.line.trim();
+  nissy.readAttempts("R U F")[0].solution.line.trim();
   // @ts-expect-error nor then a check
   nissy.checkAttempts("R U F")[0].check.solved.valueOf();
   // @ts-expect-error a text is a string
   nissy.checkAttempts(Uint8Array.of(0x52));
+  // @ts-expect-error a pair has two lines
+  nissy.checkAll([["R"]]);
+  // @ts-expect-error known scrambles are an array
+  nissy.checkAttempts("R", { scrambles: "R" });
   // @ts-expect-error nothing may have to hold
   startOf("dr-eofb").trim();
   // @ts-expect-error a cut is told in one of two ways

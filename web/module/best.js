@@ -4,7 +4,7 @@ import { LONG, LINE_AFTER_ANSWER, LINE_ROOM, TABLES, WAY, WAYS_ANSWER, WAYS_WANT
 import { lineAt, refusal, rewritten } from "./line-calls.js";
 import { aligned, roomFor } from "./memory.js";
 import { headAt } from "./read-answers.js";
-import { STATUS, hasValue } from "./replies.js";
+import { STATUS, hasValue } from "./status.js";
 import { STEPS } from "./steps.js";
 
 /** @typedef {import("./instance.js").Instance} Instance */

@@ -1,4 +1,5 @@
 // The command `nissy` in node: what the program does with its words, its streams and its status, by the module.
+import { hasValue, STATUS } from "./status.js";
 import { textIn } from "./utf8.js";
 import { readFileSync } from "node:fs";
 import process from "node:process";
@@ -7,7 +8,7 @@ import { Engine } from "./engine.js";
 import { NoWebAssembly } from "./faults.js";
 import { InputLines, split } from "./input-lines.js";
 import { SOLUTION } from "./layout.js";
-import { hasValue, linesIn, STATUS } from "./replies.js";
+import { linesIn } from "./replies.js";
 import { countRequest, runRequest, solveRequest, stepsRequest } from "./requests.js";
 import { Stop } from "./stop.js";
 import { readSome, writeAll } from "./streams.js";

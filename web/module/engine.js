@@ -1,4 +1,6 @@
 // The engine: requests are answered by an instance of the module, and by another one after a call that broke off.
+import { seenAttempts, seenSolutions } from "./attempt-checks.js";
+import { attemptsIn } from "./attempts.js";
 import { bestOf, lineAfterOf } from "./best.js";
 import { EngineMissing } from "./faults.js";
 import { Instance } from "./instance.js";
@@ -6,14 +8,18 @@ import { checked, rewritten, solvedBytes, written } from "./line-calls.js";
 import { answerAll, answerLine } from "./many-lines.js";
 import { runIn } from "./runs.js";
 import { compiled } from "./source.js";
+import { TextInMemory } from "./text-calls.js";
+import { WrittenText } from "./written.js";
 
 /** @typedef {import("./source.js").ModuleSource} ModuleSource */
 /** @typedef {import("./requests.js").Request} Request */
 /** @typedef {import("./requests.js").OneRequest} OneRequest */
 /** @typedef {import("./requests.js").ScrambleRequest} ScrambleRequest */
+/** @typedef {import("./requests.js").TextRequest} TextRequest */
 /** @typedef {import("./replies.js").LineReply} LineReply */
 /** @typedef {import("./replies.js").OneReply} OneReply */
 /** @typedef {import("./replies.js").Reply} Reply */
+/** @typedef {import("./replies.js").TextReply} TextReply */
 
 /** @typedef {import("./best.js").TellProgress} TellProgress */
 /** @typedef {{answer: (request: Request, tell?: TellProgress) => any}} Answering an engine, or what asks one */
@@ -61,6 +67,25 @@ function answerOne(instance, request, tell) {
   }
 }
 
+/**
+ * @param {Instance} instance
+ * @param {TextRequest} request
+ * @returns {TextReply}
+ */
+function answerText(instance, request) {
+  const read = new TextInMemory(instance, new WrittenText(request.text));
+  switch (request.call) {
+    case "plainLine":
+      return read.plain();
+    case "readAttempts":
+      return attemptsIn(read);
+    case "checkAttempts":
+      return seenAttempts(instance, read);
+    default:
+      return seenSolutions(instance, read, request.scrambles);
+  }
+}
+
 export class Engine {
   /** @type {WebAssembly.Module} */ #module;
   /** @type {Instance} */ #instance;
@@ -85,7 +110,8 @@ export class Engine {
    */
   answer(request, tell = () => {}) {
     if (this.#instance.isBroken) this.#startAgain();
-    return request.call === "all" ? answerAll(this.#instance, request) : answerOne(this.#instance, request, tell);
+    if (request.call === "all") return answerAll(this.#instance, request);
+    return "text" in request ? answerText(this.#instance, request) : answerOne(this.#instance, request, tell);
   }
 
   /**

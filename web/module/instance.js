@@ -2,7 +2,7 @@
 import { bytesOf } from "./bytes.js";
 import { ANSWER, LARGE_ROOM, LONG, ROOM, SMALL_ROOM, TABLES } from "./layout.js";
 import { InstanceMemory, aligned } from "./memory.js";
-import { STATUS } from "./replies.js";
+import { STATUS } from "./status.js";
 
 /**
  * @typedef {{[name: string]: any}} Exports what the module exports: addresses, lengths and numbers of 64 bits are wide
@@ -20,6 +20,7 @@ export class Instance {
   #tables;
   /** Whether a call began that didn't return: what the module has in its memory is then in no order. */
   #isBroken = false;
+  /** @type {Map<number, string>} what the module calls faults, by their numbers */ faultTexts = new Map();
   /** @type {InstanceMemory} */ memory;
   /** where answers are written */ answer;
   /** where memory begins in which nothing stays after a call */ free;

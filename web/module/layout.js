@@ -38,6 +38,13 @@ export const WAYS_ANSWER = { line: 2, next: 3, rows: 8, tried: 16, nodes: 24 };
 export const SIDES_WANTED = { bytes: 24, sides: 0, length: 1, counts: 2, passed: 8, nodes: 16 };
 export const SIDES_ANSWER = { more: 3, rows: 8, nodes: 24 };
 export const LINE_AFTER_ANSWER = { line: 2 };
+export const PLAIN_ANSWER = { leftOut: 1, length: 8 };
+export const PART_ANSWER = { how: 1, first: 2 };
+export const TEXT_ANSWER = { lines: 8 };
+export const TEXT_LINE = {
+  bytes: 88, kind: 0, solution: 1, headed: 2, labelled: 3, inverse: 4, doubt: 5, attempt: 8, group: 16, begin: 24,
+  headEnd: 32, labelBegin: 40, labelEnd: 48, moves: 56, comment: 64, end: 72, doubtAt: 80,
+};
 export const WAY = { bytes: 96, total: 0, corners: 2, edges: 3, lengths: 4, eo: 6, dr: 51 };
 export const WAY_PART = { bytes: 45, step: 0, sides: 1 };
 export const SIDE_TURNS = { bytes: 22, count: 0, free: 1, turns: 2 };

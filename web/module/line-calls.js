@@ -1,10 +1,11 @@
 // The calls of the module on one line each, and those that read none: what goes into its memory, and what the answer is
 // read as.
 import { MOST_WIDE, characterAt } from "./bytes.js";
-import { LINE_ANSWER, LINE_ROOM, SEARCH_ANSWER, SOLUTION } from "./layout.js";
+import { LINE_ANSWER, LINE_ROOM, PART_ANSWER, SEARCH_ANSWER, SOLUTION } from "./layout.js";
 import { aligned, roomFor } from "./memory.js";
 import { checkAt, countAt, factsAt, headAt } from "./read-answers.js";
-import { START, STATUS } from "./replies.js";
+import { START } from "./replies.js";
+import { STATUS } from "./status.js";
 
 /** @typedef {import("./bytes.js").Text} Text */
 /** @typedef {import("./instance.js").Exports} Exports */
@@ -40,6 +41,19 @@ export const bound = (most) => (most === Infinity ? MOST_WIDE : BigInt(most));
 const outOf = (reply) => (reply.status === STATUS.done ? reply.out : "");
 
 /**
+ * What the module calls a fault, which it is asked for once.
+ * @param {Instance} instance
+ * @param {number} fault
+ */
+function textOf(instance, fault) {
+  const known = instance.faultTexts.get(fault);
+  if (known !== undefined) return known;
+  const text = outOf(written(instance, (exports, at, out, room) => exports.nissy_fault_text(at, fault, out, room)));
+  instance.faultTexts.set(fault, text);
+  return text;
+}
+
+/**
  * Why a call on a line has no value. The module is asked for the words, so its answer is read before.
  * @param {Instance} instance
  * @param {Head} head of the answer
@@ -49,7 +63,7 @@ const outOf = (reply) => (reply.status === STATUS.done ? reply.out : "");
  */
 export function refusal(instance, { status, fault, column }, line = "", step = "") {
   if (status !== STATUS.fault) return /** @type {NoValue} */ ({ status });
-  const text = outOf(written(instance, (exports, at, out, room) => exports.nissy_fault_text(at, fault, out, room)));
+  const text = textOf(instance, fault);
   if (fault === START) return { status, fault, step, start: outOf(rewritten(instance, "nissy_start", step)), text };
   return /** @type {NoValue} */ ({ status, fault, column, character: characterAt(line, column), text });
 }
@@ -188,18 +202,43 @@ export function seen(instance, { line }) {
 }
 
 /**
+ * Calls the module on a scramble and a text that follows it.
+ * @param {Instance} instance
+ * @param {string} name
+ * @param {Text} scramble
+ * @param {Text} after
+ */
+function callOnBoth(instance, name, scramble, after) {
+  const { memory, answer, free } = instance;
+  const behind = aligned(free + roomFor(scramble));
+  memory.reach(behind + roomFor(after));
+  const length = memory.putLine(free, scramble);
+  const lengthAfter = memory.putLine(behind, after);
+  instance.call((exports) =>
+    exports[name](BigInt(answer), BigInt(free), BigInt(length), BigInt(behind), BigInt(lengthAfter)));
+}
+
+/**
+ * The first of the steps of which a part solves a scramble, from 0, or null if none does.
+ * @param {Instance} instance
+ * @param {string} scramble
+ * @param {string[]} steps
+ * @returns {number | null}
+ */
+export function solvingStep(instance, scramble, steps) {
+  const { memory, answer } = instance;
+  callOnBoth(instance, "nissy_solving_part", scramble, steps.join("\n"));
+  return memory.byte(answer + PART_ANSWER.how) === 0 ? null : memory.byte(answer + PART_ANSWER.first);
+}
+
+/**
  * @param {Instance} instance
  * @param {CheckRequest} request
  * @returns {CheckReply}
  */
 export function checked(instance, { scramble, solution }) {
-  const { memory, answer, free } = instance;
-  const behind = aligned(free + roomFor(scramble));
-  memory.reach(behind + roomFor(solution));
-  const length = memory.putLine(free, scramble);
-  const solutionLength = memory.putLine(behind, solution);
-  instance.call(({ nissy_check: check }) =>
-    check(BigInt(answer), BigInt(free), BigInt(length), BigInt(behind), BigInt(solutionLength)));
+  const { memory, answer } = instance;
+  callOnBoth(instance, "nissy_check", scramble, solution);
   const head = headAt(memory, answer);
   const { line, ...told } = checkAt(memory, answer);
   return head.status === STATUS.done ? told : { ...refusal(instance, head, line === 1 ? scramble : solution), line };

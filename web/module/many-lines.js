@@ -1,11 +1,12 @@
 // Searches and facts of many lines. Those that the module takes many of in one call go to it in pieces.
 import { bestOf } from "./best.js";
 import { FACTS_ANSWER, HEAD, LINES_ANSWER, SEARCH_ANSWER } from "./layout.js";
-import { bound, counted, refusal, seen, solved } from "./line-calls.js";
+import { bound, checked, counted, refusal, seen, solved } from "./line-calls.js";
 import { aligned, roomFor } from "./memory.js";
 import { solvedOverSides } from "./over-sides.js";
 import { countAt, factsAt, headAt } from "./read-answers.js";
-import { STATUS, endsAll, hasValue } from "./replies.js";
+import { endsAll } from "./replies.js";
+import { STATUS, hasValue } from "./status.js";
 
 /** @typedef {import("./bytes.js").Text} Text */
 /** @typedef {import("./instance.js").Exports} Exports */
@@ -16,6 +17,7 @@ import { STATUS, endsAll, hasValue } from "./replies.js";
 /** @typedef {import("./requests.js").AllRequest} AllRequest */
 /** @typedef {import("./requests.js").CountRequest} CountRequest */
 /** @typedef {import("./requests.js").OfEach} OfEach */
+/** @typedef {import("./requests.js").Pair} Pair */
 
 /** So many lines go to the module at once, of so many bytes unless the first one has more. */
 const MOST_LINES = 256;
@@ -26,8 +28,8 @@ const LINE_FEED = 10;
 /** @param {Text} line */
 const hasLineFeed = (line) => (typeof line === "string" ? line.includes("\n") : line.includes(LINE_FEED));
 
-/** @type {OneReply} to a line of too many bytes */
-const TOO_LONG = { status: STATUS.stopped };
+/** The reply to a line of too many bytes. */
+const TOO_LONG = /** @type {const} */ ({ status: STATUS.stopped });
 
 /**
  * The piece that begins with this line: it has none of too many bytes, and none with a line feed, which would be two to
@@ -145,6 +147,8 @@ export function answerLine(instance, request) {
       return solvedOverSides(instance, request);
     case "best":
       return bestOf(instance, request, () => {});
+    case "check":
+      return checked(instance, request);
     default:
       return seen(instance, request);
   }
@@ -159,7 +163,7 @@ export function answerLine(instance, request) {
  */
 function questionOf(instance, { each, faults }) {
   if (each.call === "facts") return FACTS;
-  if (each.call === "best") return null;
+  if (each.call === "best" || each.call === "check") return null;
   // a step that isn't there is told though there may be no line
   const tables = instance.tablesOf(each.step);
   const goesOn = faults === "value" && (each.nodes === Infinity || each.cut === "value");
@@ -169,10 +173,26 @@ function questionOf(instance, { each, faults }) {
 /**
  * What is asked of one of many lines.
  * @param {OfEach} each
- * @param {Text} line
+ * @param {Text | Pair} line
  * @returns {OfEach}
  */
-const askedOfLine = (each, line) => (each.call === "best" ? { ...each, scramble: line } : { ...each, line });
+function askedOfLine(each, line) {
+  if (each.call === "check") return /** @type {OfEach} */ ({ ...each, .../** @type {Pair} */ (line) });
+  const own = /** @type {Text} */ (line);
+  return each.call === "best" ? { ...each, scramble: own } : { ...each, line: own };
+}
+
+/**
+ * The reply to a line of which too many bytes were given, or none if it has no more than are read.
+ * @param {Text | Pair | null} line
+ * @returns {OneReply | null}
+ */
+function tooLong(line) {
+  if (line === null) return TOO_LONG;
+  if (typeof line === "string" || !("scramble" in line)) return null;
+  if (line.scramble === null) return { ...TOO_LONG, line: 1 };
+  return line.solution === null ? { ...TOO_LONG, line: 2 } : null;
+}
 
 /**
  * Answers the next lines, one at least.
@@ -183,9 +203,10 @@ const askedOfLine = (each, line) => (each.call === "best" ? { ...each, scramble:
  * @returns {OneReply[]}
  */
 function answerNext(instance, { each, lines }, question, begin) {
-  const piece = question === null ? [] : pieceFrom(lines, begin);
-  const line = lines[begin];
-  if (line === null) return [TOO_LONG];
+  const piece = question === null ? [] : pieceFrom(/** @type {(Text | null)[]} */ (lines), begin);
+  const line = /** @type {Text | Pair} */ (lines[begin]);
+  const refused = tooLong(lines[begin]);
+  if (refused !== null) return [refused];
   if (question === null || piece.length === 0) return [answerLine(instance, askedOfLine(each, line))];
   return answerPiece(instance, question, piece, "step" in each ? each.step : "");
 }

@@ -18,8 +18,9 @@ const ALIGNMENT = 16;
 /** How many bytes a unit of a string takes at most. */
 const UNIT = 3;
 
-/** How many values a byte has. */
+/** How many values a byte has, and half of a number of eight bytes. */
 const VALUES = 256;
+const OF_UPPER_HALF = 2 ** 32;
 
 /**
  * @param {number} place
@@ -37,12 +38,14 @@ export class InstanceMemory {
   /** @type {WebAssembly.Memory} */ #memory;
   /** @type {ArrayBuffer} */ #buffer;
   /** @type {Uint8Array} */ #bytes;
+  /** @type {DataView} */ #view;
 
   /** @param {WebAssembly.Memory} memory */
   constructor(memory) {
     this.#memory = memory;
     this.#buffer = memory.buffer;
     this.#bytes = new Uint8Array(this.#buffer);
+    this.#view = new DataView(this.#buffer);
   }
 
   /**
@@ -58,6 +61,7 @@ export class InstanceMemory {
     // one that grew is another one for JavaScript
     this.#buffer = buffer;
     this.#bytes = new Uint8Array(buffer);
+    this.#view = new DataView(buffer);
   }
 
   /**
@@ -69,6 +73,22 @@ export class InstanceMemory {
     let number = 0;
     for (let place = at + size - 1; place >= at; place -= 1) number = number * VALUES + this.#bytes[place];
     return number;
+  }
+
+  /** @param {number} at @returns {number} the number in eight bytes, by one step in place of eight */
+  long(at) {
+    return this.#view.getUint32(at, true) + OF_UPPER_HALF * this.#view.getUint32(at + LONG / 2, true);
+  }
+
+  /**
+   * @param {number} at
+   * @param {number} count
+   * @returns {number[]} so many numbers of eight bytes, one after another
+   */
+  longs(at, count) {
+    const numbers = new Array(count);
+    for (let nth = 0; nth < count; nth += 1) numbers[nth] = this.long(at + LONG * nth);
+    return numbers;
   }
 
   /** @param {number} at @returns {number} the number in two bytes */

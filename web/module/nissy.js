@@ -9,27 +9,24 @@
  * A call ends before it returns: a long search belongs into a worker, as `NissyWorker` of browser.js and of node.js has
  * one.
  */
-import { attemptChecksBy } from "./attempt-checks.js";
-import { stringOf } from "./bytes.js";
 import { Engine } from "./engine.js";
 import { NoWebAssembly } from "./faults.js";
 import {
-  allOf, bestIn, checkIn, countIn, factsIn, formPlacesIn, lineAfterIn, lineIn, linesIn, outputLinesIn, solutionsIn,
-  tokensIn,
+  allOf, attemptChecksIn, bestIn, checkIn, countIn, factsIn, formPlacesIn, lineAfterIn, lineIn, linesIn, outputLinesIn,
+  solutionsIn, tokensIn,
 } from "./replies.js";
 import {
-  allRequest, bestRequest, checkRequest, countRequest, factsRequest, lineAfterRequest, lineRequest, listRequest,
-  runRequest, scrambleRequest, scramblesRequest, solutionsRequest, stepsRequest,
+  allRequest, bestRequest, checkRequest, checksRequest, countRequest, factsRequest, lineAfterRequest, lineRequest,
+  listRequest, pairsRequest, runRequest, scrambleRequest, scramblesRequest, solutionsRequest, stepsRequest, textRequest,
 } from "./requests.js";
 import { progressOf } from "./signals.js";
 import { solutionsBy } from "./solutions.js";
 
-export { readAttempts } from "./attempts.js";
 export { EngineMissing, NissyFault, NoWebAssembly, SearchCut, Stopped } from "./faults.js";
 export { AXES, CORNER_PLACES, EDGE_PLACES } from "./facts.js";
 export { STEPS, isStep, startOf } from "./steps.js";
 export { NET, stickersOf } from "./stickers.js";
-export { placeOf, plainLine } from "./written.js";
+export { placeOf } from "./written.js";
 
 /** @typedef {import("./bytes.js").Text} Text */
 /** @typedef {import("./source.js").ModuleSource} ModuleSource */
@@ -55,13 +52,15 @@ export { placeOf, plainLine } from "./written.js";
 /** @typedef {import("./replies.js").SideSolutions} SideSolutions */
 /** @typedef {import("./requests.js").OnFaults} OnFaults */
 /** @typedef {import("./requests.js").Sides} Sides */
+/** @typedef {import("./requests.js").Known} Known */
 /** @typedef {import("./requests.js").Request} Request */
 /** @typedef {import("./requests.js").Wanted} Wanted */
 /** @typedef {import("./requests.js").Within} Within */
 /** @typedef {import("./steps.js").Step} Step */
 /** @typedef {import("./attempts.js").Attempt} Attempt */
 /** @typedef {import("./attempts.js").AttemptCandidate} AttemptCandidate */
-/** @typedef {import("./attempt-checks.js").AttemptCheck} AttemptCheck */
+/** @typedef {import("./attempts.js").AttemptDoubt} AttemptDoubt */
+/** @typedef {import("./replies.js").AttemptCheck} AttemptCheck */
 /** @typedef {import("./attempt-checks.js").FormInText} FormInText */
 /** @typedef {import("./stickers.js").NetPlace} NetPlace */
 /** @typedef {import("./written.js").PlainLine} PlainLine */
@@ -271,12 +270,47 @@ export class Nissy {
   }
 
   /**
-   * Each attempt that `readAttempts` reads in a text, with what `check` says of it, and where in the text its fault and
-   * the forms of its solution stand.
-   * @param {string} text @returns {AttemptCheck[]}
+   * The same of many pairs of a scramble and a solution, such as two columns of a table, up to the first fault, which
+   * says in which; or with each fault in its place.
+   * @template {OnFaults} [Faults="throw"]
+   * @param {readonly (readonly [Text, Text])[]} pairs @param {Many<Faults>} [options] @returns {Told<Check, Faults>[]}
    */
-  checkAttempts(text) {
-    return attemptChecksBy(stringOf(text, "the text"), this);
+  checkAll(pairs, options) {
+    const request = pairsRequest(pairs, options);
+    return allOf(this.#answer(request), request, checkIn);
+  }
+
+  /**
+   * A text as solvers write it as one line: without labels, comments, and numbers of lines and moves. `placeOf` says
+   * where a fault or a form of the line stands in the text.
+   * @param {string} text @returns {PlainLine}
+   */
+  plainLine(text) {
+    return this.#answer(textRequest("plainLine", text));
+  }
+
+  /**
+   * The attempts of a text as solvers write it, at least one: a scramble, then the steps of its solution, each on a
+   * line with a comment or a label, and blocks of candidates after blank lines; and the same of several scrambles. A
+   * text of another form is one scramble.
+   * @param {string} text @returns {Attempt[]}
+   */
+  readAttempts(text) {
+    return this.#answer(textRequest("readAttempts", text));
+  }
+
+  /**
+   * Each attempt that `readAttempts` reads in a text, with what `check` says of it, and where in the text its fault and
+   * the forms of its solution stand, and what makes one doubt the reading of one that isn't solved.
+   *
+   * With `scrambles` the text has solutions alone, each under a head with the number of its scramble in this list, such
+   * as `2.` or `Attempt 2 of 3`; or as many without numbers, in its order. There is a check for each scramble in its
+   * order, without a solution if none is found; then one for each part of the text that may be of another scramble, in
+   * doubt.
+   * @param {string} text @param {Known} [options] @returns {AttemptCheck[]}
+   */
+  checkAttempts(text, options) {
+    return attemptChecksIn(this.#answer(checksRequest(text, options)));
   }
 
   /**

@@ -3,7 +3,7 @@ import { LONG, SIDES_ANSWER, SIDES_WANTED, WAY_PART } from "./layout.js";
 import { refusal } from "./line-calls.js";
 import { aligned, roomFor } from "./memory.js";
 import { headAt } from "./read-answers.js";
-import { STATUS, hasValue } from "./replies.js";
+import { STATUS, hasValue } from "./status.js";
 
 /** @typedef {import("./instance.js").Instance} Instance */
 /** @typedef {import("./replies.js").NoValue} NoValue */

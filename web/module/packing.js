@@ -1,9 +1,12 @@
 // Answers to many lines as numbers, side by side: a worker sends them so, since objects take longer from thread to
 // thread than their lines take the engine.
-import { FACTS_NUMBERS, factsFrom } from "./facts.js";
-import { STATUS, countTold, endsAll, hasValue } from "./replies.js";
+import { FACTS_NUMBERS, checkOf, factsFrom } from "./facts.js";
+import { countTold, endsAll } from "./replies.js";
+import { STATUS, hasValue } from "./status.js";
 
 /** @typedef {import("./facts.js").Facts} Facts */
+/** @typedef {import("./facts.js").Check} Check */
+/** @typedef {import("./facts.js").SeenCheck} SeenCheck */
 /** @typedef {import("./facts.js").SeenFacts} SeenFacts */
 /** @typedef {import("./replies.js").Count} Count */
 /** @typedef {import("./replies.js").OneReply} OneReply */
@@ -30,7 +33,10 @@ import { STATUS, countTold, endsAll, hasValue } from "./replies.js";
  */
 const kept = (number) => ((number | 0) === number ? number | 0 : number);
 
-/** @type {{facts: Packing<SeenFacts, Facts>, count: Packing<SeenCount, Count>, [of: string]: Packing<any, unknown>}} */
+/**
+ * @type {{facts: Packing<SeenFacts, Facts>, count: Packing<SeenCount, Count>, check: Packing<SeenCheck, Check>,
+ * [of: string]: Packing<any, unknown>}}
+ */
 const PACKINGS = {
   facts: {
     array: Uint16Array,
@@ -39,6 +45,23 @@ const PACKINGS = {
       for (let next = 0; next < FACTS_NUMBERS; next += 1) numbers[at + next] = seen.numbers[next];
     },
     value: factsFrom,
+  },
+  check: {
+    array: Uint16Array,
+    size: 4,
+    write: (numbers, at, { solved, moves, cleanMoves, forms }) => {
+      numbers[at] = solved ? 1 : 0;
+      numbers[at + 1] = moves;
+      numbers[at + 2] = cleanMoves;
+      numbers[at + 3] = forms;
+    },
+    value: (numbers, at) => checkOf({
+      status: STATUS.done,
+      solved: numbers[at] === 1,
+      moves: numbers[at + 1],
+      cleanMoves: numbers[at + 2],
+      forms: numbers[at + 3],
+    }),
   },
   count: {
     array: Float64Array,

@@ -3,11 +3,12 @@
 import { wholeNumber } from "./bytes.js";
 import { Stopped } from "./faults.js";
 import { Pieces } from "./pieces.js";
-import { STATUS, bestIn, countIn, factsIn, solutionsIn } from "./replies.js";
-import { allRequest, bestRequest, countRequest, factsRequest, listRequest } from "./requests.js";
+import { bestIn, checkIn, countIn, factsIn, solutionsIn } from "./replies.js";
+import { allRequest, bestRequest, countRequest, factsRequest, listRequest, pairsRequest } from "./requests.js";
 import { Signals, Telling, reasonOf, signalOf } from "./signals.js";
 import { SingleCalls } from "./single-calls.js";
 import { compiled } from "./source.js";
+import { STATUS } from "./status.js";
 import { byRank } from "./ways.js";
 import { WorkerQueue } from "./worker-queue.js";
 
@@ -15,6 +16,7 @@ import { WorkerQueue } from "./worker-queue.js";
 /** @typedef {import("./best.js").BestReply} BestReply */
 /** @typedef {import("./best.js").Best} Best */
 /** @typedef {import("./bytes.js").Text} Text */
+/** @typedef {import("./facts.js").Check} Check */
 /** @typedef {import("./facts.js").Facts} Facts */
 /** @typedef {import("./replies.js").Count} Count */
 /** @typedef {import("./replies.js").Solutions} Solutions */
@@ -217,6 +219,15 @@ export class WorkerPool extends SingleCalls {
   async factsAll(lines, options) {
     const request = allRequest(() => factsRequest(""), lines, options);
     return this.#answerAll(request, options, factsIn);
+  }
+
+  /**
+   * @template {OnFaults} [Faults="throw"]
+   * @param {readonly (readonly [Text, Text])[]} pairs @param {Many<Faults> & Followed & Stoppable} [options]
+   * @returns {Promise<Told<Check, Faults>[]>}
+   */
+  async checkAll(pairs, options) {
+    return this.#answerAll(pairsRequest(pairs, options), options, checkIn);
   }
 
   /** @param {Text} scramble @param {BestWanted & Followed & Stoppable} [options] @returns {Promise<Best>} */

@@ -1,6 +1,6 @@
 // Reads the structs that the module answers in, wherever they are in its memory.
 import { AXIS_FACTS, CHECK_ANSWER, COLUMN, FACTS_ANSWER, HEAD, LONG, SEARCH_ANSWER } from "./layout.js";
-import { STATUS } from "./replies.js";
+import { STATUS } from "./status.js";
 
 /** @typedef {import("./memory.js").InstanceMemory} InstanceMemory */
 /** @typedef {import("./facts.js").SeenCheck} SeenCheck */

@@ -1,7 +1,8 @@
 // Reads what the engine writes as values, or throws what is wrong.
 import { eachOf } from "./bytes.js";
 import { checkOf, factsFrom } from "./facts.js";
-import { NissyFault, SearchCut, cutOfAll } from "./faults.js";
+import { NissyFault, SearchCut, cutOfAll, withoutTraces } from "./faults.js";
+import { STATUS, hasValue } from "./status.js";
 import { formPlacesOf, tokensOf } from "./tokens.js";
 import { textIn } from "./utf8.js";
 import { bothSidesIn, waysIn } from "./ways.js";
@@ -81,11 +82,28 @@ import { bothSidesIn, waysIn } from "./ways.js";
  */
 /** @typedef {LineReply & {line?: number}} LineAfterReply of which a fault has the number of its line */
 /** @typedef {import("./best.js").BestReply} BestReply */
+/** @typedef {import("./attempts.js").Attempt} Attempt */
+/** @typedef {import("./attempts.js").AttemptDoubt} AttemptDoubt */
+/** @typedef {import("./attempt-checks.js").FormInText} FormInText */
+/** @typedef {import("./attempt-checks.js").SeenAttempt} SeenAttempt */
+/** @typedef {import("./written.js").PlainLine} PlainLine */
+/** @typedef {import("./written.js").TextPlace} TextPlace */
+
+/**
+ * An attempt of a text. `check` is null if it has no solution, or if a part is at fault: `fault` says so, its `part`
+ * says which, and `place` where in the text; both are null of an attempt without a fault. `forms` are those of a
+ * solution that was checked. `doubt` tells why an attempt may be read otherwise than it was meant, and is null if it is
+ * solved, has a fault, or is in none.
+ * @typedef {{attempt: Attempt, check: Check | null, fault: NissyFault | null, place: TextPlace | null,
+ * forms: FormInText[], doubt: AttemptDoubt | null}} AttemptCheck
+ */
+
 /**
  * @typedef {Answer | LineReply | CountReply | SolveReply | FactsReply | CheckReply | SidesReply | BestReply |
  * LineAfterReply} OneReply
  */
-/** @typedef {OneReply | OneReply[]} Reply */
+/** @typedef {PlainLine | Attempt[] | SeenAttempt[]} TextReply */
+/** @typedef {OneReply | OneReply[] | TextReply} Reply */
 
 /** What the lines are called of calls that take two. */
 const OF_CHECK = ["scramble", "solution"];
@@ -93,15 +111,6 @@ const OF_BEST = ["scramble", "moves so far"];
 
 const BRACKET = "(".charCodeAt(0);
 const ZERO = "0".charCodeAt(0);
-
-/** The statuses of the module's calls on a line. */
-export const STATUS = /** @type {const} */ ({ done: 0, fault: 1, usage: 2, stopped: 3, room: 4, cut: 5 });
-
-/**
- * Whether an answer of this status has a value.
- * @param {number} status
- */
-export const hasValue = (status) => status === STATUS.done || status === STATUS.cut;
 
 /** The number of the fault that a step can't begin at a cube. */
 export const START = 6;
@@ -118,14 +127,15 @@ function faultIn(reply) {
 
 /**
  * @param {NoValue} reply
+ * @param {string} [what] the line is called
  * @returns {Error} what is wrong
  */
-function errorIn(reply) {
+function errorIn(reply, what = "line") {
   switch (reply.status) {
     case STATUS.fault:
       return faultIn(reply);
     case STATUS.stopped:
-      return new RangeError("the line has more bytes than the engine reads");
+      return new RangeError(`the ${what} has more bytes than the engine reads`);
     case STATUS.room:
       return new RangeError("there are more solutions than there is room for: ask for fewer");
     default:
@@ -229,8 +239,29 @@ export const factsIn = (reply) => factsFrom(withValue(reply).numbers, 0);
 /** @param {CheckReply} reply @returns {Check} */
 export function checkIn(reply) {
   if (reply.status === STATUS.done) return checkOf(reply);
-  throw inLine(errorIn(reply), reply.line, OF_CHECK[reply.line - 1]);
+  throw errorOfCheck(reply);
 }
+
+/** @param {NoValue & {line: number}} reply @returns {Error} */
+function errorOfCheck(reply) {
+  const part = OF_CHECK[reply.line - 1];
+  const error = errorIn(reply, part);
+  return error instanceof NissyFault ? error.inLine(reply.line, part) : error;
+}
+
+/** @param {SeenAttempt} seen @returns {AttemptCheck} */
+function attemptCheckIn({ attempt, seen, place, forms, doubt }) {
+  if (seen === null) return { attempt, check: null, fault: null, place, forms, doubt };
+  if (seen.status === STATUS.fault) {
+    const fault = new NissyFault(seen.text, seen, OF_CHECK[seen.line - 1]);
+    return { attempt, check: null, fault, place, forms, doubt };
+  }
+  if (seen.status !== STATUS.done) throw errorOfCheck(seen);
+  return { attempt, check: attempt.solution === null ? null : checkOf(seen), fault: null, place, forms, doubt };
+}
+
+/** @param {SeenAttempt[]} replies @returns {AttemptCheck[]} */
+export const attemptChecksIn = (replies) => withoutTraces(() => replies.map(attemptCheckIn));
 
 /**
  * What is thrown of a scramble or of the moves so far.
@@ -261,7 +292,7 @@ export function bestIn(reply, { cut }) {
  * @param {OneReply} reply
  */
 export function endsAll({ each, faults }, reply) {
-  if (reply.status === STATUS.cut) return each.call !== "facts" && each.cut === "throw";
+  if (reply.status === STATUS.cut) return "cut" in each && each.cut === "throw";
   return reply.status !== STATUS.done && faults === "throw";
 }
 
@@ -288,15 +319,16 @@ function inLine(error, line, part) {
  * @template Read, Value
  * @param {Read} reply
  * @param {number} index
- * @param {{faults: Telling}} asked
+ * @param {{each: {call: string}, faults: Telling}} asked
  * @param {(reply: Read) => Value} one
  * @returns {any} a value, or a fault if they are told so
  */
-export function toldOf(reply, index, { faults }, one) {
+export function toldOf(reply, index, { each, faults }, one) {
   try {
     return one(reply);
   } catch (thrown) {
-    const error = inLine(thrown, index + 1);
+    const isOfPair = each.call === "check" && thrown instanceof NissyFault;
+    const error = isOfPair ? thrown.inPair(index + 1) : inLine(thrown, index + 1);
     if (faults === "throw" || error instanceof SearchCut) throw error;
     return error;
   }
@@ -306,7 +338,7 @@ export function toldOf(reply, index, { faults }, one) {
  * The replies for many lines, each read by itself.
  * @template Read, Value
  * @param {Read[]} replies
- * @param {{faults: Telling}} asked
+ * @param {{each: {call: string}, faults: Telling}} asked
  * @param {(reply: Read) => Value} one
  * @returns {any[]} values, and faults in the places of some if they are told so
  */

@@ -2,6 +2,8 @@
 import {
   bytesOf, eachOf, joinedWords, readableLine, stringOf, takenLine, wholeNumber, wideNumber,
 } from "./bytes.js";
+import { optionOf } from "./options.js";
+import { textIn } from "./utf8.js";
 
 /** @typedef {import("./bytes.js").Text} Text */
 /** @typedef {"invert" | "unniss" | "cleanup" | "facelets"} Rewriting what is made of a line */
@@ -22,21 +24,27 @@ import {
 /** @typedef {{slack: number, most: number, nodes: number, cut: Telling, axes: readonly number[]}} BestWithin */
 /** @typedef {BestWithin & {call: "best", scramble: Text, soFar: Text}} BestRequest */
 /** @typedef {{call: "lineAfter", scramble: Text, soFar: Text}} LineAfterRequest */
+/** @typedef {{call: "plainLine" | "readAttempts" | "checkAttempts", text: string}} ReadingRequest */
+/** @typedef {{call: "checkSolutions", text: string, scrambles: string[]}} SolutionsRequest of known scrambles */
+/** @typedef {ReadingRequest | SolutionsRequest} TextRequest */
 /** @typedef {{call: "scramble", state: bigint, stream: bigint, length: number}} ScrambleRequest */
 /** @typedef {{call: "steps"}} StepsRequest */
 /**
- * @typedef {CountRequest | SolveRequest | SidesRequest | FactsRequest | BestRequest} OfEach what many lines may be asked
+ * @typedef {CountRequest | SolveRequest | SidesRequest | FactsRequest | BestRequest | CheckRequest} OfEach what many
+ * lines may be asked
  */
 /**
- * @typedef {RunRequest | LineRequest | OfEach | CheckRequest | LineAfterRequest | ScrambleRequest | StepsRequest}
- * OneRequest
+ * @typedef {{scramble: Text | null, solution: Text | null}} Pair what `check` is given; null is one of too many bytes
  */
 /**
- * @typedef {{call: "all", each: OfEach, lines: (Text | null)[], faults: Telling, isPiece?: boolean}} AllRequest what is
- * asked of each line, whose own line is none, or null for one of too many bytes; `isPiece`: the lines are some of a
- * call's, so a worker tells how long it took
+ * @typedef {RunRequest | LineRequest | OfEach | LineAfterRequest | ScrambleRequest | StepsRequest} OneRequest
  */
-/** @typedef {OneRequest | AllRequest} Request what an engine is asked */
+/**
+ * @typedef {{call: "all", each: OfEach, lines: (Text | Pair | null)[], faults: Telling, isPiece?: boolean}} AllRequest
+ * what is asked of each line, or pair, whose own line is none, or null for one of too many bytes; `isPiece`: the lines
+ * are some of a call's, so a worker tells how long it took
+ */
+/** @typedef {OneRequest | TextRequest | AllRequest} Request what an engine is asked */
 
 /**
  * How far a step is searched: `limit`, the most turns of a solution, 20 at most and if it isn't given; `slack`, how
@@ -67,6 +75,11 @@ import {
  */
 
 /**
+ * Scrambles that are known, of which a text has solutions alone.
+ * @typedef {{scrambles?: readonly Text[] | undefined}} Known
+ */
+
+/**
  * What is wanted of the best ways on: `soFar`, the moves that were made after the scramble, those in brackets on its
  * inverse, none if it isn't given; `slack`, how many turns longer the first step may be than the shortest on the
  * scramble alone, on its inverse alone, or over both, none if it isn't given; `most`, how many rows, 20 if it isn't
@@ -87,20 +100,6 @@ const MOST_TOLD = 20;
 const MOST_SCRAMBLED = 256;
 const MOST_SCRAMBLES = 10_000;
 const MOST_OF_TURN = 3;
-
-/**
- * An option, read once. It is one only if it is the object's own: what objects inherit may be what some script gave to
- * all of them.
- * @param {unknown} options
- * @param {string} name
- * @param {unknown} [otherwise] what it is if it isn't given
- * @returns {unknown}
- */
-export function optionOf(options, name, otherwise = undefined) {
-  if (typeof options !== "object" || options === null) throw new TypeError("the options are no object");
-  const given = Object.hasOwn(options, name) ? /** @type {any} */ (options)[name] : undefined;
-  return given === undefined ? otherwise : given;
-}
 
 /** @param {unknown} words @param {unknown} [input] @param {unknown} [room] @returns {RunRequest} */
 export function runRequest(words, input = "", room = undefined) {
@@ -194,6 +193,37 @@ export const checkRequest = (scramble, solution) => ({
 });
 
 /**
+ * A text as solvers write it.
+ * @param {unknown} text
+ */
+function writtenText(text) {
+  const written = stringOf(text, "the text");
+  takenLine(written, "the text");
+  return written;
+}
+
+/** @param {ReadingRequest["call"]} call @param {unknown} text @returns {ReadingRequest} */
+export const textRequest = (call, text) => ({ call, text: writtenText(text) });
+
+/**
+ * A known scramble as the line of an attempt: a byte that is no text is at fault there as what stands for it.
+ * @param {unknown} scramble
+ * @param {number} index
+ */
+function knownScramble(scramble, index) {
+  const taken = takenLine(scramble, `scramble ${index + 1}`);
+  return typeof scramble === "string" ? scramble : textIn(/** @type {Uint8Array} */ (taken));
+}
+
+/** @param {unknown} text @param {unknown} [options] @returns {TextRequest} */
+export function checksRequest(text, options = {}) {
+  const scrambles = optionOf(options, "scrambles");
+  if (scrambles === undefined) return textRequest("checkAttempts", text);
+  if (!Array.isArray(scrambles)) throw new TypeError("the scrambles are no array");
+  return { call: "checkSolutions", text: writtenText(text), scrambles: eachOf(scrambles, knownScramble) };
+}
+
+/**
  * A scramble and the moves so far.
  * @param {unknown} scramble
  * @param {unknown} soFar
@@ -231,6 +261,31 @@ export function allRequest(each, lines, options = {}) {
   const faults = toldBy(options, "faults");
   const take = faults === "value" ? readableLine : takenLine;
   return { call: "all", each: asked, faults, lines: eachOf(lines, (line, index) => take(line, `line ${index + 1}`)) };
+}
+
+/**
+ * One of many pairs.
+ * @param {unknown} pair
+ * @param {number} number from 1
+ * @param {typeof readableLine} take
+ * @returns {Pair}
+ */
+function pairOf(pair, number, take) {
+  if (!Array.isArray(pair) || pair.length !== 2) throw new TypeError(`pair ${number} is no array of two lines`);
+  const [scramble, solution] = pair;
+  return {
+    scramble: take(scramble, `the scramble of pair ${number}`),
+    solution: take(solution, `the solution of pair ${number}`),
+  };
+}
+
+/** @param {unknown} pairs @param {unknown} [options] @returns {AllRequest & {each: CheckRequest}} */
+export function pairsRequest(pairs, options = {}) {
+  if (!Array.isArray(pairs)) throw new TypeError("the pairs are no array");
+  const faults = toldBy(options, "faults");
+  const take = faults === "value" ? readableLine : takenLine;
+  const lines = eachOf(pairs, (pair, index) => pairOf(pair, index + 1, take));
+  return { call: "all", each: checkRequest("", ""), faults, lines };
 }
 
 /** @param {unknown} state @param {unknown} stream @param {unknown} length @returns {ScrambleRequest} */

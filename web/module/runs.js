@@ -1,7 +1,7 @@
 // A run of the program by an instance of the module, made again with more as long as it had too little.
 import { ERROR_ROOM, HEAD, LONG, ROOM, RUN_ANSWER } from "./layout.js";
 import { aligned } from "./memory.js";
-import { STATUS } from "./replies.js";
+import { STATUS } from "./status.js";
 import { textIn } from "./utf8.js";
 
 /** @typedef {import("./instance.js").Instance} Instance */

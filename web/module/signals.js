@@ -1,7 +1,7 @@
 // The signals by which callers give calls up, and what they are told of the progress. However many calls and workers
 // have the same signal, one listener hears it for all of them: node takes more than ten for a leak.
 import { Stopped } from "./faults.js";
-import { optionOf } from "./requests.js";
+import { optionOf } from "./options.js";
 
 /**
  * What gives a call up: it rejects with the signal's reason.

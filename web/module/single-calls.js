@@ -1,31 +1,35 @@
 // Calls of an engine as promises that are one request each, or are made of such calls, by whatever answers these: a
 // worker, or one of several.
-import { attemptChecksLaterBy } from "./attempt-checks.js";
-import { stringOf } from "./bytes.js";
+import { optionOf } from "./options.js";
 import {
-  checkIn, countIn, factsIn, formPlacesIn, lineAfterIn, lineIn, linesIn, outputLinesIn, solutionsIn, tokensIn,
+  attemptChecksIn, checkIn, countIn, factsIn, formPlacesIn, lineAfterIn, lineIn, linesIn, outputLinesIn, solutionsIn,
+  tokensIn,
 } from "./replies.js";
 import {
-  checkRequest, countRequest, factsRequest, lineAfterRequest, lineRequest, listRequest, optionOf, runRequest,
-  scrambleRequest, scramblesRequest, solutionsRequest, stepsRequest,
+  checkRequest, checksRequest, countRequest, factsRequest, lineAfterRequest, lineRequest, listRequest, runRequest,
+  scrambleRequest, scramblesRequest, solutionsRequest, stepsRequest, textRequest,
 } from "./requests.js";
 import { signalOf } from "./signals.js";
 import { solutionsLaterBy } from "./solutions.js";
 
-/** @typedef {import("./attempt-checks.js").AttemptCheck} AttemptCheck */
+/** @typedef {import("./attempts.js").Attempt} Attempt */
 /** @typedef {import("./bytes.js").Text} Text */
 /** @typedef {import("./facts.js").Check} Check */
 /** @typedef {import("./facts.js").Facts} Facts */
 /** @typedef {import("./replies.js").Answer} Answer */
+/** @typedef {import("./replies.js").AttemptCheck} AttemptCheck */
 /** @typedef {import("./replies.js").Count} Count */
 /** @typedef {import("./replies.js").Solution} Solution */
 /** @typedef {import("./replies.js").Solutions} Solutions */
+/** @typedef {import("./requests.js").Known} Known */
 /** @typedef {import("./requests.js").OneRequest} OneRequest */
+/** @typedef {import("./requests.js").TextRequest} TextRequest */
 /** @typedef {import("./requests.js").Wanted} Wanted */
 /** @typedef {import("./signals.js").Stoppable} Stoppable */
 /** @typedef {import("./steps.js").Step} Step */
 /** @typedef {import("./tokens.js").FormPlace} FormPlace */
 /** @typedef {import("./tokens.js").Token} Token */
+/** @typedef {import("./written.js").PlainLine} PlainLine */
 
 /** @typedef {import("./requests.js").Sides} Sides */
 
@@ -44,7 +48,9 @@ import { solutionsLaterBy } from "./solutions.js";
  * @typedef {import("./steps.js").StepName<Name>} StepName
  */
 
-/** @typedef {(request: OneRequest, options?: Stoppable) => Promise<any>} Ask returns what the engine does */
+/**
+ * @typedef {(request: OneRequest | TextRequest, options?: Stoppable) => Promise<any>} Ask returns what the engine does
+ */
 
 /**
  * The calls of `Nissy` that are one request each, and those made of them. What these throw, the promises are rejected
@@ -132,14 +138,19 @@ export class SingleCalls {
     return checkIn(await this.#ask(checkRequest(scramble, solution), options));
   }
 
-  /** @param {string} text @param {Stoppable} [options] @returns {Promise<AttemptCheck[]>} */
+  /** @param {string} text @param {Stoppable} [options] @returns {Promise<PlainLine>} */
+  async plainLine(text, options) {
+    return this.#ask(textRequest("plainLine", text), options);
+  }
+
+  /** @param {string} text @param {Stoppable} [options] @returns {Promise<Attempt[]>} */
+  async readAttempts(text, options) {
+    return this.#ask(textRequest("readAttempts", text), options);
+  }
+
+  /** @param {string} text @param {Known & Stoppable} [options] @returns {Promise<AttemptCheck[]>} */
   async checkAttempts(text, options) {
-    const read = stringOf(text, "the text");
-    const stoppable = { signal: signalOf(options) };
-    return attemptChecksLaterBy(read, {
-      check: (scramble, solution) => this.check(scramble, solution, stoppable),
-      formPlaces: (line) => this.formPlaces(line, stoppable),
-    });
+    return attemptChecksIn(await this.#ask(checksRequest(text, options), options));
   }
 
   /** @param {Text} scramble @param {Text} [soFar] @param {Stoppable} [options] @returns {Promise<string>} */

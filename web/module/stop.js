@@ -1,6 +1,7 @@
 // What ends the command before its time: a status, and what is said of it.
 import { MOST_INPUT } from "./bytes.js";
-import { START, STATUS } from "./replies.js";
+import { START } from "./replies.js";
+import { STATUS } from "./status.js";
 
 /** @typedef {import("./replies.js").LineFault} LineFault */
 /** @typedef {import("./replies.js").StartFault} StartFault */

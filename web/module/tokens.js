@@ -99,6 +99,18 @@ const HAS = {
   "half-prime": (item) => item.endsWith("2'") || item.endsWith("2\u2019"),
 };
 
+/** @type {Map<string, readonly Form[]>} the forms of each move and bracket that was seen, of which there are few */
+const knownForms = new Map();
+
+/** @param {string} item @returns {readonly Form[]} */
+function formsOf(item) {
+  const known = knownForms.get(item);
+  if (known !== undefined) return known;
+  const forms = Object.freeze(FORMS.filter((form) => HAS[form](item)));
+  knownForms.set(item, forms);
+  return forms;
+}
+
 /**
  * Where a line that the engine has read has forms that the WCA's notation for solutions hasn't.
  * @param {string} line
@@ -109,9 +121,9 @@ export function formPlacesOf(line) {
   const places = [];
   let further = 0;
   for (const { 0: text, index } of line.matchAll(ITEM)) {
-    const forms = FORMS.filter((form) => HAS[form](text));
+    const forms = formsOf(text);
     const character = Number(index) + 1;
-    if (forms.length > 0) places.push({ text, forms: Object.freeze(forms), column: character + further, character });
+    if (forms.length > 0) places.push({ text, forms, column: character + further, character });
     if (HAS.apostrophe(text)) further += FURTHER_BYTES;
   }
   return places;

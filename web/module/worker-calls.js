@@ -1,6 +1,6 @@
 // Calls of an engine in a worker as promises, one after another: those that are one request each, and the others.
-import { allOf, bestIn, countIn, factsIn, solutionsIn } from "./replies.js";
-import { allRequest, bestRequest, countRequest, factsRequest, listRequest } from "./requests.js";
+import { allOf, bestIn, checkIn, countIn, factsIn, solutionsIn } from "./replies.js";
+import { allRequest, bestRequest, countRequest, factsRequest, listRequest, pairsRequest } from "./requests.js";
 import { Telling } from "./signals.js";
 import { SingleCalls } from "./single-calls.js";
 import { compiled } from "./source.js";
@@ -9,6 +9,7 @@ import { WorkerQueue } from "./worker-queue.js";
 /** @typedef {import("./bytes.js").Text} Text */
 /** @typedef {import("./best.js").Best} Best */
 /** @typedef {import("./replies.js").Count} Count */
+/** @typedef {import("./facts.js").Check} Check */
 /** @typedef {import("./facts.js").Facts} Facts */
 /** @typedef {import("./replies.js").Solutions} Solutions */
 /** @typedef {import("./requests.js").BestWanted} BestWanted */
@@ -113,6 +114,16 @@ export class WorkerCalls extends SingleCalls {
   async factsAll(lines, options) {
     const request = allRequest(() => factsRequest(""), lines, options);
     return allOf(await this.#queue.answer(request, options), request, factsIn);
+  }
+
+  /**
+   * @template {OnFaults} [Faults="throw"]
+   * @param {readonly (readonly [Text, Text])[]} pairs @param {Many<Faults> & Stoppable} [options]
+   * @returns {Promise<Told<Check, Faults>[]>}
+   */
+  async checkAll(pairs, options) {
+    const request = pairsRequest(pairs, options);
+    return allOf(await this.#queue.answer(request, options), request, checkIn);
   }
 
   /** @param {Text} scramble @param {BestWanted & Followed & Stoppable} [options] @returns {Promise<Best>} */

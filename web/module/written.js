@@ -1,6 +1,6 @@
-// Reads text as solvers write it: what is no move but is written beside moves becomes a blank or an apostrophe, or is
-// left out. What comes of it is a line of the engine's grammar, or it is at fault there. Each sign of the line knows
-// its place in the text. An apostrophe of another form becomes the one that the grammar has, so that it is told.
+// Text as solvers write it, in bytes for the module, and in JavaScript's units for who reads of it: where each byte,
+// each line and each character of it stands.
+import { encoded, textIn } from "./utf8.js";
 
 /**
  * A text as one line: `places` has the place in the text of each of its signs, and `leftOut` names what it hasn't.
@@ -8,116 +8,128 @@
  */
 
 /**
- * Where a fault or a form stands in a text: `at` from 0, and its line and the character there, both from 1.
+ * Where a fault, a form or a doubt stands in a text: `at` from 0, and its line and the character there, both from 1.
  * @typedef {{at: number, line: number, column: number}} TextPlace
  */
 
-const APOSTROPHES = /[\u2018\u02BC\u2032\u00B4\u0060]/;
-const APOSTROPHE = "\u2019";
-const UNSEEN = /[\u200B-\u200D\u2060\uFEFF]/;
-const COMMAS = /[,;]/;
+/** What the module leaves out, by its bits. */
+const LEFT_OUT = ["labels", "numbers of moves", "comments", "line numbers", "commas", "signs that aren't seen"];
 
-/** A number of moves, such as `(2)`, `[1/5]` or `(12 moves)`. */
-const MOVES_MADE = "[([]\\d+(?:/\\d+)?(?: [Mm][Oo][Vv][Ee][Ss]?)?[)\\]]";
+/** The first bits of a byte that goes on a sign in UTF-8, and the least with which a sign of four bytes begins. */
+const FIRST_BITS = 0xc0;
+const GOES_ON = 0x80;
+const OF_FOUR_BYTES = 0xf0;
 
-/**
- * What stands before the moves of a line, such as `EO:` or `Final solution (24):`. As in the forms below, what is meant
- * is caught, and nothing if something else follows the blanks: so these are gone through once, however many lines they
- * end.
- */
-const LABEL = new RegExp(
-  `^[^\\S\\n]*(\\p{L}[\\p{L}\\p{N}]+(?: [\\p{L}\\p{N}]+){0,2}(?: ?${MOVES_MADE})?[^\\S\\n]*(?::(?=\\s|$)|\uFF1A))?`,
-  "gmu",
-);
-/** A word of a label by which moves without brackets would belong to the inverse: no line says so without them. */
-const OTHER_SIDE = /^(?:inverse|inv|niss|premoves?|switch)$/i;
-/** What may be a move, so that a colon after it is at fault. */
-const MOVE = /^[a-z]w?2?$/i;
-/** Looked for on the label's own line alone, before a comment; a number of moves is none. */
-const HAS_BRACKET = /^(?:(?!\/\/).)*?\((?!\s*\d)/;
+const FEED = 0x0a;
+const RETURN = 0x0d;
 
-/** What is left out as a whole, and what it is called; the last name counts. */
-const LEFT_OUT = [
-  { form: LABEL, name: "labels" },
-  { form: new RegExp(`(${MOVES_MADE})`, "g"), name: "numbers of moves" },
-  { form: /(\/\/[^\n]*)/g, name: "comments" },
-  { form: /^[^\S\n]*(\d+[.)])?/gm, name: "line numbers" },
-  { form: /^[^\S\n]*(scramble[^\S\n]*:)?/gim, name: "the word Scramble" },
-];
+/** The first bits of the second of two units that are one character, and what they are. */
+const FIRST_OF_UNIT = 0xfc00;
+const SECOND_UNIT = 0xdc00;
+
+/** The last character of one unit. */
+const LAST_OF_UNIT = 0xffff;
+
+/** What TextEncoder writes for half of a surrogate pair, which is no character. */
+const NO_CHARACTER = /\ufffd/g;
+
+/** @param {number} byte of UTF-8 */
+const begins = (byte) => (byte & FIRST_BITS) !== GOES_ON;
+
+/** @param {number} byte with which a sign begins @returns {number} how many units the sign has */
+const unitsFrom = (byte) => (byte >= OF_FOUR_BYTES ? 2 : 1);
 
 /**
- * Whether words before a colon are a label: not if they may be moves, or if the moves behind them belong to the inverse
- * and don't say so themselves.
- * @param {string} words
- * @param {string} behind
+ * The unit of each byte of a text, and the end.
+ * @param {Uint8Array} bytes
  */
-function isLabel(words, behind) {
-  const each = words.split(" ");
-  const isOther = each.some((word) => OTHER_SIDE.test(word));
-  return !each.every((word) => MOVE.test(word)) && (!isOther || HAS_BRACKET.test(behind));
-}
-
-/**
- * Where a form stands in a text.
- * @param {string} text
- * @param {RegExp} form
- */
-const foundIn = (text, form) => [...text.matchAll(form)].filter(({ 0: whole, 1: meant, index = 0 }) =>
-  meant !== undefined && (form !== LABEL || isLabel(wordsOf(meant), text.slice(index + whole.length))));
-
-/** @param {string} label @returns its words, without a number of moves and the colon */
-const wordsOf = (label) => label.slice(0, -1).replace(/[([].*/, "").trim();
-
-/** @param {string} line @returns the words of the label that it begins with, or "" */
-export function labelOf(line) {
-  const [found] = foundIn(line, LABEL);
-  return found === undefined ? "" : wordsOf(found[1]);
-}
-
-/**
- * The places in a text that are left out, each with the name of what stands there.
- * @param {string} text
- */
-function omitted(text) {
-  /** @type {Map<number, string>} */
-  const places = new Map();
-  for (const { form, name } of LEFT_OUT) {
-    for (const { 0: found, index = 0 } of foundIn(text, form)) {
-      for (let at = index; at < index + found.length; at += 1) places.set(at, name);
-    }
+function unitsOf(bytes) {
+  const units = new Uint32Array(bytes.length + 1);
+  let [unit, next] = [0, 0];
+  for (let at = 0; at < bytes.length; at += 1) {
+    if (begins(bytes[at])) [unit, next] = [next, next + unitsFrom(bytes[at])];
+    units[at] = unit;
   }
-  return places;
+  units[bytes.length] = next;
+  return units;
 }
 
 /**
- * What a sign is read as, and what of it is left out, if anything is.
- * @param {string} sign
- */
-function readAs(sign) {
-  if (UNSEEN.test(sign)) return ["", "signs that aren't seen"];
-  if (COMMAS.test(sign)) return [" ", "commas"];
-  if (APOSTROPHES.test(sign)) return [APOSTROPHE, ""];
-  return [/\s/.test(sign) ? " " : sign, ""];
-}
-
-/**
- * A text as solvers write it as one line: without labels, comments and line numbers.
+ * Where each line of a text begins.
  * @param {string} text
- * @returns {PlainLine}
  */
-export function plainLine(text) {
-  const gone = omitted(text);
-  const leftOut = new Set(gone.values());
-  const places = [];
-  let line = "";
+function lineBegins(text) {
+  const lines = [0];
   for (let at = 0; at < text.length; at += 1) {
-    const [sign, name] = gone.has(at) ? ["", ""] : readAs(text[at]);
-    if (name !== "") leftOut.add(name);
-    if (sign !== "") places.push(at);
-    line += sign;
+    const unit = text.charCodeAt(at);
+    const isEnd = unit === FEED || (unit === RETURN && text.charCodeAt(at + 1) !== FEED);
+    if (isEnd) lines.push(at + 1);
   }
-  return { line, places, leftOut: [...leftOut] };
+  return lines;
 }
+
+/**
+ * The end of each character of a text that has two units.
+ * @param {string} text
+ */
+function pairEnds(text) {
+  /** @type {number[]} */
+  const pairs = [];
+  for (let at = 1; at < text.length; at += 1) {
+    const isSecond = (text.charCodeAt(at) & FIRST_OF_UNIT) === SECOND_UNIT;
+    // half of a pair is a character by itself
+    if (isSecond && Number(text.codePointAt(at - 1)) > LAST_OF_UNIT) pairs.push(at + 1);
+  }
+  return pairs;
+}
+
+/**
+ * How many of some numbers, the least first, are at most as great as another one.
+ * @param {number[]} numbers
+ * @param {number} most
+ */
+function countUpTo(numbers, most) {
+  let [least, end] = [0, numbers.length];
+  while (least < end) {
+    const middle = (least + end) >> 1;
+    if (numbers[middle] <= most) least = middle + 1;
+    else end = middle;
+  }
+  return least;
+}
+
+/** The places of a text: its lines and its characters are looked for once. */
+export class TextPlaces {
+  #text;
+  /** @type {number[]} where each line begins */ #lines;
+  /** @type {number[]} behind each character of two units */ #pairs;
+
+  /** @param {string} text */
+  constructor(text) {
+    this.#text = text;
+    this.#lines = lineBegins(text);
+    this.#pairs = pairEnds(text);
+  }
+
+  /** @param {number} at a unit of the text, or its end @returns {TextPlace} */
+  of(at) {
+    // between the two signs of a line's end the next line begins
+    const isBetween = at > 0 && this.#text.startsWith("\r\n", at - 1);
+    const line = countUpTo(this.#lines, at + Number(isBetween));
+    const begin = this.#lines[line - 1];
+    const pairs = countUpTo(this.#pairs, at) - countUpTo(this.#pairs, begin);
+    return { at, line, column: Math.max(at - begin, 0) - pairs + 1 };
+  }
+}
+
+/**
+ * The unit at which a fault or a form of a plain line stands in the text that it is of. What isn't at a sign of the
+ * line is at its end.
+ * @param {number} character
+ * @param {PlainLine} plain
+ */
+export const unitOf = (character, { places }) =>
+  places[character - 1] ?? (places.length === 0 ? 0 : places[places.length - 1] + 1);
 
 /**
  * Where a fault or a form of a plain line stands in the text that it is of, or null if a fault has no place.
@@ -126,13 +138,81 @@ export function plainLine(text) {
  * @param {string} text
  * @returns {TextPlace | null}
  */
-export function placeOf({ character }, { places }, text) {
-  if (character === null) return null;
-  const at = places[character - 1] ?? (places.length === 0 ? 0 : places[places.length - 1] + 1);
-  let [line, begin] = [1, 0];
-  for (let end = 0; end < at; end += 1) {
-    const isEnd = text[end] === "\n" || (text[end] === "\r" && (text[end + 1] !== "\n" || end + 1 === at));
-    if (isEnd) [line, begin] = [line + 1, end + 1];
+export const placeOf = ({ character }, plain, text) =>
+  (character === null ? null : new TextPlaces(text).of(unitOf(character, plain)));
+
+/** A text in bytes and in units, or a part of one, of which the units are those of the whole. */
+export class WrittenText {
+  /** @type {Uint8Array} */ bytes;
+  #text;
+  /** @type {Uint32Array | null} null if each byte is a unit */ #units;
+  /** @type {TextPlaces | null} null until one is asked for */ #places;
+  #shift;
+
+  /** @param {string} text @param {{places: TextPlaces | null, shift: number}} whole where the part is in the whole */
+  constructor(text, { places, shift } = { places: null, shift: 0 }) {
+    this.#text = text;
+    this.#places = places;
+    this.#shift = shift;
+    this.bytes = encoded(text);
+    this.#units = this.bytes.length === text.length ? null : unitsOf(this.bytes);
   }
-  return { at, line, column: [...text.slice(begin, at)].length + 1 };
+
+  /**
+   * What stands from one byte to another, with another text before it.
+   * @param {string} before
+   * @param {number} begin
+   * @param {number} end
+   */
+  behind(before, begin, end) {
+    const from = this.unit(begin);
+    const whole = { places: this.places, shift: from - before.length };
+    return new WrittenText(before + this.#text.slice(from, this.unit(end)), whole);
+  }
+
+  /** The places of its units. */
+  get places() {
+    return (this.#places ??= new TextPlaces(this.#text));
+  }
+
+  /** @param {number} byte of the text, or its end @returns {number} its unit */
+  unit(byte) {
+    return this.#own(byte) + this.#shift;
+  }
+
+  /** @param {number} byte */
+  #own(byte) {
+    return this.#units === null ? byte : this.#units[byte];
+  }
+
+  /**
+   * What stands from one byte to another, without white space around it.
+   * @param {number} begin
+   * @param {number} end
+   */
+  part(begin, end) {
+    return this.#text.slice(this.#own(begin), this.#own(end)).trim();
+  }
+
+  /**
+   * What the module wrote of the text.
+   * @param {Uint8Array} bytes
+   * @param {number[]} places of each in the text's bytes
+   * @param {number} leftOut its bits
+   * @returns {PlainLine}
+   */
+  plain(bytes, places, leftOut) {
+    /** @type {number[]} */
+    const units = [];
+    for (let at = 0; at < bytes.length; at += 1) {
+      if (!begins(bytes[at])) continue;
+      const unit = this.unit(places[at]);
+      units.push(unit);
+      if (unitsFrom(bytes[at]) === 2) units.push(unit + 1);
+    }
+    // half of a pair stays in the line as it stands in the text
+    const asWritten = (/** @type {string} */ _, /** @type {number} */ at) => this.#text[units[at] - this.#shift];
+    const line = textIn(bytes).replace(NO_CHARACTER, asWritten);
+    return { line, places: units, leftOut: LEFT_OUT.filter((_, bit) => ((leftOut >> bit) & 1) === 1) };
+  }
 }

@@ -1,5 +1,6 @@
 // The state of the page in its address, after the #, so that it can be kept and sent. What an address says is checked
 // piece by piece: each piece becomes a part of the state, or is left out and named.
+import { GREATEST_SLACK, LONGEST_NOTE, LONGEST_SCRAMBLE, MOST_CANDIDATES } from "./limits.js";
 import { REDUCTIONS, SIDES, isSide, stepNamed } from "./steps.js";
 
 /** @typedef {import("./steps.js").Part} Part */
@@ -9,13 +10,6 @@ import { REDUCTIONS, SIDES, isSide, stepNamed } from "./steps.js";
 /** @typedef {{scramble: string, parts: Part[], side: Side, list: List | null, kept: Candidate[]}} State */
 
 const LONGEST_ADDRESS = 20000;
-// 256 moves, each of as many signs as one may have and in brackets, are half of it
-export const LONGEST_SCRAMBLE = 4096;
-export const GREATEST_SLACK = 3;
-export const MOST_CANDIDATES = 24;
-export const LONGEST_NOTE = 80;
-/** How many moves the engine reads in one line. */
-export const MOST_MOVES = 256;
 const MOST_PARTS = 256;
 const MOST_NAMED = 5;
 const LONGEST_NAME = 24;
@@ -38,7 +32,7 @@ function escaped(text) {
 }
 
 /** @param {string} text @returns a text as the one line that the engine reads of it */
-const oneLine = (text) => text.replace(/[\r\n]/g, " ");
+export const oneLine = (text) => text.replace(/[\r\n]/g, " ");
 
 const spelled = (text) => decodeURIComponent(wellFormed(text).replace(/_/g, "%20").replace(/-/g, "'"));
 

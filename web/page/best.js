@@ -1,12 +1,12 @@
 // The card of the best ways on, which are looked for unasked: with progress, a stop, filters, rows that go on.
 import { Stopped } from "../module/faults.js";
-import { GREATEST_SLACK } from "./address.js";
 import { bestRow } from "./best-row.js";
 import { ShownCounts } from "./counts.js";
 import { announce, announceLater, counted, part, setBusy, tell } from "./element.js";
 import { Filters, NOT_MOVES, filtersOfBest, offerChoices, offerLastTurns, offerMoves } from "./filter.js";
 import { KnownSearches, findAll } from "./finder.js";
 import { FurtherSearch } from "./further.js";
+import { GREATEST_SLACK } from "./limits.js";
 import { addRows, roveWithin, showRows, takeNamed } from "./rows.js";
 import { SIDES, isReduced, reducedAfter } from "./steps.js";
 import { isNarrow, withoutMoving } from "./view.js";

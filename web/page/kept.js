@@ -1,8 +1,9 @@
 // The card of the candidates that are kept: each with its moves, what it reaches, its case and a note.
 import { Stopped } from "../module/faults.js";
-import { LONGEST_NOTE, MOST_CANDIDATES, fitsAddress } from "./address.js";
+import { fitsAddress } from "./address.js";
 import { copy, fmcOfAll } from "./copying.js";
 import { announce, button, counted, element, part, spoken, tell } from "./element.js";
+import { LONGEST_NOTE, MOST_CANDIDATES } from "./limits.js";
 import { WayTo } from "./places.js";
 import {
   ORIENTATIONS, REDUCTIONS, axisName, bracketed, isReduced, reductionsAfter, sidesOf, stateOf, statesOf, stepNamed,

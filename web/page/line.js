@@ -1,7 +1,6 @@
 // The card of the line so far: the steps that were taken, each of which may be edited or taken away, undo, moves by
 // hand, the switch of sides, and the whole to copy.
 import { Stopped } from "../module/faults.js";
-import { plainLine } from "../module/written.js";
 import { copy, fmcOf } from "./copying.js";
 import { announce, button, counted, element, part, spoken, tell } from "./element.js";
 import { bracketed, isReduced, lastSideOf, movesOn, newlyReached, otherSide, statesOf, turnsOfStep } from "./steps.js";
@@ -53,13 +52,13 @@ function noteOfJoined({ parts, facts }) {
 }
 
 /** Has lines that are pasted go into a field of one line without comments, of which the first would hide the rest.
- * @param {import("./element.js").PageElement} field */
-function takeLines(field) {
+ * @param {import("./element.js").PageElement} field @param {import("./reader.js").Reader} reader */
+function takeLines(field, reader) {
   field.addEventListener("paste", (event) => {
     const text = event.clipboardData.getData("text/plain").trim().replace(/\r\n?/g, "\n");
     if (!text.includes("\n") || text.length > LONGEST_PASTED) return;
     event.preventDefault();
-    const { line, leftOut } = plainLine(text);
+    const { line, leftOut } = reader.plainLine(text);
     document.execCommand("insertText", false, line);
     tell(part("own-read"), wordsOfLeftOut(leftOut));
   });
@@ -67,6 +66,7 @@ function takeLines(field) {
 
 export class LineSoFar {
   #calls;
+  #reader;
   #acts;
   #parts = [];
   /** what each step reached as long as nothing took it away
@@ -80,17 +80,18 @@ export class LineSoFar {
   /** @type {Side} */
   #side = "normal";
 
-  /** @param {import("./calls.js").Calls} calls
+  /** @param {import("./calls.js").Calls} calls @param {import("./reader.js").Reader} reader
    * @param {{change: (change: {parts?: Part[], side?: Side}) => boolean, star: () => void}} acts `change` says whether
    * it leads back to a row */
-  constructor(calls, acts) {
+  constructor(calls, reader, acts) {
     this.#calls = calls;
+    this.#reader = reader;
     this.#acts = acts;
     part("own-form").addEventListener("submit", (event) => {
       event.preventDefault();
       this.#add();
     });
-    takeLines(part("own"));
+    takeLines(part("own"), reader);
     part("switch").addEventListener("click", () => this.turn(otherSide(this.#side)));
     for (const name of ["undo-step", "bar-undo"]) part(name).addEventListener("click", () => this.undoStep());
     part("undo-move").addEventListener("click", () => this.#undo(withoutLastMove(this.#parts)));
@@ -205,7 +206,7 @@ export class LineSoFar {
       class: "moves wide", value: text, spellcheck: "false", autocapitalize: "off", autocomplete: "off",
       maxlength: 4096, "aria-label": `Step ${index + 1}`,
     });
-    takeLines(field);
+    takeLines(field, this.#reader);
     const fault = element("div", { class: "fault", hidden: true });
     const leave = () => {
       item.replaceChildren(...shown);
@@ -264,7 +265,7 @@ export class LineSoFar {
     const [text, parts] = [field.value, this.#parts];
     // what was sent twice, or changed since, isn't added; nor is it to another line
     const isStill = () => field.value === text && this.#parts === parts && field.isConnected;
-    const plain = plainLine(text);
+    const plain = this.#reader.plainLine(text);
     try {
       const added = await this.#calls.ask("readByHand", { text: plain.line, side });
       if (!isStill()) return;

@@ -2,7 +2,7 @@
 // pushes such turns to the end of a line; there they are left out, so that each letter names one face in all that
 // follows.
 import { NissyFault } from "../module/faults.js";
-import { LONGEST_NOTE, MOST_MOVES } from "./address.js";
+import { LONGEST_NOTE, MOST_MOVES } from "./limits.js";
 import { SIDES, bracketed, joined } from "./steps.js";
 
 /** @typedef {import("../module/nissy.js").Nissy} Nissy */
@@ -30,12 +30,16 @@ function runsOf(text, side) {
   );
 }
 
-/** A scramble by its face turns, and whether turns of the whole cube were left out.
- * @param {Nissy} nissy @param {string} text */
+/** @typedef {{line: string, isTurned: boolean, written: string}} ReadScramble a scramble by its face turns, whether
+ * turns of the whole cube were left out, and as it was typed, if what follows names the faces so */
+
+/** @param {Nissy} nissy @param {string} text as solvers write it @returns {ReadScramble} */
 export function readScramble(nissy, text) {
-  const cleaned = nissy.cleanup(nissy.unniss(text));
+  const plain = nissy.plainLine(text).line;
+  const cleaned = nissy.cleanup(nissy.unniss(plain));
   const line = withoutTurns(cleaned);
-  return { line, isTurned: line !== cleaned };
+  const isTurned = line !== cleaned;
+  return { line, isTurned, written: isTurned ? line : plain.trim().replace(/ +/g, " ") };
 }
 
 /** Moves by hand as a step, those in brackets on the inverse side; none without moves.
@@ -68,10 +72,15 @@ function readAllByHand(nissy, steps) {
   return { parts, unread: null };
 }
 
-/** The steps and the candidates of a text as solvers write it, and the first line of it that can't be read, if any.
- * @param {Nissy} nissy @param {import("../module/attempts.js").Attempt} written
- * @returns {{parts: Part[], kept: Candidate[], unread: Unread | null}} */
-export function readWritten(nissy, { steps, candidates }) {
+/** @typedef {{text: string, at: number}} Written a text as solvers write it, and which of its attempts is meant */
+
+/** The steps and the candidates of an attempt, the first line of it that can't be read, if any, and what makes one
+ * doubt how it was read.
+ * @param {Nissy} nissy @param {Written} written
+ * @returns {{parts: Part[], kept: Candidate[], unread: Unread | null,
+ * doubt: import("../module/attempts.js").AttemptDoubt | null}} */
+export function readWritten(nissy, { text, at }) {
+  const { attempt: { steps, candidates }, doubt } = nissy.checkAttempts(text)[at];
   const { parts, unread } = readAllByHand(nissy, steps);
   const read = candidates.map((each) => ({ note: each.note, ...readAllByHand(nissy, each.steps) }));
   // an address has no candidate without moves
@@ -80,6 +89,7 @@ export function readWritten(nissy, { steps, candidates }) {
     parts,
     kept: kept.map((each) => ({ parts: each.parts, note: each.note.slice(0, LONGEST_NOTE), next: "" })),
     unread: [unread, ...read.map((each) => each.unread)].find((each) => each !== null) ?? null,
+    doubt,
   };
 }
 

@@ -6,6 +6,7 @@ import { copyLink } from "./copying.js";
 import { part } from "./element.js";
 import { offerLast } from "./last.js";
 import { Page } from "./page.js";
+import { Reader } from "./reader.js";
 import { offerCover } from "./rows.js";
 import { offerThemes, placeHelp } from "./view.js";
 
@@ -26,8 +27,8 @@ async function unpacked() {
 }
 
 /** @param {import("../module/worker-queue.js").SentModule} module */
-function start(module) {
-  const page = new Page(() => new Calls(newWorker, module));
+async function start(module) {
+  const page = new Page(() => new Calls(newWorker, module), await Reader.start(module));
   addEventListener("popstate", ({ state }) => page.returnTo(state));
   addEventListener("hashchange", () => page.begin(location.hash));
   page.begin(location.hash);

@@ -1,6 +1,5 @@
 // The page's state, and what each change of it makes the parts of the page show.
 import { NissyFault, Stopped } from "../module/faults.js";
-import { plainLine } from "../module/written.js";
 import { emptyState, hasLines, readAddress } from "./address.js";
 import { BestContinuations } from "./best.js";
 import { Readiness } from "./calls.js";
@@ -46,14 +45,15 @@ export class Page {
   #best;
   #kept;
 
-  /** @param {() => import("./calls.js").Calls} newCalls of which each has a worker of its own */
-  constructor(newCalls) {
+  /** @param {() => import("./calls.js").Calls} newCalls of which each has a worker of its own
+   * @param {import("./reader.js").Reader} reader */
+  constructor(newCalls, reader) {
     this.#calls = newCalls();
     this.#keptCalls = newCalls();
     // what is asked for by hand is never given up for another cube
     this.#byHand = newCalls();
-    this.#scramble = new ScrambleField(this.#byHand, (scramble, change) => this.#setScramble(scramble, change));
-    this.#line = new LineSoFar(this.#byHand, {
+    this.#scramble = new ScrambleField(this.#byHand, reader, (...typed) => this.#setScramble(...typed));
+    this.#line = new LineSoFar(this.#byHand, reader, {
       change: (change) => this.#changeLine(change), star: () => this.#starLine(),
     });
     this.#table = new StepTable((step, side) => this.#open(step, side));
@@ -176,11 +176,12 @@ export class Page {
     if (!fmc) return;
     const turn = this.#turn;
     try {
-      const { unread, parts, kept: others } = await this.#byHand.ask("readWritten", fmc);
+      const { unread, parts, kept: others, doubt } = await this.#byHand.ask("readWritten", fmc);
       if (turn !== this.#turn) return;
       const { kept, why } = withOthers(this.#state.kept, others);
       this.#change({ ...(parts.length > 0 && { parts }), kept }, { isStep: !isNew, left });
       tell(part("alert"), whyUnread(unread) || why);
+      this.#scramble.tellDoubt(doubt);
     } catch (fault) {
       if (turn === this.#turn && !(fault instanceof Stopped)) tell(part("alert"), unanswered(fault));
     }
@@ -194,11 +195,12 @@ export class Page {
     this.#cube = null;
     this.#readiness.stop();
     this.#calls.drop();
-    const asked = cubeWithOffers(this.#calls, { text: plainLine(scramble).line, parts });
+    const asked = cubeWithOffers(this.#calls, { text: scramble, parts });
     // what is wrong is said where it is waited for
     asked.catch(() => {});
     document.title = titleOfPage(this.#state);
     this.#nets.stop();
+    this.#scramble.tellDoubt(null);
     this.#line.show(parts);
     this.#line.turnTo(this.#state.side);
     this.#kept.show(this.#state.kept);
@@ -234,11 +236,9 @@ export class Page {
     await this.#showAnswered(turn);
   }
 
-  #showCube({ read: { line: scramble, isTurned }, walk, views, whole }) {
+  #showCube({ read: { line: scramble, written }, walk, views, whole }) {
     const { parts } = this.#state;
     const reached = walk.reached.at(-1);
-    // as it was typed, if what follows names the faces so
-    const written = isTurned ? scramble : plainLine(this.#state.scramble).line.trim().replace(/ +/g, " ");
     const [{ facts }, made] = [views.normal, walk.totals.at(-1)];
     this.#cube = { scramble, written, parts, reached, facts, made };
     const count = parts.reduce((sum, each) => sum + turnsOfStep(each).length, 0);

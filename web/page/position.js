@@ -46,7 +46,7 @@ function viewsOf(nissy, { lines }) {
   return { normal: viewOf(lines.normal), inverse: viewOf(lines.inverse) };
 }
 
-/** @typedef {{read: {line: string, isTurned: boolean}, walk: Walk, views: Record<Side, View>, whole: string}} Examined
+/** @typedef {{read: import("./lines.js").ReadScramble, walk: Walk, views: Record<Side, View>, whole: string}} Examined
  * a scramble as it is read, and the cube on both sides after some parts, which `whole` has without brackets */
 /** @typedef {{unread: import("../module/faults.js").FaultParts}} Unexamined what is at fault in the scramble */
 

@@ -1,16 +1,16 @@
 // The card of the scramble: its field, with what was left out of a text and what is at fault, the other scrambles of
 // the text, examples, random scrambles from a seed, and the fold of it if the page is narrow.
 import { Stopped } from "../module/faults.js";
-import { readAttempts } from "../module/attempts.js";
-import { plainLine } from "../module/written.js";
-import { LONGEST_SCRAMBLE } from "./address.js";
 import { announce, announceLater, button, counted, element, part, tell } from "./element.js";
+import { LONGEST_SCRAMBLE } from "./limits.js";
 import { areBeside, withoutMoving } from "./view.js";
-import { showFault, wordsOfLeftOut } from "./words.js";
+import { showDoubt, showFault, wordsOfLeftOut } from "./words.js";
 
 /** @typedef {import("../module/attempts.js").Attempt} Attempt */
-/** @typedef {{isNew: boolean, fmc: Attempt | null, isStep: boolean}} ScrambleChange a new scramble begins a new line,
- * one that is mended keeps it; `isStep`: whether Back leads to what was before */
+/** @typedef {import("../module/attempts.js").AttemptDoubt} AttemptDoubt */
+/** @typedef {{isNew: boolean, fmc: import("./lines.js").Written | null, isStep: boolean}} ScrambleChange a new scramble
+ * begins a new line, one that is mended keeps it; `fmc`: where its steps stand, if it has any; `isStep`: whether Back
+ * leads to what was before */
 
 const PAUSE = 150;
 const SEEDS = "A seed is a whole number from 0 to 18,446,744,073,709,551,615.";
@@ -27,6 +27,7 @@ const spaced = (plain) => asTyped(plain).trim().replace(/ +/g, " ");
 
 export class ScrambleField {
   #calls;
+  #reader;
   #changed;
   #field = part("scramble");
   #backdrop = part("scramble-marks");
@@ -34,7 +35,9 @@ export class ScrambleField {
   #timer = 0;
   #draws = 0;
   #leftOut = [];
-  /** @type {Attempt[]} those of the last text; which of them is shown, or -1; and what is said of the others then */
+  /** the last text and its attempts; which of these is shown, or -1; and what is said of the others then */
+  #text = "";
+  /** @type {Attempt[]} */
   #attempts = [];
   #at = -1;
   #others = [];
@@ -47,13 +50,18 @@ export class ScrambleField {
   #isDraft = false;
   /** whether the field has no room for the end of what is pasted */
   #isCut = false;
+  /** the text that was read last, and what makes one doubt how it was read */
+  #lastText = "";
+  /** @type {AttemptDoubt | null} */
+  #doubt = null;
   /** how many kept lines a way leads back to */
   left = 0;
 
-  /** @param {import("./calls.js").Calls} calls
+  /** @param {import("./calls.js").Calls} calls @param {import("./reader.js").Reader} reader
    * @param {(scramble: string, change: ScrambleChange) => void} changed */
-  constructor(calls, changed) {
+  constructor(calls, reader, changed) {
     this.#calls = calls;
+    this.#reader = reader;
     this.#changed = changed;
     this.#field.maxLength = LONGEST_SCRAMBLE;
     this.#field.addEventListener("input", (event) => this.#typed(event));
@@ -99,7 +107,7 @@ export class ScrambleField {
     clearTimeout(this.#timer);
     this.tellLeft(0);
     this.#mark(this.#attempts.findIndex((each) => spaced(each.scramble) === spaced({ line: scramble })));
-    if (asTyped(plainLine(this.#field.value)) !== scramble) {
+    if (asTyped(this.#reader.plainLine(this.#field.value)) !== scramble) {
       this.#field.value = scramble;
       this.#leftOut = this.#others;
     }
@@ -109,11 +117,12 @@ export class ScrambleField {
   }
 
   /** Shows what is wrong with the scramble, or that nothing is; and how it is read, where anything is left out.
-   * @param {Error | null} fault @param {{line: string, isTurned: boolean} | null} read */
+   * @param {Error | null} fault @param {import("./lines.js").ReadScramble | null} read */
   judge(fault, read) {
     const text = this.#field.value;
-    const plain = plainLine(text);
+    const plain = this.#reader.plainLine(text);
     this.#markPlace(text, showFault(part("scramble-fault"), this.#field, plain, fault, text));
+    if (!fault && part("scramble-doubt").hidden) this.tellDoubt(this.#doubt);
     // of what is typed not after each sign
     if (fault) announceLater(part("scramble-fault").firstChild.textContent);
     const sentences = [wordsOfLeftOut(this.#leftOut)].filter(Boolean);
@@ -126,6 +135,13 @@ export class ScrambleField {
     this.#isRead = read !== null && read.line !== "";
     const isUsed = [this.#field, ...part("attempts").children].includes(document.activeElement);
     if (!isUsed || !this.#isRead) this.#fold(this.#isRead);
+  }
+
+  /** Says why the last text may be read otherwise than it was meant, until anything is changed.
+   * @param {AttemptDoubt | null} doubt null says no more of the last one */
+  tellDoubt(doubt) {
+    this.#doubt = doubt;
+    showDoubt(part("scramble-doubt"), doubt, this.#lastText);
   }
 
   /** Says how many kept lines a new scramble leaves, beside a way back to them; nothing of none.
@@ -186,9 +202,11 @@ export class ScrambleField {
 
   /** @param {boolean} isReplaced by a text that was pasted: by another scramble, if it isn't the same again */
   #read(isReplaced) {
-    const plain = plainLine(this.#field.value);
-    const attempts = readAttempts(this.#field.value);
-    this.#take(attempts, 0, { isReplaced, isPart: spaced(attempts[0].scramble) !== spaced(plain) });
+    const text = this.#field.value;
+    const attempts = this.#reader.attempts(text);
+    const plain = this.#reader.plainLine(text);
+    const whole = spaced(attempts[0].scramble) === spaced(plain) ? asTyped(plain) : null;
+    this.#take({ text, attempts }, 0, { isReplaced, whole });
   }
 
   /** Reads an attempt of the text, as if it alone had been pasted.
@@ -197,19 +215,21 @@ export class ScrambleField {
     clearTimeout(this.#timer);
     // not every browser puts the focus on what is pressed
     part("attempts").children[at].focus({ preventScroll: true });
-    withoutMoving(part("attempts"), () => this.#take(this.#attempts, at, { isReplaced: true, isPart: true }));
+    withoutMoving(part("attempts"), () => this.#take({ text: this.#text, attempts: this.#attempts }, at,
+      { isReplaced: true, whole: null }));
   }
 
-  /** @param {Attempt[]} attempts of a text @param {number} at which of them is taken
-   * @param {{isReplaced: boolean, isPart: boolean}} how `isPart`: whether its scramble isn't all that the field has */
-  #take(attempts, at, { isReplaced, isPart }) {
-    const { name, scramble, steps, candidates, before } = attempts[at];
-    const line = isPart ? spaced(scramble) : asTyped(scramble);
-    if (isPart) this.#field.value = line;
-    const fmc = steps.length + candidates.length > 0 ? attempts[at] : null;
+  /** @param {{text: string, attempts: Attempt[]}} read @param {number} at which of the attempts is taken
+   * @param {{isReplaced: boolean, whole: string | null}} how `whole`: what the field has, if all is its scramble */
+  #take({ text, attempts }, at, { isReplaced, whole }) {
+    const { name, scramble, steps, candidates, before, doubt } = attempts[at];
+    const line = whole ?? spaced(scramble);
+    if (whole === null) this.#field.value = line;
+    const fmc = steps.length + candidates.length > 0 ? { text, at } : null;
+    this.#lastText = text;
     const isNew = this.#isOther(spaced(scramble), isReplaced, fmc !== null);
     // one that is mended stays beside the others of its text
-    if (attempts.length > 1 || isNew || this.#at < 0) this.#offer(attempts, at);
+    if (attempts.length > 1 || isNew || this.#at < 0) this.#offer({ text, attempts }, at);
     else if (line.trim() !== "") this.#attempts[this.#at].scramble = scramble;
     this.#leftOut = [
       ...(before > 0 ? [`${counted(before, "line")} before the scramble`] : []),
@@ -221,16 +241,19 @@ export class ScrambleField {
     const isStep = (isNew || this.#isEmptied) && !this.#isDraft;
     this.#isDraft = this.#isEmptied;
     this.#changed(line, { isNew, fmc, isStep });
+    // one that has steps is in doubt with these
+    if (fmc === null) this.#doubt = doubt;
   }
 
   /** Offers the attempts of a text, if there are several.
-   * @param {Attempt[]} attempts @param {number} at which of them is taken */
-  #offer(attempts, at) {
+   * @param {{text: string, attempts: Attempt[]}} read @param {number} at which of the attempts is taken */
+  #offer({ text, attempts }, at) {
     const row = part("attempts");
     const buttonOf = ({ name }, place) =>
       button(/\d/.test(name) ? name : String(place + 1), { class: "quiet", click: () => this.#choose(place) });
     if (attempts !== this.#attempts) row.replaceChildren(...attempts.map(buttonOf));
     row.hidden = attempts.length === 1;
+    this.#text = text;
     this.#attempts = attempts;
     this.#mark(at);
   }
@@ -269,7 +292,7 @@ export class ScrambleField {
     this.#seed.value = seed;
     // of several that are asked for at once the last one counts, whose seed is shown
     const draw = ++this.#draws;
-    const show = (fault) => showFault(part("seed-fault"), this.#seed, plainLine(seed), fault, seed);
+    const show = (fault) => showFault(part("seed-fault"), this.#seed, this.#reader.plainLine(seed), fault, seed);
     try {
       const scramble = await this.#calls.ask("scrambleOf", { seed });
       if (draw !== this.#draws) return;

@@ -1,11 +1,11 @@
 // The list of a step's solutions: grouped by length or by case, filtered by turns and by case, and cut if it is long. A
 // list that is looked for gives way to another one, and can be stopped.
 import { Stopped } from "../module/faults.js";
-import { GREATEST_SLACK } from "./address.js";
 import { announce, announceLater, button, counted, element, part, setBusy, spoken, tell } from "./element.js";
 import {
   Filters, NOT_MOVES, caseAtMost, chosen, offerChoices, offerLastTurns, offerMoves, withTurns,
 } from "./filter.js";
+import { GREATEST_SLACK } from "./limits.js";
 import { addRows, named, roveWithin, showRows, starButton, takeButton, takeNamed } from "./rows.js";
 import { axisName, bracketed, reductionsAfter, sizeOfCase, stateOf, stepNamed, titleOf } from "./steps.js";
 import { sidesOfTwins, withTwins } from "./twins.js";

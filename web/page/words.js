@@ -1,8 +1,9 @@
 // Sentences: why a line can't be read, with a mark at the place in it, why there is no answer, and the title.
 import { EngineMissing, NissyFault } from "../module/faults.js";
 import { placeOf } from "../module/written.js";
-import { MOST_CANDIDATES, MOST_MOVES } from "./address.js";
+import { oneLine } from "./address.js";
 import { element } from "./element.js";
+import { MOST_CANDIDATES, MOST_MOVES } from "./limits.js";
 import { bracketed, openSteps, stateOf, stepNamed, titleOf } from "./steps.js";
 
 export const MOST_ARE_KEPT = `${MOST_CANDIDATES} lines are kept, and there can be no more: remove one of them first.`;
@@ -108,6 +109,28 @@ function marked(text, place) {
   return element("pre", { "aria-hidden": "true", tabindex: -1 }, line, `\n${" ".repeat([...before].length)}^`);
 }
 
+/** What is said of a doubt that a text is read as it was meant, and of the word that stands there.
+ * @type {Record<string, (word: string) => string>} */
+const WORDS_OF_DOUBTS = {
+  "another scramble": () => "a whole scramble begins here, and more follows it",
+  "several solutions": () => "of several solutions none is said to be the one that counts",
+  side: (word) => `“${word}” names a side, and moves on the inverse belong in brackets`,
+  letters: (word) => `“${word}” is read as moves`,
+  "small letters": (word) => `“${word}” is read as a wide turn`,
+  comment: () => "moves stand in a comment, and are left out",
+  "a part": () => "the steps don't solve the scramble, but some of them do",
+};
+
+/** Shows under a field what makes one doubt how its text was read, or takes the last one away.
+ * @param {HTMLElement} where @param {import("../module/attempts.js").AttemptDoubt | null} doubt @param {string} text */
+export function showDoubt(where, doubt, text) {
+  where.hidden = doubt === null;
+  where.replaceChildren();
+  if (doubt === null) return;
+  const { reason, place: { at } } = doubt;
+  where.append(element("p", {}, `In doubt: ${WORDS_OF_DOUBTS[reason](wordAt(text, at))}.`), marked(oneLine(text), at));
+}
+
 /** Shows a fault under its field, or takes the last one away; returns where it is in the text, or null.
  * @param {HTMLElement} where @param {HTMLElement} field
  * @param {import("../module/written.js").PlainLine} plain what the engine read
@@ -119,6 +142,6 @@ export function showFault(where, field, plain, fault, text) {
   if (fault === null) return null;
   where.append(element("p", {}, fault instanceof NissyFault ? sentenceOf(fault, plain.line) : fault.message));
   const place = fault instanceof NissyFault ? placeOf(fault, plain, text)?.at ?? null : null;
-  if (place !== null) where.append(marked(text.replace(/[\r\n]/g, " "), place));
+  if (place !== null) where.append(marked(oneLine(text), place));
   return place;
 }
