@@ -10,7 +10,7 @@ from __future__ import annotations
 
 import random
 import sys
-from typing import Callable, Iterator, List
+from typing import Callable, Iterator, List, Set
 
 from hosts import Host, hosts_of, told  # isort: skip
 
@@ -89,7 +89,7 @@ def main() -> None:
     first, *others = hosts_of(sys.argv[3:])
     draw = random.Random(seed)
     base = [*(kind.text for kind in called.kinds()), *(text for text, _ in called.rows("attempts")), *(text for text, *_ in called.rows("plain"))]
-    seen = set()
+    seen: Set[str] = set()
     for text in mutated(draw, count, base):
         wanted = answers(first, text)
         seen.update(line.partition("@")[0] for line in wanted[2].split("\n"))
