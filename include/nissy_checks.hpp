@@ -57,45 +57,30 @@ struct text_places {
     place_counter found, doubted, read;
 };
 
-// Whether a line has moves, and solves a scramble.
-inline bool is_solved_by(const std::string &scramble, const std::string &line) {
-    const nissy_check_answer told = nissy_check(bytes(scramble), scramble.size(), bytes(line), line.size());
-    return told.status == NISSY_DONE && told.solved && told.moves > 0;
+// The steps of an attempt and its candidates, each once, by their places.
+inline std::map<std::size_t, const plain *> steps_by_place(const attempt &found) {
+    std::map<std::size_t, const plain *> steps;
+    const auto add = [&steps](const std::vector<plain> &more) {
+        for (const plain &step : more)
+            if (!step.places.empty()) steps[step.places.front()] = &step;
+    };
+    add(found.steps);
+    for (const attempt_candidate &it : found.candidates) add(it.steps);
+    return steps;
 }
 
-// Lines from one to another, one after another.
-inline std::string lines_between(const std::vector<plain> &lines, std::size_t begin, std::size_t end) {
-    std::string all;
-    for (std::size_t at = begin; at < end; at++) all += lines[at].line + " ";
-    return all;
-}
-
-// Adds steps that aren't there, up to eight: of more no part is looked for.
-inline void add_steps(std::vector<plain> &steps, const std::vector<plain> &more) {
-    constexpr std::size_t MOST = 8;
-    for (const plain &step : more) {
-        const auto is_same = [&step](const plain &it) { return it.places == step.places; };
-        if (steps.size() < MOST && !step.places.empty() && std::none_of(steps.begin(), steps.end(), is_same)) steps.push_back(step);
-    }
-}
-
-// Where a part of an attempt begins that solves its scramble: steps alone, left out or in brackets, or the solution without its brackets.
+// Where a part of an attempt begins that alone solves its scramble, of its first eight steps: the library looks at no more.
 inline std::optional<std::size_t> solved_part(const attempt &found) {
-    std::vector<plain> steps;
-    add_steps(steps, found.steps);
-    for (const attempt_candidate &it : found.candidates) add_steps(steps, it.steps);
+    std::vector<std::size_t> begins;
+    std::string lines;
+    for (const auto &[place, step] : steps_by_place(found)) {
+        if (begins.size() == 8) break;
+        begins.push_back(place);
+        lines += step->line + "\n";
+    }
     const std::string &scramble = found.scramble.line;
-    for (std::size_t begin = 0; begin < steps.size(); begin++)
-        for (std::size_t end = begin + 1; end <= steps.size(); end++) {
-            const std::string before = lines_between(steps, 0, begin), own = lines_between(steps, begin, end);
-            const std::string after = lines_between(steps, end, steps.size());
-            for (const std::string &line : {own, before + after, before + "(" + own + ")" + after})
-                if (is_solved_by(scramble, line)) return steps[begin].places.front();
-        }
-    if (!found.solution || found.solution->places.empty()) return std::nullopt;
-    std::string line = found.solution->line;
-    std::replace_if(line.begin(), line.end(), [](char byte) { return byte == '(' || byte == ')'; }, ' ');
-    return is_solved_by(scramble, line) ? std::optional<std::size_t>(found.solution->places.front()) : std::nullopt;
+    const nissy_part_answer part = nissy_solving_part(bytes(scramble), scramble.size(), bytes(lines), lines.size());
+    return part.how == 0 ? std::nullopt : std::optional<std::size_t>(begins[part.first]);
 }
 
 // What makes one doubt an attempt that isn't solved.

@@ -1,17 +1,19 @@
 """Checks the attempts of a text as solvers write it, by the calls for one scramble, one solution and one place."""
-from itertools import chain, combinations
-from typing import Any, Dict, Iterable, Iterator, List, NamedTuple, Optional, Tuple
+from heapq import nsmallest
+from itertools import chain
+from typing import Any, Dict, Iterable, List, NamedTuple, Optional, Tuple
 
+from . import _library
 from ._attempts import Attempt, AttemptDoubt, attempts_of
 from ._facts import Check, check
-from ._given import Text, each_of
+from ._given import Text, bytes_of, each_of
 from ._known import Part, solutions_of
 from ._lines import facelets
 from ._tokens import form_places
 from ._values import Fault, LineFault
 from ._written import PlainLine, TextPlace, Written, place_in, string_of
 
-# of how many steps a part is looked for
+# of how many steps the library looks for a part
 _MOST_STEPS = 8
 
 
@@ -53,36 +55,21 @@ class AttemptCheck(NamedTuple):
                 "doubt": self.doubt and {"reason": self.doubt.reason, "place": self.doubt.place._asdict()}}
 
 
-def _solves(scramble: str, line: str) -> bool:
-    """Returns whether a line has moves, and solves a scramble."""
-    try:
-        told = check(scramble, line)
-        return told.solved and told.moves > 0
-    except Fault:
-        return False
-
-
-def _parts(attempt: Attempt) -> Iterator[Tuple[str, PlainLine]]:
-    """Returns other lines that may be the solution, each with one where it begins: some steps, one after another,
-    alone, left out, or in brackets, and the solution without its brackets."""
-    each = chain(attempt.steps, *(it.steps for it in attempt.candidates))
-    steps = list({step.places: step for step in each if step.places}.values())[:_MOST_STEPS]
-    lines = [step.line for step in steps]
-    for begin, end in combinations(range(len(lines) + 1), 2):
-        own, before, after = " ".join(lines[begin:end]), lines[:begin], lines[end:]
-        yield own, steps[begin]
-        yield " ".join([*before, *after]), steps[begin]
-        yield " ".join([*before, "(", own, ")", *after]), steps[begin]
-    if attempt.solution is not None:
-        yield attempt.solution.line.replace("(", " ").replace(")", " "), attempt.solution
-
-
 def _doubt_of(attempt: Attempt, whole: Written) -> Optional[AttemptDoubt]:
     """Returns what makes one doubt an attempt that isn't solved: its reading, or that a part of it solves."""
     if attempt.doubt is not None:
         return attempt.doubt
-    part = next((own for line, own in _parts(attempt) if _solves(attempt.scramble.line, line)), None)
-    return part and AttemptDoubt("a part", whole.place(part.places[0]))
+    steps = _steps_of(attempt)
+    scramble, lines = bytes_of(attempt.scramble.line, ""), bytes_of("\n".join(step.line for step in steps), "")
+    part = _library.nissy_solving_part(scramble, len(scramble), lines, len(lines))
+    return AttemptDoubt("a part", whole.place(steps[part.first].places[0])) if part.how else None
+
+
+def _steps_of(attempt: Attempt) -> List[PlainLine]:
+    """Returns the first steps of an attempt and its candidates in the text, each once."""
+    each = chain(attempt.steps, chain.from_iterable(it.steps for it in attempt.candidates))
+    steps = {step.places[0]: step for step in each if step.places}
+    return [steps[place] for place in nsmallest(_MOST_STEPS, steps)]
 
 
 def _checked(attempt: Attempt, whole: Written) -> AttemptCheck:

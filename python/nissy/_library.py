@@ -77,6 +77,12 @@ class PlainAnswer(ctypes.Structure):
     _fields_ = [("status", ctypes.c_uint8), ("left_out", ctypes.c_uint8), ("length", ctypes.c_uint64)]
 
 
+class PartAnswer(ctypes.Structure):
+    """`nissy_part_answer` of nissy_text.h."""
+
+    _fields_ = [("status", ctypes.c_uint8), ("how", ctypes.c_uint8), ("first", ctypes.c_uint8)]
+
+
 class TextAnswer(ctypes.Structure):
     """`nissy_text_answer` of nissy_text.h."""
     _fields_ = [("status", ctypes.c_uint8), ("lines", ctypes.c_uint64), ("attempts", ctypes.c_uint64)]
@@ -247,6 +253,7 @@ nissy_line_after = _call("nissy_line_after", LineAfterAnswer, *_READ, *_READ, *_
 nissy_plain = _call("nissy_plain", PlainAnswer, *_READ, *_WRITTEN, *_WRITTEN)
 nissy_text_lines = _call("nissy_text_lines", TextAnswer, *_READ, *_WRITTEN)
 nissy_text_moves = _call("nissy_text_moves", PlainAnswer, *_READ, _PLACE, _NUMBER, _BYTE, *_WRITTEN, *_WRITTEN)
+nissy_solving_part = _call("nissy_solving_part", PartAnswer, *_READ, *_READ)
 nissy_scramble = _call("nissy_scramble", LineAnswer, _LONG, _LONG, _HALF, *_WRITTEN)
 nissy_steps = _call("nissy_steps", LineAnswer, *_WRITTEN)
 nissy_start = _call("nissy_start", LineAnswer, *_READ, *_WRITTEN)

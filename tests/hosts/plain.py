@@ -11,7 +11,6 @@ from __future__ import annotations
 import random
 import sys
 import time
-import unicodedata
 from typing import Dict, Iterator, List, Tuple
 
 from hosts import Host, Python, checked, hosts_of, line_and_column, told  # isort: skip
@@ -22,14 +21,10 @@ from tally import Tally
 
 # by each call what is given to it, texts mostly, each with what is told of it
 Texts = Dict[str, List[List[str]]]
-# of the letters that C++ knows from other signs
 PARTS = """R U2 F' L\u2019 B\u2032 ( ) ` ' \u02bc EO DR Final finale R\u00e9duction re\u0301 \u042d\u041e \u89e3 \U00010400 F2L EO\u00b2 \u00bd A
     Inverse NISS premoves R2w Scramble SCRAMBLE scramble 1. 23) 4 . // / , ; _ - \u2192 \U0001f600 \u200b \u2060 \ufeff
     (2) [1/5] (12 (3] \uff1a""".split() + ["(12 moves)", "[1 MOVE]"]
 BLANKS = [" ", " ", " ", ": ", ":", "\n", "\n", "\r\n", "\r", "\t", "\u00a0", "\u2009", "\u2028", "\u3000", "\u0085", "", "", "\n\n", " : "]
-# Latin, Greek, Cyrillic, the punctuation of all, Japanese and Korean, and the middle of Chinese, which C++ reads by a table of its own
-SCRIPTS = [*range(0xa0, 0x530), *range(0x2010, 0x2030), *range(0x3000, 0x3100), *range(0x4e00, 0x4f00), *range(0xac00, 0xad00),
-           *range(0xff00, 0xfff0)]
 ALL_NAMES = {"labels", "numbers of moves", "comments", "line numbers", "commas", "signs that aren't seen"}
 # what lines of attempts begin with, and go on with
 HEADS = ["", "", "", "", " ", "1. ", "2) ", "(3)", "#4 ", "5 ", "6.07 ", "E1 ", "E2 ", "Extra 1: ", "Scramble 2:", "scramble: ", "Attempt 3 of 3",
@@ -56,12 +51,6 @@ def wanted_lines() -> Iterator[List[str]]:
         ranges = (it.partition("-") for it in places.split())
         each = [str(at) for first, _, last in ranges for at in range(int(first), int(last or first) + 1)]
         yield [text, f"{line}\n{' '.join(each)}\n{names}"]
-
-
-def each_sign() -> str:
-    """Each sign of the scripts behind two letters, and before one, in a line that may have a label."""
-    signs = [chr(code) for code in SCRIPTS if unicodedata.category(chr(code)) != "Cn"]
-    return "".join(f"ab{sign}: R\n{sign}a: R\n" for sign in signs)
 
 
 def drawn(draw: random.Random, count: int) -> Iterator[str]:
@@ -177,7 +166,7 @@ def main() -> None:
     rows: Texts = {"plain_line": list(wanted_lines()), "read_attempts": list(called.rows("attempts")), "known_checks": list(called.rows("known"))}
     by_calls = [[text, checks_by_calls(text)] for text in [*solved, *(text for text, _ in rows["read_attempts"])]]
     is_told(tally, python, {**rows, "check_attempts": by_calls, "check_all": list(drawn_pairs(draw, count // 10))})
-    ours = by_host(python, {"plain_line": [[it] for it in (each_sign(), *drawn(draw, count))], "read_attempts": [[it] for it in sheets],
+    ours = by_host(python, {"plain_line": [[it] for it in drawn(draw, count)], "read_attempts": [[it] for it in sheets],
                             "check_attempts": [[it] for it in solved], "attempt_doubts": [[it] for it in solved],
                             "known_checks": list(drawn_known(draw, count)), "check_all": [[it] for it, _ in drawn_pairs(draw, count // 10)]})
     for host in hosts_of(sys.argv[3:]):
