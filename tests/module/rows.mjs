@@ -10,7 +10,9 @@ const CALLS = 10_000;
 const BYTES = [0x52, 0x20, 0x55];
 const LINE_CALLS = ["invert", "unniss", "cleanup", "facelets", "scramble", "steps", "start", "fault_text"];
 const JUDGING = ["facts", "check", "facts_lines", "count_lines", "best", "solve_sides", "line_after"];
-const EXPORTS = ["__heap_base", "memory", ...["run", "build", "solve", "solve_after", "count", ...LINE_CALLS, ...JUDGING].map((name) => `nissy_${name}`)].sort();
+const READING = ["plain", "text_lines", "text_moves", "solving_part"];
+const NAMES = ["run", "build", "solve", "solve_after", "count", ...LINE_CALLS, ...JUDGING, ...READING];
+const EXPORTS = ["__heap_base", "memory", ...NAMES.map((name) => `nissy_${name}`)].sort();
 
 // what a row shows, the arguments of `run`, and what is wanted: the status, the output, the error text, and whether it was full
 const ROWS = [
