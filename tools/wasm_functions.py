@@ -338,8 +338,10 @@ class Function:
         self.is_dead = True
 
     def drop(self, _: Instruction) -> None:
-        """A value that nobody takes."""
-        self.pop()
+        """A value that nobody takes. The name that a call's result has is said to be so, or a compiler would warn."""
+        value = self.pop()
+        if value.text.startswith("t") and value.text[1:].isdigit():
+            self.say(f"(void){value.text};")
 
     def do_nothing(self, _: Instruction) -> None:
         """An instruction without an effect."""

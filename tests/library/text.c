@@ -204,7 +204,7 @@ static void parts_of_steps(void) {
     part_is("R U Q", "F' U' R'", NISSY_NO_PART, 0, 0);
     part_is("", "R\n\nL", NISSY_NO_PART, 0, 0);
     /* eight steps are looked at, and no ninth */
-    part_is("R", "L\nL\nL\nL\nL\nL\nL\nR'", NISSY_PART_ALONE, 7, 7);
+    part_is("R", "D\nF\nU\nB\nL\nD\nF\nR'", NISSY_PART_LEFT_OUT, 0, 6);
     part_is("R", "L\nL\nL\nD\nL\nL\nL\nL\nR'", NISSY_NO_PART, 0, 0);
     guarded steps = guard(NISSY_MOST_STEPS + 1);
     memset(steps.bytes, ' ', steps.size);

@@ -9,19 +9,29 @@ use denote.Struct.Field.{Field, shr_ref_field}
 use denote.Struct.Laws.{shr_ref_laws, shr_ref_copy}
 use Rattle.bumpalo.proofs.bump.Bump.TheLaws as bump
 use Rattle.niss_search.proofs.tables.Tables.TheLaws as tables
-use Rattle.niss_page.specs.Rows.{arena_row, lent_arena_row, lent_arena_ghosts, tables_row}
+use Rattle.niss_page.specs.Rows.{lent_block_row, lent_block_ghosts, arena_row, lent_arena_row, lent_arena_ghosts, tables_row}
 use Rattle.niss_page.specs.contracts.one_block.OneBlock as OneBlock
-use Rattle.niss_page.specs.contracts.one_block.OneBlockAllocator.TheImpl as one
 use Rattle.niss_page.proofs.one_block.OneBlock.TheLaws as one_block
-
-arena_laws : Laws arena_row
-arena_laws = bump.the_row_laws OneBlock.the_row one.ghosts one_block.the_row_laws
-
-abbrev arena_one : One arena_row.mir
-arena_one = is_one arena_row arena_laws
 
 abbrev for_good : NamedLft
 for_good = record { mir = static; lft = [] }
+
+abbrev block_one : One OneBlock.the_row.mir
+block_one = is_one OneBlock.the_row one_block.the_row_laws
+
+abbrev lent_block : Field
+lent_block = shr_ref_field for_good OneBlock.the_row block_one
+
+lent_block_laws : Laws lent_block_row
+lent_block_laws =
+    of_field lent_block (shr_ref_laws for_good OneBlock.the_row block_one) refl
+    (copy_shared lent_block (shr_ref_copy for_good OneBlock.the_row block_one one_block.the_row_laws.shr_laws))
+
+arena_laws : Laws arena_row
+arena_laws = bump.the_row_laws lent_block_row lent_block_ghosts lent_block_laws
+
+abbrev arena_one : One arena_row.mir
+arena_one = is_one arena_row arena_laws
 
 abbrev lent_arena : Field
 lent_arena = shr_ref_field for_good arena_row arena_one

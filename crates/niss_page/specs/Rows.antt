@@ -11,11 +11,18 @@ use Rattle.niss_search.specs.contracts.tables.Tables as Tables
 use Rattle.niss_page.specs.contracts.one_block.OneBlock as OneBlock
 use Rattle.niss_page.specs.contracts.one_block.OneBlockAllocator.TheImpl as one
 
+-- a `&'static` to a block
+abbrev pub lent_block_row : RattleType
+lent_block_row = type_at {n = 0} (RefOf [] tt (plain (λ κs. OneBlock.the_row)) (λ κs. tt)) tt
+
+abbrev pub lent_block_ghosts : Ghosts lent_block_row.Denot
+lent_block_ghosts = reference.ghosts OneBlock.the_row one.ghosts reference.no_dict reference.no_dict
+
 abbrev pub arena_row : RattleType
-arena_row = Bump.the_row OneBlock.the_row one.ghosts
+arena_row = Bump.the_row lent_block_row lent_block_ghosts
 
 abbrev pub arena_ghosts : Ghosts arena_row.Denot
-arena_ghosts = bump.ghosts OneBlock.the_row one.ghosts bump.no_dict bump.no_dict
+arena_ghosts = bump.ghosts lent_block_row lent_block_ghosts bump.no_dict bump.no_dict
 
 -- a `&'static` to an arena
 abbrev pub lent_arena_row : RattleType

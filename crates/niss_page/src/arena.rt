@@ -10,8 +10,9 @@ use niss_search::{Meter, Tables};
 /// What an arena takes at most beside the bytes that it is asked for: it adds its footer, and goes up to whole pages.
 const BESIDE: usize = 4160;
 
-/// An arena over lent memory: it splits the one block, and its proofs are the kit's.
-pub(crate) type Arena = Bump<OneBlock>;
+/// An arena over lent memory: it splits the one block, and its proofs are the kit's. That of a run is one too, so that the
+/// module has one search for both.
+pub(crate) type Arena = Bump<&'static OneBlock>;
 
 /// Tables in an arena that stays.
 pub(crate) type LentTables = Tables<&'static Arena>;
@@ -29,17 +30,36 @@ pub(crate) fn arena_of(block: &OneBlock) -> Bump<&OneBlock> {
     }
 }
 
+/// The block of a room, and the arena over it.
+#[derive(Drop)]
+struct Lent {
+    block: OneBlock,
+    arena: Option<Arena>,
+}
+
 /// An arena in the large room that stays in the small one.
 pub(crate) fn arena_in(small: Room, large: Room) -> Option<&'static Arena> {
-    let block = OneBlock::new(large);
-    let capacity = capacity_of(&block);
-    let Ok(arena) = Bump::try_with_capacity(block, capacity) else {
+    let lent = Lent {
+        block: OneBlock::new(large),
+        arena: None,
+    };
+    let Ok(lent) = Box::new(OneBlock::new(small), lent) else {
         return None;
     };
-    match Box::new(OneBlock::new(small), arena) {
-        Ok(arena) => Some(Box::leak(arena)),
-        Err(_) => None,
-    }
+    let Lent { block, arena } = Box::leak(lent);
+    arena_over(block, arena)
+}
+
+/// An arena over a block, which is put there.
+fn arena_over(
+    block: &'static OneBlock,
+    place: &'static mut Option<Arena>,
+) -> Option<&'static Arena> {
+    let Ok(arena) = Bump::try_with_capacity(block, capacity_of(block)) else {
+        return None;
+    };
+    *place = Some(arena);
+    place.as_ref()
 }
 
 /// Tables that stay in an arena.

@@ -1,28 +1,8 @@
-//! Whether what stands in a line is moves or prose, and whether it is all of a scramble.
+//! Whether what stands in a line is all of a scramble.
 ghost use Rattle.std.specs.Prelude.{◌≤◌, ◌<◌, length, IfSome};
 
 use crate::forms::trimmed;
 use crate::sign::{Kind, first_kind, first_sign};
-use crate::word::{Word, first_word};
-
-/// Whether what stands in a line is moves, after its label and before its comment. What they are is to be read. A line
-/// of words alone that spell none is a sentence, and one without letters is none either.
-pub fn is_moves(body: &[u8]) -> bool {
-    let mut has_words = false;
-    let mut has_others = false;
-    let mut rest = body;
-    while !rest.is_empty() {
-        let (word, length) = first_word(rest);
-        match word {
-            Word::Move | Word::Moves | Word::Name => return true,
-            Word::Said => has_words = true,
-            Word::Other => has_others = true,
-            _ => {}
-        }
-        rest = &rest[length..];
-    }
-    has_others && !has_words
-}
 
 /// What is after a letter with an apostrophe and blanks in front of a text, if they are there.
 fn behind_primed(text: &[u8], letter: u8) -> Option<&[u8]>
@@ -59,10 +39,8 @@ fn behind_frame(text: &[u8]) -> Option<&[u8]>
 fn ends_with_frame(text: &[u8]) -> bool {
     let mut rest = text;
     while !rest.is_empty() {
-        if let Some(end) = behind_frame(rest) {
-            if trimmed(end).is_empty() {
-                return true;
-            }
+        if rest[0] == b'R' && behind_frame(rest).is_some_and(|end| trimmed(end).is_empty()) {
+            return true;
         }
         rest = &rest[1..];
     }
@@ -89,7 +67,7 @@ pub fn is_whole_scramble(body: &[u8]) -> bool {
 pub fn has_frame(text: &[u8]) -> bool {
     let mut rest = text;
     while !rest.is_empty() {
-        if behind_frame(rest).is_some() {
+        if rest[0] == b'R' && behind_frame(rest).is_some() {
             return true;
         }
         rest = &rest[1..];

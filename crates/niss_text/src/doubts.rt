@@ -157,7 +157,7 @@ fn first_side(text: &[u8], from: usize, to: usize) -> usize
     for at in from..to {
         let rest = &text[at..to];
         let is_begun = at == from || !is_letter(text[at.saturating_sub(1)]);
-        if (is_begun && begins_side(rest)) || word_length(rest, b"inv") > 0 {
+        if begins_side(rest) && (is_begun || word_length(rest, b"inv") > 0) {
             return at;
         }
     }

@@ -3,7 +3,7 @@ ghost use Rattle.std.specs.Prelude.{◌≡◌, ◌≤◌, ◌<◌, ◌+◌, true
 ghost use Rattle.niss_text.specs.Signs.{ends_line};
 ghost use Rattle.niss_text.specs.Lines.{IsUnbroken, end_of, end_size};
 
-use crate::body::{has_frame, is_moves, is_whole_scramble};
+use crate::body::{has_frame, is_whole_scramble};
 use crate::forms::{
     begins_comment, head_length, label_of, line_length, listed_length, number_length, trimmed,
 };
@@ -133,6 +133,7 @@ struct Parts {
     comment: usize,
     name: usize,
     slashes: usize,
+    is_moves: bool,
     ghost label_in: { label_begin ≤ label_end },
     ghost words_in: { label_end ≤ moves },
     ghost moves_in: { moves ≤ comment },
@@ -165,6 +166,7 @@ fn parts_of(line: &[u8], head: usize) -> Parts
         comment,
         name: body + span.name,
         slashes,
+        is_moves: span.is_moves,
     }
 }
 
@@ -192,7 +194,7 @@ fn line_behind(line: &[u8], head_kind: Head, head: usize) -> Line
         length: line.len(),
         is_blank: blanks(line) == line.len(),
         is_head_alone: head_kind != Head::None && blanks(&line[head..]) == line.len() - head,
-        is_moves: is_moves(body),
+        is_moves: parts.is_moves,
         is_told: is_told || head_kind == Head::Word,
         is_solution,
         is_final: is_solution && has_word(label, b"final"),
@@ -264,6 +266,12 @@ pub fn whole_length(text: &[u8]) -> usize
 pub fn begins_with_head(text: &[u8]) -> bool {
     let line = &text[..line_length(text)];
     head_of(&line[blanks(line)..], Numbers::OfLines).0 == Head::Word
+}
+
+/// Whether the first line of a text begins with a number that may tell scrambles apart.
+pub fn begins_with_number(text: &[u8], numbers: Numbers) -> bool {
+    let line = &text[..line_length(text)];
+    head_of(&line[blanks(line)..], numbers).0 == Head::Number
 }
 
 /// Whether the first line of a text may begin an attempt: by a head, or as a whole scramble.

@@ -108,8 +108,25 @@ fn kind_of_three(first: u8, second: u8, third: u8) -> Option<Kind>
 }
 
 /// The first sign of a text.
-#[inline(never)]
 pub fn first_sign(text: &[u8]) -> Sign
+    requires { 0 < length text.now }
+    ensures some { 0 < result.length }
+    ensures fits { result.length ≤ length text.now }
+    ensures is { IsSign result.kind (take result.length text.now) }
+{
+    // no longer sign begins with another byte of ASCII
+    if text[0] < 0x80 && text[0] != b'\r' {
+        return Sign {
+            kind: kind_of_byte(text[0]),
+            length: 1,
+        };
+    }
+    longer_sign(text)
+}
+
+/// The first sign of a text, which may have several bytes.
+#[inline(never)]
+fn longer_sign(text: &[u8]) -> Sign
     requires { 0 < length text.now }
     ensures some { 0 < result.length }
     ensures fits { result.length ≤ length text.now }

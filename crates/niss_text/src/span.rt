@@ -7,6 +7,9 @@ use crate::word::{Word, first_word};
 /// there is none.
 #[derive(Clone, Copy)]
 pub struct Span {
+    /// Whether these are moves. What they are is to be read. A line of words alone that spell none is a sentence, and
+    /// one without letters is none either.
+    pub is_moves: bool,
     pub begin: usize,
     pub end: usize,
     pub name: usize,
@@ -31,6 +34,9 @@ struct Frame {
     has_name: bool,
     /// How many words of moves there are, two at most.
     moves: u8,
+    /// There is a word that spells no move, and a letter that does not.
+    has_words: bool,
+    has_others: bool,
 }
 
 impl Frame {
@@ -48,6 +54,8 @@ impl Frame {
             name: 0,
             has_name: false,
             moves: 0,
+            has_words: false,
+            has_others: false,
         }
     }
 
@@ -142,7 +150,8 @@ impl Frame {
         match word {
             Word::Move | Word::Moves => self.with_moves(),
             Word::Name => self.with_name(begin).with_words(begin, end),
-            Word::Said | Word::Mark => self.with_words(begin, end),
+            Word::Said => self.with_said().with_words(begin, end),
+            Word::Mark => self.with_words(begin, end),
             Word::Stamp if self.is_lead => self.with_words(begin, end),
             Word::Open => self.opened(begin),
             Word::Close => self.closed(end),
@@ -160,7 +169,25 @@ impl Frame {
     {
         let mut frame = self;
         frame.is_lead = false;
+        frame.has_others = true;
         frame
+    }
+
+    /// After a word that spells no move.
+    fn with_said(self) -> Frame
+        ensures lead { result.lead ≤ self.lead }
+        ensures tail { result.tail ≤ self.tail }
+        ensures bracket { result.bracket ≤ self.bracket }
+        ensures name { result.name ≤ self.name }
+    {
+        let mut frame = self;
+        frame.has_words = true;
+        frame
+    }
+
+    /// Whether there are moves, or what may be some.
+    fn has_moves(&self) -> bool {
+        self.moves > 0 || self.has_name || (self.has_others && !self.has_words)
     }
 
     /// Where the moves of a line are that has that many bytes. Words are told from moves only beside two moves.
@@ -172,6 +199,7 @@ impl Frame {
         let is_told = self.moves > 1 && !(self.is_open && self.is_of_moves);
         if !is_told {
             return Span {
+                is_moves: self.has_moves(),
                 begin: 0,
                 end: length,
                 name: length,
@@ -183,6 +211,7 @@ impl Frame {
             length
         };
         Span {
+            is_moves: true,
             begin: self.lead.min(end),
             end,
             name: if self.has_name { self.name } else { length },

@@ -102,15 +102,18 @@ pub fn says(text: &[u8], wanted: Wanted) -> bool {
 
 /// Whether a text begins with letters by which solvers name a side of the cube, or a change of it.
 pub fn begins_side(text: &[u8]) -> bool {
-    word_length(text, b"inv") > 0
-        || word_length(text, b"niss") > 0
-        || word_length(text, b"premov") > 0
-        || word_length(text, b"pre-mov") > 0
-        || word_length(text, b"switch") > 0
-        || word_length(text, b"revers") > 0
-        || word_length(text, b"backward") > 0
-        || word_length(text, b"normal") > 0
-        || word_length(text, b"side") > 0
+    if text.is_empty() {
+        return false;
+    }
+    match small(text[0]) {
+        b'i' => word_length(text, b"inv") > 0,
+        b'n' => word_length(text, b"niss") > 0 || word_length(text, b"normal") > 0,
+        b'p' => word_length(text, b"premov") > 0 || word_length(text, b"pre-mov") > 0,
+        b's' => word_length(text, b"switch") > 0 || word_length(text, b"side") > 0,
+        b'r' => word_length(text, b"revers") > 0,
+        b'b' => word_length(text, b"backward") > 0,
+        _ => false,
+    }
 }
 
 /// How many bytes the word has that stands before each of several scrambles, if a text begins with one; else 0.

@@ -1,0 +1,150 @@
+//! Where the attempts of a stretch begin and end, and their scrambles.
+ghost use Rattle.std.specs.Prelude.{◌≡◌, ◌≤◌, ◌<◌, length};
+
+use crate::line::{Head, Line, Numbers, first_line, may_begin, whole_length};
+use crate::stretches::is_open;
+
+/// Whether a line is the head of a scramble.
+pub fn is_head(line: &Line) -> bool {
+    line.head_kind != Head::None
+}
+
+/// What a line after the moves of an attempt says of the next one.
+#[derive(Clone, Copy, PartialEq, Eq)]
+enum Next {
+    /// It begins there.
+    Begins,
+    /// It begins at a number alone before, if there is one.
+    HasMoves,
+    /// It may begin there.
+    MayBegin,
+    Nothing,
+}
+
+/// What the first line of a text says of the next attempt. A whole scramble begins one, whatever stands before it. A
+/// number alone does only if moves without one follow: it may be a result. Without such a number before it, a line counts
+/// only if it may begin one.
+fn next_at(text: &[u8], numbers: Numbers, is_numbered: bool) -> Next {
+    if !is_numbered && !may_begin(text, numbers) {
+        return Next::Nothing;
+    }
+    let line = first_line(text, numbers);
+    if line.head_kind == Head::Number && line.is_head_alone {
+        Next::MayBegin
+    } else if is_head(&line) || (line.is_whole && line.is_moves) {
+        Next::Begins
+    } else if line.is_moves {
+        Next::HasMoves
+    } else {
+        Next::Nothing
+    }
+}
+
+/// What is seen of an attempt before its lines are told: how many bytes it has; where the first line of moves begins, and
+/// the end if there is none; whether that is a whole scramble; and whether prose before it is told from it, since a
+/// head stands in it or before it, or since it is one.
+#[derive(Clone, Copy)]
+pub struct Outline {
+    pub length: usize,
+    pub first: usize,
+    pub is_whole: bool,
+    pub has_name: bool,
+    is_found: bool,
+}
+
+impl Outline {
+    /// Of an attempt without lines.
+    fn nothing() -> Outline
+        ensures { (result.length ≡ 0) × (result.first ≡ 0) }
+    {
+        Outline {
+            length: 0,
+            first: 0,
+            is_found: false,
+            is_whole: false,
+            has_name: false,
+        }
+    }
+
+    /// After one more line, which begins there.
+    fn after(self, line: &Line, at: usize) -> Outline
+        ensures same { result.length ≡ self.length }
+        ensures first { self.first ≤ at → result.first ≤ at }
+    {
+        let mut seen = self;
+        if !self.is_found {
+            seen.has_name = self.has_name || is_head(line) || (line.is_moves && line.is_whole);
+            seen.is_found = line.is_moves;
+            seen.is_whole = line.is_whole;
+            seen.first = at;
+        }
+        seen
+    }
+
+    /// If the attempt has that many bytes.
+    fn ended(self, length: usize) -> Outline
+        requires { self.first ≤ length }
+        ensures length { result.length ≡ length }
+        ensures first { result.first ≤ length }
+    {
+        Outline {
+            length,
+            first: if self.is_found { self.first } else { length },
+            ..self
+        }
+    }
+}
+
+/// The first attempt of a stretch: up to the next head or whole scramble after moves.
+pub fn outline_of(text: &[u8], numbers: Numbers) -> Outline
+    ensures within { (result.first ≤ result.length) × (result.length ≤ length text.now) }
+    ensures some { 0 < length text.now → 0 < result.length }
+{
+    let mut rest = text;
+    let mut seen = Outline::nothing();
+    let mut has_moves = false;
+    let mut number = 0;
+    while !rest.is_empty() {
+        let at = text.len() - rest.len();
+        if has_moves {
+            match next_at(rest, numbers, number > 0) {
+                Next::Begins => return seen.ended(at),
+                Next::HasMoves if number > 0 => return seen.ended(number),
+                Next::MayBegin if number == 0 => number = at,
+                _ => {}
+            }
+        } else {
+            let line = first_line(rest, numbers);
+            has_moves = is_open(&line);
+            seen = seen.after(&line, at);
+        }
+        rest = &rest[whole_length(rest)..];
+    }
+    seen.ended(text.len())
+}
+
+/// How many bytes the lines of a scramble have that begins a text: all up to a blank line, or to the label of the
+/// solution; the first alone if it has all of a scramble, or if a later one says what its moves are.
+pub fn scramble_length(text: &[u8], numbers: Numbers, is_whole: bool) -> usize
+    ensures { result ≤ length text.now }
+{
+    if text.is_empty() {
+        return 0;
+    }
+    let first = whole_length(text);
+    if is_whole {
+        return first;
+    }
+    let mut rest = &text[first..];
+    while !rest.is_empty() {
+        let line = first_line(rest, numbers);
+        if line.is_blank || line.is_solution {
+            return text.len() - rest.len();
+        }
+        if line.is_told {
+            return first;
+        }
+        rest = &rest[whole_length(rest)..];
+    }
+    text.len()
+}

@@ -1,0 +1,126 @@
+//! The stretches of a text, each from a word that is the head of a scramble to the next, and which numbers tell the
+//! scrambles of one apart.
+ghost use Rattle.std.specs.Prelude.{◌≤◌, ◌<◌, length};
+
+use crate::forms::{is_parted, trimmed};
+use crate::line::{
+    Head, Line, Numbers, begins_with_head, begins_with_number, first_line, whole_length,
+};
+
+/// Whether a text has a line that begins the extras of a sheet: E2 is a move too, but not beside E1, which is none.
+pub fn has_extras(text: &[u8]) -> bool {
+    let mut rest = text;
+    while !rest.is_empty() {
+        if begins_extras(trimmed(rest)) {
+            return true;
+        }
+        rest = &rest[whole_length(rest)..];
+    }
+    false
+}
+
+/// Whether a line begins with the first extra.
+fn begins_extras(line: &[u8]) -> bool {
+    line.len() > 1 && line[0] == b'E' && line[1] == b'1' && is_parted(&line[2..])
+}
+
+/// The text up to the next word that is the head of a scramble, after moves.
+pub fn stretch_length(text: &[u8]) -> usize
+    ensures within { result ≤ length text.now }
+    ensures some { 0 < length text.now → 0 < result }
+{
+    let mut rest = text;
+    let mut has_moves = false;
+    let mut seen = 0;
+    while !rest.is_empty() {
+        let at = text.len() - rest.len();
+        // lines are read only if a head follows them
+        if at > 0 && begins_with_head(rest) {
+            has_moves = has_moves || has_open(&text[seen..at]);
+            seen = at;
+            if has_moves && first_line(rest, Numbers::OfLines).head_kind == Head::Word {
+                return at;
+            }
+        }
+        rest = &rest[whole_length(rest)..];
+    }
+    text.len()
+}
+
+/// Whether a text has a line of moves that a scramble may follow only in another attempt.
+fn has_open(text: &[u8]) -> bool {
+    let mut rest = text;
+    while !rest.is_empty() {
+        if is_open(&first_line(rest, Numbers::OfLines)) {
+            return true;
+        }
+        rest = &rest[whole_length(rest)..];
+    }
+    false
+}
+
+/// Whether a line has moves that a scramble may follow only in another attempt: a solution may stand before its
+/// scramble.
+pub fn is_open(line: &Line) -> bool {
+    line.is_moves && !line.is_solution
+}
+
+/// Whether a number has a sign that no list has.
+fn is_marked(head: &[u8]) -> bool {
+    head.iter().any(|byte| *byte == b'#' || *byte == b':')
+}
+
+/// Whether the numbers in front of lines tell scrambles apart: two at least have moves, or one that has a sign that no
+/// list has; no moves are before the first, and none but the first says that it is a step.
+fn are_listed(text: &[u8], numbers: Numbers) -> bool {
+    let mut rest = text;
+    let mut is_headed = false;
+    let mut is_open = false;
+    let mut is_one = false;
+    let mut own = 0u8;
+    while !rest.is_empty() {
+        let line = first_line(rest, numbers);
+        let is_number = line.head_kind == Head::Number;
+        if is_number && own > 0 && line.is_step {
+            return false;
+        }
+        is_headed = is_headed || is_number;
+        is_open = is_open || is_number;
+        is_one = is_one || (is_number && is_marked(&rest[..line.head]));
+        if line.is_moves && !is_headed {
+            return false;
+        }
+        if line.is_moves && is_open {
+            own = if own == 0 { 1 } else { 2 };
+            is_open = false;
+        }
+        rest = &rest[whole_length(rest)..];
+    }
+    own > 1 || (own == 1 && is_one)
+}
+
+/// Whether a line of a text may begin with a number that tells a scramble from others.
+fn has_number(text: &[u8], numbers: Numbers) -> bool {
+    let mut rest = text;
+    while !rest.is_empty() {
+        if begins_with_number(rest, numbers) {
+            return true;
+        }
+        rest = &rest[whole_length(rest)..];
+    }
+    false
+}
+
+/// The numbers that tell the scrambles of a stretch apart.
+pub fn numbers_of(text: &[u8], has_extras: bool) -> Numbers {
+    let numbers = if has_extras {
+        Numbers::WithExtras
+    } else {
+        Numbers::Listed
+    };
+    if has_number(text, numbers) && are_listed(text, numbers) {
+        numbers
+    } else {
+        Numbers::OfLines
+    }
+}
