@@ -40,7 +40,8 @@ struct text_place {
 
 namespace detail {
 
-inline constexpr std::array<const char *, 6> LEFT_OUT = {"labels", "numbers of moves", "comments", "line numbers", "commas", "signs that aren't seen"};
+inline constexpr std::array<const char *, 6> LEFT_OUT = {"labels",       "numbers of moves", "comments",
+                                                         "line numbers", "commas",           "signs that aren't seen"};
 
 inline const std::uint8_t *text_bytes(std::string_view text) { return reinterpret_cast<const std::uint8_t *>(text.data()); }
 

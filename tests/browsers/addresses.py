@@ -42,7 +42,8 @@ def markup(tally: Tally, browser: Browser) -> None:
     elements = browser.script(ELEMENTS)
     for text in MARKUP:
         browser.open("#scramble=" + quote(text, safe=""))
-        word = re.split(r"[\s()]", text)[0]
+        # what stands before a colon is a label, and left out
+        word = re.split(r"[\s()]", text.removeprefix("javascript:"))[0]
         shown = word if len(word) <= 12 else word[:12] + "\u2026"
         tally.equal(f"{text}: the field and the words on it", (browser.value("scramble"), browser.texts("#scramble-fault p")),
             (text, [f"\u201c{shown}\u201d is no move."]))

@@ -1,5 +1,5 @@
-/* Reads texts as solvers write them by the calls for C, one on each line of standard input, and answers each on a line, as hosts.py says. It asks as a
- * caller in C does: by lines, their moves, a check, and the next form. */
+/* Reads texts as solvers write them by the calls for C, one on each line of standard input, and answers each on a line, as hosts.py says. It asks as
+ * a caller in C does: by lines, their moves, a check, and the next form. */
 #include "nissy.h"
 #include "nissy_forms.h"
 #include "nissy_text.h"

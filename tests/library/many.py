@@ -76,7 +76,8 @@ def pairs(tally: Tally) -> None:
     tally.equal("nothing is taken before it is asked for", taken, [])
     tally.equal("the first two", (list(itertools.islice(answers, 2)), len(taken)), ([solved, unsolved], 2))
     first, second, last = answers
-    for fault, number, part, said in ((first, 3, "scramble", "line 3, scramble, column 3: not a move"), (second, 4, "solution", "line 4, solution, column 3: not a move")):
+    for fault, number, part, said in ((first, 3, "scramble", "line 3, scramble, column 3: not a move"),
+                                      (second, 4, "solution", "line 4, solution, column 3: not a move")):
         tally.equal(f"the fault of {number}", (type(fault), fault.line, fault.part, str(fault)), (nissy.LineFault, number, part, said))
         tally.equal("a copy of it", str(pickle.loads(pickle.dumps(fault))), said)
     tally.equal("the last one", last, solved)

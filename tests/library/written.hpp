@@ -142,7 +142,8 @@ void doubts_are_told() {
         const char *reason;
         std::size_t line, column;
     };
-    static constexpr row ROWS[] = {{"R' U' F D R' U' F R U", "another scramble", 1, 1}, {"R U F\n\nEO: D\n\nDR: L\n\nD L B", "several solutions", 3, 5},
+    static constexpr row ROWS[] = {{"R' U' F D R' U' F R U", "another scramble", 1, 1},
+                                   {"R U F\n\nEO: D\n\nDR: L\n\nD L B", "several solutions", 3, 5},
                                    {"R U F\n\nR U // premoves\nF' // EO", "side", 3, 8}, {"R U F\n\nF' U' R LUL", "letters", 3, 10},
                                    {"r u f\n\nF' U' R'", "small letters", 1, 1}, {"R U F\n\nF' // EO U' R' D", "comment", 3, 4},
                                    {"R U F\n\nAnna: F' U' R'\nBert: F' U' D", "a part", 3, 7}, {"R U F\n\n(F') U' R'", "a part", 3, 1}};

@@ -139,7 +139,8 @@ def known(tally: Tally) -> None:
         tally.equal("what is solved", second.check, (True, 1, 1, ("apostrophe",)))
         tally.equal("the scramble that it is of", second.attempt.scramble, ("U", (), ()))
         tally.equal("its forms", second.forms, (("U\u2019", ("apostrophe",), (16, 1, 17)),))
-        tally.equal("one without a solution", third, nissy.AttemptCheck(nissy.Attempt("", nissy.PlainLine("F", (), ()), (), None, (), 0), None, None, None, ()))
+        nothing = nissy.Attempt("", nissy.PlainLine("F", (), ()), (), None, (), 0)
+        tally.equal("one without a solution", third, nissy.AttemptCheck(nothing, None, None, None, ()))
     for wrong in ("R", 3, [4]):
         tally.holds(f"no scrambles: {wrong}", raised(TypeError, lambda: untyped.check_attempts("R", scrambles=wrong)))
     tally.holds("they are named", raised(TypeError, lambda: untyped.check_attempts("R", ["R"])))

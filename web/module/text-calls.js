@@ -26,8 +26,8 @@ const BLANK = 0;
 /** Of which of some lines moves are asked for, by the module's numbers. */
 export const MOVES_OF = { scramble: 0, steps: 1, solution: 2 };
 
-/** A line of a text has at least so many bytes, or the module tells of its lines twice. */
-const SHORT_LINE = 16;
+/** The bytes that end a line, two of which may end one together. */
+const LINE_ENDS = [0x0a, 0x0d];
 
 /** So many bytes are written of each of a text at most, and of the end of a line beside brackets around its moves. */
 const MOST_OF_BYTE = 3;
@@ -93,11 +93,9 @@ export class TextInMemory {
   /** @returns {TextLine[]} all but the blank ones without a head */
   lines() {
     const { memory } = this.#instance;
-    const { length } = this.#written.bytes;
-    if (!this.#tellLines(Math.ceil(length / SHORT_LINE))) this.#tellLines(this.#instance.answered(TEXT_ANSWER.lines));
-    const count = this.#instance.answered(TEXT_ANSWER.lines);
+    const count = this.#tellLines();
     this.#free = aligned(this.#lines + count * TEXT_LINE.bytes);
-    this.#room = length + OF_LINE * count;
+    this.#room = this.#written.bytes.length + OF_LINE * count;
     const lines = [];
     for (let nth = 0; nth < count; nth += 1) {
       const at = this.#lines + nth * TEXT_LINE.bytes;
@@ -107,13 +105,20 @@ export class TextInMemory {
     return lines;
   }
 
-  /** @param {number} room for so many lines @returns {boolean} whether all are told */
-  #tellLines(room) {
-    const { memory, answer } = this.#instance;
-    memory.reach(this.#lines + room * TEXT_LINE.bytes);
+  /** @returns {number} of how many lines the module tells */
+  #tellLines() {
+    const room = this.#mostLines();
+    this.#instance.memory.reach(this.#lines + room * TEXT_LINE.bytes);
     const lines = [BigInt(this.#lines), BigInt(room)];
     this.#instance.call((exports) => exports.nissy_text_lines(...this.#handedOver(), ...lines));
-    return memory.byte(answer) === STATUS.done;
+    return this.#instance.answered(TEXT_ANSWER.lines);
+  }
+
+  /** @returns {number} how many lines the text has at most */
+  #mostLines() {
+    let most = 1;
+    for (const byte of this.#written.bytes) if (byte === LINE_ENDS[0] || byte === LINE_ENDS[1]) most += 1;
+    return most;
   }
 
   /**
