@@ -96,8 +96,9 @@ enum nissy_moves_of {
  * `left_out` tells what one of these lines has left out, in its label and its comment too.
  *
  * Three bytes and places for each from `moves` to `comment`, and three for each line, are never too few. NISSY_USAGE: no moves have this
- * number. It takes no memory. Any lines may be given: of a `comment` beyond the text what is in the text is read, of a `moves` not before that
- * nothing; what isn't 0 says yes. */
+ * number. Any lines may be given: of a `comment` beyond the text what is in the text is read, of a `moves` not before that nothing; what isn't 0
+ * says yes. It takes no memory. Of nissy.c on a processor with the other order of bytes it takes some for a copy of the lines, and returns
+ * NISSY_STOPPED if that is refused. */
 nissy_plain_answer nissy_text_moves(const uint8_t *text, size_t text_length, const nissy_text_line *lines, size_t count, uint8_t which,
                                     uint8_t *out, size_t out_room, uint64_t *places, size_t places_room);
 
