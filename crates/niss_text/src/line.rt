@@ -62,6 +62,31 @@ pub struct Line {
 }
 
 impl Line {
+    /// A line of that many bytes, all of them blanks.
+    fn blank(length: usize) -> Line
+        ensures { result.length ≡ length }
+    {
+        Line {
+            head_kind: Head::None,
+            head: 0,
+            label_begin: length,
+            label_end: length,
+            moves: length,
+            comment: length,
+            name: length,
+            slashes: length,
+            length,
+            is_blank: true,
+            is_head_alone: false,
+            is_moves: false,
+            is_told: false,
+            is_solution: false,
+            is_final: false,
+            is_step: false,
+            is_whole: false,
+        }
+    }
+
     /// Whether something is said after its moves.
     pub fn has_comment(&self) -> bool {
         self.comment < self.length
@@ -170,7 +195,7 @@ fn parts_of(line: &[u8], head: usize) -> Parts
     }
 }
 
-/// The line without what stands in front of it, which has that many bytes.
+/// A line that isn't blank without what stands in front of it, which has that many bytes.
 fn line_behind(line: &[u8], head_kind: Head, head: usize) -> Line
     requires { head ≤ length line.now }
     ensures head { result.head ≡ head }
@@ -192,7 +217,7 @@ fn line_behind(line: &[u8], head_kind: Head, head: usize) -> Line
         name: parts.name,
         slashes: parts.slashes,
         length: line.len(),
-        is_blank: blanks(line) == line.len(),
+        is_blank: false,
         is_head_alone: head_kind != Head::None && blanks(&line[head..]) == line.len() - head,
         is_moves: parts.is_moves,
         is_told: is_told || head_kind == Head::Word,
@@ -208,6 +233,9 @@ pub fn line_of(line: &[u8], numbers: Numbers) -> Line
     ensures { result.length ≡ length line.now }
 {
     let begin = blanks(line);
+    if begin == line.len() {
+        return Line::blank(begin);
+    }
     let (kind, length) = head_of(&line[begin..], numbers);
     if kind != Head::None {
         let seen = line_behind(line, kind, begin + length);
