@@ -1,4 +1,4 @@
-use Rattle.std.proofs.Common.{◌≡◌, ℕ, ◌+◌, sym, ap, ◌∙◌, length, arith}
+use Rattle.std.proofs.Common.{◌≡◌, sym, ap, ◌∙◌, length, arith}
 use Rattle.niss_embed.proofs.PartLemmas.{bounds_to, bounds_passed, bounds_added, bounds_end, bounds_few}
 use Rattle.niss_embed.proofs.parts.bounds_of.Goals as goal
 

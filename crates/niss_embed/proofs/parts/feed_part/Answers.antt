@@ -1,4 +1,4 @@
-use Rattle.std.proofs.Common.{◌≡◌, [], sym, subst}
+use Rattle.std.proofs.Common.{[], sym, subst}
 use Rattle.niss_moves.specs.Reader.{IsFed}
 use Rattle.niss_embed.specs.declared.parts.How.{How}
 use Rattle.niss_embed.specs.Parts.{arranged}
