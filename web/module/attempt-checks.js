@@ -1,6 +1,6 @@
 // What `check` says of each attempt of a text, where faults and forms stand in the text, and what makes one doubt the
 // reading of an attempt that isn't solved.
-import { ANOTHER_SCRAMBLE, A_PART, WHICH_SCRAMBLE, attemptOf, attemptsIn } from "./attempts.js";
+import { ANOTHER_SCRAMBLE, A_PART, WHICH_SCRAMBLE, attemptOf, attemptsIn, withoutPlaces } from "./attempts.js";
 import { knownParts } from "./known.js";
 import { checked, rewritten, solvingStep } from "./line-calls.js";
 import { STATUS } from "./status.js";
@@ -144,7 +144,7 @@ function seenPart(instance, { scramble: at, begin, attempts }, scrambles, places
   const isWritten = others.length === 1 && first.solution === null
     && isSame(instance, scrambles[at], others[0].scramble.line);
   if (isWritten) return seenAttempt(instance, { ...others[0], name: first.name }, places);
-  const { scramble } = attemptOf(scrambles[at]);
+  const scramble = withoutPlaces(scrambles[at]);
   if (others.length === 0) return seenAttempt(instance, { ...first, scramble }, places);
   /** @type {AttemptDoubt} */
   const doubt = { reason: ANOTHER_SCRAMBLE, place: places.of(others[0].scramble.places[0]) };
@@ -162,7 +162,7 @@ export function seenSolutions(instance, text, scrambles) {
   // all of it is read before its memory is taken for the lines that are checked
   const parts = knownParts(instance, text, scrambles.length);
   const { places } = text.written;
-  const told = scrambles.map((scramble) => seenAttempt(instance, attemptOf(scramble), places));
+  const told = scrambles.map((scramble) => seenAttempt(instance, attemptOf(withoutPlaces(scramble)), places));
   /** @type {SeenAttempt[]} */
   const others = [];
   for (const part of parts) {

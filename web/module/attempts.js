@@ -40,14 +40,16 @@ export const WHICH_SCRAMBLE = "which scramble";
 /** What a line is, by the module's numbers. */
 export const LINE_KIND = { blank: 0, before: 1, scramble: 2, step: 3, note: 4 };
 
+/** @param {string} line @returns {PlainLine} one that has no place in the text */
+export const withoutPlaces = (line) => ({ line, places: [], leftOut: [] });
+
 /**
- * An attempt with nothing but a scramble that has no place in the text.
- * @param {string} scramble
+ * An attempt with nothing but a scramble.
+ * @param {PlainLine} scramble
  * @returns {Attempt}
  */
 export const attemptOf = (scramble) => ({
-  name: "", scramble: { line: scramble, places: [], leftOut: [] }, steps: [], solution: null, candidates: [], before: 0,
-  doubt: null,
+  name: "", scramble, steps: [], solution: null, candidates: [], before: 0, doubt: null,
 });
 
 /**
@@ -175,5 +177,5 @@ export class AttemptReader {
 export function attemptsIn(text) {
   const reader = new AttemptReader(text);
   const attempts = byAttempt(text.lines()).filter(hasScramble).map((lines) => reader.attempt(lines));
-  return attempts.length > 0 ? attempts : [attemptOf("")];
+  return attempts.length > 0 ? attempts : [attemptOf(withoutPlaces(""))];
 }

@@ -1,6 +1,6 @@
 // Reads text as solvers write it on the page's own thread, so that what is typed or pasted is read before anything else
 // is done with it: by an instance of the engine's module that has nothing else to do.
-import { attemptsIn } from "../module/attempts.js";
+import { attemptOf, attemptsIn } from "../module/attempts.js";
 import { Instance } from "../module/instance.js";
 import { TextInMemory } from "../module/text-calls.js";
 import { WrittenText } from "../module/written.js";
@@ -10,11 +10,6 @@ import { WrittenText } from "../module/written.js";
 
 /** @param {string} text @returns {PlainLine} it as it stands there */
 const asItStands = (text) => ({ line: text, places: Array.from(text, (_, at) => at), leftOut: [] });
-
-/** @param {string} text @returns {Attempt} it as a scramble */
-const asScramble = (text) => ({
-  name: "", scramble: asItStands(text), steps: [], solution: null, candidates: [], before: 0, doubt: null,
-});
 
 /** @param {Instance} instance @param {string} text */
 const readBy = (instance, text) => new TextInMemory(instance, new WrittenText(text));
@@ -44,6 +39,6 @@ export class Reader {
 
   /** @param {string} text @returns {Attempt[]} */
   attempts(text) {
-    return this.#instance === null ? [asScramble(text)] : attemptsIn(readBy(this.#instance, text));
+    return this.#instance === null ? [attemptOf(asItStands(text))] : attemptsIn(readBy(this.#instance, text));
   }
 }
