@@ -88,7 +88,8 @@ export type AttemptCheck = {
   doubt: AttemptDoubt | null;
 };
 
-export type OneReply = Answer | LineReply | CountReply | SolveReply | FactsReply | CheckReply | SidesReply | BestReply | LineAfterReply;
+export type OneReply = Answer | LineReply | CountReply | SolveReply | FactsReply | CheckReply | SidesReply | BestReply
+  | LineAfterReply;
 export type TextReply = PlainLine | Attempt[] | SeenAttempt[];
 export type Reply = OneReply | OneReply[] | TextReply;
 

@@ -9,7 +9,7 @@ import type { Request } from "./requests.js";
 export type SentModule = WebAssembly.Module | ArrayBuffer | Uint8Array;
 
 /** A worker: what it is sent, and its end. */
-export type Sent = { postMessage: (message: unknown) => void; terminate: () => void };
+export type Sent = { postMessage: (message: object) => void; terminate: () => void };
 
 /** Starts a worker whose messages are taken, and of which it is told that it failed. */
 export type NewWorker = (

@@ -1,10 +1,12 @@
 // The state of the page in its address, after the #, so that it can be kept and sent. What an address says is checked
 // piece by piece: each piece becomes a part of the state, or is left out and named.
+import { thrownError } from "./certain.js";
 import { GREATEST_SLACK, LONGEST_NOTE, LONGEST_SCRAMBLE, MOST_CANDIDATES } from "./limits.js";
-import { REDUCTIONS, SIDES, isSide, stepNamed } from "./steps.js";
+import { REDUCTIONS, SIDES, isOnAxis, isSide } from "./steps.js";
 import type { Moves as Part, Side } from "../module/sides.js";
+import type { Step } from "../module/steps.js";
 
-export type List = { step: string; side: Side | "both"; slack: number; isAll: boolean };
+export type List = { step: Step; side: Side | "both"; slack: number; isAll: boolean };
 /** `next`: the reduction it was kept with, or "". */
 export type Candidate = { parts: Part[]; note: string; next: string };
 export type State = { scramble: string; parts: Part[]; side: Side; list: List | null; kept: Candidate[] };
@@ -19,11 +21,11 @@ const ALL_ROWS = "all";
 export const emptyState = (): State => ({ scramble: "", parts: [], side: "normal", list: null, kept: [] });
 
 /** A text in which signs stand for lone halves of pairs, which no address has. */
-const wellFormed = (text) => text.replace(/[\uD800-\uDFFF]/gu, "\uFFFD");
+const wellFormed = (text: string) => text.replace(/[\uD800-\uDFFF]/gu, "\uFFFD");
 
 /** Moves as an address has them: `_` for a blank and `-` for an apostrophe, since some programs cut it there. */
-function escaped(text) {
-  const plain = (sign) => `%${sign.charCodeAt(0).toString(16).toUpperCase()}`;
+function escaped(text: string) {
+  const plain = (sign: string) => `%${sign.charCodeAt(0).toString(16).toUpperCase()}`;
   return encodeURIComponent(wellFormed(text))
     .replace(/[-_()*!~.]/g, plain)
     .replace(/%20/g, "_")
@@ -33,7 +35,7 @@ function escaped(text) {
 /** @returns a text as the one line that the engine reads of it */
 export const oneLine = (text: string) => text.replace(/[\r\n]/g, " ");
 
-const spelled = (text) => decodeURIComponent(wellFormed(text).replace(/_/g, "%20").replace(/-/g, "'"));
+const spelled = (text: string) => decodeURIComponent(wellFormed(text).replace(/_/g, "%20").replace(/-/g, "'"));
 
 /** @returns its sides, each with its moves, such as `normal.R_U.inverse.F` */
 const writtenPart = (part: Part) =>
@@ -84,9 +86,9 @@ const readParts = (text: string): Part[] => split(text, "~", MOST_PARTS).map(rea
 
 function readList(text: string): List {
   const [step, side, slack, all, ...rest] = text.split(".");
-  const isKnown = stepNamed(step) && /^[0-9]$/.test(slack) && Number(slack) <= GREATEST_SLACK;
-  const isRead = isKnown && (all === undefined || all === ALL_ROWS) && rest.length === 0;
-  if (!isRead || !(isSide(side) || side === "both")) throw new Error("no list");
+  const isRead = /^[0-9]$/.test(slack) && Number(slack) <= GREATEST_SLACK && (all === undefined || all === ALL_ROWS);
+  const isKnown = isOnAxis(step) && (isSide(side) || side === "both");
+  if (!isRead || !isKnown || rest.length > 0) throw new Error("no list");
   return { step, side, slack: Number(slack), isAll: all === ALL_ROWS };
 }
 
@@ -111,13 +113,13 @@ function readSide(text: string) {
 
 const readCandidates = (text: string) => split(text, ",", MOST_CANDIDATES).map(readCandidate);
 
-/** Which part of the state each field of an address is, and how it is read. */
-const FIELDS = {
-  scramble: { is: "scramble", read: readText },
-  steps: { is: "parts", read: readParts },
-  side: { is: "side", read: readSide },
-  list: { is: "list", read: readList },
-  kept: { is: "kept", read: readCandidates },
+/** The part of the state that each field of an address gives. */
+const FIELDS: Record<string, (value: string) => Partial<State>> = {
+  scramble: (value) => ({ scramble: readText(value) }),
+  steps: (value) => ({ parts: readParts(value) }),
+  side: (value) => ({ side: readSide(value) }),
+  list: (value) => ({ list: readList(value) }),
+  kept: (value) => ({ kept: readCandidates(value) }),
 };
 
 /** Puts a field into the state, or says why it isn't. */
@@ -128,11 +130,10 @@ function readField(state: State, field: string, said: Set<string>): string {
   if (said.has(name)) return "said twice";
   said.add(name);
   try {
-    const { is, read } = FIELDS[name];
-    state[is] = read(value);
+    Object.assign(state, FIELDS[name](value));
     return "";
   } catch (fault) {
-    return fault instanceof URIError ? "broken escapes" : fault.message;
+    return fault instanceof URIError ? "broken escapes" : thrownError(fault).message;
   }
 }
 

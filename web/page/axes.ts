@@ -1,6 +1,7 @@
 // The steps that lead to a domino reduction: an orientation of the edges on an axis, and after it a reduction on one of
 // the other two.
 import { AXES, type Axis } from "../module/facts.js";
+import { present } from "./certain.js";
 import type { Step } from "../module/steps.js";
 
 /** Of a reduction `needs` is the orientation that it keeps. */
@@ -30,11 +31,11 @@ export const REDUCTIONS: readonly StepOnAxis[] = [
 
 const STEPS_ON_AXES = [...ORIENTATIONS, ...REDUCTIONS];
 
-/**
- * The step of this name.
- * @param name of one of these
- */
-export const stepNamed = (name: string) => STEPS_ON_AXES.find((step) => step.name === name) as StepOnAxis;
+/** Whether this is the name of one of these steps. */
+export const isOnAxis = (name: string): name is Step => STEPS_ON_AXES.some((step) => step.name === name);
+
+/** @returns the step of a name that one of these has */
+export const stepNamed = (name: string): StepOnAxis => present(STEPS_ON_AXES.find((step) => step.name === name));
 
 /**
  * The reductions that may follow an orientation.
@@ -46,5 +47,5 @@ export const reductionsAfter = (orientation: string) => REDUCTIONS.filter(({ nee
 export function lastAxisOf({ axis, needs }: StepOnAxis): Axis {
   if (needs === null) return axis;
   const kept = [axis, stepNamed(needs).axis];
-  return AXES.find((each) => !kept.includes(each)) as Axis;
+  return present(AXES.find((each) => !kept.includes(each)));
 }

@@ -1,6 +1,6 @@
 // A row of the best: its moves with their twins, what they reach, the reduction that follows with its least length on
 // each side alone and how many of that length there are, and its star.
-import { counted, element } from "./element.js";
+import { counted, element, inner, type Attributes } from "./element.js";
 import { starButton, takeButton } from "./rows.js";
 import { SIDES, bracketed, sidesOf } from "./steps.js";
 import type { Counts } from "./counts.js";
@@ -19,7 +19,7 @@ const SEEN_SIGNS = 2;
 const SIGN_OF_TWIN = 0.7;
 
 /** @returns a cell whose role stays where a narrow page lays the row out as a grid */
-function cell(name: "td" | "th", attributes, ...children) {
+function cell(name: "td" | "th", attributes: Attributes, ...children: (Node | string)[]) {
   const role = name === "th" ? { role: "rowheader", scope: "row" } : { role: "cell" };
   return element(name, { ...role, ...attributes }, ...children);
 }
@@ -59,7 +59,7 @@ export function tellCounts(shown: Element, counts: Counts) {
   shown.querySelectorAll(".number").forEach((each, at) => {
     const count = counts[SIDES[at]];
     if (count === null) return;
-    each.querySelector(".times").textContent = `×${count.toLocaleString("en")}`;
+    inner(each, ".times").textContent = `×${count.toLocaleString("en")}`;
     each.setAttribute("aria-label", `${each.getAttribute("aria-label")}, ${counted(count, "solution")}`);
   });
 }

@@ -1,6 +1,7 @@
 // The card of the best ways on, which are looked for unasked: with progress, a stop, filters, rows that go on.
 import { Stopped } from "../module/faults.js";
 import { bestRow, type RowActs } from "./best-row.js";
+import { thrownError, present } from "./certain.js";
 import { ShownCounts } from "./counts.js";
 import { announce, announceLater, counted, part, setBusy, tell } from "./element.js";
 import { Filters, NOT_MOVES, filtersOfBest, offerChoices, offerLastTurns, offerMoves } from "./filter.js";
@@ -35,7 +36,7 @@ export class BestContinuations {
   #acts: RowActs & { shown: () => void };
   #kinds = filtersOfBest();
   #filters = new Filters("best", part("best-note"), Object.values(this.#kinds), () => this.#filtered());
-  #question = null;
+  #question: Question | null = null;
   /** What the rows are shown of. */
   #progress: Further | null = null;
   /** What was found since, if rows of it belong among those that are seen, or none is yet. */
@@ -75,7 +76,7 @@ export class BestContinuations {
   /** Takes another cube, or none, and looks for the best of it. */
   reset(cube: { scramble: string; parts: Moves[]; reached: string[] } | null) {
     this.#stop();
-    this.#question = cube;
+    this.#question = cube && { ...cube, slack: 0 };
     [this.#progress, this.#newer] = [null, null];
     this.#seen = [];
     this.#room.style.minHeight = "";
@@ -130,7 +131,7 @@ export class BestContinuations {
 
   /** Makes the row seen that has this name, and returns its button, or null. */
   reveal(key: string) {
-    const placeIn = (progress) => (this.#rows(progress) ?? []).findIndex((row) => row.key === key);
+    const placeIn = (progress: Further | null) => (this.#rows(progress) ?? []).findIndex((row) => row.key === key);
     if (placeIn(this.#progress) < 0) this.#takeNewer();
     const at = placeIn(this.#progress);
     // it may be among those that are still to be found
@@ -173,7 +174,7 @@ export class BestContinuations {
     const isEnough = this.#progress.rows.length >= this.#shown && this.#filters.count === 0;
     if (isEnough && part("best-sort").value !== "case") return;
     this.#stop();
-    this.#find(this.#question, this.#progress, true);
+    this.#find(present(this.#question), this.#progress, true);
   }
 
   /** Goes on by itself from what was found, if it may. */
@@ -181,7 +182,7 @@ export class BestContinuations {
     this.#working(false);
     this.#complete();
     if (this.#isAsked || !part("best-further").checked) return;
-    this.#further.begin({ ...this.#question, slack: this.#progress.slack });
+    this.#further.begin({ ...present(this.#question), slack: present(this.#progress).slack });
   }
 
   #turnFurther() {
@@ -193,7 +194,7 @@ export class BestContinuations {
   /** Takes what was found without being asked for. Rows that are seen stay where they are: what belongs among them
    * waits until it is asked for. */
   #foundFurther(progress: Further) {
-    this.#found.keep({ ...this.#question, slack: progress.slack }, progress);
+    this.#found.keep({ ...present(this.#question), slack: progress.slack }, progress);
     const seen = this.#seen.map(({ key }) => key);
     const rows = this.#rows(progress) ?? [];
     this.#newer = progress;
@@ -219,8 +220,9 @@ export class BestContinuations {
 
   /** Says how many rows belong among those that are seen, and how good the first is, if it is better than all. */
   #tellNewer(count: number, first?: Row) {
-    const isBest = count > 0 && first.total < (this.#rows(this.#progress)[0]?.total ?? 0);
-    const words = `${counted(count, "new row")}${isBest ? `: ${counted(first.total, "move")}` : ""}`;
+    const total = first?.total ?? Infinity;
+    const isBest = count > 0 && total < (this.#rows(this.#progress)?.[0]?.total ?? 0);
+    const words = `${counted(count, "new row")}${isBest ? `: ${counted(total, "move")}` : ""}`;
     tell(part("best-new"), count === 0 ? "" : words);
     if (isBest) announceLater(words);
   }
@@ -231,16 +233,17 @@ export class BestContinuations {
     this.#takeNewer();
     this.#draw();
     const first = this.#seen.find(({ key }) => !seen.has(key));
-    (first ? takeNamed(this.#body, first.key) : part("best-heading")).focus({ preventScroll: true });
+    const taken = first ? takeNamed(this.#body, first.key) : null;
+    (taken ?? part("best-heading")).focus({ preventScroll: true });
   }
 
   /** Finds what is asked for. The shortest are shown first, and stay until all are found.
    * @param known what was found before: of fewer moves more, or its first rows
    * @param isWhole whether all rows of that are asked for */
   async #find(question: Question, known?: Further, isWhole = false) {
-    const { slack: wanted } = isWhole ? known : question;
+    const { slack: wanted } = isWhole && known ? known : question;
     const isStill = () => question === this.#question;
-    const tell = (progress) => isStill() && this.#looked(progress);
+    const tell = (progress: Progress) => isStill() && this.#looked(progress);
     this.#progress = known ?? null;
     if (!known) this.#showRows([]);
     else this.#draw();
@@ -248,13 +251,13 @@ export class BestContinuations {
     part("best-note").textContent = LOOKING_FOR_BEST;
     try {
       for (const slack of known || wanted === 0 ? [wanted] : [0, wanted]) {
-        const found = { ...await findAll(this.#finders, { ...question, slack, isWhole }, tell), slack };
+        const found: Further = { ...await findAll(this.#finders, { ...question, slack, isWhole }, tell), slack };
         if (!isStill()) return;
         this.#found.keep({ ...question, slack }, found);
         [this.#progress, this.#newer] = [found, null];
         this.#draw();
       }
-      this.#show(this.#progress);
+      this.#show(present<Further>(this.#progress));
       this.#goFurther();
     } catch (fault) {
       if (!isStill()) return;
@@ -277,10 +280,10 @@ export class BestContinuations {
     Object.assign(part("best-progress"), { max: all, value: done });
   }
 
-  #brokenOff(fault) {
+  #brokenOff(fault: unknown) {
     this.#stop();
     const note = this.#progress ? part("best-note").textContent : "";
-    const text = fault instanceof Stopped ? `Stopped. ${note}`.trim() : fault.message;
+    const text = fault instanceof Stopped ? `Stopped. ${note}`.trim() : thrownError(fault).message;
     part("best-note").textContent = text;
     announce(text);
   }
@@ -297,15 +300,15 @@ export class BestContinuations {
     part("best-progress").hidden = !isOn;
     setBusy("best", isAsked, "");
     // of rows that a stop left too
-    if (!isAsked && this.#progress) this.#counts.tell(this.#question, this.#seen);
+    if (!isAsked && this.#progress) this.#counts.tell(present(this.#question), this.#seen);
   }
 
   /** @param progress all that was looked for */
   #show(progress: Further) {
     this.#progress = progress;
     this.#working(false);
-    const endsOf = (row) => SIDES.map((side) => row.part[side]).filter(Boolean);
-    if (this.#question.reached.length > 0) offerLastTurns("best-last", progress.rows.flatMap(endsOf));
+    const endsOf = (row: Row) => SIDES.map((side) => row.part[side]).filter(Boolean);
+    if (present(this.#question).reached.length > 0) offerLastTurns("best-last", progress.rows.flatMap(endsOf));
     this.#draw();
     this.#acts.shown();
   }
@@ -322,11 +325,12 @@ export class BestContinuations {
   #draw() {
     const left = this.#rows(this.#progress);
     const rows = left ?? [];
-    this.#filters.show(rows.length === 0 && this.#progress?.isWhole && this.#progress.rows.length > 0);
+    const { isWhole = false, rows: all = [] } = this.#progress ?? {};
+    this.#filters.show(rows.length === 0 && isWhole && all.length > 0);
     const shown = rows.slice(0, this.#shown);
     this.#showRows(shown);
     if (this.#progress === null) return;
-    if (!this.#isAsked) this.#counts.tell(this.#question, shown);
+    if (!this.#isAsked) this.#counts.tell(present(this.#question), shown);
     this.#tellRows(left);
   }
 
@@ -334,7 +338,7 @@ export class BestContinuations {
    * @param rows what the filters leave; null if what is typed isn't moves */
   #tellRows(rows: Row[] | null) {
     // with those that are still to be found
-    const { count } = this.#newer ?? this.#progress;
+    const { count } = present(this.#newer ?? this.#progress);
     const left = this.#filters.count > 0 ? rows?.length ?? 0 : count;
     part("best-more").hidden = this.#shown >= left;
     // on one line with what stands beside it
@@ -344,8 +348,8 @@ export class BestContinuations {
 
   /** @param left how many rows are left */
   #note(left: number) {
-    const { count, tried, slack } = this.#newer ?? this.#progress;
-    const longer = slack > this.#question.slack ? `Up to ${slack} longer: ` : "";
+    const { count, tried, slack } = present(this.#newer ?? this.#progress);
+    const longer = slack > present(this.#question).slack ? `Up to ${slack} longer: ` : "";
     const some = count < tried ? `the best ${count.toLocaleString("en")} of ` : "";
     const all = some + counted(tried, "row");
     const words = `${longer}${left === count ? all : `${left.toLocaleString("en")} of ${all}`}.`;

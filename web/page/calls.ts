@@ -2,10 +2,12 @@
 // asked), so that the page never waits. Workers start and build tables while nothing else is asked.
 import { NissyFault } from "../module/faults.js";
 import { WorkerQueue, type SentModule } from "../module/worker-queue.js";
-import { ORIENTATIONS, REDUCTIONS, openSteps, reductionsAfter } from "./steps.js";
+import { ORIENTATIONS, REDUCTIONS, namesOf, openSteps, reductionsAfter } from "./steps.js";
 import { waitsForAnswers } from "./view.js";
 import { watched } from "./watch.js";
 import type { Answers } from "./worker.js";
+import type { Request } from "../module/requests.js";
+import type { Step } from "../module/steps.js";
 
 const UNREADABLE = "An answer of it can't be read.";
 
@@ -22,7 +24,7 @@ export function workersOf(script: string): () => Promise<Worker> {
     worker.addEventListener("messageerror", () => worker.dispatchEvent(unread()));
     return worker;
   };
-  let early = null;
+  let early: Worker | null = null;
   try {
     early = start();
     // nobody is there yet to be told that it failed: another one takes its place
@@ -42,6 +44,8 @@ export function workersOf(script: string): () => Promise<Worker> {
   };
 }
 
+type Followed = ((progress: unknown) => void) | undefined;
+
 /** An engine in a worker of its own, which the first question starts. */
 export class Calls {
   #queue: WorkerQueue;
@@ -50,7 +54,7 @@ export class Calls {
   /** The steps whose tables are built. */
   #ready = new Set<string>();
   /** The steps whose tables are still to be built. */
-  #unready: string[] = [];
+  #unready: Step[] = [];
 
   constructor(newWorker: () => Promise<Worker>, module: SentModule) {
     this.#queue = new WorkerQueue(module, watched(newWorker));
@@ -58,29 +62,28 @@ export class Calls {
 
   /** What the engine says. Rejects with a `NissyFault` if lines can't be read. */
   async ask<Name extends keyof Answers>(
-    call: Name, about: Parameters<Answers[Name]>[1], followed?: (progress: any) => void,
+    call: Name, about: Parameters<Answers[Name]>[1], followed?: Parameters<Answers[Name]>[2],
   ): Promise<ReturnType<Answers[Name]>> {
     this.#asked++;
     try {
-      return await this.#answer(call, about, followed);
+      return await this.#answer(call, about, followed as Followed);
     } finally {
       this.#asked--;
     }
   }
 
-  async #answer(call: string, about: unknown, followed?: (progress: any) => void) {
-    const { value, fault } = await this.#queue.answer({ call, about } as any, {}, followed);
+  async #answer(call: keyof Answers, about: unknown, followed?: Followed) {
+    const { value, fault } = await this.#queue.answer({ call, about } as unknown as Request, {}, followed);
     if (fault) throw new NissyFault(fault.text, fault);
     return value;
   }
 
   /** Has the tables of some steps built before they are needed, one after another, until questions are given up. */
-  async ready(steps: string[]) {
+  async ready(steps: Step[]) {
     const unready = steps.filter((name) => !this.#ready.has(name));
     this.#unready = unready;
     try {
-      while (unready === this.#unready && unready.length > 0) {
-        const step = unready.shift();
+      for (let step = unready.shift(); unready === this.#unready && step !== undefined; step = unready.shift()) {
         await this.#answer("build", { step });
         this.#ready.add(step);
       }
@@ -112,8 +115,6 @@ export class Calls {
 /** How long nothing is asked before it begins. */
 const REST = 150;
 
-const namesOf = (steps) => steps.map(({ name }) => name);
-
 export class Readiness {
   #workers: { calls: Calls; byHand: Calls; list: Calls; finders: Calls[] };
   #timer = 0;
@@ -134,7 +135,7 @@ export class Readiness {
     this.#timer = setTimeout(go, REST);
   }
 
-  #build(reached, isBare) {
+  #build(reached: string[], isBare: boolean) {
     const { calls, byHand, list, finders } = this.#workers;
     byHand.ready(["eofb"]);
     list.ready(namesOf(openSteps(reached)));

@@ -39,7 +39,7 @@ function sayOn(button: HTMLElement, word: string) {
   button.textContent = word;
   setTimeout(() => {
     button.style.minWidth = "";
-    button.textContent = button.dataset.word;
+    button.textContent = button.dataset.word ?? "";
   }, MOMENT);
 }
 
@@ -81,7 +81,7 @@ export async function copy(text: string, button: HTMLElement, shownIn: HTMLEleme
     announce(`Copied: ${text}`);
     sayOn(button, "Copied");
   } else if (shownIn) {
-    getSelection().selectAllChildren(shownIn);
+    getSelection()?.selectAllChildren(shownIn);
     announce("Selected; copy it with the keys of your system.");
     sayOn(button, "Selected");
   } else {

@@ -1,6 +1,7 @@
 // How many of the shortest reductions there are on each side after the rows of the best that are seen. They are asked
 // for once a row is seen: thousands never are.
 import { tellCounts } from "./best-row.js";
+import { present } from "./certain.js";
 import { setBusy } from "./element.js";
 import { takeNamed } from "./rows.js";
 import type { Calls } from "./calls.js";
@@ -60,7 +61,7 @@ export class ShownCounts {
     const seen = entries.filter(({ isIntersecting, target }) => isIntersecting && this.#unseen.has(target));
     for (const { target } of seen) {
       this.#observer.unobserve(target);
-      const row = this.#unseen.get(target);
+      const row = present(this.#unseen.get(target));
       this.#unseen.delete(target);
       this.#known.set(row.key, null);
       this.#wanted.push(row);
@@ -70,7 +71,7 @@ export class ShownCounts {
 
   async #askAll() {
     this.#isAsking = true;
-    while (this.#wanted.length > 0) await this.#ask(this.#wanted.shift());
+    for (let row = this.#wanted.shift(); row; row = this.#wanted.shift()) await this.#ask(row);
     this.#isAsking = false;
     setBusy(this.#body.id, false);
   }
@@ -78,8 +79,8 @@ export class ShownCounts {
   async #ask(row: Row) {
     const known = this.#known;
     // what the rows are chosen by is there without it
-    const { scramble, parts } = this.#question;
-    const asked = { scramble, parts: [...parts, row.part], step: row.next.step };
+    const { scramble, parts } = present(this.#question);
+    const asked = { scramble, parts: [...parts, row.part], step: present(row.next).step };
     const found = await this.#calls.ask("countsAfter", asked).catch(() => null);
     if (known !== this.#known || found === null) return;
     known.set(row.key, found);

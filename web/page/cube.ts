@@ -1,6 +1,7 @@
 // The card of the cube: the nets of both sides, the pieces marked on them, how they are held, and moves played on them.
 import { AXES, type Facts } from "../module/facts.js";
 import { stickersOf } from "../module/stickers.js";
+import { present } from "./certain.js";
 import { announce, element, part, tell } from "./element.js";
 import { PLACES, emptyNet, showCube, stickerOf, turnedView } from "./net.js";
 import { SIDES, axisName } from "./steps.js";
@@ -15,17 +16,20 @@ const BEAT = 700;
 /** The places of the pieces that a choice marks, and what they are called; a choice is `EO F/B` or `DR U/D`. */
 function marksOf({ badEdges, badCorners, misplacedEdges, cases }: Facts, choice: string) {
   const [kind, name] = choice.split(" ");
-  const axis = AXES.find((each) => axisName(each) === name);
+  const axis = present(AXES.find((each) => axisName(each) === name));
   if (kind === "EO") return { pieces: badEdges[axis], words: `${badEdges[axis].length} bad` };
   return { pieces: [...badCorners[axis], ...misplacedEdges[axis]], words: cases[axis] };
 }
 
-export class Cube {
-  #nets = {};
+/** A cube on both sides after a move. */
+export type Frame = { move: string; views: Record<Side, View> };
+
+export class Nets {
+  #nets = { normal: emptyNet(), inverse: emptyNet() };
   #views: Record<Side, View> | null = null;
   #count = 0;
-  #ask = null;
-  #frames: { move: string; views: Record<Side, View> }[] | null = null;
+  #ask: (() => Promise<Frame[]>) | null = null;
+  #frames: Frame[] | null = null;
   #frame = 0;
   #timer = 0;
   #view = PLACES;
@@ -36,8 +40,7 @@ export class Cube {
 
   constructor() {
     for (const side of SIDES) {
-      const net = emptyNet();
-      this.#nets[side] = net;
+      const net = this.#nets[side];
       part(`net-${side}`).prepend(net);
       net.addEventListener("click", ({ target }) => this.#press(side, stickerOf(net, target)));
     }
@@ -49,9 +52,11 @@ export class Cube {
     this.#choice.append(...kinds.map((kind) => element("option", { value: kind }, kind)));
     this.#choice.addEventListener("change", () => this.#draw());
     const choices = part("choices");
-    for (const kind of ["pointerover", "focusin"]) choices.addEventListener(kind, ({ target }) => this.#point(target));
+    for (const kind of ["pointerover", "focusin"] as const) {
+      choices.addEventListener(kind, ({ target }) => this.#point(target));
+    }
     for (const kind of ["pointerleave", "focusout"]) choices.addEventListener(kind, () => this.#point(null));
-    for (const turn of ["x", "y"]) part(`view-${turn}`).addEventListener("click", () => this.#turn(turn));
+    for (const turn of ["x", "y"] as const) part(`view-${turn}`).addEventListener("click", () => this.#turn(turn));
     this.#play.addEventListener("click", () => (this.#timer === 0 ? this.#begin() : this.stop()));
     // a sheet has the whole line
     addEventListener("beforeprint", () => {
@@ -65,7 +70,7 @@ export class Cube {
   /** Shows a cube.
    * @param count how many moves lead to it from the scramble
    * @param ask for the cube after each of them */
-  show(views: Record<Side, View>, count: number, ask: () => Promise<{ move: string; views: Record<Side, View> }[]>) {
+  show(views: Record<Side, View>, count: number, ask: () => Promise<Frame[]>) {
     this.stop();
     this.#views = views;
     [this.#count, this.#frame] = [count, count];
@@ -90,7 +95,7 @@ export class Cube {
   #tellWhy(sides: readonly Side[]) {
     const piece = PIECES[part("piece").selectedIndex - 1];
     const { views, choice } = this.#shown();
-    const why = (side) => whyOf(views[side].letters, piece, choice === PLAIN ? "" : choice);
+    const why = (side: Side) => whyOf(views[side].letters, piece, choice === PLAIN ? "" : choice);
     const sentences = sides.map((side) => `${side === "normal" ? "Normal" : "Inverse"}: ${piece && why(side)}`);
     tell(part("why"), piece ? sentences.join(" ") : "");
   }
@@ -102,7 +107,7 @@ export class Cube {
     part("cube-large").setAttribute("aria-pressed", String(isLarge));
   }
 
-  #typed(event) {
+  #typed(event: KeyboardEvent) {
     if (event.key !== "Escape" || !part("cube").matches(".large")) return;
     // what else it closes is behind the nets
     event.stopPropagation();
@@ -123,15 +128,16 @@ export class Cube {
     this.#play.textContent = "Play";
   }
 
-  #point(target) {
-    const pointed = target?.closest("[data-marks]")?.dataset.marks ?? "";
+  #point(target: Element | null) {
+    const marked = target?.closest("[data-marks]");
+    const pointed = marked instanceof HTMLElement ? marked.dataset.marks ?? "" : "";
     if (pointed === this.#pointed) return;
     this.#pointed = pointed;
     // what moves the focus may lay the page out for it, and needs no marks for that
     queueMicrotask(() => this.#draw());
   }
 
-  #turn(turn) {
+  #turn(turn: "x" | "y") {
     this.#view = turnedView(this.#view, turn);
     this.#draw();
     announce(`The view is turned by ${turn}.`);
@@ -140,7 +146,7 @@ export class Cube {
   /** Has the cube after each move, and says whether it is still the same line. */
   async #load() {
     const ask = this.#ask;
-    if (this.#frames === null) {
+    if (this.#frames === null && ask !== null) {
       const frames = await ask().catch(() => null);
       if (ask === this.#ask) this.#frames = frames;
     }
@@ -161,12 +167,12 @@ export class Cube {
     }, BEAT);
   }
 
-  async #step(by) {
+  async #step(by: number) {
     this.stop();
     if (await this.#load()) this.#go(this.#frame + by);
   }
 
-  #go(frame) {
+  #go(frame: number) {
     this.#frame = Math.min(this.#count, Math.max(0, frame));
     this.#draw();
   }
@@ -182,11 +188,11 @@ export class Cube {
   /** The cube that is seen, and what is marked on it. */
   #shown() {
     const choice = this.#choice.value === FOLLOW ? this.#pointed || this.#open || PLAIN : this.#choice.value;
-    const frame = this.#frame === this.#count ? null : this.#frames[this.#frame];
-    return { views: frame?.views ?? this.#views, choice };
+    const frame = this.#frame === this.#count ? null : this.#frames?.[this.#frame];
+    return { views: present(frame?.views ?? this.#views), choice };
   }
 
-  #drawSide(side, { letters, facts }, choice) {
+  #drawSide(side: Side, { letters, facts }: View, choice: string) {
     const marks = choice === PLAIN ? null : marksOf(facts, choice);
     const words = marks === null ? "" : `${choice}: ${marks.words}`;
     const names = marks === null ? "" : `, ${marks.pieces.join(" ") || "none"}`;

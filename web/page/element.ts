@@ -1,8 +1,9 @@
 // Makes and fills elements of the page. Text from outside goes through here as text, never as markup.
+import { present } from "./certain.js";
 
 /** An element of the page, which may be a field, a bar or what folds. */
 export type PageElement = HTMLElement & {
-  value: any;
+  value: string;
   checked: boolean;
   disabled: boolean;
   selectedIndex: number;
@@ -19,26 +20,31 @@ export type PageElement = HTMLElement & {
 export function part(id: string): PageElement {
   const found = document.getElementById(id);
   if (!found) throw new Error(`the page has no part ${id}`);
-  return found as any;
+  return found as PageElement;
 }
 
-/** A new element: attributes by name, listeners as functions, children as elements or text. */
-export function element(
-  name: string, attributes: Record<string, string | number | boolean | ((event: any) => void)> = {},
-  ...children: (Node | string)[]
-): PageElement {
+/** @returns what stands within a part of the page by a selector */
+export const inner = (within: ParentNode, selector: string): HTMLElement => present(within.querySelector(selector));
+
+/** What happens to an element of the page. */
+export type Happened = Event & { readonly target: PageElement; readonly currentTarget: PageElement };
+/** Attributes by their names, and listeners as functions. */
+export type Attributes = Record<string, string | number | boolean | ((event: Happened) => void)>;
+
+/** A new element, with children that are elements or text. */
+export function element(name: string, attributes: Attributes = {}, ...children: (Node | string)[]): PageElement {
   const made = document.createElement(name);
   for (const [key, value] of Object.entries(attributes)) {
-    if (typeof value === "function") made.addEventListener(key, value);
+    if (typeof value === "function") made.addEventListener(key, value as (event: Event) => void);
     else if (value === true) made.setAttribute(key, "");
     else if (value !== false) made.setAttribute(key, String(value));
   }
   made.append(...children);
-  return made as any;
+  return made as PageElement;
 }
 
 /** @returns a new button */
-export const button = (text: string, attributes: Parameters<typeof element>[1]) =>
+export const button = (text: string, attributes: Attributes) =>
   element("button", { type: "button", ...attributes }, text);
 
 /** Shows text in an element, and hides the element where there is none. */
@@ -63,7 +69,7 @@ export function announceLater(text: string) {
 }
 
 const LONG_WAIT = 500;
-const waiting = new Map();
+const waiting = new Map<string, number>();
 
 /** Says of a part of the page whether it waits for answers, and to screen readers for what, if that takes a while.
  * @param text what is said */

@@ -1,12 +1,13 @@
 // What is left of rows: by what is chosen, by the corners and edges of their cases, by turns that are typed, by the
 // last.
 import { facesOnAxisOf } from "./axes.js";
-import { announce, announceLater, counted, element, part, tell } from "./element.js";
-import { ORIENTATIONS, reducedAfter, sidesOf, sizeOfCase, stateOf } from "./steps.js";
+import { announce, announceLater, counted, element, part, tell, type PageElement } from "./element.js";
+import { ORIENTATIONS, namesOf, reducedAfter, sidesOf, sizeOfCase, stateOf } from "./steps.js";
+import type { Row } from "./finder.js";
 
 /** Of filter: its fields, and what says by the values of these whether a row is left; null if one of them can't be
  * read. */
-export type Kind = { fields: string[]; test: (...values: string[]) => ((row: any) => boolean) | null };
+export type Kind<Row> = { fields: string[]; test: (...values: string[]) => ((row: Row) => boolean) | null };
 
 /** What is said of a text that isn't moves. */
 export const NOT_MOVES = "The text in the filter is not moves: type face turns such as F B'.";
@@ -22,7 +23,7 @@ const TOTALS = ["7", "8", "9", "10", "11", "12", "13"];
 export function offerChoices(name: string, choices: string[], first = "any") {
   const field = part(name);
   const chosen = field.value;
-  const option = (value) => element("option", { value }, value || first);
+  const option = (value: string) => element("option", { value }, value || first);
   field.replaceChildren(...["", ...choices].map(option));
   field.value = choices.includes(chosen) ? chosen : "";
 }
@@ -34,19 +35,21 @@ export function offerMoves(name: string, most: number) {
 }
 
 /** What is chosen in a field. */
-export function chosen(field: string, choices: string[], isLeft: (row: any, choice: string) => boolean): Kind {
+export function chosen<Row>(
+  field: string, choices: string[], isLeft: (row: Row, choice: string) => boolean,
+): Kind<Row> {
   offerChoices(field, choices);
   return { fields: [field], test: (value) => (row) => value === "" || isLeft(row, value) };
 }
 
 /** The most corners and edges that one of a row's cases may have.
  * @param name with which the ids of both fields begin */
-export function caseAtMost(name: string, casesOf: (row: any) => string[]): Kind {
+export function caseAtMost<Row>(name: string, casesOf: (row: Row) => string[]): Kind<Row> {
   for (const [kind, counts] of Object.entries(MOST_OF_CASE)) offerChoices(`${name}-${kind}`, counts);
-  const test = (...values) => {
+  const test = (...values: string[]) => {
     if (values.every((value) => value === "")) return () => true;
     const [corners, edges] = values.map((value) => (value === "" ? Infinity : Number(value)));
-    return (row) => casesOf(row).map(sizeOfCase).some((size) => size.corners <= corners && size.edges <= edges);
+    return (row: Row) => casesOf(row).map(sizeOfCase).some((size) => size.corners <= corners && size.edges <= edges);
   };
   return { fields: [`${name}-corners`, `${name}-edges`], test };
 }
@@ -75,15 +78,15 @@ const lastTurn = (moves: string) => moves.slice(moves.lastIndexOf(" ") + 1);
  * @param typed its field
  * @param last the other one
  * @param movesOf the moves of each side and twin */
-export function withTurns(typed: string, last: string, movesOf: (row: any) => string[]): Kind {
+export function withTurns<Row>(typed: string, last: string, movesOf: (row: Row) => string[]): Kind<Row> {
   offerChoices(last, []);
-  const test = (text, end) => {
+  const test = (text: string, end: string) => {
     const wanted = turnsOf(text);
     part(typed).setAttribute("aria-invalid", String(wanted === null));
     if (wanted === null) return null;
     const turns = wanted.length === 0 ? "" : ` ${wanted.join(" ")} `;
-    const isLeft = (each) => ` ${each} `.includes(turns) && (end === "" || lastTurn(each) === end);
-    return (row) => movesOf(row).some(isLeft);
+    const isLeft = (each: string) => ` ${each} `.includes(turns) && (end === "" || lastTurn(each) === end);
+    return (row: Row) => movesOf(row).some(isLeft);
   };
   return { fields: [typed, last], test };
 }
@@ -94,38 +97,40 @@ export const offerLastTurns = (field: string, all: string[]) =>
 
 /** On which sides a step may have moves. */
 const WHERE = ["normal", "inverse", "both sides"];
-const isOn = ({ part: step }, where) => sidesOf([step]) === where;
+const isOn = ({ part: step }: Row, where: string) => sidesOf([step]) === where;
 
 /** The filters of the best: of orientations, with their reduction and its case, and of reductions. */
 export const filtersOfBest = () => ({
   ofOrientations: [
-    caseAtMost("best", ({ next }) => [next.case]),
-    chosen("best-axis", ORIENTATIONS.map(stateOf), ({ state }, axis) => state === axis),
+    caseAtMost<Row>("best", ({ next }) => (next === null ? [] : [next.case])),
+    chosen<Row>("best-axis", ORIENTATIONS.map(stateOf), ({ state }, axis) => state === axis),
     chosen("best-side", WHERE, isOn),
-    chosen("best-next", reducedAfter(ORIENTATIONS.map(({ name }) => name)), ({ next }, marks) => next.marks === marks),
-    chosen("best-total", TOTALS, ({ total }, most) => total <= Number(most)),
+    chosen<Row>("best-next", reducedAfter(namesOf(ORIENTATIONS)), ({ next }, marks) => next?.marks === marks),
+    chosen<Row>("best-total", TOTALS, ({ total }, most) => total <= Number(most)),
   ],
   ofReductions: [
-    chosen("best-reduction", [], ({ state }, wanted) => state === wanted),
+    chosen<Row>("best-reduction", [], ({ state }, wanted) => state === wanted),
     chosen("best-reduction-side", WHERE, isOn),
-    withTurns("best-filter", "best-last", ({ lines }) => lines),
+    withTurns<Row>("best-filter", "best-last", ({ lines }) => lines),
   ],
 });
 
 /** The filters of a card, which says how many of them are on, and if they leave nothing; a button clears them. */
-export class Filters {
-  #kinds;
-  #badge;
-  #button;
-  #none;
+export class Filters<Row> {
+  #kinds: Kind<Row>[];
+  #badge: PageElement;
+  #button: PageElement;
+  #none: PageElement;
 
   /** @param name with which the ids begin
    * @param note that says what is left
    * @param sets of which one is used at a time, first the first
    * @param changed says whether there are rows that may be left */
-  constructor(name: string, note: HTMLElement, sets: Kind[][], changed: () => boolean) {
+  constructor(name: string, note: HTMLElement, sets: Kind<Row>[][], changed: () => boolean) {
     [this.#kinds] = sets;
-    [this.#badge, this.#button, this.#none] = ["on", "clear", "none"].map((each) => part(`${name}-${each}`));
+    this.#badge = part(`${name}-on`);
+    this.#button = part(`${name}-clear`);
+    this.#none = part(`${name}-none`);
     for (const field of sets.flat().flatMap(({ fields }) => fields).map(part)) {
       if (!field.matches("input")) field.addEventListener("change", changed);
       // once nothing more is typed it is said what is left
@@ -133,14 +138,14 @@ export class Filters {
     }
     this.#button.addEventListener("click", () => {
       // what is hidden can't keep the focus
-      this.#badge.closest("summary").focus({ preventScroll: true });
+      this.#badge.closest("summary")?.focus({ preventScroll: true });
       this.clear();
       if (changed()) announce(note.textContent);
     });
   }
 
   /** Uses other kinds. */
-  use(kinds: Kind[]) {
+  use(kinds: Kind<Row>[]) {
     this.#kinds = kinds;
   }
 
@@ -150,9 +155,10 @@ export class Filters {
   }
 
   /** What is left of rows, or null if a field can't be read. */
-  left<Row>(rows: Row[]): Row[] | null {
+  left(rows: Row[]): Row[] | null {
     const tests = this.#kinds.map(({ fields, test }) => test(...fields.map((name) => part(name).value)));
-    return tests.includes(null) ? null : rows.filter((row) => tests.every((test) => test(row)));
+    const read = tests.flatMap((test) => test ?? []);
+    return read.length < tests.length ? null : rows.filter((row) => read.every((test) => test(row)));
   }
 
   /** How many fields leave not all. */

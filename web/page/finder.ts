@@ -1,4 +1,5 @@
 // Finds the best ways on, each axis by an engine of its own: what they find is one list, by all moves in all.
+import { lastOf } from "./certain.js";
 import { ORIENTATIONS } from "./steps.js";
 import type { Calls } from "./calls.js";
 import type { OnSides, Moves as Part } from "../module/sides.js";
@@ -66,7 +67,7 @@ export class KnownSearches {
 /** What is found on some axes, as one list: up to where an axis may have more rows than were asked for. */
 export function together(each: FoundOnAxis[], question: Question): Found {
   const [kept, most] = [mostKept(question.slack), mostOf(question)];
-  const end = Math.min(...each.map(({ rows }) => (rows.length < most ? Infinity : rows.at(-1).rank)));
+  const end = Math.min(...each.map(({ rows }) => (rows.length < most ? Infinity : lastOf(rows).rank)));
   const rows = each.flatMap((found) => found.rows.filter(({ rank }) => rank <= end));
   const tried = each.reduce((sum, found) => sum + found.tried, 0);
   rows.sort((one, other) => one.rank - other.rank).splice(kept);

@@ -8,7 +8,7 @@ const SOON_ENOUGH = 1000;
 
 export class NextFocus {
   /** Where it goes, and from where. */
-  #next: { to: Where; from: Element } | null = null;
+  #next: { to: Where; from: Element | null } | null = null;
 
   /** @param to undefined where it stays */
   set(to: Where | undefined) {
@@ -30,7 +30,7 @@ export class NextFocus {
 
   /** @returns whether it is to go there now */
   take(to: Where): boolean {
-    if (!this.waitsFor(to)) return false;
+    if (this.#next?.to !== to) return false;
     const { from } = this.#next;
     this.#next = null;
     return [from, document.body].includes(document.activeElement);

@@ -1,5 +1,6 @@
 // Longer orientations, which nobody asked for: one move longer, and then two. They are looked for while the page is
 // seen and waits for nothing else, by workers that leave half of the processor to whatever is asked meanwhile.
+import { thrownError } from "./certain.js";
 import { findOnAxis, together, type Found, type FoundOnAxis, type Question } from "./finder.js";
 import { ORIENTATIONS } from "./steps.js";
 import { waitsForAnswers } from "./view.js";
@@ -87,8 +88,10 @@ export class FurtherSearch {
     // once it is seen it waits anew
     if (document.hidden) return;
     if (waitsForAnswers()) return this.#wait();
-    const { left, running } = this.#search;
-    while (left.length > 0 && running.size < mostTogether()) this.#look(this.#search, left.shift());
+    const search = this.#search;
+    if (search === null) return;
+    const { left, running } = search;
+    for (const at of left.splice(0, Math.max(0, mostTogether() - running.size))) this.#look(search, at);
   }
 
   /** @param at the place of its axis */
@@ -98,7 +101,7 @@ export class FurtherSearch {
     try {
       search.found.set(at, await findOnAxis(this.#finders, at, search.question, () => {}));
     } catch (fault) {
-      if (isStill()) this.#broken(search, at, fault);
+      if (isStill()) this.#broken(search, at, thrownError(fault));
       return;
     } finally {
       search.running.delete(at);

@@ -1,18 +1,20 @@
 // The card of the candidates that are kept: each with its moves, what it reaches, its case and a note.
 import { Stopped } from "../module/faults.js";
 import { fitsAddress, type Candidate, type List, type State } from "./address.js";
+import { lastOf, present } from "./certain.js";
 import { copy, fmcOfAll } from "./copying.js";
-import { announce, button, counted, element, part, spoken, tell } from "./element.js";
+import { announce, button, counted, element, part, spoken, tell, type PageElement } from "./element.js";
 import { LONGEST_NOTE, MOST_CANDIDATES } from "./limits.js";
 import { WayTo } from "./places.js";
 import {
   ORIENTATIONS, REDUCTIONS, axisName, bracketed, isReduced, reductionsAfter, sidesOf, stateOf, statesOf, stepNamed,
 } from "./steps.js";
 import { tellAt, withoutMoving } from "./view.js";
-import { MOST_ARE_KEPT, NO_ROOM } from "./words.js";
+import { MOST_ARE_KEPT, NO_ROOM, wordsOfFault } from "./words.js";
 import type { Calls } from "./calls.js";
 import type { KeptWalk } from "./position.js";
 import type { Moves as Part } from "../module/sides.js";
+import type { StepOnAxis } from "./axes.js";
 
 /** @returns what it is known by */
 const nameOf = ({ parts, next }: Pick<Candidate, "parts" | "next">) => [bracketed(parts), next].join(" ").trim();
@@ -36,12 +38,12 @@ export function withOthers(candidates: Candidate[], others: Candidate[]) {
 
 /** How far a candidate has come: 2 with a reduction, also one that is still to be made, 1 with an orientation. */
 function stageOf({ reached, next }: KeptWalk) {
-  const last = reached.at(-1);
+  const last = lastOf(reached);
   return next !== null || isReduced(last) ? 2 : Math.min(1, last.length);
 }
 
 /** @returns how many moves a candidate has, with the reduction that it was kept with */
-const totalOf = ({ totals, next }: KeptWalk) => next?.total ?? totals.at(-1);
+const totalOf = ({ totals, next }: KeptWalk) => next?.total ?? lastOf(totals);
 
 /** The reduction that a candidate was kept with, as its row says it: `DR F/B 6c4e: N 4 I 7, 9 in all`, and the first.
  * @returns none without one */
@@ -58,18 +60,21 @@ export type Stage = { parts: Part[]; states: string[]; cases: string[] };
 /** From which beginning on it has held. @param name of a step that is reached in the end */
 const heldFrom = ({ reached }: KeptWalk, name: string) => reached.findLastIndex((each) => !each.includes(name)) + 1;
 
+/** @returns the orientation that a reduction keeps */
+const orientationOf = ({ needs }: StepOnAxis) => present(needs);
+
 /** The stages of a candidate with a reduction: up to the orientation before it, up to itself with the case that was
  * solved, and what came after it. */
 function stagesOfReduced(walk: KeptWalk): Stage[] {
   const { parts, facts } = walk;
-  const reductions = REDUCTIONS.filter(({ name }) => walk.reached.at(-1).includes(name));
-  const ways = reductions.map((step) => ({ step, from: heldFrom(walk, step.needs), to: heldFrom(walk, step.name) }));
+  const reductions = REDUCTIONS.filter(({ name }) => lastOf(walk.reached).includes(name));
+  const ways = reductions.map((step) => ({ step, from: heldFrom(walk, orientationOf(step)), to: heldFrom(walk, step.name) }));
   const [{ from, to }] = ways.sort((one, other) => one.to - other.to || one.from - other.from);
   const first = ways.filter((way) => way.from === from && way.to === to).map(({ step }) => step);
   // one that is reached together with its orientation has no case
   const begin = from < to ? from : 0;
   const before = parts.slice(0, begin);
-  const oriented = statesOf(first.map(({ needs }) => needs)).map((state) => `${state}, ${sidesOf(before)}`);
+  const oriented = statesOf(first.map(orientationOf)).map((state) => `${state}, ${sidesOf(before)}`);
   const reduced = first.map((step) => (from < to ? `${stateOf(step)} ${facts[from].cases[step.axis]}` : stateOf(step)));
   const others = reductions.filter((step) => !first.some((other) => stateOf(other) === stateOf(step)));
   const later = to === 0 ? reductions : others;
@@ -84,10 +89,10 @@ function stagesOfReduced(walk: KeptWalk): Stage[] {
 /** The stages of a candidate; before a reduction one, with the cases that may follow. */
 function stagesOf(walk: KeptWalk): Stage[] {
   const { parts, facts, next } = walk;
-  const reached = walk.reached.at(-1);
+  const reached = lastOf(walk.reached);
   if (isReduced(reached)) return stagesOfReduced(walk);
   const steps = ORIENTATIONS.filter(({ name }) => reached.includes(name)).flatMap(({ name }) => reductionsAfter(name));
-  const cases = [...new Set(steps.map(({ axis }) => `${axisName(axis)} ${facts.at(-1).cases[axis]}`))];
+  const cases = [...new Set(steps.map(({ axis }) => `${axisName(axis)} ${lastOf(facts).cases[axis]}`))];
   return [{ parts, states: statesOf(reached), cases: next === null ? cases : wordsOfNext(walk) }];
 }
 
@@ -103,15 +108,18 @@ function stepOf(parts: Part[], walk: KeptWalk | null) {
     ...stage.cases.map((each) => element("span", { class: "case" }, each)))));
 }
 
+/** A candidate with its walk, if that is known, and its place. */
+type Shown = { candidate: Candidate; walk: KeptWalk | null; at: number };
+
 export class KeptCandidates {
   #calls: Calls;
   #acts: { goOn: (parts: Part[], list: List | null) => void; change: (kept: Candidate[]) => void };
-  #candidates = [];
-  #walks = [];
+  #candidates: Candidate[] = [];
+  #walks: KeptWalk[] = [];
   /** What was kept before some were taken away, as long as nothing else changed. */
   #before: Candidate[] | null = null;
   /** the field of each candidate's note */
-  #notes = [];
+  #notes: PageElement[] = [];
   #scramble = "";
   #list = part("kept-list");
   #way = new WayTo(part("bar-kept"), part("kept"), part("kept-heading"));
@@ -128,8 +136,9 @@ export class KeptCandidates {
       part("kept-back").focus({ preventScroll: true });
     });
     part("kept-back").addEventListener("click", () => {
-      const { length } = this.#before;
-      acts.change(this.#before);
+      const before = present(this.#before);
+      const { length } = before;
+      acts.change(before);
       announce(`${counted(length, "line")} ${length === 1 ? "is" : "are"} kept again.`);
     });
     part("kept-sort").addEventListener("change", () => this.#draw());
@@ -183,7 +192,7 @@ export class KeptCandidates {
     const words = `${counted(count, "line")} ${count === 1 ? "was" : "were"} removed.`;
     part("kept-left-words").textContent = count === 0 ? "" : words;
     // not by :has, which would lay a style on all of the page whenever a part of it changes
-    part("kept").parentElement.classList.toggle("none-kept", this.#candidates.length === 0 && count === 0);
+    part("kept").parentElement?.classList.toggle("none-kept", this.#candidates.length === 0 && count === 0);
     // what is hidden can't keep the focus
     if (isFocused && count === 0) part("kept-heading").focus({ preventScroll: true });
   }
@@ -202,7 +211,7 @@ export class KeptCandidates {
       this.#draw();
     } catch (fault) {
       if (candidates !== this.#candidates || fault instanceof Stopped) return;
-      tell(part("alert"), `The lines that are kept can't be read: ${fault.text ?? fault.message}.`);
+      tell(part("alert"), `The lines that are kept can't be read: ${wordsOfFault(fault)}.`);
     }
   }
 
@@ -212,21 +221,25 @@ export class KeptCandidates {
   }
 
   /** The candidates with their walks, in the order that is chosen. */
-  #sorted() {
+  #sorted(): Shown[] {
     const all = this.#candidates.map((candidate, at) => ({ candidate, walk: this.#walks[at] ?? null, at }));
-    if (all.some(({ walk }) => walk === null) || part("kept-sort").value === "kept") return all;
-    return all.sort((one, other) => stageOf(other.walk) - stageOf(one.walk) || totalOf(one.walk) - totalOf(other.walk));
+    const walked = all.flatMap((each) => (each.walk === null ? [] : [{ ...each, walk: each.walk }]));
+    if (walked.length < all.length || part("kept-sort").value === "kept") return all;
+    return walked
+      .sort((one, other) => stageOf(other.walk) - stageOf(one.walk) || totalOf(one.walk) - totalOf(other.walk));
   }
 
   #text() {
     if (this.#walks.length !== this.#candidates.length) return "";
-    const notesOf = ({ candidate, walk }) =>
-      [...wordsOfNext(walk).slice(0, 1), candidate.note].filter((note) => note !== "");
-    return fmcOfAll(this.#scramble, this.#sorted().map((each) => ({ walk: each.walk, notes: notesOf(each) })));
+    const notesOf = (walk: KeptWalk, { note }: Candidate) =>
+      [...wordsOfNext(walk).slice(0, 1), note].filter((each) => each !== "");
+    return fmcOfAll(this.#scramble, this.#sorted().flatMap(({ candidate, walk }) =>
+      (walk === null ? [] : [{ walk, notes: notesOf(walk, candidate) }])));
   }
 
   #draw() {
-    const focused = this.#list.contains(document.activeElement) ? document.activeElement.dataset.control : null;
+    const { activeElement } = document;
+    const focused = this.#list.contains(activeElement) ? activeElement?.dataset.control : null;
     this.#list.replaceChildren(...this.#sorted().map((each) => this.#item(each)));
     if (focused) this.#control(focused)?.focus({ preventScroll: true });
     tell(part("kept-count"), this.#candidates.length === 0 ? "" : counted(this.#candidates.length, "line"));
@@ -237,13 +250,13 @@ export class KeptCandidates {
     return [...this.#list.querySelectorAll("[data-control]")].find(({ dataset }) => dataset.control === name);
   }
 
-  #item({ candidate, walk, at }) {
+  #item({ candidate, walk, at }: Shown) {
     const { parts, note } = candidate;
     const [name, said] = [nameOf(candidate), saidOf(candidate)];
     // as long as it isn't known where the best are, over both sides
-    const list = candidate.next === "" || walk?.next === null ? null
-      : { step: candidate.next, side: walk?.next.side ?? "both", slack: 0, isAll: false };
-    const act = (word, control, click) =>
+    const list: List | null = candidate.next === "" || walk?.next === null ? null
+      : { step: stepNamed(candidate.next).name, side: walk?.next.side ?? "both", slack: 0, isAll: false };
+    const act = (word: string, control: string, click: () => void) =>
       button(word, { class: "quiet", "data-control": `${control} ${name}`, "aria-label": `${word}: ${said}`, click });
     const field = element("input", {
       class: "note-field", value: note, maxlength: LONGEST_NOTE, placeholder: "Note", autocomplete: "off",
@@ -267,7 +280,7 @@ export class KeptCandidates {
   #remove(at: number) {
     const row = [...this.#list.children].find((each) => each.contains(document.activeElement));
     const next = row?.nextElementSibling ?? row?.previousElementSibling;
-    const control = next?.querySelector("[data-control^=away]").dataset.control;
+    const control = next?.querySelector("[data-control^=away]")?.dataset.control ?? "";
     this.leave(this.#candidates.toSpliced(at, 1));
     if (row) (this.#control(control) ?? part("kept-back")).focus({ preventScroll: true });
   }

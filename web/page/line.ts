@@ -1,8 +1,9 @@
 // The card of the line so far: the steps that were taken, each of which may be edited or taken away, undo, moves by
 // hand, the switch of sides, and the whole to copy.
 import { Stopped } from "../module/faults.js";
+import { thrownError, lastOf } from "./certain.js";
 import { copy, fmcOf } from "./copying.js";
-import { announce, button, counted, element, part, spoken, tell, type PageElement } from "./element.js";
+import { announce, button, counted, element, inner, part, spoken, tell, type PageElement } from "./element.js";
 import { bracketed, isReduced, lastSideOf, movesOn, newlyReached, otherSide, statesOf, turnsOfStep } from "./steps.js";
 import { showFault, wordsOfLeftOut } from "./words.js";
 import type { Calls } from "./calls.js";
@@ -18,9 +19,9 @@ const OF_MOVES = ["line-list", "whole", "undo", "bar-total", "bar-undo", "keep-l
 
 /** @returns the parts without their last move */
 function withoutLastMove(parts: Part[]): Part[] {
-  const last = parts.at(-1);
+  const last = lastOf(parts);
   const side = lastSideOf(last);
-  const left = { ...last, [side]: last[side].split(" ").slice(0, -1).join(" ") };
+  const left: Part = { ...last, [side]: last[side].split(" ").slice(0, -1).join(" ") };
   return [...parts.slice(0, -1), ...(turnsOfStep(left).length === 0 ? [] : [left])];
 }
 
@@ -29,11 +30,11 @@ const listed = (words: string[]) => [words.slice(0, -1).join(", "), ...words.sli
 
 /** @returns what is said of a line that ends, or "" */
 function endOf({ parts, facts, reached, totals }: Walk) {
-  const total = counted(totals.at(-1), "move");
+  const total = counted(lastOf(totals), "move");
   if (parts.length === 0) return "";
-  if (facts.at(-1).solved) return `Solved: ${total}.`;
-  if (!isReduced(reached.at(-1))) return "";
-  const states = statesOf(reached.at(-1)).filter((state) => state.startsWith("DR"));
+  if (lastOf(facts).solved) return `Solved: ${total}.`;
+  if (!isReduced(lastOf(reached))) return "";
+  const states = statesOf(lastOf(reached)).filter((state) => state.startsWith("DR"));
   const are = states.length === 1 ? "is" : "are";
   return `${listed(states)} ${are} reached: ${total}. nissy has no step after a DR: go on by hand.`;
 }
@@ -46,14 +47,14 @@ function keptOf<Known>(known: Known[], parts: Part[], others: Part[]) {
 
 /** @returns what is to be known of a line without brackets before the cube is solved, or "" */
 function noteOfJoined({ parts, facts }: Walk) {
-  if (facts.at(-1).solved || movesOn(parts, "inverse") === "") return "";
+  if (lastOf(facts).solved || movesOn(parts, "inverse") === "") return "";
   return "Not finished: the inverse moves stand at the end as premoves, and what follows goes before them.";
 }
 
 /** Has lines that are pasted go into a field of one line without comments, of which the first would hide the rest. */
 function takeLines(field: PageElement, reader: Reader) {
   field.addEventListener("paste", (event) => {
-    const text = event.clipboardData.getData("text/plain").trim().replace(/\r\n?/g, "\n");
+    const text = (event.clipboardData?.getData("text/plain") ?? "").trim().replace(/\r\n?/g, "\n");
     if (!text.includes("\n") || text.length > LONGEST_PASTED) return;
     event.preventDefault();
     const { line, leftOut } = reader.plainLine(text);
@@ -66,13 +67,13 @@ export class LineSoFar {
   #calls: Calls;
   #reader: Reader;
   #acts: { change: (change: { parts?: Part[]; side?: Side }) => boolean; star: () => void };
-  #parts = [];
+  #parts: Part[] = [];
   /** what each step reached as long as nothing took it away */
   #reached: string[][] = [];
   /** the same of steps that are about to be shown, one of which was edited or removed */
   #wanted: string[][] | null = null;
   /** the elements that say of each step what it reaches and how long it is, also if a field stands in their place */
-  #words = [];
+  #words: Record<"moves" | "reaches" | "lost" | "count", PageElement>[] = [];
   #side: Side = "normal";
 
   /** @param acts `change` says whether it leads back to a row */
@@ -146,7 +147,7 @@ export class LineSoFar {
   /** Shows what each step reaches, how long it is, and the whole. @param whole without brackets */
   describe(walk: Walk, whole: string, scramble: string) {
     this.#showWhole({
-      line: bracketed(walk.parts), joined: whole, total: counted(walk.totals.at(-1), "move"), note: noteOfJoined(walk),
+      line: bracketed(walk.parts), joined: whole, total: counted(lastOf(walk.totals), "move"), note: noteOfJoined(walk),
       fmc: fmcOf(scramble, walk),
     });
     this.#words.forEach(({ reaches, lost, count }, index) => {
@@ -161,8 +162,8 @@ export class LineSoFar {
   }
 
   /** What a step reached before it or an earlier one was changed, and what doesn't hold then, nor in the end. */
-  #lost({ reached }: Walk, index) {
-    const holds = statesOf([...reached[index + 1], ...reached.at(-1)]);
+  #lost({ reached }: Walk, index: number) {
+    const holds = statesOf([...reached[index + 1], ...lastOf(reached)]);
     return (this.#reached[index] ?? []).filter((state) => !holds.includes(state));
   }
 
@@ -183,9 +184,10 @@ export class LineSoFar {
     part("whole").classList.toggle("alike", joined === line);
   }
 
-  #item(each, index) {
+  #item(each: Part, index: number) {
     const text = bracketed([each]);
-    const act = (word, click) => button(word, { class: "quiet", "aria-label": `${word} ${spoken(text)}`, click });
+    const act = (word: string, click: () => void) =>
+      button(word, { class: "quiet", "aria-label": `${word} ${spoken(text)}`, click });
     const { moves, reaches, lost, count } = this.#words[index];
     return element("li", {},
       element("span", { class: "step" }, moves, reaches, lost, element("span", { class: "note" }, count)),
@@ -206,7 +208,7 @@ export class LineSoFar {
     const fault = element("div", { class: "fault", hidden: true });
     const leave = () => {
       item.replaceChildren(...shown);
-      item.querySelector("button").focus();
+      inner(item, "button").focus();
     };
     const form = element("form", {
       class: "row",
@@ -215,10 +217,8 @@ export class LineSoFar {
         // the step is seen as it is written down, so what has no brackets goes on the normal side
         this.#read(field, fault, "normal", (added) => this.#replace(index, added, 0));
       },
-      keydown: (event) => {
-        if (event.key === "Escape") leave();
-      },
     }, field, button("Change", { type: "submit" }), button("Leave", { click: leave }));
+    form.addEventListener("keydown", ({ key }) => key === "Escape" && leave());
     item.replaceChildren(form, fault);
     field.focus();
     field.setSelectionRange(text.length, text.length);
@@ -237,9 +237,9 @@ export class LineSoFar {
     if (isWithin) row?.querySelectorAll("button")[focused].focus({ preventScroll: true });
   }
 
-  #undo(parts) {
+  #undo(parts: Part[]) {
     const isOneLess = parts.length === this.#parts.length - 1;
-    const isBack = this.#acts.change(isOneLess ? { parts, side: lastSideOf(this.#parts.at(-1)) } : { parts });
+    const isBack = this.#acts.change(isOneLess ? { parts, side: lastSideOf(lastOf(this.#parts)) } : { parts });
     announce(parts.length === 0 ? "The line is empty." : `The line is ${spoken(bracketed(parts))}.`);
     // a field that is typed in would bring the keyboard of a phone up, beside the row
     if (parts.length === 0) part(isBack ? "line-heading" : "own").focus({ preventScroll: true });
@@ -267,7 +267,7 @@ export class LineSoFar {
       use(added);
       tell(part("own-read"), wordsOfLeftOut(plain.leftOut));
     } catch (fault) {
-      if (isStill() && !(fault instanceof Stopped)) showFault(where, field, plain, fault, text);
+      if (isStill() && !(fault instanceof Stopped)) showFault(where, field, plain, thrownError(fault), text);
     }
   }
 }

@@ -4,13 +4,14 @@ import { stepNamed } from "./axes.js";
 import { positionAfter, totalsWith, type Position } from "./cubes.js";
 import { joined, partOn } from "./steps.js";
 import { mergeTwins, mergeTwinsOfBoth, withoutEarlier, type Twins } from "./twins.js";
+import type { Facts } from "../module/facts.js";
 import type { List } from "./address.js";
 import type { Moves as Part } from "../module/sides.js";
 import type { Nissy } from "../module/nissy.js";
 
 /** A solution, with all moves and cases if these are known; `twins`: over both sides the last turns of those that it
  * has, whether they share its row or not. */
-export type Entry = Twins & { part: Part; twins?: string[]; total?: number; cases?: Record<string, string> };
+export type Entry = Twins & { part: Part; twins?: string[]; total?: number; cases?: Facts["cases"] };
 /** `all`: how many there are, and `left`: without those that reach the step before their last move. */
 export type Rows = { entries: Entry[]; all: number; left: number; whole: boolean };
 
@@ -24,10 +25,14 @@ function solutionsOf(
   nissy: Nissy, { step, side, slack }: List, now: Position["lines"],
 ): { solutions: Entry[]; whole: boolean } {
   const most = side === "both" ? MOST_OF_BOTH : MOST_LISTED;
-  const [line, sides] = side === "both" ? [now.normal, { sides: side }] : [now[side], {}];
-  const found = nissy.solve(step as any, line, { ...sides, slack, most: most + 1 });
-  const partOf = ({ normal, inverse, moves }) => (side === "both" ? { normal, inverse } : partOn(side, moves));
-  const solutions = found.slice(0, most).map((each) => ({ ...each, part: partOf(each), others: [] }));
+  if (side === "both") {
+    const found = nissy.solve(step, now.normal, { sides: side, slack, most: most + 1 });
+    const solutions = found.slice(0, most).map(({ moves, length, normal, inverse, twins }) => (
+      { moves, length, part: { normal, inverse }, twins, others: [] }));
+    return { solutions, whole: found.length <= most };
+  }
+  const found = nissy.solve(step, now[side], { slack, most: most + 1 });
+  const solutions = found.slice(0, most).map((each) => ({ ...each, part: partOn(side, each.moves), others: [] }));
   return { solutions, whole: found.length <= most };
 }
 
@@ -53,7 +58,7 @@ export function rowsOfList(nissy: Nissy, asked: Asked): Rows {
   const entries = list.isAll ? left : merged(left, list.step);
   if (stepNamed(list.step).needs === null) {
     const first = entries.slice(0, MOST_WITH_CASES);
-    const lineAfter = ({ normal, inverse }) => joined(nissy.invert(inverse), now.normal, normal);
+    const lineAfter = ({ normal, inverse }: Part) => joined(nissy.invert(inverse), now.normal, normal);
     const facts = nissy.factsAll(first.map(({ part }) => lineAfter(part)));
     first.forEach((entry, at) => {
       entry.cases = facts[at].cases;

@@ -1,6 +1,8 @@
 // Draws a cube as a net, as SVG. Each sticker has its colour and its letter, and if pieces are marked a ring and a dot,
 // or a grey. The view may be turned by y and x, which changes no letter.
 import { NET, type NetPlace } from "../module/stickers.js";
+import { present } from "./certain.js";
+import { inner } from "./element.js";
 
 const SVG = "http://www.w3.org/2000/svg";
 const PITCH = 10;
@@ -36,7 +38,7 @@ export function emptyNet() {
 
 /** Which of the stickers of a net an element is in, by their order; -1 if none. */
 export const stickerOf = (net: SVGElement, target: Element) =>
-  [...net.querySelectorAll(".sticker")].indexOf(target.closest(".sticker"));
+  [...net.querySelectorAll(".sticker")].findIndex((sticker) => sticker === target.closest(".sticker"));
 
 /** @returns the letters in words: each face with its three rows */
 function inWords(letters: string) {
@@ -59,7 +61,7 @@ export function showCube(
     // a text that is put in again is laid out again
     if (sticker.dataset.colour === seen[at]) return;
     sticker.dataset.colour = seen[at];
-    sticker.querySelector("text").textContent = seen[at];
+    inner(sticker, "text").textContent = seen[at];
   });
 }
 
@@ -83,9 +85,11 @@ const TURNS_OF_VIEW: Record<"x" | "y", (point: number[]) => number[]> = {
 };
 
 export function turnedView(view: number[], turn: "x" | "y") {
-  const nameOfPoint = (point) => point.join();
+  const nameOfPoint = (point: number[]) => point.join();
   const places = new Map(PLACES.map((place) => [nameOfPoint(pointOf(place)), place]));
-  const turned = [];
-  for (const place of PLACES) turned[places.get(nameOfPoint(TURNS_OF_VIEW[turn](pointOf(place))))] = view[place];
+  const turned: number[] = [];
+  for (const place of PLACES) {
+    turned[present(places.get(nameOfPoint(TURNS_OF_VIEW[turn](pointOf(place)))))] = view[place];
+  }
   return turned;
 }

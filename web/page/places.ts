@@ -78,7 +78,7 @@ export class WayBack {
     if (key !== "" && !found) return;
     this.#place = null;
     // whoever undoes by keys may undo more
-    const stays = scroll === null && document.activeElement.matches("button:focus-visible");
+    const stays = scroll === null && document.activeElement?.matches("button:focus-visible");
     if (!stays) found?.focus({ preventScroll: true });
     if (scroll === null) found?.scrollIntoView({ block: "nearest", behavior: "instant" });
     else scrollTo({ top: scroll, behavior: "instant" });

@@ -1,6 +1,7 @@
 // What the engine at hand says of a scramble and the moves after it: the cube after each step, what is reached, which
 // steps may follow, and how many reductions follow a row of the best.
 import { NissyFault, type FaultParts } from "../module/faults.js";
+import { lastOf } from "./certain.js";
 import { positionAfter, totalsWith, type Position } from "./cubes.js";
 import { readScramble, type ReadScramble } from "./lines.js";
 import {
@@ -46,12 +47,12 @@ function walkOf(nissy: Nissy, scramble: string, parts: Part[]): Walk {
     reached: facts.map(({ holds }) => offeredAmong(holds)),
     totals: positions.map(({ count }) => count),
     turns: parts.map((part) => SIDES.reduce((sum, side) => sum + nissy.facts(part[side]).cleanMoves, 0)),
-    now: positions.at(-1),
+    now: lastOf(positions),
   };
 }
 
 function viewsOf(nissy: Nissy, { lines }: Position): Record<Side, View> {
-  const viewOf = (line) => ({ letters: nissy.facelets(line), facts: nissy.facts(line) });
+  const viewOf = (line: string) => ({ letters: nissy.facelets(line), facts: nissy.facts(line) });
   return { normal: viewOf(lines.normal), inverse: viewOf(lines.inverse) };
 }
 
@@ -104,7 +105,7 @@ export function examine(
   tell(cube);
   if ("unread" in cube) return;
   const { now, reached } = cube.walk;
-  for (const steps of inGroups(openSteps(reached.at(-1)))) tell(steps.map((step) => offerOf(nissy, step, now)));
+  for (const steps of inGroups(openSteps(lastOf(reached)))) tell(steps.map((step) => offerOf(nissy, step, now)));
 }
 
 /** `lengths`: on each side; `total`: the fewest moves in all, over both; `first`: the first with that, if it has
@@ -139,7 +140,7 @@ export function walkKept(
 ): KeptWalk[] {
   return candidates.map(({ parts, next }) => {
     const walk = walkOf(nissy, scramble, parts);
-    const last = walk.reached.at(-1);
+    const last = lastOf(walk.reached);
     const step = isReduced(last) ? undefined : openSteps(last).find(({ name }) => name === next);
     return { ...walk, next: step ? nextOf(nissy, { scramble, parts }, step) : null };
   });

@@ -1,6 +1,6 @@
 // Rows of moves, in a list or a table: what is pressed in each, how they come and go, and one stop of the Tab key for
 // all of them, with the arrow keys, Home and End from row to row, and from button to button within one.
-import { button, part, spoken } from "./element.js";
+import { button, inner, part, spoken } from "./element.js";
 
 /** The rows that were pressed since moves are covered. */
 const uncovered = new Set<string>();
@@ -37,13 +37,13 @@ export function starButton(text: string, isKept: () => boolean, click: (button: 
 export function refreshRows(rows: ParentNode) {
   const areCovered = document.body.matches(".covers");
   for (const take of takesOf(rows)) {
-    const isOpen = uncovered.has(take.dataset.key);
+    const isOpen = uncovered.has(keyOf(take));
     take.classList.toggle("uncovered", isOpen);
     const name = areCovered && !isOpen ? "data-covered" : "data-open";
-    for (const each of buttonsOf(rowOf(take))) each.setAttribute("aria-label", each.getAttribute(name));
+    for (const each of buttonsOf(rowOf(take))) each.setAttribute("aria-label", each.getAttribute(name) ?? "");
   }
   for (const star of rows.querySelectorAll(".star")) {
-    const isKept = keptBy.get(star)();
+    const isKept = keptBy.get(star)?.() ?? false;
     star.setAttribute("aria-pressed", String(isKept));
     star.textContent = isKept ? "★" : "☆";
   }
@@ -61,26 +61,32 @@ export function offerCover() {
     const take = event.target instanceof Element ? event.target.closest(".covers .take:not(.uncovered)") : null;
     if (!(take instanceof HTMLElement)) return;
     event.stopPropagation();
-    uncovered.add(take.dataset.key);
+    uncovered.add(keyOf(take));
     refreshRows(rowOf(take));
   }, { capture: true });
 }
 
 /** How many rows a key leads on, and how many buttons within a row. */
-const ROWS = { ArrowDown: 1, ArrowUp: -1, PageDown: 10, PageUp: -10 };
-const BUTTONS = { ArrowRight: 1, ArrowLeft: -1 };
+const ROWS: Record<string, number> = { ArrowDown: 1, ArrowUp: -1, PageDown: 10, PageUp: -10 };
+const BUTTONS: Record<string, number> = { ArrowRight: 1, ArrowLeft: -1 };
 
-const rowOf = (node) => node.closest("li, tr");
-const buttonsOf = (row) => [...row.querySelectorAll("button")];
-const takesOf = (holder) => [...holder.querySelectorAll(".take")];
-const nearest = (list, place) => list[Math.min(list.length - 1, Math.max(0, place))];
+function rowOf(node: Element): HTMLElement {
+  const row = node.closest("li, tr");
+  if (!(row instanceof HTMLElement)) throw new Error("this stands in no row");
+  return row;
+}
+const buttonsOf = (row: ParentNode) => [...row.querySelectorAll("button")];
+const takesOf = (holder: ParentNode) => [...holder.querySelectorAll(".take")];
+const takeOf = (row: HTMLElement) => inner(row, ".take");
+const keyOf = (take: HTMLElement) => take.dataset.key ?? "";
+const nearest = (list: HTMLElement[], place: number) => list[Math.min(list.length - 1, Math.max(0, place))];
 
 /** The button that a key leads to from another one, or null. */
 function buttonAfter(key: string, from: HTMLElement, holder: HTMLElement) {
   const [row, takes] = [rowOf(from), takesOf(holder)];
   if (key === "Home") return takes[0];
-  if (key === "End") return takes.at(-1);
-  if (Object.hasOwn(ROWS, key)) return nearest(takes, takes.indexOf(row.querySelector(".take")) + ROWS[key]);
+  if (key === "End") return takes[takes.length - 1];
+  if (Object.hasOwn(ROWS, key)) return nearest(takes, takes.indexOf(takeOf(row)) + ROWS[key]);
   if (!Object.hasOwn(BUTTONS, key)) return null;
   const buttons = buttonsOf(row);
   return nearest(buttons, buttons.indexOf(from) + BUTTONS[key]);
@@ -97,13 +103,13 @@ export function roveWithin(holder: HTMLElement) {
   });
   holder.addEventListener("focusin", ({ target }) => {
     for (const other of holder.querySelectorAll('.take[tabindex="0"]')) other.setAttribute("tabindex", "-1");
-    rowOf(target).querySelector(".take").setAttribute("tabindex", "0");
+    takeOf(rowOf(target)).setAttribute("tabindex", "0");
   });
 }
 
 /** The button that takes the moves of a row, by what that is known by; or null. */
 export const takeNamed = (holder: HTMLElement, key: string) =>
-  takesOf(holder).find(({ dataset }) => dataset.key === key) ?? null;
+  takesOf(holder).find((take) => keyOf(take) === key) ?? null;
 
 /** Adds rows below others. */
 export function addRows(holder: HTMLElement, rows: HTMLElement[]) {
@@ -115,8 +121,9 @@ export function addRows(holder: HTMLElement, rows: HTMLElement[]) {
  * the first has it, or what is given. */
 export function showRows(holder: HTMLElement, put: () => void, otherwise: HTMLElement) {
   const focused = document.activeElement;
-  const row = holder.contains(focused) ? rowOf(focused) : null;
-  const [key, place] = row ? [row.querySelector(".take").dataset.key, buttonsOf(row).indexOf(focused)] : ["", 0];
+  const isWithin = focused instanceof HTMLElement && holder.contains(focused);
+  const row = isWithin ? rowOf(focused) : null;
+  const [key, place] = isWithin && row ? [keyOf(takeOf(row)), buttonsOf(row).indexOf(focused)] : ["", 0];
   put();
   const [first] = takesOf(holder);
   if (!holder.querySelector('.take[tabindex="0"]')) first?.setAttribute("tabindex", "0");

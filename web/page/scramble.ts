@@ -1,6 +1,7 @@
 // The card of the scramble: its field, with what was left out of a text and what is at fault, the other scrambles of
 // the text, examples, random scrambles from a seed, and the fold of it if the page is narrow.
 import { Stopped } from "../module/faults.js";
+import { thrownError } from "./certain.js";
 import { announce, announceLater, button, counted, element, part, tell } from "./element.js";
 import { LONGEST_SCRAMBLE } from "./limits.js";
 import { areBeside, withoutMoving } from "./view.js";
@@ -36,12 +37,12 @@ export class ScrambleField {
   #seed = part("seed");
   #timer = 0;
   #draws = 0;
-  #leftOut = [];
+  #leftOut: string[] = [];
   /** the last text and its attempts; which of these is shown, or -1; and what is said of the others then */
   #text = "";
   #attempts: Attempt[] = [];
   #at = -1;
-  #others = [];
+  #others: string[] = [];
   #isRead = false;
   /** the scramble that was read last, and whether what is pasted, or typed, takes the place of all of it */
   #last = "";
@@ -62,7 +63,7 @@ export class ScrambleField {
     this.#reader = reader;
     this.#changed = changed;
     this.#field.maxLength = LONGEST_SCRAMBLE;
-    this.#field.addEventListener("input", (event) => this.#typed(event));
+    this.#field.addEventListener("input", (event) => this.#typed(event instanceof InputEvent ? event.inputType : ""));
     this.#field.addEventListener("paste", ({ clipboardData }) => {
       const { value, selectionStart, selectionEnd } = this.#field;
       this.#isReplaced = selectionStart === 0 && selectionEnd === value.length;
@@ -84,7 +85,7 @@ export class ScrambleField {
       this.#draw(this.#seed.value.trim() || freshSeed());
     });
     for (const example of document.querySelectorAll("[data-example]")) {
-      example.addEventListener("click", () => this.#put(example.dataset.example));
+      example.addEventListener("click", () => this.#put(example.dataset.example ?? ""));
     }
     part("scramble-edit").addEventListener("click", () => this.focus());
     part("left-back").addEventListener("click", () => history.back());
@@ -120,7 +121,7 @@ export class ScrambleField {
     this.#markPlace(text, showFault(part("scramble-fault"), this.#field, plain, fault, text));
     if (!fault && part("scramble-doubt").hidden) this.tellDoubt(this.#doubt);
     // of what is typed not after each sign
-    if (fault) announceLater(part("scramble-fault").firstChild.textContent);
+    if (fault) announceLater(part("scramble-fault").children[0].textContent);
     const sentences = [wordsOfLeftOut(this.#leftOut)].filter(Boolean);
     if (read?.isTurned) sentences.push(`Read as ${read.line || "no moves"}: ${TURNS_LEFT_OUT}`);
     else if (read && plain.line.includes("(")) sentences.push("Moves in brackets count as inverse moves.");
@@ -129,7 +130,8 @@ export class ScrambleField {
     if (words !== part("scramble-read").textContent) tell(part("scramble-read"), words);
     part("scramble-folded").textContent = text;
     this.#isRead = read !== null && read.line !== "";
-    const isUsed = [this.#field, ...part("attempts").children].includes(document.activeElement);
+    const { activeElement } = document;
+    const isUsed = [this.#field, ...part("attempts").children].some((each) => each === activeElement);
     if (!isUsed || !this.#isRead) this.#fold(this.#isRead);
   }
 
@@ -154,7 +156,7 @@ export class ScrambleField {
   }
 
   /** Folds the card once something was done elsewhere, if the page is scrolled far enough for nothing to move by it. */
-  #leave(where: Element) {
+  #leave(where: Element | null) {
     const card = part("scramble-card");
     if (!this.#isRead || card.contains(where) || card.matches(".folded")) return;
     const height = card.offsetHeight;
@@ -181,13 +183,13 @@ export class ScrambleField {
     this.#backdrop.scrollTop = this.#field.scrollTop;
   }
 
-  #typed(event) {
+  #typed(how: string) {
     clearTimeout(this.#timer);
     this.#markPlace("", null);
     const isReplaced = this.#isReplaced;
     this.#isReplaced = false;
     // what is pasted is whole
-    if (event.inputType === "insertFromPaste") return this.#read(isReplaced);
+    if (how === "insertFromPaste") return this.#read(isReplaced);
     this.#isCut = false;
     this.#timer = setTimeout(() => this.#read(false), PAUSE);
   }
@@ -242,7 +244,7 @@ export class ScrambleField {
   /** Offers the attempts of a text, if there are several. @param at which of the attempts is taken */
   #offer({ text, attempts }: { text: string; attempts: Attempt[] }, at: number) {
     const row = part("attempts");
-    const buttonOf = ({ name }, place) =>
+    const buttonOf = ({ name }: Attempt, place: number) =>
       button(/\d/.test(name) ? name : String(place + 1), { class: "quiet", click: () => this.#choose(place) });
     if (attempts !== this.#attempts) row.replaceChildren(...attempts.map(buttonOf));
     row.hidden = attempts.length === 1;
@@ -275,17 +277,18 @@ export class ScrambleField {
     return last !== line && (isReplaced || hasSteps);
   }
 
-  #put(scramble) {
+  #put(scramble: string) {
     const isStep = !this.#isDraft;
     this.show(scramble);
     this.#changed(scramble, { isNew: true, fmc: null, isStep });
   }
 
-  async #draw(seed) {
+  async #draw(seed: string) {
     this.#seed.value = seed;
     // of several that are asked for at once the last one counts, whose seed is shown
     const draw = ++this.#draws;
-    const show = (fault) => showFault(part("seed-fault"), this.#seed, this.#reader.plainLine(seed), fault, seed);
+    const show = (fault: Error | null) =>
+      showFault(part("seed-fault"), this.#seed, this.#reader.plainLine(seed), fault, seed);
     try {
       const scramble = await this.#calls.ask("scrambleOf", { seed });
       if (draw !== this.#draws) return;
@@ -294,7 +297,7 @@ export class ScrambleField {
       this.#put(scramble);
       announce(`Scramble from seed ${seed}: ${scramble}`);
     } catch (fault) {
-      if (draw === this.#draws && !(fault instanceof Stopped)) show(fault);
+      if (draw === this.#draws && !(fault instanceof Stopped)) show(thrownError(fault));
     }
   }
 }

@@ -1,6 +1,7 @@
 // The list of a step's solutions: grouped by length or by case, filtered by turns and by case, and cut if it is long. A
 // list that is looked for gives way to another one, and can be stopped.
 import { Stopped } from "../module/faults.js";
+import { thrownError, present } from "./certain.js";
 import { announce, announceLater, button, counted, element, part, setBusy, spoken, tell } from "./element.js";
 import {
   Filters, NOT_MOVES, caseAtMost, chosen, offerChoices, offerLastTurns, offerMoves, withTurns,
@@ -53,13 +54,13 @@ export class SolutionList {
     copy: (text: string, button: HTMLElement) => void;
   };
   #name = "";
-  #list = null;
+  #list: List | null = null;
   #rows: Rows | null = null;
   /** What the filters leave, in its order, which is that of its groups. */
   #matching: Entry[] = [];
   #ordered: Group[] = [];
   #shown = MOST_SHOWN;
-  #filters = new Filters("list", part("solutions-note"), [[
+  #filters = new Filters<Entry>("list", part("solutions-note"), [[
     withTurns("filter", "last-turn", ({ moves, others, part: own, twins }) =>
       (twins === undefined ? withTwins(moves, others) : sidesOfTwins(own, twins))),
     caseAtMost("most", (entry) => this.#casesOf(entry).map(({ name }) => name)),
@@ -82,7 +83,7 @@ export class SolutionList {
     this.#acts = acts;
     offerMoves("slack", GREATEST_SLACK);
     part("slack").addEventListener("change", () => acts.change({ slack: Number(part("slack").value) }));
-    part("list-side").addEventListener("change", () => acts.change({ side: part("list-side").value }));
+    part("list-side").addEventListener("change", () => acts.change({ side: part("list-side").value as List["side"] }));
     part("twins").addEventListener("change", () => acts.change({ isAll: part("twins").checked }));
     part("solutions-stop").addEventListener("click", () => calls.stop());
     part("solutions-close").addEventListener("click", () => acts.change(null));
@@ -107,17 +108,17 @@ export class SolutionList {
     this.#name = name;
     this.#calls.stop();
     // the engine searches while the card is drawn; what is wrong is said where it is waited for
-    const asked = list && this.#calls.ask("rowsOfList", { list, scramble: line.scramble, parts: line.parts });
+    const asked = list && line && this.#calls.ask("rowsOfList", { list, scramble: line.scramble, parts: line.parts });
     asked?.catch(() => {});
     this.#open(list);
-    if (!list) return false;
+    if (!asked) return false;
     const isStill = () => name === this.#name;
     try {
       const rows = await asked;
       if (isStill()) this.#take(rows);
     } catch (fault) {
       if (!isStill()) return false;
-      const why = fault instanceof Stopped ? "Stopped." : fault.message;
+      const why = fault instanceof Stopped ? "Stopped." : thrownError(fault).message;
       this.#setWorking(false);
       tell(part("solutions-note"), why);
       announce(why);
@@ -166,7 +167,7 @@ export class SolutionList {
     this.#setWorking(false);
     this.#order();
     const all = `${rows.whole ? "" : "more than "}${counted(rows.all, "solution")}`;
-    announce(`${nameOfList(this.#list)}: ${all}.`);
+    announce(`${nameOfList(present(this.#list))}: ${all}.`);
   }
 
   /** Puts the focus on the field of the filter, also where the filters are folded. */
@@ -191,7 +192,7 @@ export class SolutionList {
     return takeNamed(this.#groups, key);
   }
 
-  #setWorking(isWorking) {
+  #setWorking(isWorking: boolean) {
     const stop = part("solutions-stop");
     // what can't be pressed can't keep the focus
     if (!isWorking && document.activeElement === stop) part("solutions-heading").focus();
@@ -217,8 +218,8 @@ export class SolutionList {
   /** @returns the names of the cases after a solution, for each reduction that may follow */
   #casesOf({ cases }: Entry) {
     if (cases === undefined) return [];
-    const caseOfOne = (step) => ({ state: stateOf(step), axis: axisName(step.axis), name: cases[step.axis] });
-    return reductionsAfter(this.#list.step).map(caseOfOne);
+    return reductionsAfter(present(this.#list).step).map((step) => (
+      { state: stateOf(step), axis: axisName(step.axis), name: cases[step.axis] }));
   }
 
   /** @returns the nearest case of an entry, and how far it is */
@@ -229,7 +230,7 @@ export class SolutionList {
 
   /** Puts what the filters leave in its order, and shows its beginning. */
   #order() {
-    const left = this.#filters.left(this.#rows.entries);
+    const left = this.#filters.left(present(this.#rows).entries);
     this.#ordered = this.#grouped(left ?? []);
     this.#matching = this.#ordered.flatMap(({ entries }) => entries);
     this.#groups.replaceChildren();
@@ -241,7 +242,7 @@ export class SolutionList {
   #grouped(matching: Entry[]): Group[] {
     const byCase = part("list-sort").value === "case";
     const nearest = new Map(byCase ? matching.map((entry) => [entry, this.#nearest(entry)]) : []);
-    const farOf = (entry) => nearest.get(entry)?.far ?? 0;
+    const farOf = (entry: Entry) => nearest.get(entry)?.far ?? 0;
     if (byCase) matching.sort((one, other) => farOf(one) - farOf(other) || one.length - other.length);
     const groups = new Map<string, Group>();
     for (const entry of matching) {
@@ -266,9 +267,10 @@ export class SolutionList {
       }
     }, part("solutions-heading"));
     const count = this.#shown - room;
-    this.#filters.show(this.#matching.length === 0 && this.#rows.entries.length > 0);
+    const rows = present(this.#rows);
+    this.#filters.show(this.#matching.length === 0 && rows.entries.length > 0);
     part("solutions-more").hidden = count === this.#matching.length;
-    tell(part("solutions-note"), noteOfList(this.#rows, this.#matching.length, count));
+    tell(part("solutions-note"), noteOfList(rows, this.#matching.length, count));
   }
 
   /** Shows more of a group. @param count how many of its rows are shown then */

@@ -2,19 +2,22 @@
 // them by; and the parts of a line, each a step on one side.
 import { SIDES, joined, type Moves as Part, type Side } from "../module/sides.js";
 import {
-  FACES_OF, ORIENTATIONS, REDUCTIONS, reductionsAfter, stepNamed, type StepOnAxis as OfferedStep,
+  FACES_OF, ORIENTATIONS, REDUCTIONS, isOnAxis, reductionsAfter, stepNamed, type StepOnAxis as OfferedStep,
 } from "./axes.js";
 import type { Axis, Facts } from "../module/facts.js";
 import type { Step } from "../module/steps.js";
 
 export { SIDES, bracketed, joined, otherSide } from "../module/sides.js";
-export { ORIENTATIONS, REDUCTIONS, reductionsAfter, stepNamed } from "./axes.js";
+export { ORIENTATIONS, REDUCTIONS, isOnAxis, reductionsAfter, stepNamed } from "./axes.js";
 
 /** @returns whether it names a side */
 export const isSide = (name: string): name is Side => SIDES.some((side) => side === name);
 
 /** @returns an axis as solvers write it, such as `F/B` */
 export const axisName = (axis: Axis) => [...FACES_OF[axis]].join("/");
+
+/** @returns the names of some steps */
+export const namesOf = (steps: readonly OfferedStep[]) => steps.map(({ name }) => name);
 
 /** @returns what holds once a step is reached */
 export const stateOf = (step: OfferedStep) => `${step.needs === null ? "EO" : "DR"} ${axisName(step.axis)}`;
@@ -37,7 +40,7 @@ export const inGroups = (steps: OfferedStep[]) => [false, true]
   .filter((group) => group.length > 0);
 
 /** The steps that the page offers among those that hold. */
-export const offeredAmong = (held: readonly Step[]) => held.filter((name) => stepNamed(name));
+export const offeredAmong = (held: readonly Step[]) => held.filter(isOnAxis);
 
 /** @param list that is open
  * @returns the reduction that is gone on to, or "" */
@@ -89,7 +92,7 @@ export const lastSideOf = ({ inverse }: Part): Side => (inverse === "" ? "normal
 /** @param name such as `4c2e`
  * @returns the numbers in the name of a case, and how far it is, to sort by: an edge costs about as much as a corner */
 export function sizeOfCase(name: string) {
-  const [corners, edges] = name.match(/\d+/g).map(Number);
+  const [corners, edges] = (name.match(/\d+/g) ?? []).map(Number);
   return { corners, edges, far: corners + edges };
 }
 

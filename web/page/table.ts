@@ -1,5 +1,6 @@
 // The table of the steps that may follow: a row for each, with what solvers choose by, and a cell for each side with
 // the least length, all moves, and how many solutions there are; what is reached; and the looks, in a table of theirs.
+import { lastOf } from "./certain.js";
 import { counted, element, part } from "./element.js";
 import { SIDES, caseOfStep, inGroups, isReduced, openSteps, stateOf, statesOf, titleOf } from "./steps.js";
 import type { Calls } from "./calls.js";
@@ -7,6 +8,7 @@ import type { Counted, Examined, Offer, Unexamined } from "./position.js";
 import type { Facts } from "../module/facts.js";
 import type { List } from "./address.js";
 import type { Moves, Side } from "../module/sides.js";
+import type { Step } from "../module/steps.js";
 
 export type Told = Examined | Unexamined;
 export type Cube = { facts: Facts; made: number; reached: string[] };
@@ -26,14 +28,14 @@ const SOON = 50;
 
 /** Asks for a cube, which is told first, and for the groups of steps that may follow: two at most. */
 function askedOf(calls: Calls, typed: { text: string; parts: Moves[] }): [Promise<Told>, ...Promise<Offer[]>[]] {
-  const acts = [];
-  const told = [0, 1, 2].map(() => new Promise((settle, refuse) => acts.push({ settle, refuse })));
+  const acts: { settle: (told: Told | Offer[]) => void; refuse: (fault: unknown) => void }[] = [];
+  const told = [0, 1, 2].map(() => new Promise<Told | Offer[]>((settle, refuse) => acts.push({ settle, refuse })));
   // what is wrong is said where it is waited for
   for (const each of told) each.catch(() => {});
   let at = 0;
   calls.ask("examine", typed, (each) => acts[at++].settle(each))
     .catch((fault) => acts.forEach(({ refuse }) => refuse(fault)));
-  return told as any;
+  return told as [Promise<Told>, ...Promise<Offer[]>[]];
 }
 
 /** The cube, and the steps that may follow, each with its counts on both sides, in portions: all groups in one if
@@ -44,7 +46,7 @@ export async function cubeWithOffers(
 ): Promise<{ cube: Told; portions: Promise<Offer[][]>[] }> {
   const [first, ...groups] = askedOf(...asked);
   const cube = await first;
-  const count = "unread" in cube ? 0 : inGroups(openSteps(cube.walk.reached.at(-1))).length;
+  const count = "unread" in cube ? 0 : inGroups(openSteps(lastOf(cube.walk.reached))).length;
   const offers = groups.slice(0, count);
   const all = Promise.all(offers);
   const late = new Promise((tell) => setTimeout(tell, SOON, false));
@@ -61,27 +63,29 @@ const UNCOUNTED = { length: null, total: Infinity, solutions: 0, nodes: 0, best:
 const areReductions = ([{ step }]: Offer[]) => step.needs !== null;
 
 /** Whether some offers keep what is reached: each does where that is nothing, and a reduction keeps its orientation. */
-const keepsReached = (offers, reached) => reached.length === 0 || (areReductions(offers) && !isReduced(reached));
+const keepsReached = (offers: Offer[], reached: string[]) =>
+  reached.length === 0 || (areReductions(offers) && !isReduced(reached));
 
 /** @returns the least length of a group of offers */
 const leastOf = (offers: Offer[]) =>
   Math.min(...offers.flatMap((offer) => SIDES.map((side) => offer[side].length ?? Infinity)));
 
 export class StepTable {
-  #chosen: (step: string, side: Side) => void;
-  #focused = null;
-  #groups = [];
+  #chosen: (step: Step, side: Side) => void;
+  #focused: HTMLElement | null = null;
+  #groups: Offer[][] = [];
   #body = part("steps-body");
   #looks = part("looks-body");
 
-  constructor(chosen: (step: string, side: Side) => void) {
+  constructor(chosen: (step: Step, side: Side) => void) {
     this.#chosen = chosen;
   }
 
   /** Dims the offers of the last cube, with all that rests on them, until those of the next one are there. */
   hold() {
     const { activeElement } = document;
-    if (part("choices").contains(activeElement)) this.#focused = activeElement;
+    const isWithin = activeElement instanceof HTMLElement && part("choices").contains(activeElement);
+    if (isWithin) this.#focused = activeElement;
     else if (activeElement !== document.body) this.#focused = null;
     part("choices").inert = true;
   }
@@ -107,7 +111,8 @@ export class StepTable {
   add(added: Offer[][], cube: Cube, list: List | null) {
     this.#groups.push(...added);
     const groups = this.#inOrder(cube);
-    const focused = this.#body.contains(document.activeElement) ? document.activeElement.dataset.cell : null;
+    const { activeElement } = document;
+    const focused = this.#body.contains(activeElement) ? activeElement?.dataset.cell : null;
     const anew = groups.find((group) => !keepsReached(group, cube.reached));
     this.#body.replaceChildren(...groups.flatMap((group) =>
       [...(group === anew ? [this.#anew(cube)] : []), ...this.#rows(group, cube, list)]));
@@ -134,7 +139,7 @@ export class StepTable {
   /** What is said of the offers: the first of the shortest steps that are left, if there is one. */
   summary() {
     const least = this.#least();
-    return least ? `Shortest next step: ${least.getAttribute("aria-label").replace(", shortest", "")}.` : "";
+    return least ? `Shortest next step: ${least.getAttribute("aria-label")?.replace(", shortest", "")}.` : "";
   }
 
   /** Gives the focus back that `hold` took: to the same cell or control, or to the heading where that is gone. */
@@ -142,10 +147,12 @@ export class StepTable {
     const held = this.#focused;
     this.#focused = null;
     // it stays where it went meanwhile; what is hidden may have it for a moment longer
-    if (!held || ![held, document.body].includes(document.activeElement)) return;
+    const { activeElement } = document;
+    if (!held || (activeElement !== held && activeElement !== document.body)) return;
     const same = held.dataset.cell ? this.cell(held.dataset.cell) : held;
     const places = [same, part("steps-heading"), part("line-heading")];
-    const mayHave = (place) => place?.isConnected && place.checkVisibility() && !place.disabled;
+    const mayHave = (place: HTMLElement | null) =>
+      place?.isConnected && place.checkVisibility() && !place.matches(":disabled");
     places.find(mayHave)?.focus({ preventScroll: true });
   }
 
@@ -174,7 +181,7 @@ export class StepTable {
     return element("tr", { class: "anew" }, element("td", { colspan: 3, class: "note" }, words));
   }
 
-  #rows(group, cube, list) {
+  #rows(group: Offer[], cube: Cube, list: List | null) {
     const least = keepsReached(group, cube.reached) ? leastOf(group) : null;
     // where two orientations hold, each has a way of its own to the same reduction
     const isOneOf = new Set(group.map(({ step }) => step.needs)).size > 1;
@@ -185,7 +192,10 @@ export class StepTable {
       ...SIDES.map((side) => this.#cell(offer, side, { least, made: cube.made, list }))));
   }
 
-  #cell({ step, ...counts }, side, { least, made, list }) {
+  #cell(
+    { step, ...counts }: Offer, side: Side,
+    { least, made, list }: { least: number | null; made: number; list: List | null },
+  ) {
     const count = counts[side];
     const [length, all, solutions, word] = wordsOfRow(count, made);
     const name = `${step.name}.${side}`;

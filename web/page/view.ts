@@ -39,7 +39,7 @@ export function awaitAnswer(state: State | null) {
 function showFocused(column: HTMLElement, focused: Element) {
   // a button that is clicked stays under the mouse
   if (focused.getBoundingClientRect().top >= 0 || !focused.matches(":focus-visible")) return;
-  const start = column.parentElement.getBoundingClientRect().top + scrollY;
+  const start = (column.parentElement ?? column).getBoundingClientRect().top + scrollY;
   const within = focused.getBoundingClientRect().top - column.getBoundingClientRect().top;
   scrollTo({ top: start + within - EDGE });
 }
@@ -118,7 +118,7 @@ export function tellAt(button: HTMLElement, text: string) {
 /** Makes every help of the page stand under the button that opens it. */
 export function placeHelp() {
   for (const button of document.querySelectorAll("[popovertarget]")) {
-    const text = document.getElementById(button.getAttribute("popovertarget"));
+    const text = part(button.getAttribute("popovertarget") ?? "");
     text.addEventListener("toggle", (event) => {
       button.setAttribute("aria-expanded", String(event.newState === "open"));
       if (event.newState !== "open") return;

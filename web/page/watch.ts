@@ -41,12 +41,12 @@ class Silence {
 export function watched(made: () => Promise<Worker>): NewWorker {
   return (took, failed) => {
     const silence = new Silence();
-    const fails = ({ message }) => {
+    const fails = ({ message }: { message: string }) => {
       silence.end();
       tellFailed(engineFails(message));
       failed(message);
     };
-    const listens = (worker) => listenedTo(() => worker)((data) => {
+    const listens = (worker: Worker) => listenedTo(() => worker)((data) => {
       // of the best it tells some after the other
       if ("progress" in data) silence.begin();
       else silence.end();
@@ -55,7 +55,7 @@ export function watched(made: () => Promise<Worker>): NewWorker {
     const started = made().then(listens);
     started.catch(fails);
     return {
-      postMessage: (message: any) => {
+      postMessage: (message: object) => {
         started.then((worker) => worker.postMessage(message), () => {});
         // what brings the module has no answer
         if ("request" in message) silence.begin();

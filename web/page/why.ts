@@ -1,6 +1,7 @@
 // Why a piece is good or bad, in a sentence: which of its colours tells, on which face that belongs, and where it is.
 import { CORNER_PLACES, EDGE_PLACES } from "../module/facts.js";
 import { stickersOf } from "../module/stickers.js";
+import { present } from "./certain.js";
 
 /** The axes in the order in which their colours tell; that of the step itself comes second. */
 const TELLING_AXES = ["U/D", "F/B", "R/L"];
@@ -12,7 +13,7 @@ const eitherOf = (axis: string) => axis.replace("/", " or ");
 
 /** Which of some faces is of the first axis that has one of them. */
 const whichTells = (faces: string[], axes: string[]) =>
-  axes.map((axis) => faces.findIndex((face) => axis.includes(face))).find((at) => at >= 0);
+  present(axes.map((axis) => faces.findIndex((face) => axis.includes(face))).find((at) => at >= 0));
 
 /** Whether an edge is oriented on an axis.
  * @param faces where it is
@@ -28,7 +29,7 @@ function edgeOriented(faces: string[], colours: string[], axis: string) {
 
 /** Whether an edge is on its side of a slice. @param axis of the reduction */
 function edgePlaced(faces: string[], colours: string[], axis: string) {
-  const isIn = (letters) => !letters.some((each) => axis.includes(each));
+  const isIn = (letters: string[]) => !letters.some((each) => axis.includes(each));
   const where = isIn(colours) ? "in the slice, since it has no" : "outside the slice, since it has";
   const belongs = `${where} ${eitherOf(axis)}`;
   if (isIn(colours) === isIn(faces)) return `good for DR ${axis}: it is ${belongs}`;
@@ -49,7 +50,8 @@ function cornerOriented(faces: string[], colours: string[], axis: string) {
 export function whyOf(letters: string, name: typeof PIECES[number], choice: string) {
   const [faces, colours] = [[...name], stickersOf([name]).map((place) => letters[place])];
   const [kind, wanted] = choice.split(" ");
-  const told = { 2: kind === "DR" ? edgePlaced : edgeOriented, 3: cornerOriented }[faces.length];
+  const ofEdge = kind === "DR" ? edgePlaced : edgeOriented;
+  const told = faces.length === 2 ? ofEdge : cornerOriented;
   const axes = wanted === undefined ? TELLING_AXES : [wanted];
   const piece = PIECES.find((each) =>
     each.length === colours.length && colours.every((colour) => each.includes(colour)));

@@ -2,6 +2,7 @@
 import { EngineMissing, NissyFault, type FaultParts } from "../module/faults.js";
 import { placeOf, type PlainLine } from "../module/written.js";
 import { oneLine, type State } from "./address.js";
+import { thrownError } from "./certain.js";
 import { element } from "./element.js";
 import { MOST_CANDIDATES, MOST_MOVES } from "./limits.js";
 import { bracketed, openSteps, stateOf, stepNamed, titleOf } from "./steps.js";
@@ -19,10 +20,13 @@ const MOST_SIGNS = 40;
 /** @returns what is said of an engine that failed */
 export const engineFails = (message: string) => `The engine doesn't work here. ${message}`;
 
+/** @returns what is wrong, in the engine's words if it says so */
+export const wordsOfFault = (fault: unknown) => (fault instanceof NissyFault ? fault.text : thrownError(fault).message);
+
 /** @returns why there is no answer */
-export function unanswered(fault: Error & { text?: string }) {
+export function unanswered(fault: unknown) {
   if (fault instanceof EngineMissing) return engineFails(fault.message);
-  const words = fault.text ?? fault.message;
+  const words = wordsOfFault(fault);
   if (words !== TOO_MANY) return `There is no answer: ${words}.`;
   return `The scramble and the moves after it can't be read together: they have ${TOO_MANY}.`;
 }
@@ -44,7 +48,8 @@ export const wordsOfLeftOut = (leftOut: string[]) => (leftOut.length === 0 ? "" 
 export function whyNotListed(name: string, reached: string[]) {
   if (openSteps(reached).some((step) => step.name === name)) return "";
   const step = stepNamed(name);
-  const why = reached.includes(name) ? "it is reached" : `${stateOf(stepNamed(step.needs))} isn't reached`;
+  const { needs } = step;
+  const why = needs === null || reached.includes(name) ? "it is reached" : `${stateOf(stepNamed(needs))} isn't reached`;
   return `${titleOf(step)} can't be listed here: ${why}.`;
 }
 
@@ -56,7 +61,7 @@ const visible = (text: string) => text.replace(/\s/g, " ").replace(/[\p{Cc}\p{Cf
 
 /** @returns the word that stands at a place, up to a blank or a bracket */
 function wordAt(line: string, place: number) {
-  const word = [.../^[^\s()]*/.exec(line.slice(place))[0].replace(/\u2019/g, "'")];
+  const word = [...(/^[^\s()]*/.exec(line.slice(place))?.[0] ?? "").replace(/\u2019/g, "'")];
   return visible(word.slice(0, LONGEST_WORD).join("")) + (word.length > LONGEST_WORD ? "…" : "");
 }
 
@@ -78,7 +83,7 @@ function sentenceOfMove(line: string, place: number) {
 /** The engine's words as a solver reads them. @param line what the engine read */
 function sentenceOf(fault: FaultParts, line: string) {
   const place = (fault.character ?? 1) - 1;
-  const sentences = {
+  const sentences: Record<string, () => string> = {
     "not a move": () => sentenceOfMove(line, place),
     "bracket inside a bracket": () => "A bracket stands inside a bracket.",
     "bracket closed that was not opened": () => "A bracket is closed that was not opened.",

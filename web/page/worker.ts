@@ -4,13 +4,14 @@ import { NissyFault, type FaultParts } from "../module/faults.js";
 import { Nissy } from "../module/nissy.js";
 import { bestIn } from "../module/replies.js";
 import { bestRequest } from "../module/requests.js";
-import { serveBy } from "../module/serve.js";
+import { serveBy, type Port } from "../module/serve.js";
 import { STEPS, type Step } from "../module/steps.js";
 import { readAddressed, readByHand, readWritten } from "./lines.js";
 import { rowsOfList } from "./lists.js";
 import { countsAfter, examine, framesOf, walkKept } from "./position.js";
 import { bracketed, sizeOfCase, stateOf, stepNamed } from "./steps.js";
 import { sidesOfTwins } from "./twins.js";
+import type { BestReply } from "../module/best.js";
 import type { BestRow, BestStep } from "../module/ways.js";
 import type { FoundOnAxis, Question, Row } from "./finder.js";
 
@@ -30,7 +31,7 @@ const rankOf = (total: number, { length, step }: BestStep, far: number) =>
 function rowInWords({ total, eo, dr, case: name }: BestRow): Row {
   const first = eo ?? dr;
   const { far } = sizeOfCase(name);
-  const partOf = ({ normal, inverse }) => ({ normal, inverse });
+  const partOf = ({ normal, inverse }: BestStep) => ({ normal, inverse });
   const { step, length, lengths } = dr;
   const next = eo && { step, part: partOf(dr), length, marks: stateOf(stepNamed(step)), case: name, lengths };
   return {
@@ -51,7 +52,7 @@ function bestOfAxis(
     tried = done;
     tell(tried);
   });
-  return { rows: bestIn(reply as any, request).map(rowInWords), tried };
+  return { rows: bestIn(reply as BestReply, request).map(rowInWords), tried };
 }
 
 /** Has the tables of a step built. */
@@ -66,8 +67,13 @@ const ANSWERS = {
 
 export type Answers = typeof ANSWERS;
 
+/** What the page asks: a call by its name, and what it is about. */
+type Asked = { id: number; request: { call: keyof Answers; about: unknown } };
+/** How each is answered, some after they told how far they are. */
+type Answering = (nissy: Nissy, about: unknown, tell: (progress: unknown) => void, engine: Engine) => unknown;
+
 /** What is asked, or what is at fault in the lines of it. */
-function replyOf(ask: () => any): { value: any } | { fault: FaultParts } {
+function replyOf(ask: () => unknown): { value: unknown } | { fault: FaultParts } {
   try {
     return { value: ask() };
   } catch (fault) {
@@ -77,12 +83,13 @@ function replyOf(ask: () => any): { value: any } | { fault: FaultParts } {
 }
 
 /** A worker, and no window. */
-const worker: any = self;
+const worker = self as unknown as Port;
 // what nobody caught becomes a failure of the worker, of which the page is told
-worker.addEventListener("unhandledrejection", ({ reason }) => {
+self.addEventListener("unhandledrejection", ({ reason }) => {
   throw reason;
 });
-serveBy(worker, (module) => Engine.start(module), (engine, { id, request: { call, about } }) => {
-  const tell = (progress) => worker.postMessage({ id, progress });
-  worker.postMessage({ id, reply: replyOf(() => ANSWERS[call](new Nissy(engine), about, tell, engine)) });
+serveBy(worker, (module) => Engine.start(module), (engine, { id, request: { call, about } }: Asked) => {
+  const tell = (progress: unknown) => worker.postMessage({ id, progress });
+  const answering = ANSWERS[call] as Answering;
+  worker.postMessage({ id, reply: replyOf(() => answering(new Nissy(engine), about, tell, engine)) });
 });
