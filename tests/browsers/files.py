@@ -24,12 +24,12 @@ MARKUP = r"(?:inner|outer|set)HTML|insertAdjacent|document\.write|ContextualFrag
 # what would ask a network
 ASKING = r"\bfetch\b|XMLHttpRequest|WebSocket|EventSource|sendBeacon|importScripts|RTCPeer|serviceWorker"
 # a script of the page that is put in place of one, and what it would do
-REFUSED = (("main.js", 'import { part } from "./element.js";\nconst part = 1;\n', "a name that is declared twice"),
-    ("main.js", 'import * as element from "./element.js";\n', "an import of another form"),
+REFUSED = (("main.js", 'import { part } from "./shared/element.js";\nconst part = 1;\n', "a name that is declared twice"),
+    ("main.js", 'import * as element from "./shared/element.js";\n', "an import of another form"),
     ("main.js", "export default 1;\n", "an export of another form"), ("main.js", 'const text = "</script>";\n', "an end of its element"),
     ("main.js", 'const text = "<!--";\n', "a comment of the page"), ("main.js", "const text = `R\n  U`;\n", "a text of several lines"),
-    ("style.css", "</style>", "an end of the style"), ("print.css", "</style>", "an end of the style in a part of it"),
-    ("style.css", '@import url("./print.css");', "an import of another form in the style"),
+    ("style/style.css", "</style>", "an end of the style"), ("style/print.css", "</style>", "an end of the style in a part of it"),
+    ("style/style.css", '@import url("./print.css");', "an import of another form in the style"),
     ("main.js", 'const text = "\U0001f9e9";\n', "a sign that an escape hasn't"), ("main.js", f"const text = '{'x' * MOST_BYTES}';\n", "a page that is too large"))
 
 
@@ -108,7 +108,7 @@ def is_indented(tally: Tally) -> None:
 
 def refuses(tally: Tally) -> None:
     """The tool joins the parts of this folder, and refuses what it can't join."""
-    for name, text, what in (("style.css", "", ""),) + REFUSED:
+    for name, text, what in (("style/style.css", "", ""),) + REFUSED:
         with tempfile.TemporaryDirectory() as room:
             web, made = Path(room, "web/page"), Path(room, "page.html")
             shutil.copytree(TOP / "build/web", web.parent)

@@ -158,12 +158,18 @@ def map_of_crates(code: Code) -> list[str]:
     return found
 
 
-def map_of_scripts() -> list[str]:
-    """Returns what the table of the page's scripts and their folder don't have in common."""
-    listed = rows(Page(TOP, "docs/ARCHITECTURE.md").section("The page"))
-    on_map = {name for row in listed for name in re.findall(r"[\w-]+\.ts", row[0])}
-    there = {path.name for path in (TOP / "web/page").glob("*.ts")}
-    return [f"gone: web/page: {it}" for it in sorted(on_map - there)] + [f"missing: web/page: {it}" for it in sorted(there - on_map)]
+def map_of_scripts(section: str, top: str) -> list[str]:
+    """Returns what a table of scripts, each row of one folder, and the folders don't have in common."""
+    listed = rows(Page(TOP, "docs/ARCHITECTURE.md").section(section))
+    on_map = {f"{row[0]}/{name}" for row in listed for name in re.findall(r"[\w-]+\.ts", row[1])}
+    there = {f"{path.parent.name if path.parent != TOP / top else top}/{path.name}" for path in (TOP / top).rglob("*.ts") if ".d." not in path.name}
+    return [f"gone: {it}" for it in sorted(on_map - there)] + [f"missing: {it}" for it in sorted(there - on_map)]
+
+
+def names_of_scripts(tally: Tally) -> None:
+    """No two scripts for the page and the module have one name, so that it says which is meant."""
+    names = [script.name for script in scripts()]
+    tally.equal("names that several scripts have", sorted({name for name in names if names.count(name) > 1}), [])
 
 
 def says_its_task(script: Path) -> bool:
@@ -256,7 +262,7 @@ def examples(tally: Tally) -> None:
 def main() -> None:
     """All checks, or the maps alone."""
     code = Code(TOP)
-    unlike = map_of_crates(code) + map_of_scripts()
+    unlike = map_of_crates(code) + map_of_scripts("The module in JavaScript", "web/module") + map_of_scripts("The page", "web/page")
     if sys.argv[1:] == ["map"]:
         print("\n".join(unlike), end="\n" if unlike else "")
         sys.exit(1 if unlike else 0)
@@ -273,6 +279,7 @@ def main() -> None:
     for what in unlike or [""]:
         tally.holds(f"docs/ARCHITECTURE.md maps each file: {what}", not what)
     heads_of_scripts(tally)
+    names_of_scripts(tally)
     types_in_comments(tally)
     promises(tally, code)
     wrong_bodies(tally, code)

@@ -5,7 +5,7 @@ import {
   type FormInText, type FormPlace, type NetPlace, type PlainLine, type SideSolutions, type Solution, type Solutions, type Step, type TextPlace, type Token,
 } from "./node.js";
 import { NissyPool as NissyPoolOfBrowsers, NissyWorker as NissyWorkerOfBrowsers } from "./browser.js";
-import type { CountReply, LineFault, LineReply, StartFault } from "./replies.js";
+import type { CountReply, LineFault, LineReply, StartFault } from "./calls/replies.js";
 
 export async function calls(bytes: Uint8Array, compiled: WebAssembly.Module, request: Promise<Response>): Promise<string> {
   const nissy: Nissy = await Nissy.load(request);

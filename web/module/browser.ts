@@ -1,10 +1,10 @@
 // The engine in a worker of a browser, and in several.
-import { WorkerPool } from "./pool.js";
-import { WorkerCalls } from "./worker-calls.js";
-import { listenedTo } from "./worker-queue.js";
-import type { ModuleSource } from "./source.js";
+import { WorkerPool } from "./workers/pool.js";
+import { WorkerCalls } from "./workers/worker-calls.js";
+import { listenedTo } from "./workers/worker-queue.js";
+import type { ModuleSource } from "./engine/source.js";
 
-export type { ModuleSource } from "./source.js";
+export type { ModuleSource } from "./engine/source.js";
 
 export * from "./nissy.js";
 

@@ -9,48 +9,48 @@
  * A call ends before it returns: a long search belongs into a worker, as `NissyWorker` of browser.js and of node.js has
  * one.
  */
-import { Engine, type Answering } from "./engine.js";
-import { NoWebAssembly } from "./faults.js";
+import { Engine, type Answering } from "./engine/engine.js";
+import { NoWebAssembly } from "./shared/faults.js";
 import {
   allOf, attemptChecksIn, bestIn, checkIn, countIn, factsIn, formPlacesIn, lineAfterIn, lineIn, linesIn, outputLinesIn,
   solutionsIn, tokensIn, type Answer, type AttemptCheck, type Count, type Solution, type SolutionsOn, type Told,
-} from "./replies.js";
+} from "./calls/replies.js";
 import {
   allRequest, bestRequest, checkRequest, checksRequest, countRequest, factsRequest, lineAfterRequest, lineRequest,
   listRequest, pairsRequest, runRequest, scrambleRequest, scramblesRequest, solutionsRequest, stepsRequest, textRequest,
   type BestWanted, type Known, type Many, type OnFaults, type OnSides, type Request, type Sides, type Wanted,
-} from "./requests.js";
-import { progressOf, type Followed } from "./signals.js";
-import { solutionsBy } from "./solutions.js";
-import type { Attempt } from "./attempts.js";
-import type { Best } from "./best.js";
-import type { Check, Facts } from "./facts.js";
-import type { FormPlace, Token } from "./tokens.js";
-import type { ModuleSource } from "./source.js";
-import type { PlainLine } from "./written.js";
-import type { Step, StepName } from "./steps.js";
-import type { Text } from "./bytes.js";
+} from "./calls/requests.js";
+import { progressOf, type Followed } from "./calls/signals.js";
+import { solutionsBy } from "./calls/solutions-in-turn.js";
+import type { Attempt } from "./text/attempts.js";
+import type { Best } from "./engine/best-search.js";
+import type { Check, Facts } from "./shared/facts.js";
+import type { FormPlace, Token } from "./text/tokens.js";
+import type { ModuleSource } from "./engine/source.js";
+import type { PlainLine } from "./text/written.js";
+import type { Step, StepName } from "./shared/steps.js";
+import type { Text } from "./shared/bytes.js";
 
-export type { Answer, AttemptCheck, Count, SideSolutions, Solution, Solutions, SolutionsOn, Told } from "./replies.js";
-export type { Attempt, AttemptCandidate, AttemptDoubt } from "./attempts.js";
-export type { Axis, Check, CornerPlace, EdgePlace, Facts, Form } from "./facts.js";
-export type { Best, BestProgress } from "./best.js";
-export type { BestReduction, BestRow, BestStep } from "./ways.js";
-export type { BestWanted, Known, Many, OnFaults, OnSides, Request, Sides, Wanted, Within } from "./requests.js";
-export type { Followed } from "./signals.js";
-export type { FormInText } from "./attempt-checks.js";
-export type { FormPlace, Token } from "./tokens.js";
-export type { ModuleSource } from "./source.js";
-export type { NetPlace } from "./stickers.js";
-export type { PlainLine, TextPlace } from "./written.js";
-export type { Step, StepName } from "./steps.js";
-export type { Text } from "./bytes.js";
+export type { Answer, AttemptCheck, Count, SideSolutions, Solution, Solutions, SolutionsOn, Told } from "./calls/replies.js";
+export type { Attempt, AttemptCandidate, AttemptDoubt } from "./text/attempts.js";
+export type { Axis, Check, CornerPlace, EdgePlace, Facts, Form } from "./shared/facts.js";
+export type { Best, BestProgress } from "./engine/best-search.js";
+export type { BestReduction, BestRow, BestStep } from "./shared/ways.js";
+export type { BestWanted, Known, Many, OnFaults, OnSides, Request, Sides, Wanted, Within } from "./calls/requests.js";
+export type { Followed } from "./calls/signals.js";
+export type { FormInText } from "./text/attempt-checks.js";
+export type { FormPlace, Token } from "./text/tokens.js";
+export type { ModuleSource } from "./engine/source.js";
+export type { NetPlace } from "./shared/stickers.js";
+export type { PlainLine, TextPlace } from "./text/written.js";
+export type { Step, StepName } from "./shared/steps.js";
+export type { Text } from "./shared/bytes.js";
 
-export { EngineMissing, NissyFault, NoWebAssembly, SearchCut, Stopped } from "./faults.js";
-export { AXES, CORNER_PLACES, EDGE_PLACES } from "./facts.js";
-export { STEPS, isStep, startOf } from "./steps.js";
-export { NET, stickersOf } from "./stickers.js";
-export { placeOf } from "./written.js";
+export { EngineMissing, NissyFault, NoWebAssembly, SearchCut, Stopped } from "./shared/faults.js";
+export { AXES, CORNER_PLACES, EDGE_PLACES } from "./shared/facts.js";
+export { STEPS, isStep, startOf } from "./shared/steps.js";
+export { NET, stickersOf } from "./shared/stickers.js";
+export { placeOf } from "./text/written.js";
 
 /** The version of the scripts, and of the module that comes with them. */
 export const VERSION = "2.0.0";

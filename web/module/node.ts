@@ -2,12 +2,12 @@
 import { readFile } from "node:fs/promises";
 import { Worker } from "node:worker_threads";
 import { Nissy } from "./nissy.js";
-import { WorkerPool } from "./pool.js";
-import { WorkerCalls } from "./worker-calls.js";
-import type { ModuleSource } from "./source.js";
-import type { NewWorker } from "./worker-queue.js";
+import { WorkerPool } from "./workers/pool.js";
+import { WorkerCalls } from "./workers/worker-calls.js";
+import type { ModuleSource } from "./engine/source.js";
+import type { NewWorker } from "./workers/worker-queue.js";
 
-export type { ModuleSource } from "./source.js";
+export type { ModuleSource } from "./engine/source.js";
 
 export * from "./nissy.js";
 

@@ -1,32 +1,32 @@
 // The page's state, and what each change of it makes the parts of the page show.
-import { NissyFault, Stopped } from "../module/faults.js";
-import { emptyState, hasLines, readAddress, type List, type State } from "./address.js";
-import { BestContinuations } from "./best.js";
-import { Readiness, type Calls } from "./calls.js";
-import { thrownError, lastOf } from "./certain.js";
-import { copy } from "./copying.js";
-import { Nets } from "./cube.js";
-import { announce, announceLater, part, setBusy, spoken, tell } from "./element.js";
-import { NextFocus, type Where } from "./focus.js";
-import { KeptCandidates, withOthers } from "./kept.js";
-import { LineSoFar } from "./line.js";
-import { Seen, WayBack, dropAddress, keepPlace, placeIn, writeState } from "./places.js";
-import { refreshRows } from "./rows.js";
-import { ScrambleField, type ScrambleChange } from "./scramble.js";
-import { SolutionList } from "./solutions.js";
+import { NissyFault, Stopped } from "../module/shared/faults.js";
+import { emptyState, hasLines, readAddress, type List, type State } from "./state/address.js";
+import { BestContinuations } from "./cards/best.js";
+import { Readiness, type Calls } from "./shared/questions.js";
+import { thrownError, lastOf } from "./shared/certain.js";
+import { copy } from "./shared/copying.js";
+import { Nets } from "./cards/cube.js";
+import { announce, announceLater, part, setBusy, spoken, tell } from "./shared/element.js";
+import { NextFocus, type Where } from "./state/next-focus.js";
+import { KeptCandidates, withOthers } from "./cards/kept.js";
+import { LineSoFar } from "./cards/line.js";
+import { Seen, WayBack, dropAddress, keepPlace, placeIn, writeState } from "./state/history.js";
+import { refreshRows } from "./shared/rows.js";
+import { ScrambleField, type ScrambleChange } from "./cards/scramble.js";
+import { SolutionList } from "./cards/solutions.js";
 import {
   ORIENTATIONS, bracketed, isReduced, lastSideOf, reductionOf, sideToward, stateOf, stepNamed, turnsOfStep,
-} from "./steps.js";
-import { StepTable, cubeWithOffers, type Cube } from "./table.js";
-import { awaitAnswer, isBare, keepInView, listenToKeys, setUsable, showBeginning, showStart, star } from "./view.js";
-import { tellFailed } from "./watch.js";
-import { titleOfPage, unanswered, whyNotListed, whyUnread } from "./words.js";
-import type { Examined, Offer } from "./position.js";
-import type { Moves as Part, Side } from "../module/sides.js";
-import type { Step } from "../module/steps.js";
-import type { Reader } from "./reader.js";
-import type { Row } from "./finder.js";
-import type { RowActs } from "./best-row.js";
+} from "./shared/offered-steps.js";
+import { StepTable, cubeWithOffers, type Cube } from "./cards/step-table.js";
+import { awaitAnswer, isBare, keepInView, listenToKeys, setUsable, showBeginning, showStart, star } from "./shared/view.js";
+import { tellFailed } from "./shared/watch.js";
+import { titleOfPage, unanswered, whyNotListed, whyUnread } from "./shared/words.js";
+import type { Examined, Offer } from "./answers/examine.js";
+import type { Moves as Part, Side } from "../module/shared/sides.js";
+import type { Step } from "../module/shared/steps.js";
+import type { Reader } from "./shared/reader.js";
+import type { Row } from "./cards/finder.js";
+import type { RowActs } from "./cards/best-row.js";
 
 /** The cube that is shown, with its scramble by its face turns, and as it is copied. */
 type CubeOfLine = Cube & { scramble: string; written: string; parts: Part[] };
