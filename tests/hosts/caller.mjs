@@ -6,7 +6,7 @@ import { readFileSync } from "node:fs";
 import { createInterface } from "node:readline";
 import {
   AXES, CORNER_PLACES, EDGE_PLACES, NET, Nissy, NissyFault, NissyWorker, SearchCut, placeOf, stickersOf,
-} from "../../web/module/node.js";
+} from "../../build/web/module/node.js";
 
 const ALL = 2n ** 64n - 1n;
 const decoder = new TextDecoder("utf-8", { fatal: true, ignoreBOM: true });
@@ -87,7 +87,7 @@ function attemptCounts(found) {
   return [found.length, found.flatMap((it) => it.steps).length, found.flatMap((it) => it.candidates).length].join(" ");
 }
 
-const formNames = (forms) => forms.join().replaceAll("-", "_");
+const formNames = (forms) => forms.join();
 const judged = ({ solved: is, moves, cleanMoves, forms }) => [Number(is), moves, cleanMoves, formNames(forms)].join(" ");
 
 /** What is told of an attempt: its check, its fault, and the forms of its solution. */

@@ -1,5 +1,5 @@
 // What is told of lines without a search, and searches with a bound on nodes: by `Nissy`, and by what has the same calls as promises.
-import { NissyFault, SearchCut } from "../../web/module/nissy.js";
+import { NissyFault, SearchCut } from "../../build/web/module/nissy.js";
 import { TURNS, same, thrown } from "./tally.mjs";
 
 // a call, and the fault that it throws: which line has it, its column and its message
@@ -53,8 +53,8 @@ const TEXTS = [
   // M r is R, as M is r' R
   ["forms", "R' D\n\nD\u2032 M r", [{
     ...NOTHING,
-    check: { solved: true, moves: 4, cleanMoves: 2, forms: ["slices", "lower-case", "apostrophe"] },
-    forms: [form("D\u2019", "apostrophe", 6, 3, 1), form("M", "slices", 9, 3, 4), form("r", "lower-case", 11, 3, 6)],
+    check: { solved: true, moves: 4, cleanMoves: 2, forms: ["slices", "lower_case", "apostrophe"] },
+    forms: [form("D\u2019", "apostrophe", 6, 3, 1), form("M", "slices", 9, 3, 4), form("r", "lower_case", 11, 3, 6)],
   }]],
 ];
 

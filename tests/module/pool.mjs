@@ -10,11 +10,11 @@ import { mkdtempSync, rmSync, writeFileSync } from "node:fs";
 import { tmpdir } from "node:os";
 import { join } from "node:path";
 import { performance } from "node:perf_hooks";
-import { NissyPool, NissyWorker } from "../../web/module/node.js";
-import { Nissy } from "../../web/module/nissy.js";
-import { WorkerPool } from "../../web/module/pool.js";
-import { WorkerCalls } from "../../web/module/worker-calls.js";
-import { tryEach, tryOptions, tryReadOptions, tryRows, tryTooLong, tryWrongValues } from "./called.mjs";
+import { NissyPool, NissyWorker } from "../../build/web/module/node.js";
+import { Nissy } from "../../build/web/module/nissy.js";
+import { WorkerPool } from "../../build/web/module/workers/pool.js";
+import { WorkerCalls } from "../../build/web/module/workers/worker-calls.js";
+import { tryEach, tryLists, tryOptions, tryReadOptions, tryRows, tryTooLong, tryWrongValues } from "./called.mjs";
 import { tryAttempts, tryBounds, tryChecks, tryMixed, tryPairs } from "./judged.mjs";
 import { TURNS, drawn, ended, moduleBytes, same, thrown } from "./tally.mjs";
 
@@ -98,7 +98,7 @@ async function tryWrong(pool) {
 
 /** Calls on one line have what `Nissy` has, and are given up by a signal. */
 async function trySingle(pool) {
-  const parts = [tryRows, tryEach, tryTooLong, tryWrongValues, tryOptions, tryReadOptions, tryChecks, tryAttempts, tryPairs, tryBounds, tryMixed];
+  const parts = [tryRows, tryEach, tryTooLong, tryWrongValues, tryLists, tryOptions, tryReadOptions, tryChecks, tryAttempts, tryPairs, tryBounds, tryMixed];
   for (const part of parts) await part(pool);
   const line = "R U2 R'";
   same("facts of a line", await pool.facts(line), nissy.facts(line));
@@ -324,7 +324,7 @@ function tryEnd() {
   const folder = mkdtempSync(join(tmpdir(), "nissy-pool-"));
   const script = join(folder, "script.mjs");
   writeFileSync(script, `import { readFileSync } from "node:fs";
-    import { NissyPool } from ${JSON.stringify(new URL("../../web/module/node.js", import.meta.url).href)};
+    import { NissyPool } from ${JSON.stringify(new URL("../../build/web/module/node.js", import.meta.url).href)};
     const pool = await NissyPool.start(3, readFileSync(process.argv[2]));
     console.log((await pool.countAll("eofb", Array.from({ length: 50_000 }, () => "R U F"))).length, pool.size);`);
   const said = String(execFileSync(process.execPath, [script, process.argv[2]], { timeout: 2 * SOON }));
