@@ -97,7 +97,7 @@ def main() -> None:
             # one line for all that hold
             got = answers(host, text)
             tally.holds(f"{text!r} in {host.name}: {got!r} for {wanted!r}", got == wanted[:len(got)])
-    tally.holds(f"each kind of doubt is there: {seen}", count < 10_000 or len(seen) == 8)
+    tally.holds(f"each kind of doubt is there: {seen}", count < 10_000 or len(seen) == 10)
     for host in others:
         tally.equal(f"{host.name} ends, and has said no more", host.end(), 0)
     tally.end()

@@ -52,6 +52,7 @@ pub fn told_line(role: &Role, line: &Line, begin: usize) -> TextLine
     requires { begin + line.now.length ≤ usize.MAX }
     ensures is { IsLine begin result }
     ensures ends { result.end ≡ begin + line.now.length }
+    ensures comment { result.comment ≡ begin + line.now.comment }
     ensures undoubted { result.doubt_at ≡ result.end }
     ensures kind { result.kind ≡ role.now.kind }
 {
