@@ -68,6 +68,9 @@ fn letters_at(text: &[u8], from: usize, to: usize) -> usize
         return to;
     }
     let joined = first_seen(text, from + 1, to, Sight::Joined);
+    if joined == to {
+        return to;
+    }
     let parted = first_seen(text, from + 1, to, Sight::Parted);
     let prime = first_seen(text, from, to, Sight::Prime);
     if parted < to || prime == to {

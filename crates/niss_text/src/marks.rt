@@ -1,9 +1,8 @@
 //! Signs by which solvers have moves made several times, or put into others: of a number of times, and marks.
 ghost use Rattle.std.specs.Prelude.{◌≤◌, ◌<◌, length};
 
-use crate::forms::trimmed;
 use crate::sights::is_letter;
-use crate::sign::is_digit_byte;
+use crate::sign::{is_digit_byte, trimmed};
 
 /// Whether a text begins with a number of times, such as `x2` or `2x`.
 fn begins_times(text: &[u8]) -> bool {
