@@ -10,7 +10,7 @@ use crate::forms::has_bracket;
 use crate::line::Line;
 use crate::marks::{defines_mark, ends_with_times, is_mark, says_times};
 use crate::sights::{Sight, first_seen, is_letter};
-use crate::text_line::TextLine;
+use crate::text_line::{LineKind, TextLine};
 use crate::word::has_three_moves;
 use crate::words::{Topic, Wanted, first_topic, says, word_length};
 
@@ -122,7 +122,7 @@ fn doubt_said(text: &[u8], told: &TextLine) -> (Doubt, usize)
     ensures place { (told.now.begin ≤ result.1) × (result.1 ≤ told.now.end) }
     ensures others { (number_of result.0 ≡ 4 → ⊥) × (number_of result.0 ≡ 5 → ⊥) }
 {
-    if told.kind == 4 {
+    if told.is_a(LineKind::Note) {
         return first_said(text, told.head_end, told.end, false);
     }
     let has_brackets = has_bracket(&text[told.moves..told.comment]);
@@ -195,7 +195,7 @@ fn doubt_of_moves(text: &[u8], told: &TextLine, line: &Line, has_solution: bool)
     if repeated < slashes {
         return (Doubt::Repetition, repeated);
     }
-    if told.kind != 2 {
+    if !told.is_a(LineKind::Scramble) {
         return doubt_of_step(text, told, slashes, has_solution);
     }
     let small = first_seen(text, told.moves, told.comment, Sight::Small);
@@ -224,17 +224,18 @@ fn doubt_of(text: &[u8], told: &TextLine, line: &Line, has_solution: bool) -> (D
     ensures once_solved { result.0 ≡ Nothing → told.now.kind ≡ 3 → told.now.is_solution ≡ 1 → HasNone text.now Repeated told.now.moves told.now.comment }
     ensures unmarked { result.0 ≡ Nothing → told.now.kind ≡ 3 → told.now.is_solution ≡ 1 → HasNone text.now Marked (told.now.moves + 1) told.now.comment }
 {
-    if told.kind == 2 {
+    if told.is_a(LineKind::Scramble) {
         return doubt_of_moves(text, told, line, has_solution);
     }
-    if told.kind < 2 || (has_solution && told.is_solution == 0) {
+    let is_after = told.is_a(LineKind::Step) || told.is_a(LineKind::Note);
+    if !is_after || (has_solution && told.is_solution == 0) {
         return (Doubt::Nothing, told.end);
     }
     let said = doubt_said(text, told);
     if said.0 != Doubt::Nothing {
         return said;
     }
-    if told.kind == 3 {
+    if told.is_a(LineKind::Step) {
         return doubt_of_moves(text, told, line, has_solution);
     }
     (Doubt::Nothing, told.end)
@@ -249,7 +250,10 @@ fn is_inverse(text: &[u8], told: &TextLine) -> bool
     let comment = &text[told.comment..told.end];
     let is_named = says(label, Wanted::Inverse) || says(comment, Wanted::Inverse);
     let is_switched = says(label, Wanted::Switch) || says(comment, Wanted::Switch);
-    told.kind == 3 && is_named && !is_switched && !has_bracket(&text[told.moves..told.comment])
+    told.is_a(LineKind::Step)
+        && is_named
+        && !is_switched
+        && !has_bracket(&text[told.moves..told.comment])
 }
 
 /// A line of a text with what makes one doubt it. `has_solution`: a group of its attempt is the solution.

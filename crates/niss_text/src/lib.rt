@@ -18,6 +18,7 @@ mod plain;
 mod sights;
 mod sign;
 mod span;
+mod status;
 mod stretches;
 mod text_line;
 mod word;
