@@ -123,6 +123,9 @@ fn doubt_said(text: &[u8], told: &TextLine) -> (Doubt, usize)
     ensures others { (number_of result.0 ≡ 4 → ⊥) × (number_of result.0 ≡ 5 → ⊥) }
 {
     if told.is_a(LineKind::Note) {
+        if is_mark(&text[told.begin..told.end]) {
+            return (Doubt::Insertion, told.begin);
+        }
         return first_said(text, told.head_end, told.end, false);
     }
     let has_brackets = has_bracket(&text[told.moves..told.comment]);

@@ -37,29 +37,20 @@ fn last_word(moves: &[u8]) -> usize
 
 /// Whether moves end with a turn of the cube that may say how many times they are made, such as `x2`.
 pub fn ends_with_times(moves: &[u8]) -> bool {
-    let word = last_word(moves);
-    word > 0 && begins_times(&moves[word..])
+    let begin = last_word(moves);
+    let word = &moves[begin..];
+    let is_bracketed = word.len() > 2 && word[0] == b'(';
+    begin > 0 && (begins_times(word) || (is_bracketed && begins_times(&word[1..])))
 }
 
-/// Whether a byte is the first of a sign that is written among moves as a mark.
+/// Whether a byte may be the first of a sign that is written among moves as a mark: of no word, and of none that parts
+/// words from moves.
 fn begins_mark(byte: u8) -> bool {
-    matches!(
-        byte,
-        b'[' | b'('
-            | b'{'
-            | b'<'
-            | b'*'
-            | b'^'
-            | b'@'
-            | b'&'
-            | b'#'
-            | b'+'
-            | b'$'
-            | b'%'
-            | b'~'
-            | 0xc2
-            | 0xe2
-    ) || is_digit_byte(byte)
+    match byte {
+        b'=' | b'-' | b':' | b'>' => false,
+        0x80.. => byte == 0xc2 || byte == 0xe2,
+        _ => !is_letter(byte),
+    }
 }
 
 /// Whether a sign that ends with this byte says after a mark that what belongs there follows. A colon after a number
@@ -72,22 +63,22 @@ fn ends_definition(first: u8, last: u8) -> bool {
     }
 }
 
-/// Whether what stands before moves tells a mark at which they belong into others, such as `[1] =` or `*:`.
+/// Whether what stands before moves tells a mark at which they belong into others, such as `[1] =` or `*:`. It may have
+/// letters only before `=`.
 pub fn defines_mark(lead: &[u8]) -> bool {
     let words = trimmed(lead);
     if words.is_empty() || !begins_mark(words[0]) {
         return false;
     }
     let mut last = b' ';
+    let mut has_letters = false;
     for byte in words {
-        if is_letter(*byte) {
-            return false;
-        }
+        has_letters = has_letters || is_letter(*byte);
         if *byte != b' ' {
             last = *byte;
         }
     }
-    ends_definition(words[0], last)
+    ends_definition(words[0], last) && (last == b'=' || !has_letters)
 }
 
 /// Whether all that stands after moves is a mark at which others belong, such as `*` or `[^]`.

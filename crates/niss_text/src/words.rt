@@ -144,12 +144,30 @@ fn begins_side(text: &[u8]) -> bool {
 fn begins_repetition(text: &[u8]) -> bool {
     word_length(text, b"twice") > 0
         || word_length(text, b"thrice") > 0
+        || word_length(text, b"times") > 0
+        || word_length(text, b"again") > 0
+        || word_length(text, b"once more") > 0
         || word_length(text, b"repeat") > 0
 }
 
-/// Whether a text begins with letters by which solvers say that moves belong into others.
+/// Whether a text begins with letters by which solvers say that moves belong into others, or that others belong into
+/// these.
 fn begins_insertion(text: &[u8]) -> bool {
-    word_length(text, b"inser") > 0 || word_length(text, "\u{63d2}\u{5165}".as_bytes()) > 0
+    let letters = length_of(text, Class::Letters);
+    is_word(&text[..letters], b"ins")
+        || word_length(text, b"inser") > 0
+        || word_length(text, b"einf") > 0
+        || word_length(text, "\u{63d2}\u{5165}".as_bytes()) > 0
+        || begins_skeleton(text)
+}
+
+/// Whether a text begins with letters by which solvers name moves into which others belong.
+fn begins_skeleton(text: &[u8]) -> bool {
+    word_length(text, b"skele") > 0
+        || word_length(text, b"squel") > 0
+        || word_length(text, b"esquel") > 0
+        || word_length(text, b"schele") > 0
+        || word_length(text, "\u{9aa8}\u{67b6}".as_bytes()) > 0
 }
 
 /// How many bytes the word has that stands before each of several scrambles, if a text begins with one; else 0.
