@@ -41,13 +41,16 @@ opens b = (b == 40) || (b == 91)
 abbrev pub closes : ℕ → Bool
 closes b = (b == 41) || (b == 93)
 
--- a sign before a number of times: x, X, * or ^, or the last byte of U+00D7
+-- a sign before a number of times at a place: x, X, * or ^, or the two bytes of U+00D7
 abbrev pub is_times : ℕ → Bool
-is_times b = (b == 120) || ((b == 88) || ((b == 42) || ((b == 94) || (b == 151))))
+is_times b = (b == 120) || ((b == 88) || ((b == 42) || (b == 94)))
 
--- where a sign of several times begins that ends at a place
-abbrev pub begin_of_times : List ℕ → ℕ → ℕ
-begin_of_times text k = if slice_index text k == 151 then k - 1 else k
+abbrev pub is_cross : List ℕ → ℕ → Bool
+is_cross text k = (slice_index text k == 195) && (slice_index text (k + 1) == 151)
+
+-- where the last byte of such a sign stands
+abbrev pub last_of_times : List ℕ → ℕ → ℕ
+last_of_times text k = if slice_index text k == 195 then k + 1 else k
 
 -- a closed bracket stands before a place, or a digit after it; there may be one blank between
 unfoldable pub is_after_bracket : List ℕ → ℕ → Bool
@@ -58,7 +61,7 @@ is_before_digit text k = is_digit (slice_index text (k + 1)) || ((slice_index te
 
 -- moves in brackets are said at a place to be made several times, as by )x2
 unfoldable pub is_repeated : List ℕ → ℕ → Bool
-is_repeated text k = is_times (slice_index text k) && (is_after_bracket text (begin_of_times text k) && is_before_digit text k)
+is_repeated text k = (is_times (slice_index text k) || is_cross text k) && (is_after_bracket text k && is_before_digit text (last_of_times text k))
 
 -- one digit in brackets at a place, after which a letter stands, or a blank and a letter
 unfoldable pub is_marked : List ℕ → ℕ → Bool

@@ -1,6 +1,6 @@
 //! What is looked for at each place of a line, and where it is seen first.
 ghost use Rattle.std.specs.Prelude.{◌≡◌, ◌≤◌, ◌<◌, ℕ, true, false, length, slice_index};
-ghost use Rattle.niss_text.specs.Doubts.{is_small, is_prime, is_letter, ends_move, opens, closes, is_times, begin_of_times};
+ghost use Rattle.niss_text.specs.Doubts.{is_small, is_prime, is_letter, ends_move, opens, closes, is_times, is_cross, last_of_times};
 ghost use Rattle.niss_text.specs.Doubts.{is_after_bracket, is_before_digit, is_repeated, is_marked, sees, HasNone};
 
 use crate::sign::is_digit_byte;
@@ -64,11 +64,11 @@ fn closes(byte: u8) -> bool
     byte == b')' || byte == b']'
 }
 
-/// Whether a byte is a sign before a number of times, or the last one of U+00D7.
+/// Whether a byte is a sign before a number of times.
 fn is_times(byte: u8) -> bool
     ensures { result ≡ is_times byte }
 {
-    matches!(byte, b'x' | b'X' | b'*' | b'^' | 0x97)
+    matches!(byte, b'x' | b'X' | b'*' | b'^')
 }
 
 /// The byte of a text at a place, 0 after its end.
@@ -90,12 +90,19 @@ fn is_after_bracket(text: &[u8], at: usize) -> bool
 /// Whether a digit stands after a place, or after a blank there.
 #[tactic(auto, unfolding(crate::specs::Doubts::is_before_digit))]
 fn is_before_digit(text: &[u8], at: usize) -> bool
-    requires { at < length text.now }
+    requires { at ≤ length text.now }
     ensures { result ≡ is_before_digit text.now at }
 {
     let after = byte_at(text, at + 1);
-    is_digit_byte(after)
-        || (after == b' ' && at + 1 < text.len() && is_digit_byte(byte_at(text, at + 2)))
+    is_digit_byte(after) || (after == b' ' && is_digit_byte(byte_at(text, at + 2)))
+}
+
+/// Whether U+00D7 stands at a place.
+fn is_cross(text: &[u8], at: usize) -> bool
+    requires { at < length text.now }
+    ensures { result ≡ is_cross text.now at }
+{
+    text[at] == 0xc3 && byte_at(text, at + 1) == 0x97
 }
 
 /// Whether moves in brackets are said at a place to be made several times.
@@ -104,12 +111,9 @@ fn is_repeated(text: &[u8], at: usize) -> bool
     requires { at < length text.now }
     ensures { result ≡ is_repeated text.now at }
 {
-    let begin = if text[at] == 0x97 {
-        at.saturating_sub(1)
-    } else {
-        at
-    };
-    is_times(text[at]) && (is_after_bracket(text, begin) && is_before_digit(text, at))
+    let last = if text[at] == 0xc3 { at + 1 } else { at };
+    (is_times(text[at]) || is_cross(text, at))
+        && (is_after_bracket(text, at) && is_before_digit(text, last))
 }
 
 /// Whether a digit stands in brackets at a place of a text, and after them a letter.
