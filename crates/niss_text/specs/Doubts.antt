@@ -34,10 +34,7 @@ ends_move b = is_letter b || (is_digit b || is_prime b)
 abbrev pub is_small : ℕ → Bool
 is_small b = (b == 117) || ((b == 100) || ((b == 114) || ((b == 108) || ((b == 102) || (b == 98)))))
 
--- an opened or a closed bracket
-abbrev pub opens : ℕ → Bool
-opens b = (b == 40) || (b == 91)
-
+-- a closed bracket
 abbrev pub closes : ℕ → Bool
 closes b = (b == 41) || (b == 93)
 
@@ -63,14 +60,14 @@ is_before_digit text k = is_digit (slice_index text (k + 1)) || ((slice_index te
 unfoldable pub is_repeated : List ℕ → ℕ → Bool
 is_repeated text k = (is_times (slice_index text k) || is_cross text k) && (is_after_bracket text k && is_before_digit text (last_of_times text k))
 
--- one digit in brackets at a place, after which a letter stands, or a blank and a letter
+-- one digit in square brackets at a place, after which a letter stands, or a blank and a letter
 unfoldable pub is_marked : List ℕ → ℕ → Bool
-is_marked text k = opens (slice_index text k) && (is_digit (slice_index text (k + 1)) && (closes (slice_index text (k + 2))
+is_marked text k = (slice_index text k == 91) && (is_digit (slice_index text (k + 1)) && ((slice_index text (k + 2) == 93)
     && (is_letter (slice_index text (k + 3)) || ((slice_index text (k + 3) == 32) && is_letter (slice_index text (k + 4))))))
 
 -- What is seen at a place of a text, after the first one of a part of it: a small letter, a letter right after the sign
 -- of a move (but the w of a wide turn), a letter after something else, an apostrophe, a number of times after brackets,
--- or a digit in brackets before moves.
+-- or a digit in square brackets before moves.
 unfoldable pub sees : List ℕ → Sight → ℕ → Bool
 sees text Small k = is_small (slice_index text k)
 sees text Joined k = ends_move (slice_index text (k - 1)) && (is_letter (slice_index text k) && not (slice_index text k == 119))
@@ -95,7 +92,7 @@ pub record IsAsWritten (text : List ℕ) (from to : ℕ) : Type 0 where
 
 -- What is said to make a line doubtful stands there, and a line of the scramble or of the solution of which nothing is
 -- said has no letters together that aren't written as moves, and no number of times after brackets; one of the scramble
--- has no small letter of a turn either, and one of the solution no digit in brackets among its moves.
+-- has no small letter of a turn either, and one of the solution no digit in square brackets among its moves.
 pub record IsDoubted (text : List ℕ) (line : TextLine) : Type 0 where
   pub place : (line.begin ≤ line.doubt_at) × (line.doubt_at ≤ line.end)
   pub small : line.doubt ≡ 5 → (line.kind ≡ 2) × (sees text Small line.doubt_at ≡ true)

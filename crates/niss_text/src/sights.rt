@@ -1,6 +1,6 @@
 //! What is looked for at each place of a line, and where it is seen first.
 ghost use Rattle.std.specs.Prelude.{◌≡◌, ◌≤◌, ◌<◌, ℕ, true, false, length, slice_index};
-ghost use Rattle.niss_text.specs.Doubts.{is_small, is_prime, is_letter, ends_move, opens, closes, is_times, is_cross, last_of_times};
+ghost use Rattle.niss_text.specs.Doubts.{is_small, is_prime, is_letter, ends_move, closes, is_times, is_cross, last_of_times};
 ghost use Rattle.niss_text.specs.Doubts.{is_after_bracket, is_before_digit, is_repeated, is_marked, sees, HasNone};
 
 use crate::sign::is_digit_byte;
@@ -18,7 +18,7 @@ pub enum Sight {
     Prime,
     /// A number of times after moves in brackets, such as `)x2`.
     Repeated,
-    /// A digit in brackets before moves, such as `[1] R`.
+    /// A digit in square brackets before moves, such as `[1] R`.
     Marked,
 }
 
@@ -48,13 +48,6 @@ fn is_small(byte: u8) -> bool
     ensures { result ≡ is_small byte }
 {
     matches!(byte, b'u' | b'd' | b'r' | b'l' | b'f' | b'b')
-}
-
-/// Whether a byte opens a bracket.
-fn opens(byte: u8) -> bool
-    ensures { result ≡ opens byte }
-{
-    byte == b'(' || byte == b'['
 }
 
 /// Whether a byte closes a bracket.
@@ -116,19 +109,19 @@ fn is_repeated(text: &[u8], at: usize) -> bool
         && (is_after_bracket(text, at) && is_before_digit(text, last))
 }
 
-/// Whether a digit stands in brackets at a place of a text, and after them a letter.
+/// Whether a digit stands in square brackets at a place of a text, and after them a letter. In round ones solvers count.
 #[tactic(auto, unfolding(crate::specs::Doubts::is_marked))]
 fn is_marked(text: &[u8], at: usize) -> bool
     requires { at < length text.now }
     ensures { result ≡ is_marked text.now at }
 {
-    if !opens(text[at]) {
+    if text[at] != b'[' {
         return false;
     }
     let after = &text[at..];
     let letter = byte_at(after, 3);
     is_digit_byte(byte_at(after, 1))
-        && (closes(byte_at(after, 2))
+        && (byte_at(after, 2) == b']'
             && (is_letter(letter) || (letter == b' ' && is_letter(byte_at(after, 4)))))
 }
 
