@@ -23,14 +23,16 @@ enum class doubt_reason {
     letters = NISSY_LETTERS,
     small_letters = NISSY_SMALL_LETTERS,
     comment = NISSY_COMMENT,
+    repetition = NISSY_REPETITION,
+    insertion = NISSY_INSERTION,
     a_part,        // of a check: some of its steps alone solve the scramble, or its solution with other brackets
     which_scramble // of a check: it isn't told which of the known scrambles this is a solution of
 };
 
 // A reason as the library for Python names it, such as "another scramble".
 inline std::string doubt_name(doubt_reason reason) {
-    static constexpr std::array<const char *, 9> NAMES = {"",        "another scramble", "several solutions", "side",          "letters",
-                                                          "small letters", "comment",    "a part",            "which scramble"};
+    static constexpr std::array<const char *, 11> NAMES = {"",        "another scramble", "several solutions", "side",   "letters",       "small letters",
+                                                           "comment", "repetition",       "insertion",         "a part", "which scramble"};
     return NAMES[static_cast<std::size_t>(reason)];
 }
 

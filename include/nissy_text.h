@@ -47,7 +47,10 @@ enum nissy_doubt {
     NISSY_SIDE = 3,              /* a side is named, such as the inverse, and the moves have no brackets */
     NISSY_LETTERS = 4,           /* letters stand together as moves don't elsewhere in the line, such as F2L or xD */
     NISSY_SMALL_LETTERS = 5,     /* a scramble has a move in a small letter */
-    NISSY_COMMENT = 6            /* three moves stand one after another in a comment of a step */
+    NISSY_COMMENT = 6,           /* three moves stand one after another in a comment of a step */
+    NISSY_REPETITION = 7,        /* moves are said to be made several times, as in "(R U)x2", at the end of a step "R U x2", or in a comment */
+    NISSY_INSERTION = 8          /* a step has a mark at which others belong, such as "[1]" before moves or "*" after them, or tells what belongs
+                                  * there, as "* = R U"; or it is said that moves are inserted */
 };
 
 /* A line of such a text. The places are in bytes of the text, from 0, and don't fall from one to the next, nor from line to line. Its moves

@@ -18,15 +18,16 @@ _WHITE = ("\n\t\v\f\r \u00a0\u1680\u2000\u2001\u2002\u2003\u2004\u2005\u2006\u20
 # which byte of a line says whether it has a head
 _HEADED = 2
 # what makes one doubt a line, by the library's numbers
-_DOUBTS = ("", "another scramble", "several solutions", "side", "letters", "small letters", "comment")
+_DOUBTS = ("", "another scramble", "several solutions", "side", "letters", "small letters", "comment", "repetition",
+           "insertion")
 
 
 class AttemptDoubt(NamedTuple):
     """What makes one doubt that an attempt is read as it was meant."""
 
     reason: str
-    """"another scramble", "several solutions", "side", "letters", "small letters", "comment", or of a check
-    "a part"."""
+    """"another scramble", "several solutions", "side", "letters", "small letters", "comment", "repetition",
+    "insertion", or of a check "a part"."""
     place: TextPlace
     """Where it is seen in the text."""
 

@@ -60,7 +60,7 @@ static void say_names(unsigned bits, const char *const *names, const char *parte
 
 static const char *const FORMS[] = {"slices", "lower_case", "brackets", "apostrophe", "half_prime", NULL};
 static const char *const LEFT_OUT[] = {"labels", "numbers of moves", "comments", "line numbers", "commas", "signs that aren't seen", NULL};
-static const char *const DOUBTS[] = {"", "another scramble", "several solutions", "side", "letters", "small letters", "comment"};
+static const char *const DOUBTS[] = {"", "another scramble", "several solutions", "side", "letters", "small letters", "comment", "repetition", "insertion"};
 
 static int begins_sign(uint8_t byte) { return (byte & 0xc0) != 0x80; }
 

@@ -12,6 +12,7 @@ import os
 import re
 import subprocess
 import sys
+import threading
 from typing import Any, Callable, Iterable, List, Union
 
 TOP = os.path.dirname(os.path.dirname(os.path.dirname(os.path.abspath(__file__))))
@@ -35,6 +36,20 @@ FORMS: List[Callable[[bytes], Any]] = [
 
 class Fault(Exception):
     """What a host says of a line: which of two has it, or 0, the column, or 0, and the text."""
+
+
+def question(call: str, *given: Given) -> str:
+    """A call as a caller reads it."""
+    return " ".join([call, *("=" + it.hex() if isinstance(it, bytes) else str(it) for it in given)]) + "\n"
+
+
+def told_by(answer: str) -> bytes:
+    """What a caller's answer tells. Raises Fault."""
+    *fault, text = answer.split(" ")
+    told = bytes.fromhex(text[1:])
+    if fault:
+        raise Fault(int(fault[0]), int(fault[1]), told.decode())
+    return told
 
 
 class Host:
@@ -81,12 +96,21 @@ class Caller(Host):
         self.asking, self.answers = self.process.stdin, self.process.stdout
 
     def ask(self, call: str, *given: Given) -> bytes:
-        print(call, *("=" + it.hex() if isinstance(it, bytes) else it for it in given), file=self.asking, flush=True)
-        *fault, text = self.answers.readline().split(" ")
-        told = bytes.fromhex(text[1:])
-        if fault:
-            raise Fault(int(fault[0]), int(fault[1]), told.decode())
-        return told
+        (answer,) = self.answers_to([question(call, *given)])
+        return told_by(answer)
+
+    def answers_to(self, questions: List[str]) -> List[str]:
+        """The answers to many calls as they are written. None of them waits for the one before."""
+        asker = threading.Thread(target=self.ask_all, args=(questions,))
+        asker.start()
+        answers = [self.answers.readline() for _ in questions]
+        asker.join()
+        return answers
+
+    def ask_all(self, questions: List[str]) -> None:
+        """Asks without a look at the answers."""
+        self.asking.writelines(questions)
+        self.asking.flush()
 
     def end(self) -> int:
         self.asking.close()
@@ -317,15 +341,29 @@ class Python(Host):
         return answer.out, answer.err, answer.status, answer.full
 
 
+def command_of(word: str) -> tuple[str, List[str]]:
+    """The name of a host and the command of its caller, by a word as hosts_of takes it."""
+    kind, _, what = word.partition("=")
+    folder = os.path.dirname(os.path.abspath(__file__))
+    if kind == "js":
+        return "JavaScript", ["node", os.path.join(folder, "caller.mjs"), what]
+    if kind == "python":
+        return "Python", [sys.executable, os.path.join(folder, "caller.py")]
+    return kind.upper(), [what]
+
+
 def hosts_of(words: List[str]) -> List[Host]:
     """The hosts that words name: `python`, `c=CALLER`, `c++=CALLER`, `js=MODULE`, or `program=COMMAND`, of which blanks part the words."""
     made: List[Host] = []
     for word in words:
         kind, _, what = word.partition("=")
-        if kind == "js":
-            made.append(Caller("JavaScript", ["node", os.path.join(os.path.dirname(os.path.abspath(__file__)), "caller.mjs"), what]))
-        elif kind in ("c", "c++"):
-            made.append(Caller(kind.upper(), [what]))
+        if kind in ("js", "c", "c++"):
+            made.append(Caller(*command_of(word)))
         else:
             made.append(Python() if kind == "python" else Other(what.split(" ")))
     return made
+
+
+def callers_of(words: List[str]) -> List[Caller]:
+    """The same hosts, but programs, each as a process of its own that makes calls."""
+    return [Caller(*command_of(word)) for word in words]

@@ -3,16 +3,19 @@
 
     tests/hosts/mutated.py SEED COUNT HOST..
 
-A host is one of hosts.py, with the library of NISSY_LIBRARY. The first one's answers are those of the others; Python's are tried by plain.py. C tells
-all but the parts of attempts. The last line is `N passed, M failed`, and the status is 1 if M isn't 0.
+A host is one of hosts.py, with the library of NISSY_LIBRARY, and here a process of its own: all read side by side, and each many texts without a
+wait between. The first one's answers are those of the others; Python's are tried by plain.py. C tells all but the parts of attempts. The last line is
+`N passed, M failed`, and the status is 1 if M isn't 0.
 """
 from __future__ import annotations
 
 import random
 import sys
+from concurrent.futures import ThreadPoolExecutor
+from itertools import islice
 from typing import Callable, Iterator, List, Set
 
-from hosts import Host, hosts_of, told  # isort: skip
+from hosts import Caller, callers_of, question, told_by  # isort: skip
 
 import called
 from tally import Tally
@@ -20,6 +23,9 @@ from tally import Tally
 CALLS = ["plain_line", "check_attempts", "attempt_doubts"]
 # those that C has no wrapper for
 FURTHER = ["read_attempts", "known_checks"]
+DOUBTS = CALLS.index("attempt_doubts")
+# how many texts a host is asked of before the others' answers are looked at
+PORTION = 250
 # scrambles that some of the texts solve
 KNOWN = b"R' U' F D2 L2 F R2 U2 R2 B D2 L B2 D' B2 L' R' B' D2 B2 R' U' F\nR U F\nR' U' F L2 D B2 U R2 F2 D2 B U2 L R' U' F\n"
 # what a change puts in: signs that are read otherwise than others, and words of scrambles, sides and solutions
@@ -77,28 +83,44 @@ def mutated(draw: random.Random, count: int, texts: List[str]) -> Iterator[str]:
         yield text
 
 
-def answers(host: Host, text: str) -> List[str]:
-    """What a host tells of a text, call by call."""
+def questions(host: Caller, text: str) -> List[str]:
+    """What a host is asked of a text."""
     data, further = text.encode(), FURTHER if host.name != "C" else []
-    return [told(host, call, data, *([KNOWN] if call == "known_checks" else [])) for call in CALLS + further]
+    return [question(call, data, *([KNOWN] if call == "known_checks" else [])) for call in CALLS + further]
+
+
+def answers(host: Caller, texts: List[str]) -> List[List[str]]:
+    """What a host tells of each text, call by call."""
+    asked = [questions(host, text) for text in texts]
+    told = iter(host.answers_to([call for calls in asked for call in calls]))
+    return [list(islice(told, len(calls))) for calls in asked]
+
+
+def shown(told: List[str]) -> List[str]:
+    """Answers as they are read."""
+    return [answer and bytes.fromhex(answer.split("=")[-1]).decode() for answer in told]
 
 
 def main() -> None:
     """Each text, by each host."""
     tally, (seed, count) = Tally(), map(int, sys.argv[1:3])
-    first, *others = hosts_of(sys.argv[3:])
+    hosts = callers_of(sys.argv[3:])
     draw = random.Random(seed)
     base = [*(kind.text for kind in called.kinds()), *(text for text, _ in called.rows("attempts")), *(text for text, *_ in called.rows("plain"))]
     seen: Set[str] = set()
-    for text in mutated(draw, count, base):
-        wanted = answers(first, text)
-        seen.update(line.partition("@")[0] for line in wanted[2].split("\n"))
-        for host in others:
-            # one line for all that hold
-            got = answers(host, text)
-            tally.holds(f"{text!r} in {host.name}: {got!r} for {wanted!r}", got == wanted[:len(got)])
-    tally.holds(f"each kind of doubt is there: {seen}", count < 10_000 or len(seen) == 8)
-    for host in others:
+    texts = mutated(draw, count, base)
+    with ThreadPoolExecutor(len(hosts)) as room:
+        while portion := list(islice(texts, PORTION)):
+            of_first, *of_others = room.map(answers, hosts, [portion] * len(hosts))
+            for wanted in of_first:
+                seen.update(line.partition("@")[0] for line in told_by(wanted[DOUBTS]).decode().split("\n"))
+            for host, told in zip(hosts[1:], of_others):
+                for text, got, wanted in zip(portion, told, of_first):
+                    same = got == wanted[:len(got)]
+                    # one line for all that hold
+                    tally.holds("" if same else f"{text!r} in {host.name}: {shown(got)!r} for {shown(wanted)!r}", same)
+    tally.holds(f"each kind of doubt is there: {seen}", count < 10_000 or len(seen) == 10)
+    for host in hosts:
         tally.equal(f"{host.name} ends, and has said no more", host.end(), 0)
     tally.end()
 

@@ -99,6 +99,9 @@ def doubts(tally: Tally) -> None:
     texts = {f"{FIRST} R U": ("another scramble", 1, 1), "R U F\n\nEO: D\n\nDR: L\n\nD L B": ("several solutions", 3, 5),
              "R U F\n\nR U // premoves\nF' // EO": ("side", 3, 8), "R U F\n\nF' U' R LUL": ("letters", 3, 10),
              "r u f\n\nF' U' R'": ("small letters", 1, 1), "R U F\n\nF' // EO U' R' D": ("comment", 3, 4),
+             "R U R U\n\n(U' R') x2": ("repetition", 3, 9), "R U R U\n\n(U' R')\u00d72": ("repetition", 3, 8),
+             "R U R U\n\nU' R' // 2x": ("repetition", 3, 7), "R U F\n\nF' [1] R'\n[1] = U' D D'": ("insertion", 3, 4),
+             "R U F\n\nF' R' *\n* = U' D D'": ("insertion", 3, 7), "R U F\n\nF' R' // Skelett": ("insertion", 3, 10),
              "R U F\n\nAnna: F' U' R'\nBert: F' U' D": ("a part", 3, 7)}
     for text, wanted in texts.items():
         (told,) = [it.doubt for it in nissy.check_attempts(text)]

@@ -146,6 +146,7 @@ void doubts_are_told() {
                                    {"R U F\n\nEO: D\n\nDR: L\n\nD L B", "several solutions", 3, 5},
                                    {"R U F\n\nR U // premoves\nF' // EO", "side", 3, 8}, {"R U F\n\nF' U' R LUL", "letters", 3, 10},
                                    {"r u f\n\nF' U' R'", "small letters", 1, 1}, {"R U F\n\nF' // EO U' R' D", "comment", 3, 4},
+                                   {"R U R U\n\n(U' R')\u00d72", "repetition", 3, 8}, {"R U F\n\nF' [1] R'\n[1] = U' D D'", "insertion", 3, 4},
                                    {"R U F\n\nAnna: F' U' R'\nBert: F' U' D", "a part", 3, 7}, {"R U F\n\n(F') U' R'", "a part", 3, 1}};
     for (const auto &[text, reason, line, column] : ROWS) {
         const auto doubt = nissy::check_attempts(text).at(0).doubt;

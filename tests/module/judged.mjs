@@ -49,6 +49,13 @@ const TEXTS = [
   ["a side without brackets, behind signs of several bytes", "R U F\n\nF' // \u{1f600} premoves\nR U", [{
     ...NOTHING, check: { solved: false, moves: 3, cleanMoves: 3, forms: [] }, doubt: doubt("side", 16, 3, 9),
   }]],
+  ["moves that are made twice", "R U R U\n\n(U' R')\u00d72", [{
+    ...NOTHING, check: { solved: false, moves: 2, cleanMoves: 2, forms: ["brackets"] }, forms: [form("(", "brackets", 9, 3, 1), form(")", "brackets", 15, 3, 7)],
+    doubt: doubt("repetition", 16, 3, 8),
+  }]],
+  ["a mark among moves", "R U F\n\nF' [1] R'\n[1] = U' D D'", [{
+    ...NOTHING, check: { solved: false, moves: 5, cleanMoves: 3, forms: [] }, doubt: doubt("insertion", 10, 3, 4),
+  }]],
   ["a scramble in small letters", "r u f", [{ ...NOTHING, doubt: doubt("small letters", 0, 1, 1) }]],
   // M r is R, as M is r' R
   ["forms", "R' D\n\nD\u2032 M r", [{

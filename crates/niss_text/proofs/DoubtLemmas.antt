@@ -2,8 +2,8 @@
 use Rattle.std.proofs.Common.{◌≡◌, ℕ, ◌+◌, ◌<◌, ◌≤◌, true, false, List, refl, sym, ◌∙◌, arith}
 use Rattle.std.proofs.lemmas.Bool.{false≢true}
 use Rattle.niss_text.specs.declared.doubts.Doubt.{Doubt}
-use Rattle.niss_text.specs.declared.doubts.Doubt.TheVariants.{Nothing, AnotherScramble, SeveralSolutions, Side, Letters, SmallLetters, Comment}
-use Rattle.niss_text.specs.declared.doubts.Sight.TheVariants.{Joined, Parted, Prime}
+use Rattle.niss_text.specs.declared.doubts.Doubt.TheVariants.{Nothing, AnotherScramble, SeveralSolutions, Side, Letters, SmallLetters, Comment, Repetition, Insertion}
+use Rattle.niss_text.specs.declared.sights.Sight.TheVariants.{Joined, Parted, Prime}
 use Rattle.niss_text.specs.Doubts.{IsAsWritten, number_of, sees}
 
 pub none_joined : (text : List ℕ) (from to : ℕ) → ((k : ℕ) → from + 1 ≤ k → k < to → sees text Joined k ≡ false) → IsAsWritten text from to
@@ -27,6 +27,8 @@ is_nothing Side h = absurd (omega arith)
 is_nothing Letters h = absurd (omega arith)
 is_nothing SmallLetters h = absurd (omega arith)
 is_nothing Comment h = absurd (omega arith)
+is_nothing Repetition h = absurd (omega arith)
+is_nothing Insertion h = absurd (omega arith)
 
 pub is_letters : (d : Doubt) → number_of d ≡ 4 → d ≡ Letters
 is_letters Nothing h = absurd (omega arith)
@@ -36,6 +38,8 @@ is_letters Side h = absurd (omega arith)
 is_letters Letters h = refl
 is_letters SmallLetters h = absurd (omega arith)
 is_letters Comment h = absurd (omega arith)
+is_letters Repetition h = absurd (omega arith)
+is_letters Insertion h = absurd (omega arith)
 
 pub is_small_letters : (d : Doubt) → number_of d ≡ 5 → d ≡ SmallLetters
 is_small_letters Nothing h = absurd (omega arith)
@@ -45,3 +49,5 @@ is_small_letters Side h = absurd (omega arith)
 is_small_letters Letters h = absurd (omega arith)
 is_small_letters SmallLetters h = refl
 is_small_letters Comment h = absurd (omega arith)
+is_small_letters Repetition h = absurd (omega arith)
+is_small_letters Insertion h = absurd (omega arith)

@@ -1,10 +1,10 @@
 -- What makes one doubt that a line is read as it was meant.
-use Rattle.std.specs.Prelude.{◌≡◌, ℕ, ◌==◌, ◌-◌, ◌<◌, ◌≤◌, ◌&&◌, ◌||◌, Bool, true, false, not, List, slice_index}
+use Rattle.std.specs.Prelude.{◌≡◌, ℕ, ◌==◌, ◌+◌, ◌-◌, ◌<◌, ◌≤◌, ◌&&◌, ◌||◌, Bool, true, false, not, if◌then◌else◌, List, slice_index}
 use Rattle.niss_text.specs.Signs.{is_digit, is_within}
 use Rattle.niss_text.specs.declared.doubts.Doubt.{Doubt}
-use Rattle.niss_text.specs.declared.doubts.Doubt.TheVariants.{Nothing, AnotherScramble, SeveralSolutions, Side, Letters, SmallLetters, Comment}
-use Rattle.niss_text.specs.declared.doubts.Sight.{Sight}
-use Rattle.niss_text.specs.declared.doubts.Sight.TheVariants.{Small, Joined, Parted, Prime}
+use Rattle.niss_text.specs.declared.doubts.Doubt.TheVariants.{Nothing, AnotherScramble, SeveralSolutions, Side, Letters, SmallLetters, Comment, Repetition, Insertion}
+use Rattle.niss_text.specs.declared.sights.Sight.{Sight}
+use Rattle.niss_text.specs.declared.sights.Sight.TheVariants.{Small, Joined, Parted, Prime, Repeated, Marked}
 use Rattle.niss_text.specs.declared.text_line.TextLine.{TextLine}
 
 abbrev pub number_of : Doubt → ℕ
@@ -15,6 +15,8 @@ number_of Side = 3
 number_of Letters = 4
 number_of SmallLetters = 5
 number_of Comment = 6
+number_of Repetition = 7
+number_of Insertion = 8
 
 -- a letter of ASCII
 abbrev pub is_letter : ℕ → Bool
@@ -32,17 +34,51 @@ ends_move b = is_letter b || (is_digit b || is_prime b)
 abbrev pub is_small : ℕ → Bool
 is_small b = (b == 117) || ((b == 100) || ((b == 114) || ((b == 108) || ((b == 102) || (b == 98)))))
 
--- What is seen of a byte, and of the one before it: a small letter, a letter right after the sign of a move (but the w
--- of a wide turn), a letter after something else, or an apostrophe.
-abbrev pub is_seen : Sight → (before byte : ℕ) → Bool
-is_seen Small before byte = is_small byte
-is_seen Joined before byte = ends_move before && (is_letter byte && not (byte == 119))
-is_seen Parted before byte = not (ends_move before) && is_letter byte
-is_seen Prime before byte = is_prime byte
+-- a closed bracket
+abbrev pub closes : ℕ → Bool
+closes b = (b == 41) || (b == 93)
 
--- something is seen at a place of a text, after the first one of a part of it
+-- a sign before a number of times at a place: x, X, * or ^, or the two bytes of U+00D7
+abbrev pub is_times : ℕ → Bool
+is_times b = (b == 120) || ((b == 88) || ((b == 42) || (b == 94)))
+
+abbrev pub is_cross : List ℕ → ℕ → Bool
+is_cross text k = (slice_index text k == 195) && (slice_index text (k + 1) == 151)
+
+-- where the last byte of such a sign stands
+abbrev pub last_of_times : List ℕ → ℕ → ℕ
+last_of_times text k = if slice_index text k == 195 then k + 1 else k
+
+-- a closed bracket stands before a place, or a digit after it; there may be one blank between
+unfoldable pub is_after_bracket : List ℕ → ℕ → Bool
+is_after_bracket text k = closes (slice_index text (k - 1)) || ((slice_index text (k - 1) == 32) && closes (slice_index text (k - 2)))
+
+unfoldable pub is_before_digit : List ℕ → ℕ → Bool
+is_before_digit text k = is_digit (slice_index text (k + 1)) || ((slice_index text (k + 1) == 32) && is_digit (slice_index text (k + 2)))
+
+-- moves in brackets are said at a place to be made several times, as by )x2
+unfoldable pub is_repeated : List ℕ → ℕ → Bool
+is_repeated text k = (is_times (slice_index text k) || is_cross text k) && (is_after_bracket text k && is_before_digit text (last_of_times text k))
+
+-- one digit in square brackets at a place, after which a letter stands, or a blank and a letter
+unfoldable pub is_marked : List ℕ → ℕ → Bool
+is_marked text k = (slice_index text k == 91) && (is_digit (slice_index text (k + 1)) && ((slice_index text (k + 2) == 93)
+    && (is_letter (slice_index text (k + 3)) || ((slice_index text (k + 3) == 32) && is_letter (slice_index text (k + 4))))))
+
+-- What is seen at a place of a text, after the first one of a part of it: a small letter, a letter right after the sign
+-- of a move (but the w of a wide turn), a letter after something else, an apostrophe, a number of times after brackets,
+-- or a digit in square brackets before moves.
 unfoldable pub sees : List ℕ → Sight → ℕ → Bool
-sees text sight k = is_seen sight (slice_index text (k - 1)) (slice_index text k)
+sees text Small k = is_small (slice_index text k)
+sees text Joined k = ends_move (slice_index text (k - 1)) && (is_letter (slice_index text k) && not (slice_index text k == 119))
+sees text Parted k = not (ends_move (slice_index text (k - 1))) && is_letter (slice_index text k)
+sees text Prime k = is_prime (slice_index text k)
+sees text Repeated k = is_repeated text k
+sees text Marked k = is_marked text k
+
+-- such a thing is seen nowhere in a part of a text
+abbrev pub HasNone : List ℕ → Sight → ℕ → ℕ → Type 0
+HasNone text sight from to = (k : ℕ) → from ≤ k → k < to → sees text sight k ≡ false
 
 -- no letter of a part of a text stands right after the sign of a move
 abbrev pub IsParted : List ℕ → ℕ → ℕ → Type 0
@@ -55,11 +91,15 @@ pub record IsAsWritten (text : List ℕ) (from to : ℕ) : Type 0 where
   pub unprimed : ((j : ℕ) → from ≤ j → j < to → sees text Prime j ≡ false) → IsParted text from to
 
 -- What is said to make a line doubtful stands there, and a line of the scramble or of the solution of which nothing is
--- said has no letters together that aren't written as moves; one of the scramble has no small letter of a turn either.
+-- said has no letters together that aren't written as moves, and no number of times after brackets; one of the scramble
+-- has no small letter of a turn either, and one of the solution no digit in square brackets among its moves.
 pub record IsDoubted (text : List ℕ) (line : TextLine) : Type 0 where
   pub place : (line.begin ≤ line.doubt_at) × (line.doubt_at ≤ line.end)
   pub small : line.doubt ≡ 5 → (line.kind ≡ 2) × (sees text Small line.doubt_at ≡ true)
   pub letters : line.doubt ≡ 4 → sees text Joined line.doubt_at ≡ true
   pub scramble : line.doubt ≡ 0 → line.kind ≡ 2 → IsAsWritten text line.moves line.comment
   pub solution : line.doubt ≡ 0 → line.kind ≡ 3 → line.is_solution ≡ 1 → IsAsWritten text line.moves line.comment
-  pub no_small : line.doubt ≡ 0 → line.kind ≡ 2 → (k : ℕ) → line.moves ≤ k → k < line.comment → sees text Small k ≡ false
+  pub no_small : line.doubt ≡ 0 → line.kind ≡ 2 → HasNone text Small line.moves line.comment
+  pub once : line.doubt ≡ 0 → line.kind ≡ 2 → HasNone text Repeated line.moves line.comment
+  pub once_solved : line.doubt ≡ 0 → line.kind ≡ 3 → line.is_solution ≡ 1 → HasNone text Repeated line.moves line.comment
+  pub unmarked : line.doubt ≡ 0 → line.kind ≡ 3 → line.is_solution ≡ 1 → HasNone text Marked (line.moves + 1) line.comment

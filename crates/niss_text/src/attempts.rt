@@ -6,14 +6,15 @@ use crate::doubts::judged;
 use crate::groups::{Group, Solutions};
 use crate::line::{Line, Numbers, cut_line, first_line, whole_length};
 use crate::outline::{is_head, outline_of, scramble_length};
+use crate::status::Status;
 use crate::stretches::{has_extras, numbers_of, stretch_length};
-use crate::text_line::{Role, TextLine, told_line};
+use crate::text_line::{LineKind, Role, TextLine, told_line};
 
 /// What `text_lines` returns.
 #[repr(C)]
 #[derive(Clone, Copy, Debug, PartialEq, Eq)]
 pub struct TextAnswer {
-    /// 0 if all is written, 4 if the room is too small.
+    /// The number of a `Status`.
     pub status: u8,
     /// How many lines the text has.
     pub lines: usize,
@@ -69,26 +70,26 @@ fn first_attempt(text: &[u8], numbers: Numbers, number: usize) -> Attempt
 
 impl Attempt {
     /// What a line of it is, which begins there. A head alone before the moves says nothing more.
-    fn kind_at(&self, at: usize, line: &Line) -> u8 {
+    fn kind_at(&self, at: usize, line: &Line) -> LineKind {
         if line.is_blank || (at < self.first && line.is_head_alone) {
-            0
+            LineKind::Blank
         } else if at < self.first && self.is_formed {
-            1
+            LineKind::Before
         } else if at < self.scramble_end {
-            2
+            LineKind::Scramble
         } else if line.is_moves {
-            3
+            LineKind::Step
         } else {
-            4
+            LineKind::Note
         }
     }
 }
 
 /// What a line of an attempt is there, of this kind and in this group.
-fn role_of(attempt: &Attempt, line: &Line, kind: u8, group: usize) -> Role {
+fn role_of(attempt: &Attempt, line: &Line, kind: LineKind, group: usize) -> Role {
     Role {
         kind,
-        is_solution: kind > 2 && attempt.solution == Some(group),
+        is_solution: kind.is_after_scramble() && attempt.solution == Some(group),
         is_headed: is_head(line),
         attempt: attempt.number,
         group,
@@ -174,8 +175,13 @@ pub fn text_lines(text: &[u8], lines: &mut [TextLine]) -> TextAnswer
         at = end;
         attempts = attempts.saturating_add(1);
     }
+    let status = if count > lines.len() {
+        Status::NoRoom
+    } else {
+        Status::Done
+    };
     TextAnswer {
-        status: if count > lines.len() { 4 } else { 0 },
+        status: status.number(),
         lines: count,
         attempts,
     }

@@ -1,8 +1,7 @@
 //! Whether what stands in a line is all of a scramble.
 ghost use Rattle.std.specs.Prelude.{◌≤◌, ◌<◌, length, IfSome};
 
-use crate::forms::trimmed;
-use crate::sign::{Kind, first_kind, first_sign};
+use crate::sign::{Kind, first_kind, first_sign, trimmed};
 
 /// What is after a letter with an apostrophe and blanks in front of a text, if they are there.
 fn behind_primed(text: &[u8], letter: u8) -> Option<&[u8]>

@@ -1,16 +1,18 @@
 //! What makes one doubt that a line is read as it was meant.
-ghost use Rattle.std.specs.Prelude.{◌≡◌, ◌≤◌, ◌<◌, ◌+◌, ℕ, true, false, length};
-ghost use Rattle.niss_text.specs.Doubts.{IsDoubted, IsAsWritten, number_of, is_small, is_prime, is_seen, is_letter, ends_move, sees};
+ghost use Rattle.std.specs.Prelude.{◌≡◌, ◌≤◌, ◌<◌, ◌+◌, true, length};
+ghost use Rattle.niss_text.specs.Doubts.{IsDoubted, IsAsWritten, HasNone, number_of, sees};
 ghost use Rattle.niss_text.specs.Lines.{IsLine};
 ghost use Rattle.niss_text.specs.declared.doubts.Doubt.TheVariants.{Nothing, Letters, SmallLetters};
-ghost use Rattle.niss_text.specs.declared.doubts.Sight.TheVariants.{Small, Joined};
+ghost use Rattle.niss_text.specs.declared.sights.Sight.TheVariants.{Small, Joined, Repeated, Marked};
 
 use crate::body::goes_on_behind_scramble;
 use crate::forms::has_bracket;
 use crate::line::Line;
-use crate::text_line::TextLine;
+use crate::marks::{defines_mark, ends_with_times, is_mark, says_times};
+use crate::sights::{Sight, first_seen, is_letter};
+use crate::text_line::{LineKind, TextLine};
 use crate::word::has_three_moves;
-use crate::words::{Wanted, begins_side, says, word_length};
+use crate::words::{Topic, Wanted, first_topic, says, word_length};
 
 /// A reason for a doubt.
 #[derive(Clone, Copy, PartialEq, Eq)]
@@ -28,6 +30,10 @@ pub enum Doubt {
     SmallLetters,
     /// Moves stand after the slashes of a comment.
     Comment,
+    /// Moves are said to be made several times.
+    Repetition,
+    /// Moves are said to belong into others, or a mark stands where they do.
+    Insertion,
 }
 
 impl Doubt {
@@ -43,87 +49,10 @@ impl Doubt {
             Doubt::Letters => 4,
             Doubt::SmallLetters => 5,
             Doubt::Comment => 6,
+            Doubt::Repetition => 7,
+            Doubt::Insertion => 8,
         }
     }
-}
-
-/// What is looked for in a line, by the byte before and the byte itself.
-#[derive(Clone, Copy)]
-enum Sight {
-    /// A small letter of an outer turn.
-    Small,
-    /// A letter right after the sign of a move.
-    Joined,
-    /// A letter after something else.
-    Parted,
-    /// An apostrophe.
-    Prime,
-}
-
-/// Whether a byte is a letter of ASCII, a digit or an apostrophe, of which a sign of moves may end.
-fn ends_move(byte: u8) -> bool
-    ensures { result ≡ ends_move byte }
-{
-    is_letter(byte) || ((byte >= b'0' && byte <= b'9') || is_prime(byte))
-}
-
-/// Whether a byte is a letter of ASCII.
-fn is_letter(byte: u8) -> bool
-    ensures { result ≡ is_letter byte }
-{
-    (byte >= b'A' && byte <= b'Z') || (byte >= b'a' && byte <= b'z')
-}
-
-/// Whether a byte is an apostrophe, or the last one of an apostrophe beyond ASCII.
-fn is_prime(byte: u8) -> bool
-    ensures { result ≡ is_prime byte }
-{
-    matches!(byte, b'\'' | b'`' | 0x98 | 0x99 | 0xb2 | 0xb4 | 0xbc)
-}
-
-/// Whether a byte is a small letter of an outer turn.
-fn is_small(byte: u8) -> bool
-    ensures { result ≡ is_small byte }
-{
-    matches!(byte, b'u' | b'd' | b'r' | b'l' | b'f' | b'b')
-}
-
-impl Sight {
-    /// Whether it is seen at a byte after another.
-    fn is_seen(self, before: u8, byte: u8) -> bool
-        ensures { result ≡ is_seen self before byte }
-    {
-        match self {
-            Sight::Small => is_small(byte),
-            Sight::Joined => ends_move(before) && (is_letter(byte) && byte != b'w'),
-            Sight::Parted => !ends_move(before) && is_letter(byte),
-            Sight::Prime => is_prime(byte),
-        }
-    }
-}
-
-/// Whether something is seen at a place of a text.
-#[tactic(auto, unfolding(crate::specs::Doubts::sees))]
-fn sees(text: &[u8], sight: Sight, at: usize) -> bool
-    requires { at < length text.now }
-    ensures { result ≡ sees text.now sight at }
-{
-    sight.is_seen(text[at.saturating_sub(1)], text[at])
-}
-
-/// The first place of a part of a text at which something is seen, or the part's end.
-fn first_seen(text: &[u8], from: usize, to: usize, sight: Sight) -> usize
-    requires { to ≤ length text.now }
-    ensures fits { result ≤ to }
-    ensures seen { result < to → (from ≤ result) × (sees text.now sight result ≡ true) }
-    ensures first { (k : ℕ) → from ≤ k → k < result → sees text.now sight k ≡ false }
-{
-    for at in from..to {
-        if sees(text, sight, at) {
-            return at;
-        }
-    }
-    to
 }
 
 /// Where letters stand together in the moves of a line as moves don't elsewhere in it, or where the moves end: not if
@@ -139,6 +68,9 @@ fn letters_at(text: &[u8], from: usize, to: usize) -> usize
         return to;
     }
     let joined = first_seen(text, from + 1, to, Sight::Joined);
+    if joined == to {
+        return to;
+    }
     let parted = first_seen(text, from + 1, to, Sight::Parted);
     let prime = first_seen(text, from, to, Sight::Prime);
     if parted < to || prime == to {
@@ -148,55 +80,92 @@ fn letters_at(text: &[u8], from: usize, to: usize) -> usize
     }
 }
 
-/// Where a side is named in a part of a text, or the part's end: by a word of its own, or by the inverse in another.
-fn first_side(text: &[u8], from: usize, to: usize) -> usize
+/// What makes one doubt moves of which something is said by the letters that a text begins with. A side counts only
+/// if the moves have no brackets.
+fn doubt_of_words(text: &[u8], has_brackets: bool) -> Doubt
+    ensures { (number_of result ≡ 4 → ⊥) × (number_of result ≡ 5 → ⊥) }
+{
+    match first_topic(text) {
+        Some(Topic::Side) if !has_brackets => Doubt::Side,
+        Some(Topic::Repetition) => Doubt::Repetition,
+        Some(Topic::Insertion) => Doubt::Insertion,
+        _ => Doubt::Nothing,
+    }
+}
+
+/// What is said first in a part of a text that makes one doubt its moves, and where: by a word of its own, or by the
+/// inverse in another. At the part's end if nothing is.
+fn first_said(text: &[u8], from: usize, to: usize, has_brackets: bool) -> (Doubt, usize)
     requires { to ≤ length text.now }
-    ensures fits { result ≤ to }
-    ensures there { result < to → from ≤ result }
+    ensures fits { result.1 ≤ to }
+    ensures there { from ≤ to → from ≤ result.1 }
+    ensures others { (number_of result.0 ≡ 4 → ⊥) × (number_of result.0 ≡ 5 → ⊥) }
 {
     for at in from..to {
         let rest = &text[at..to];
         let is_begun = at == from || !is_letter(text[at.saturating_sub(1)]);
-        if begins_side(rest) && (is_begun || word_length(rest, b"inv") > 0) {
-            return at;
+        if is_begun || word_length(rest, b"inv") > 0 {
+            let doubt = doubt_of_words(rest, has_brackets);
+            if doubt != Doubt::Nothing {
+                return (doubt, at);
+            }
         }
     }
-    to
+    (Doubt::Nothing, to)
 }
 
-/// Where a line of no brackets names a side, in its label or after its moves; of a line without moves anywhere.
-fn side_at(text: &[u8], told: &TextLine) -> usize
+/// What is said of a line that makes one doubt it, and where: in its label or after its moves; of a line without moves
+/// anywhere.
+fn doubt_said(text: &[u8], told: &TextLine) -> (Doubt, usize)
     requires line { IsLine told.now.begin told.now }
     requires fits { told.now.end ≤ length text.now }
-    ensures fits { result ≤ told.now.end }
-    ensures there { result < told.now.end → told.now.begin ≤ result }
+    ensures place { (told.now.begin ≤ result.1) × (result.1 ≤ told.now.end) }
+    ensures others { (number_of result.0 ≡ 4 → ⊥) × (number_of result.0 ≡ 5 → ⊥) }
 {
-    if told.kind == 4 {
-        return first_side(text, told.head_end, told.end);
+    if told.is_a(LineKind::Note) {
+        if is_mark(&text[told.begin..told.end]) {
+            return (Doubt::Insertion, told.begin);
+        }
+        return first_said(text, told.head_end, told.end, false);
     }
-    if has_bracket(&text[told.moves..told.comment]) {
-        return told.end;
-    }
-    let label = first_side(text, told.label_begin, told.label_end);
-    if label < told.label_end {
+    let has_brackets = has_bracket(&text[told.moves..told.comment]);
+    let label = first_said(text, told.label_begin, told.label_end, has_brackets);
+    if label.0 != Doubt::Nothing {
         return label;
     }
-    first_side(text, told.comment, told.end)
+    first_said(text, told.comment, told.end, has_brackets)
 }
 
 /// What makes one doubt a step beside its letters, and where. Its comment begins at the slashes.
 fn doubt_of_step(text: &[u8], told: &TextLine, slashes: usize, has_solution: bool) -> (Doubt, usize)
     requires line { IsLine told.now.begin told.now }
     requires fits { told.now.end ≤ length text.now }
-    requires slashes { (told.now.begin ≤ slashes) × (slashes ≤ told.now.end) }
+    requires slashes { (told.now.comment ≤ slashes) × (slashes ≤ told.now.end) }
     ensures place { (told.now.begin ≤ result.1) × (result.1 ≤ told.now.end) }
     ensures others { (number_of result.0 ≡ 4 → ⊥) × (number_of result.0 ≡ 5 → ⊥) }
+    ensures unmarked { result.0 ≡ Nothing → HasNone text.now Marked (told.now.moves + 1) told.now.comment }
 {
     if has_three_moves(&text[slashes..told.end]) {
         return (Doubt::Comment, slashes);
     }
     if !has_solution {
         return (Doubt::SeveralSolutions, told.moves);
+    }
+    if says_times(&text[slashes..told.end]) {
+        return (Doubt::Repetition, slashes);
+    }
+    if ends_with_times(&text[told.moves..told.comment]) {
+        return (Doubt::Repetition, told.moves);
+    }
+    if defines_mark(&text[told.begin..told.moves]) {
+        return (Doubt::Insertion, told.begin);
+    }
+    if is_mark(&text[told.comment..slashes]) {
+        return (Doubt::Insertion, told.comment);
+    }
+    let marked = first_seen(text, told.moves + 1, told.comment, Sight::Marked);
+    if marked < told.comment {
+        return (Doubt::Insertion, marked);
     }
     (Doubt::Nothing, told.end)
 }
@@ -206,12 +175,15 @@ fn doubt_of_moves(text: &[u8], told: &TextLine, line: &Line, has_solution: bool)
     requires line { IsLine told.now.begin told.now }
     requires fits { told.now.end ≤ length text.now }
     requires same { told.now.begin + line.now.length ≡ told.now.end }
+    requires comment { told.now.begin + line.now.comment ≡ told.now.comment }
     ensures place { (told.now.begin ≤ result.1) × (result.1 ≤ told.now.end) }
     ensures kind { result.0 ≡ SmallLetters → told.now.kind ≡ 2 }
     ensures small { result.0 ≡ SmallLetters → sees text.now Small result.1 ≡ true }
     ensures letters { result.0 ≡ Letters → sees text.now Joined result.1 ≡ true }
     ensures none { result.0 ≡ Nothing → IsAsWritten text.now told.now.moves told.now.comment }
-    ensures no_small { result.0 ≡ Nothing → told.now.kind ≡ 2 → (k : ℕ) → told.now.moves ≤ k → k < told.now.comment → sees text.now Small k ≡ false }
+    ensures once { result.0 ≡ Nothing → HasNone text.now Repeated told.now.moves told.now.comment }
+    ensures unmarked { result.0 ≡ Nothing → told.now.kind ≡ 3 → HasNone text.now Marked (told.now.moves + 1) told.now.comment }
+    ensures no_small { result.0 ≡ Nothing → told.now.kind ≡ 2 → HasNone text.now Small told.now.moves told.now.comment }
 {
     let letters = letters_at(text, told.moves, told.comment);
     if letters < told.comment {
@@ -222,7 +194,11 @@ fn doubt_of_moves(text: &[u8], told: &TextLine, line: &Line, has_solution: bool)
     if name < slashes {
         return (Doubt::Letters, name);
     }
-    if told.kind != 2 {
+    let repeated = first_seen(text, told.moves, slashes, Sight::Repeated);
+    if repeated < slashes {
+        return (Doubt::Repetition, repeated);
+    }
+    if !told.is_a(LineKind::Scramble) {
         return doubt_of_step(text, told, slashes, has_solution);
     }
     let small = first_seen(text, told.moves, told.comment, Sight::Small);
@@ -240,24 +216,29 @@ fn doubt_of(text: &[u8], told: &TextLine, line: &Line, has_solution: bool) -> (D
     requires line { IsLine told.now.begin told.now }
     requires fits { told.now.end ≤ length text.now }
     requires same { told.now.begin + line.now.length ≡ told.now.end }
+    requires comment { told.now.begin + line.now.comment ≡ told.now.comment }
     ensures place { (told.now.begin ≤ result.1) × (result.1 ≤ told.now.end) }
     ensures small { result.0 ≡ SmallLetters → (told.now.kind ≡ 2) × (sees text.now Small result.1 ≡ true) }
     ensures letters { result.0 ≡ Letters → sees text.now Joined result.1 ≡ true }
     ensures scramble { result.0 ≡ Nothing → told.now.kind ≡ 2 → IsAsWritten text.now told.now.moves told.now.comment }
     ensures solution { result.0 ≡ Nothing → told.now.kind ≡ 3 → told.now.is_solution ≡ 1 → IsAsWritten text.now told.now.moves told.now.comment }
-    ensures no_small { result.0 ≡ Nothing → told.now.kind ≡ 2 → (k : ℕ) → told.now.moves ≤ k → k < told.now.comment → sees text.now Small k ≡ false }
+    ensures no_small { result.0 ≡ Nothing → told.now.kind ≡ 2 → HasNone text.now Small told.now.moves told.now.comment }
+    ensures once { result.0 ≡ Nothing → told.now.kind ≡ 2 → HasNone text.now Repeated told.now.moves told.now.comment }
+    ensures once_solved { result.0 ≡ Nothing → told.now.kind ≡ 3 → told.now.is_solution ≡ 1 → HasNone text.now Repeated told.now.moves told.now.comment }
+    ensures unmarked { result.0 ≡ Nothing → told.now.kind ≡ 3 → told.now.is_solution ≡ 1 → HasNone text.now Marked (told.now.moves + 1) told.now.comment }
 {
-    if told.kind == 2 {
+    if told.is_a(LineKind::Scramble) {
         return doubt_of_moves(text, told, line, has_solution);
     }
-    if told.kind < 2 || (has_solution && told.is_solution == 0) {
+    let is_after = told.is_a(LineKind::Step) || told.is_a(LineKind::Note);
+    if !is_after || (has_solution && told.is_solution == 0) {
         return (Doubt::Nothing, told.end);
     }
-    let side = side_at(text, told);
-    if side < told.end {
-        return (Doubt::Side, side);
+    let said = doubt_said(text, told);
+    if said.0 != Doubt::Nothing {
+        return said;
     }
-    if told.kind == 3 {
+    if told.is_a(LineKind::Step) {
         return doubt_of_moves(text, told, line, has_solution);
     }
     (Doubt::Nothing, told.end)
@@ -272,7 +253,10 @@ fn is_inverse(text: &[u8], told: &TextLine) -> bool
     let comment = &text[told.comment..told.end];
     let is_named = says(label, Wanted::Inverse) || says(comment, Wanted::Inverse);
     let is_switched = says(label, Wanted::Switch) || says(comment, Wanted::Switch);
-    told.kind == 3 && is_named && !is_switched && !has_bracket(&text[told.moves..told.comment])
+    told.is_a(LineKind::Step)
+        && is_named
+        && !is_switched
+        && !has_bracket(&text[told.moves..told.comment])
 }
 
 /// A line of a text with what makes one doubt it. `has_solution`: a group of its attempt is the solution.
@@ -281,6 +265,7 @@ pub fn judged(text: &[u8], told: TextLine, line: &Line, has_solution: bool) -> T
     requires line { IsLine told.begin told }
     requires fits { told.end ≤ length text.now }
     requires same { told.begin + line.now.length ≡ told.end }
+    requires comment { told.begin + line.now.comment ≡ told.comment }
     ensures is { IsLine told.begin result }
     ensures ends { result.end ≡ told.end }
     ensures doubt { IsDoubted text.now result }

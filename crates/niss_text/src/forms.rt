@@ -3,7 +3,8 @@ ghost use Rattle.std.specs.Prelude.{◌≡◌, ◌≤◌, ◌<◌, ℕ, true, fa
 ghost use Rattle.niss_text.specs.Signs.{ends_line};
 
 use crate::sign::{
-    Class, Kind, behind, first_kind, first_sign, is_letter, is_of_word, is_skipped, length_of,
+    Class, Kind, digits_length, first_kind, first_sign, is_letter, is_of_word, is_skipped,
+    length_of, trimmed,
 };
 use crate::words::{head_word_length, is_other_side, word_length};
 
@@ -38,7 +39,7 @@ fn total_length(text: &[u8]) -> usize
     if text.is_empty() || text[0] != b'/' {
         return 0;
     }
-    let digits = length_of(&text[1..], Class::Digits);
+    let digits = digits_length(&text[1..]);
     if digits == 0 { 0 } else { digits + 1 }
 }
 
@@ -52,7 +53,7 @@ pub fn count_length(text: &[u8]) -> usize
         return 0;
     }
     let number = &text[1..];
-    let digits = length_of(number, Class::Digits);
+    let digits = digits_length(number);
     if digits == 0 {
         return 0;
     }
@@ -125,7 +126,7 @@ pub fn number_length(line: &[u8]) -> usize
     } else {
         1
     };
-    let digits = length_of(&line[mark..], Class::Digits);
+    let digits = digits_length(&line[mark..]);
     if digits == 0 {
         return 0;
     }
@@ -152,7 +153,7 @@ pub fn listed_length(line: &[u8], has_extras: bool) -> usize
     } else {
         0
     };
-    let digits = length_of(&line[mark..], Class::Digits);
+    let digits = digits_length(&line[mark..]);
     if digits == 0 {
         return 0;
     }
@@ -163,13 +164,6 @@ pub fn listed_length(line: &[u8], has_extras: bool) -> usize
     } else {
         0
     }
-}
-
-/// What is after the blanks in front of a line.
-pub fn trimmed(line: &[u8]) -> &[u8]
-    ensures { length result.now ≤ length line.now }
-{
-    behind(line, Class::Skipped)
 }
 
 /// What is after "of 3" or "/3" in front of a line, or the line itself.
@@ -183,7 +177,7 @@ fn behind_total(line: &[u8]) -> &[u8]
         word_length(word, b"of")
     };
     let number = trimmed(&word[of..]);
-    let digits = length_of(number, Class::Digits);
+    let digits = digits_length(number);
     if of == 0 || digits == 0 {
         line
     } else {
@@ -224,7 +218,7 @@ pub fn head_length(line: &[u8]) -> usize
     } else {
         1
     };
-    let digits = length_of(&number[mark..], Class::Digits);
+    let digits = digits_length(&number[mark..]);
     if digits == 0 {
         return 0;
     }

@@ -5,10 +5,11 @@ ghost use Rattle.niss_text.specs.Lines.{IsUnbroken, end_of, end_size};
 
 use crate::body::{has_frame, is_whole_scramble};
 use crate::forms::{
-    begins_comment, head_length, label_of, line_length, listed_length, number_length, trimmed,
+    begins_comment, head_length, label_of, line_length, listed_length, number_length,
 };
-use crate::sign::{Class, first_sign, length_of};
+use crate::sign::{Class, first_sign, is_digit_byte, length_of, trimmed};
 use crate::span::span_of;
+use crate::word::are_plain_moves;
 use crate::words::{Wanted, is_word, says};
 
 /// Which numbers may stand before a scramble.
@@ -62,28 +63,29 @@ pub struct Line {
 }
 
 impl Line {
-    /// A line of that many bytes, all of them blanks.
-    fn blank(length: usize) -> Line
+    /// A line of that many bytes, which has nothing but moves from there on, or none at its end.
+    fn bare(moves: usize, length: usize, is_whole: bool) -> Line
+        requires { moves ≤ length }
         ensures { result.length ≡ length }
     {
         Line {
             head_kind: Head::None,
             head: 0,
-            label_begin: length,
-            label_end: length,
-            moves: length,
+            label_begin: moves,
+            label_end: moves,
+            moves,
             comment: length,
             name: length,
             slashes: length,
             length,
-            is_blank: true,
+            is_blank: moves == length,
             is_head_alone: false,
-            is_moves: false,
+            is_moves: moves < length,
             is_told: false,
             is_solution: false,
             is_final: false,
             is_step: false,
-            is_whole: false,
+            is_whole,
         }
     }
 
@@ -111,7 +113,7 @@ fn comment_at(line: &[u8]) -> usize
 fn blanks(line: &[u8]) -> usize
     ensures { result ≤ length line.now }
 {
-    length_of(line, Class::Skipped)
+    line.len() - trimmed(line).len()
 }
 
 /// Whether one of the words of a label is this one.
@@ -132,10 +134,18 @@ fn has_word(words: &[u8], word: &[u8]) -> bool {
     false
 }
 
+/// Whether what tells a scramble from others may begin with a byte.
+fn begins_head(byte: u8) -> bool {
+    matches!(byte, b'#' | b'(' | b's' | b'S' | b'a' | b'A' | b'e' | b'E') || is_digit_byte(byte)
+}
+
 /// What tells a scramble from others in front of a line, and how many bytes it has.
 fn head_of(line: &[u8], numbers: Numbers) -> (Head, usize)
     ensures { result.1 ≤ length line.now }
 {
+    if line.is_empty() || !begins_head(line[0]) {
+        return (Head::None, 0);
+    }
     let number = number_length(line);
     let behind_number = number + blanks(&line[number..]);
     let word = head_length(&line[behind_number..]);
@@ -232,9 +242,13 @@ fn line_behind(line: &[u8], head_kind: Head, head: usize) -> Line
 pub fn line_of(line: &[u8], numbers: Numbers) -> Line
     ensures { result.length ≡ length line.now }
 {
+    // E2 may be an extra
+    if are_plain_moves(line) && line[0] != b'E' {
+        return Line::bare(0, line.len(), is_whole_scramble(line));
+    }
     let begin = blanks(line);
     if begin == line.len() {
-        return Line::blank(begin);
+        return Line::bare(begin, begin, false);
     }
     let (kind, length) = head_of(&line[begin..], numbers);
     if kind != Head::None {
@@ -287,7 +301,7 @@ pub fn whole_length(text: &[u8]) -> usize
     if line == text.len() {
         return line;
     }
-    line + first_sign(&text[line..]).length
+    line + line_end_length(&text[line..])
 }
 
 /// Whether the first line of a text begins with the word that stands before a scramble.

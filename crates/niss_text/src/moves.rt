@@ -11,7 +11,8 @@ use crate::pen::{Beginning, Pen};
 use crate::piece::Place;
 use crate::plain::PlainAnswer;
 use crate::sign::is_digit_byte;
-use crate::text_line::TextLine;
+use crate::status::Status;
+use crate::text_line::{LineKind, TextLine};
 
 /// Which lines' moves are wanted.
 #[derive(Clone, Copy, PartialEq, Eq)]
@@ -40,9 +41,9 @@ impl MovesOf {
         ensures { result ≡ is_wanted self line.now }
     {
         match self {
-            MovesOf::Scramble => line.kind == 2,
-            MovesOf::Steps => line.kind == 3,
-            MovesOf::Solution => line.kind == 3 && line.is_solution != 0,
+            MovesOf::Scramble => line.is_a(LineKind::Scramble),
+            MovesOf::Steps => line.is_a(LineKind::Step),
+            MovesOf::Solution => line.is_a(LineKind::Step) && line.is_solution != 0,
         }
     }
 }
@@ -183,7 +184,7 @@ pub fn text_moves(
 {
     let Some(of) = MovesOf::of_number(which) else {
         return PlainAnswer {
-            status: 2,
+            status: Status::Usage.number(),
             left_out: 0,
             length: 0,
         };

@@ -6,12 +6,13 @@ ghost use Rattle.niss_text.specs.LeftOut.{bits_of};
 use crate::left_out::LeftOut;
 use crate::pen::{Beginning, Pen};
 use crate::piece::Place;
+use crate::status::Status;
 
 /// What `plain_line` and `text_moves` return.
 #[repr(C)]
 #[derive(Clone, Copy, Debug, PartialEq, Eq)]
 pub struct PlainAnswer {
-    /// 0 if all is written, 2 if no moves have such a number, 4 if the room is too small.
+    /// The number of a `Status`.
     pub status: u8,
     /// What the line hasn't, as bits: labels, numbers of moves, comments, line numbers, commas, signs that aren't seen.
     pub left_out: u8,
@@ -28,8 +29,13 @@ impl PlainAnswer {
         ensures left { result.left_out ≡ bits_of left_out }
         ensures length { result.length ≡ pen.length }
     {
+        let status = if pen.has_room {
+            Status::Done
+        } else {
+            Status::NoRoom
+        };
         PlainAnswer {
-            status: if pen.has_room { 0 } else { 4 },
+            status: status.number(),
             left_out: left_out.bits(),
             length: pen.length,
         }

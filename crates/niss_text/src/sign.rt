@@ -41,6 +41,7 @@ pub struct Sign {
 }
 
 /// What a byte of ASCII is.
+#[inline(always)]
 #[tactic(auto, unfolding(crate::specs::Signs::is_of_moves))]
 fn kind_of_byte(byte: u8) -> Kind
     ensures { IsSign result (byte ∷ []) }
@@ -197,7 +198,6 @@ pub fn is_letter(kind: Kind) -> bool {
 pub enum Class {
     /// Blanks and what isn't seen.
     Skipped,
-    Digits,
     /// Letters and digits, and what is beyond ASCII.
     Word,
     Letters,
@@ -214,7 +214,6 @@ impl Class {
     fn has(self, kind: Kind) -> bool {
         match self {
             Class::Skipped => is_skipped(kind),
-            Class::Digits => kind == Kind::Digit,
             Class::Word => is_of_word(kind),
             Class::Letters => is_letter(kind),
             Class::NoLetters => !is_letter(kind),
@@ -238,6 +237,29 @@ pub fn behind(text: &[u8], class: Class) -> &[u8]
         rest = &rest[sign.length..];
     }
     rest
+}
+
+/// What is after blanks and what isn't seen in front of a text.
+pub fn trimmed(text: &[u8]) -> &[u8]
+    ensures { length result.now ≤ length text.now }
+{
+    // most texts begin with none
+    if !text.is_empty() && text[0] > b' ' && text[0] < 0x80 {
+        return text;
+    }
+    behind(text, Class::Skipped)
+}
+
+/// How many digits a text begins with.
+pub fn digits_length(text: &[u8]) -> usize
+    ensures { result ≤ length text.now }
+{
+    for (at, byte) in text.iter().enumerate() {
+        if !is_digit_byte(*byte) {
+            return at;
+        }
+    }
+    text.len()
 }
 
 /// How many bytes the signs of a class in front of a text have.

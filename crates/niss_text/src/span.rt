@@ -1,7 +1,7 @@
 //! Where the moves of a line begin and end: after words in front of them that are none, and before those after them.
 ghost use Rattle.std.specs.Prelude.{◌≡◌, ◌≤◌, ◌<◌, length, true};
 
-use crate::word::{Word, first_word};
+use crate::word::{Word, are_plain_moves, first_word};
 
 /// Where the moves of a line begin and end, and where the first name stands that may be moves, such as `LL`: the end if
 /// there is none.
@@ -224,6 +224,14 @@ pub fn span_of(line: &[u8]) -> Span
     ensures fits { result.end ≤ length line.now }
     ensures name { result.name ≤ length line.now }
 {
+    if are_plain_moves(line) {
+        return Span {
+            is_moves: true,
+            begin: 0,
+            end: line.len(),
+            name: line.len(),
+        };
+    }
     let mut frame = Frame::nothing();
     let mut rest = line;
     while !rest.is_empty() {

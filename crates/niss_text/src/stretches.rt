@@ -2,10 +2,11 @@
 //! scrambles of one apart.
 ghost use Rattle.std.specs.Prelude.{◌≤◌, ◌<◌, length};
 
-use crate::forms::{is_parted, trimmed};
+use crate::forms::is_parted;
 use crate::line::{
     Head, Line, Numbers, begins_with_head, begins_with_number, first_line, whole_length,
 };
+use crate::sign::trimmed;
 
 /// Whether a text has a line that begins the extras of a sheet: E2 is a move too, but not beside E1, which is none.
 pub fn has_extras(text: &[u8]) -> bool {

@@ -1,14 +1,49 @@
 //! A line of a text in the attempt that it is of.
-ghost use Rattle.std.specs.Prelude.{◌≡◌, ◌≤◌, ◌+◌, length};
+ghost use Rattle.std.specs.Prelude.{◌≡◌, ◌==◌, ◌≤◌, ◌+◌, length};
 ghost use Rattle.niss_text.specs.Lines.{IsLine};
+ghost use Rattle.niss_text.specs.Numbers.{number_of_kind};
 
 use crate::line::Line;
+
+/// What a line is in its attempt.
+#[derive(Clone, Copy, PartialEq, Eq)]
+pub enum LineKind {
+    /// Blanks, or a head alone.
+    Blank,
+    /// Prose before the scramble.
+    Before,
+    Scramble,
+    /// Moves after it.
+    Step,
+    /// Prose after it.
+    Note,
+}
+
+impl LineKind {
+    /// Its number.
+    pub fn number(self) -> u8
+        ensures { result ≡ number_of_kind self }
+    {
+        match self {
+            LineKind::Blank => 0,
+            LineKind::Before => 1,
+            LineKind::Scramble => 2,
+            LineKind::Step => 3,
+            LineKind::Note => 4,
+        }
+    }
+
+    /// Whether it stands after the scramble.
+    pub fn is_after_scramble(self) -> bool {
+        matches!(self, LineKind::Step | LineKind::Note)
+    }
+}
 
 /// A line of a text, and what it is there. Places are in bytes of the text.
 #[repr(C)]
 #[derive(Clone, Copy, Debug, PartialEq, Eq)]
 pub struct TextLine {
-    /// 0 a blank line, 1 prose before a scramble, 2 one of a scramble, 3 a step, 4 a note.
+    /// The number of a `LineKind`.
     pub kind: u8,
     /// 1: it is in the group that is the solution. 0 says no here and below, and what isn't 0 is read as yes.
     pub is_solution: u8,
@@ -36,10 +71,19 @@ pub struct TextLine {
     pub doubt_at: usize,
 }
 
-/// What a line is in its attempt.
+impl TextLine {
+    /// Whether it is of a kind.
+    pub fn is_a(&self, kind: LineKind) -> bool
+        ensures { result ≡ (self.now.kind == number_of_kind kind) }
+    {
+        self.kind == kind.number()
+    }
+}
+
+/// What a line is told to be.
 #[derive(Clone, Copy)]
 pub struct Role {
-    pub kind: u8,
+    pub kind: LineKind,
     /// It is in the group that is the solution.
     pub is_solution: bool,
     pub is_headed: bool,
@@ -52,11 +96,12 @@ pub fn told_line(role: &Role, line: &Line, begin: usize) -> TextLine
     requires { begin + line.now.length ≤ usize.MAX }
     ensures is { IsLine begin result }
     ensures ends { result.end ≡ begin + line.now.length }
+    ensures comment { result.comment ≡ begin + line.now.comment }
     ensures undoubted { result.doubt_at ≡ result.end }
-    ensures kind { result.kind ≡ role.now.kind }
+    ensures kind { result.kind ≡ number_of_kind role.now.kind }
 {
     TextLine {
-        kind: role.kind,
+        kind: role.kind.number(),
         is_solution: u8::from(role.is_solution),
         is_headed: u8::from(role.is_headed),
         says_solution: u8::from(line.is_solution),

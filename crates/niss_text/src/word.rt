@@ -1,5 +1,5 @@
 //! The words of a line: moves that stand alone, moves in one word, and words that are no moves.
-ghost use Rattle.std.specs.Prelude.{◌≤◌, ◌<◌, length};
+ghost use Rattle.std.specs.Prelude.{◌≡◌, ◌≤◌, ◌<◌, true, length};
 
 use crate::forms::count_length;
 use crate::sign::{Kind, first_sign};
@@ -122,6 +122,33 @@ fn is_parting(kind: Kind) -> bool {
         kind,
         Kind::Blank | Kind::Comma | Kind::LineEnd | Kind::Open | Kind::Close
     )
+}
+
+/// Whether a byte may follow another one where all is moves by capitals, each a word of its own.
+fn follows_moves(before: u8, byte: u8) -> bool {
+    match byte {
+        b' ' => true,
+        b'2' | b'\'' => before != b' ',
+        _ => before == b' ' && is_capital_move(byte),
+    }
+}
+
+/// Whether a text is moves by capitals, each a word of its own: what most lines are, of which nothing else is to be told.
+#[inline(never)]
+pub fn are_plain_moves(text: &[u8]) -> bool
+    ensures { result ≡ true → 0 < length text.now }
+{
+    if text.is_empty() || text[0] == b' ' {
+        return false;
+    }
+    let mut before = b' ';
+    for byte in text {
+        if !follows_moves(before, *byte) {
+            return false;
+        }
+        before = *byte;
+    }
+    true
 }
 
 /// One more than a number, three at most.

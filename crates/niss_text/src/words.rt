@@ -100,8 +100,32 @@ pub fn says(text: &[u8], wanted: Wanted) -> bool {
     false
 }
 
+/// What solvers say of moves beside what step they are, and what their reading hangs on.
+#[derive(Clone, Copy, PartialEq, Eq)]
+pub enum Topic {
+    /// A side of the cube, or a change of it.
+    Side,
+    /// Moves that are made several times.
+    Repetition,
+    /// Moves that belong into others.
+    Insertion,
+}
+
+/// What is said by the letters that a text begins with.
+pub fn first_topic(text: &[u8]) -> Option<Topic> {
+    if begins_side(text) {
+        Some(Topic::Side)
+    } else if begins_repetition(text) {
+        Some(Topic::Repetition)
+    } else if begins_insertion(text) {
+        Some(Topic::Insertion)
+    } else {
+        None
+    }
+}
+
 /// Whether a text begins with letters by which solvers name a side of the cube, or a change of it.
-pub fn begins_side(text: &[u8]) -> bool {
+fn begins_side(text: &[u8]) -> bool {
     if text.is_empty() {
         return false;
     }
@@ -114,6 +138,36 @@ pub fn begins_side(text: &[u8]) -> bool {
         b'b' => word_length(text, b"backward") > 0,
         _ => false,
     }
+}
+
+/// Whether a text begins with letters by which solvers say that moves are made several times.
+fn begins_repetition(text: &[u8]) -> bool {
+    word_length(text, b"twice") > 0
+        || word_length(text, b"thrice") > 0
+        || word_length(text, b"times") > 0
+        || word_length(text, b"again") > 0
+        || word_length(text, b"once more") > 0
+        || word_length(text, b"repeat") > 0
+}
+
+/// Whether a text begins with letters by which solvers say that moves belong into others, or that others belong into
+/// these.
+fn begins_insertion(text: &[u8]) -> bool {
+    let letters = length_of(text, Class::Letters);
+    is_word(&text[..letters], b"ins")
+        || word_length(text, b"inser") > 0
+        || word_length(text, b"einf") > 0
+        || word_length(text, "\u{63d2}\u{5165}".as_bytes()) > 0
+        || begins_skeleton(text)
+}
+
+/// Whether a text begins with letters by which solvers name moves into which others belong.
+fn begins_skeleton(text: &[u8]) -> bool {
+    word_length(text, b"skele") > 0
+        || word_length(text, b"squel") > 0
+        || word_length(text, b"esquel") > 0
+        || word_length(text, b"schele") > 0
+        || word_length(text, "\u{9aa8}\u{67b6}".as_bytes()) > 0
 }
 
 /// How many bytes the word has that stands before each of several scrambles, if a text begins with one; else 0.

@@ -8,8 +8,9 @@ import type { PlainLine, TextPlace, WrittenText } from "./written.js";
 export type AttemptCandidate = { steps: PlainLine[]; solution: PlainLine; note: string };
 
 /** What makes one doubt a line, by the module's numbers, and what does in a check. */
-const REASONS =
-  ["", "another scramble", "several solutions", "side", "letters", "small letters", "comment"] as const;
+const REASONS = [
+  "", "another scramble", "several solutions", "side", "letters", "small letters", "comment", "repetition", "insertion",
+] as const;
 export const A_PART = "a part";
 /** What else does in a check of solutions of known scrambles. */
 export const [, ANOTHER_SCRAMBLE] = REASONS;

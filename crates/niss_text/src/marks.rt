@@ -1,0 +1,95 @@
+//! Signs by which solvers have moves made several times, or put into others: of a number of times, and marks.
+ghost use Rattle.std.specs.Prelude.{◌≤◌, ◌<◌, length};
+
+use crate::sights::is_letter;
+use crate::sign::{is_digit_byte, trimmed};
+
+/// Whether a text begins with a number of times, such as `x2` or `2x`.
+fn begins_times(text: &[u8]) -> bool {
+    if text.len() < 2 {
+        return false;
+    }
+    let (first, second) = (text[0], text[1]);
+    let is_before = matches!(first, b'x' | b'X' | b'*') && is_digit_byte(second);
+    let is_behind = is_digit_byte(first) && matches!(second, b'x' | b'X');
+    is_before || is_behind
+}
+
+/// Whether a comment, which begins with two slashes if there is one, says that moves are made several times.
+pub fn says_times(comment: &[u8]) -> bool {
+    comment.len() > 2 && begins_times(trimmed(&comment[2..]))
+}
+
+/// Where the last word of some moves begins, as blanks part them.
+fn last_word(moves: &[u8]) -> usize
+    ensures { result ≤ length moves.now }
+{
+    let mut begin = 0;
+    let mut is_parted = true;
+    for (at, byte) in moves.iter().enumerate() {
+        if *byte != b' ' && is_parted {
+            begin = at;
+        }
+        is_parted = *byte == b' ';
+    }
+    begin
+}
+
+/// Whether moves end with a turn of the cube that may say how many times they are made, such as `x2`.
+pub fn ends_with_times(moves: &[u8]) -> bool {
+    let begin = last_word(moves);
+    let word = &moves[begin..];
+    let is_bracketed = word.len() > 2 && word[0] == b'(';
+    begin > 0 && (begins_times(word) || (is_bracketed && begins_times(&word[1..])))
+}
+
+/// Whether a byte may be the first of a sign that is written among moves as a mark: of no word, and of none that parts
+/// words from moves.
+fn begins_mark(byte: u8) -> bool {
+    match byte {
+        b'=' | b'-' | b':' | b'>' => false,
+        0x80.. => byte == 0xc2 || byte == 0xe2,
+        _ => !is_letter(byte),
+    }
+}
+
+/// Whether a sign that ends with this byte says after a mark that what belongs there follows. A colon after a number
+/// doesn't: lines are numbered so.
+fn ends_definition(first: u8, last: u8) -> bool {
+    match last {
+        b'=' | b'>' | 0x92 => true,
+        b':' => first != b'#' && !is_digit_byte(first),
+        _ => false,
+    }
+}
+
+/// Whether what stands before moves tells a mark at which they belong into others, such as `[1] =` or `*:`. It may have
+/// letters only before `=`.
+pub fn defines_mark(lead: &[u8]) -> bool {
+    let words = trimmed(lead);
+    if words.is_empty() || !begins_mark(words[0]) {
+        return false;
+    }
+    let mut last = b' ';
+    let mut has_letters = false;
+    for byte in words {
+        has_letters = has_letters || is_letter(*byte);
+        if *byte != b' ' {
+            last = *byte;
+        }
+    }
+    ends_definition(words[0], last) && (last == b'=' || !has_letters)
+}
+
+/// Whether all that stands after moves is a mark at which others belong, such as `*` or `[^]`.
+pub fn is_mark(tail: &[u8]) -> bool {
+    let mut has_mark = false;
+    for byte in tail {
+        match *byte {
+            b'*' | b'^' | b'@' | b'&' | b'~' | b'$' | b'%' => has_mark = true,
+            b' ' | b'(' | b')' | b'[' | b']' | b'{' | b'}' => {}
+            _ => return false,
+        }
+    }
+    has_mark
+}
