@@ -291,7 +291,7 @@ typedef struct nissy_ways_wanted {
     uint8_t slack;       /* by how many turns, 0 to 20, the first step may be longer than the shortest on its axis: on the scramble alone, on
                             the inverse alone, or over both */
     uint8_t axes;        /* on which axes the orientation is: 1 F and B, 2 R and L, 4 U and D, added; NISSY_ALL_AXES are all */
-    uint8_t from;        /* how many turns the first step has on both sides together, from and to: 0 and 20 are all */
+    uint8_t from;        /* how many turns the first step has on both sides together, from and to, each 0 to 20: 0 and 20 are all */
     uint8_t to;
     uint64_t most_nodes; /* at how many positions it may look */
     uint64_t there;      /* how many ways stand in the room already, in order, from an earlier call */

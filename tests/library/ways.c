@@ -169,6 +169,10 @@ static void what_is_wrong_is_refused(void) {
     holds(is_refused(best_of("R", "", wanted, room), NISSY_USAGE, 0, 0, 0), "the slack is too large", "nissy_best");
     wanted = all_of(0), wanted.axes = 8;
     holds(is_refused(best_of("R", "", wanted, room), NISSY_USAGE, 0, 0, 0), "there is no such axis", "nissy_best");
+    wanted = all_of(0), wanted.from = 21;
+    holds(is_refused(best_of("R", "", wanted, room), NISSY_USAGE, 0, 0, 0), "no first step is as long", "nissy_best");
+    wanted = all_of(0), wanted.to = 21;
+    holds(is_refused(best_of("R", "", wanted, room), NISSY_USAGE, 0, 0, 0), "no first step is as long", "nissy_best");
     wanted = all_of(0), wanted.there = 3;
     holds(is_refused(best_of("R", "", wanted, room), NISSY_USAGE, 0, 0, 0), "more ways than have place", "nissy_best");
     wanted = all_of(0);

@@ -9,7 +9,7 @@ use crate::path_sinks::{PairComparison, Refused};
 use crate::searches::{Search, tables_of};
 use niss_cube::{Cube, Face, Step};
 use niss_search::{
-    Lengths, Limit, Meter, Outcome, Sides, Stopped, Tables, search_both_within,
+    Ends, Lengths, Limit, Meter, Outcome, PairsWanted, Sides, Stopped, Tables, search_both_within,
     search_pairs_of_length,
 };
 use std::process::Abort;
@@ -200,16 +200,37 @@ fn pairs_have_a_length_and_sides(rt: HostRuntime) {
     let tables = tables_of(&rt, rt.alloc(), Step::Eofb, &mut Meter::new());
     let cube = start(&rt, &tables, "F");
     for (sides, turns, pairs, looks) in LENGTHS {
-        let length = Limit::new(*turns).expect(&rt, "a length");
+        let wanted = PairsWanted {
+            sides: *sides,
+            ends: Ends::Any,
+            length: Limit::new(*turns).expect(&rt, "a length"),
+        };
         let mut meter = Meter::new();
         let mut sink = PairComparison::new(pairs);
-        let answer = search_pairs_of_length(
-            &tables, &cube, *sides, length, &mut meter, &mut sink, ENOUGH,
-        );
+        let answer = search_pairs_of_length(&tables, &cube, wanted, &mut meter, &mut sink, ENOUGH);
         assert!(rt; sink.took_all(), "{turns}");
         assert!(rt; answer == Ok(pairs.len() as u128), "{turns}");
         assert!(rt; meter.count() == *looks, "{turns}");
     }
+    drop(tables);
+}
+
+/// Of twins one comes, on each side: of each search there is a look at the cube, and one after each of 18 turns.
+#[test]
+fn one_of_twins_may_be_enough(rt: HostRuntime) {
+    let tables = tables_of(&rt, rt.alloc(), Step::Eofb, &mut Meter::new());
+    let cube = start(&rt, &tables, "F");
+    let wanted = PairsWanted {
+        sides: Sides::Both,
+        ends: Ends::NotCounter,
+        length: Limit::new(1).expect(&rt, "a length"),
+    };
+    let mut meter = Meter::new();
+    let mut sink = PairComparison::new(&[("", "F"), ("F", "")]);
+    let answer = search_pairs_of_length(&tables, &cube, wanted, &mut meter, &mut sink, ENOUGH);
+    assert!(rt; sink.took_all());
+    assert!(rt; answer == Ok(2));
+    assert!(rt; meter.count() == 38);
     drop(tables);
 }
 

@@ -186,8 +186,8 @@ fn check_rows(rt: &impl Abort, tables: &WayTables<Global>, question: &Question) 
     let wish = Wish {
         slack: Limit::new(question.slack).expect(rt, "a slack"),
         axes: Axes::ALL,
-        from: 0,
-        to: 20,
+        from: Limit::ZERO,
+        to: Limit::new(20).expect(rt, "a length"),
         most_looks: 1_000_000_000,
     };
     let places = question.rows.len();

@@ -51,10 +51,16 @@ unwritten_line why = record {
 abbrev pub line_told : LineAnswer → LineAfterAnswer
 line_told put = record { status = put.status; fault = put.fault; line = 0; column = put.column; length = put.length }
 
--- The numbers are in their ranges, and as many ways as are said to stand in the room have place there.
-pub record IsAsked (w : WaysWanted) (room : List Way) : Type 0 where
+-- The numbers are in their ranges.
+pub record IsInRange (w : WaysWanted) : Type 0 where
   pub slack : w.slack ≤ most_limit
   pub axes : w.axes < 8
+  pub from : w.from ≤ most_limit
+  pub to : w.to ≤ most_limit
+
+-- They are, and as many ways as are said to stand in the room have place there.
+pub record IsAsked (w : WaysWanted) (room : List Way) : Type 0 where
+  pub numbers : IsInRange w
   pub there : w.there ≤ length room
 
 -- What a search from where one stands leaves in the room, and what it tells.

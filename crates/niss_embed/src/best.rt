@@ -1,7 +1,6 @@
 //! Calls on a scramble and the moves so far: the search for the best ways on, and the line of the cube at which one stands.
-ghost use Rattle.std.specs.Prelude.{◌≡◌, ◌≢◌, ◌⊎◌, ◌<◌, ◌≤◌, MatchOption, length};
-ghost use Rattle.niss_shell.specs.Words.{most_limit};
-ghost use Rattle.niss_embed.specs.BestWays.{FindsBest, Tells, WritesLineAfter, WritesTurns};
+ghost use Rattle.std.specs.Prelude.{◌≡◌, ◌≢◌, ◌≤◌, MatchOption, length};
+ghost use Rattle.niss_embed.specs.BestWays.{FindsBest, IsInRange, Tells, WritesLineAfter, WritesTurns};
 ghost use Rattle.niss_embed.specs.TwoLines.{both_of};
 ghost use Rattle.niss_embed.specs.LineCalls.{status_number};
 ghost use Rattle.niss_embed.specs.Memory.{memory};
@@ -17,8 +16,8 @@ use std::alloc::Allocator;
 
 /// What is wished by some numbers, if they are in their ranges.
 fn wish_of(wanted: &WaysWanted) -> Option<Wish>
-    ensures { MatchOption result ((most_limit < wanted.now.slack) ⊎ (8 ≤ wanted.now.axes))
-        (λ wish. (wanted.now.slack ≤ most_limit) × (wanted.now.axes < 8) × (wish.most_looks ≡ wanted.now.most_nodes)) }
+    ensures { MatchOption result (IsInRange wanted.now → ⊥)
+        (λ wish. IsInRange wanted.now × (wish.most_looks ≡ wanted.now.most_nodes)) }
 {
     if wanted.axes >= 8 {
         return None;
@@ -32,8 +31,8 @@ fn wish_of(wanted: &WaysWanted) -> Option<Wish>
     Some(Wish {
         slack,
         axes,
-        from: wanted.from,
-        to: wanted.to,
+        from: Limit::new(wanted.from)?,
+        to: Limit::new(wanted.to)?,
         most_looks: wanted.most_nodes,
     })
 }

@@ -1,10 +1,10 @@
 -- Whether first turns of a pair reach the step: by each number of turns on the inverse, and for each by those on the normal side.
 use Rattle.niss_search.proofs.Words.{◌≡◌, refl, sym, ◌∙◌, ap, Bool, true, false, ℕ, List, [], ◌∷◌, Turn, Step, Place, SameMap, cubes}
-use Rattle.niss_search.proofs.Words.{after_all, reached, turned, fold-append, StepsSeePlaces, take, take_all, get_or, length, ◌+◌, ◌<◌, ◌||◌, ◌&&◌}
+use Rattle.niss_search.proofs.Words.{after_all, reached, turned, fold-append, StepsSeePlaces, take, take_all, get_or, length, length-append, ◌+◌, ◌<◌, ◌≤◌, ◌++◌, ◌||◌, ◌&&◌}
 use Rattle.niss_search.proofs.Words.{list_any, list_any_at, range_with_len, length-range_with_len, arith, nat_lt, lt-ltb, le-ltb, up_to, Contains, All-contains_itself}
 use Rattle.std.proofs.lemmas.List.FromFn.{get_or-range_with_len}
 use Rattle.std.proofs.lemmas.List.Folds.{list_any-append}
-use Rattle.std.proofs.lemmas.List.{take_more}
+use Rattle.std.proofs.lemmas.List.{take_more, take-append-le}
 use Rattle.std.proofs.Math.Bool.{or-false}
 use Rattle.niss_search.proofs.ListLemmas.{range-push, in-range}
 use Rattle.niss_search.proofs.LookLemmas.{list_any-each}
@@ -53,6 +53,20 @@ before_next stay step f c d ts i none u l is before after q p =
     ∙ ap (λ v. after_all (inverse_side step) f p₀ (turned v q)) is
     ∙ (λ i. sym (fold-append turned_before f p₀ (t ∷ [])) i q)
     ∙ (λ j. after_all (inverse_side step) f (sym (take_more ts i none l) j) q)
+
+-- first turns, but not all, are those before the last one, or all of these
+pub along-last : (step : Step) (f : Place → Place) (front : List Turn) (t : Turn)
+    → reached_along step f (front ++ t ∷ []) ≡ (reached_along step f front || reached step (after_all (cubes step) f front))
+unfolding reached_along
+along-last step f front t =
+    let test : List Turn → ℕ → Bool = λ ts i. reached step (after_all (cubes step) f (take i ts)) in
+    let first : (i : ℕ) → i ≤ length front → test (front ++ t ∷ []) i ≡ test front i =
+    λ i l. ap (λ ts. reached step (after_all (cubes step) f ts)) (take-append-le i front (t ∷ []) l) in
+    let all : test front (length front) ≡ reached step (after_all (cubes step) f front) =
+    ap (λ ts. reached step (after_all (cubes step) f ts)) (take_all (length front) front (omega arith)) in
+    ap (λ n. list_any (test (front ++ t ∷ [])) (range_with_len 0 n)) (length-append front (t ∷ []))
+    ∙ any_more (test (front ++ t ∷ [])) (length front)
+    ∙ (λ k. any_same (test (front ++ t ∷ [])) (test front) (length front) (λ i l. first i (omega (arith, l))) k || (first (length front) (omega arith) ∙ all) k)
 
 -- turns bring maps that are the same to maps that are the same
 after_same : (step : Step) (a : List Turn) (d e : Place → Place) → SameMap d e → SameMap (after_all (cubes step) d a) (after_all (cubes step) e a)

@@ -7,8 +7,12 @@ use Rattle.std.proofs.Math.Nat.{pow-le-pow_right}
 use Rattle.niss_search.proofs.ListLemmas.{in-range}
 use Rattle.niss_search.proofs.ByLength.{last-within}
 use Rattle.niss_search.proofs.Bounds.{looks-le, range-le, count-le, turns_of-length}
-use Rattle.niss_search.specs.BothSides.{Pair, HandsOut, ends_idle, inverse_side, looks_after, looks_of_lengths, fewest_normal, most_normal}
-unfoldable use Rattle.niss_search.specs.BothSides.{looks_of_pairs, pair_looks, least_pair_length}
+use Rattle.niss_search.specs.BothSides.{Pair, HandsOut, inverse_side, looks_after, looks_of_lengths, fewest_normal, most_normal}
+use Rattle.niss_search.specs.BothSides.{looks_of_pairs}
+unfoldable use Rattle.niss_search.specs.BothSides.{looks_with, pair_looks, least_pair_length}
+use Rattle.niss_search.specs.BothWalk.{ends_here}
+use Rattle.niss_search.specs.declared.searching.both.Ends.{Ends}
+use Rattle.niss_search.specs.declared.searching.both.Ends.TheVariants.{Any}
 use Rattle.niss_search.specs.declared.searching.both.Sides.{Sides}
 use Rattle.niss_search.specs.declared.searching.both.Sides.TheVariants.{Normal, Inverse, Both}
 
@@ -37,37 +41,38 @@ if-within : (b : Bool) (n m : ℕ) → n ≤ m → cond b 0 n ≤ m
 if-within true n m l = omega arith
 if-within false n m l = l
 
-module _ (step : Step) (e : Place → Place) where
-  after-small : (from to : Space (turns_of step) (Place → Place)) (i j : ℕ) → i + j ≤ 20 → looks_after step e from to i j ≤ most
+module _ (ends : Ends) (step : Step) (e : Place → Place) where
+  after-small : (from to : Space (turns_of step) (Place → Place)) (i j : ℕ) → i + j ≤ 20 → looks_after step e ends from to i j ≤ most
   after-small from to i j few =
       let heads = all_canonical (turns_of step) i in
       let bound = (j + 1) * 18 ^ j in
       let at : List Turn → ℕ = λ h. looks to (distance to) (after_all from e h) j in
       let one : (h : List Turn) → at h ≤ bound = λ h. looks-tight to (distance to) (after_all from e h) j (turns_of-length step) in
-      let all : looks_after step e from to i j ≤ length heads * bound =
-      sum_by-le (λ h. cond (ends_idle step h) 0 (at h)) bound heads (λ k d l. if-within (ends_idle step (get_or heads k d)) (at (get_or heads k d)) bound (one (get_or heads k d))) in
+      let all : looks_after step e ends from to i j ≤ length heads * bound =
+      sum_by-le (λ h. cond (ends_here ends step h) 0 (at h)) bound heads (λ k d l. if-within (ends_here ends step (get_or heads k d)) (at (get_or heads k d)) bound (one (get_or heads k d))) in
       let count : length heads * ((j + 1) * 18 ^ j) ≤ 18 ^ i * ((j + 1) * 18 ^ j) = mul-le-mul_right ((j + 1) * 18 ^ j) (count-le (turns_of step) i (turns_of-length step)) in
       let joined : 18 ^ i * ((j + 1) * 18 ^ j) ≡ (j + 1) * 18 ^ (i + j) = rw (pow-add 18 i j) (omega arith) in
       let deep : j + 1 ≤ 21 = omega (arith, few) in
       let small : (j + 1) * 18 ^ (i + j) ≤ 21 * 18 ^ 20 = mul-le-mul deep (power-le (i + j) 20 few) in
       omega (arith, all, count, joined, small)
 
-  lengths-small : (i j : ℕ) → i + j ≤ 20 → looks_of_lengths step e i j ≤ most
+  lengths-small : (i j : ℕ) → i + j ≤ 20 → looks_of_lengths step e ends i j ≤ most
   lengths-small i j few = by_test (nat_le i j) where
-    by_test : (b : Bool) → cond b (looks_after step e (cubes step) (inverse_side step) i j) (looks_after step e (inverse_side step) (cubes step) j i) ≤ most
+    by_test : (b : Bool) → cond b (looks_after step e ends (cubes step) (inverse_side step) i j) (looks_after step e ends (inverse_side step) (cubes step) j i) ≤ most
     by_test true = after-small (cubes step) (inverse_side step) i j few
     by_test false = after-small (inverse_side step) (cubes step) j i (omega (arith, few))
 
-  pub length-small : (sides : Sides) (n : ℕ) → n ≤ 20 → looks_of_pairs step e sides n ≤ 21 * most
-  unfolding looks_of_pairs
+  pub length-small : (sides : Sides) (n : ℕ) → n ≤ 20 → looks_with step e ends sides n ≤ 21 * most
+  unfolding looks_with
   length-small sides n few =
       let a = fewest_normal sides n in
       let k = most_normal sides n + 1 - a in
-      let all : sum_by (λ i. looks_of_lengths step e i (n - i)) (range_with_len a k) ≤ length (range_with_len a k) * most =
-      sum_by-le (λ i. looks_of_lengths step e i (n - i)) most (range_with_len a k) (λ i d l.
+      let all : sum_by (λ i. looks_of_lengths step e ends i (n - i)) (range_with_len a k) ≤ length (range_with_len a k) * most =
+      sum_by-le (λ i. looks_of_lengths step e ends i (n - i)) most (range_with_len a k) (λ i d l.
       lengths-small (get_or (range_with_len a k) i d) (n - get_or (range_with_len a k) i d) (omega (arith, few, in-range a k (get_or (range_with_len a k) i d) (Contains-get_or (range_with_len a k) i d l), most-within sides n, fewest-within sides n))) in
       omega (arith, all, length-range_with_len a k, few, most-within sides n)
 
+module _ (step : Step) (e : Place → Place) where
   pub whole-small : (sides : Sides) (n slack : ℕ) → n ≤ 20 → pair_looks step e sides n slack ≤ 21 * (21 * most)
   unfolding pair_looks
   whole-small sides n slack few =
@@ -75,7 +80,7 @@ module _ (step : Step) (e : Place → Place) where
       let range = range_with_len 0 (last + 1) in
       let all : sum_by (looks_of_pairs step e sides) range ≤ length range * (21 * most) =
       sum_by-le (looks_of_pairs step e sides) (21 * most) range (λ i d l.
-      length-small sides (get_or range i d) (omega (arith, few, last-within (least_pair_length step e sides n) n slack, in-range 0 (last + 1) (get_or range i d) (Contains-get_or range i d l)))) in
+      length-small Any step e sides (get_or range i d) (omega (arith, few, last-within (least_pair_length step e sides n) n slack, in-range 0 (last + 1) (get_or range i d) (Contains-get_or range i d l)))) in
       omega (arith, all, length-range_with_len 0 (last + 1), few, last-within (least_pair_length step e sides n) n slack)
 
 -- What passes a bound on the meter passes another one.

@@ -1,6 +1,6 @@
 -- The search over both sides part by part: how a sink goes through pairs, what is done for heads, and that all of it is the pairs
 -- of a length, by their looks.
-use Rattle.niss_search.proofs.Words.{◌≡◌, arith, ◌+◌, ◌<◌, ◌-◌, ℕ, suc, zero, ap, ◌∙◌, sym, refl, subst, Bool, true, false, not, ◌&&◌, cond, nat_le}
+use Rattle.niss_search.proofs.Words.{◌≡◌, arith, ◌+◌, ◌<◌, ◌-◌, ℕ, suc, zero, ap, ◌∙◌, sym, refl, subst, Bool, true, false, ◌&&◌, ◌||◌, cond, nat_le}
 use Rattle.niss_search.proofs.Words.{List, [], ◌∷◌, ◌++◌, length, map, filter, flat_map, sum_by, take, drop, get_or, length-append, append-nil}
 use Rattle.niss_search.proofs.Words.{flat_map-append, sum_by-append, sum_by-cons, range_with_len, up_to, take-append-drop, drop_more, all_canonical, below}
 use Rattle.niss_search.proofs.Words.{Turn, Step, Place, Follower, turns_of, after_all, reached, reaching, may_follow, last_turn}
@@ -16,13 +16,15 @@ use Rattle.niss_search.proofs.ByLength.{from_least-all}
 use Rattle.niss_search.proofs.DepthFirst.{below-all}
 use Rattle.niss_search.proofs.DescentParts.{WentThrough-append, EndedIn-after, EndedIn-before}
 use Rattle.niss_search.proofs.InverseLemmas.{apart}
-use Rattle.niss_search.specs.BothSides.{Pair, reaches, begins_reached, ends_idle, pairs_of_lengths, splits, HandedOut, StoppedEarly}
-unfoldable use Rattle.niss_search.specs.BothSides.{first_pairs, looks_of_pairs, least_pair_length, pair_solutions, pair_looks}
-use Rattle.niss_search.specs.BothSides.{looks_of_lengths}
-use Rattle.niss_search.proofs.IdleHeads.{idle_head}
+use Rattle.niss_search.specs.BothSides.{Pair, reaches, ends_idle, pairs_of_lengths, splits, HandedOut, StoppedEarly}
+unfoldable use Rattle.niss_search.specs.BothSides.{pairs_with, looks_with, least_pair_length, pair_solutions, pair_looks}
+use Rattle.niss_search.specs.BothSides.{looks_of_lengths, first_pairs, leaves_out, skips}
+use Rattle.niss_search.proofs.IdleHeads.{idle_head, left_head}
 use Rattle.niss_cube.specs.StepLaws.{IdleTurnsLeaveSteps}
-use Rattle.niss_search.specs.BothWalk.{PairPart, parts, kept, after_head, part_of_lengths, on_side, on_other, join}
+use Rattle.niss_search.specs.BothWalk.{PairPart, parts, kept, is_kept, ends_here, after_head, part_of_lengths, on_side, on_other, join}
 unfoldable use Rattle.niss_search.specs.BothWalk.{after_heads}
+use Rattle.niss_search.specs.declared.searching.both.Ends.{Ends}
+use Rattle.niss_search.specs.declared.searching.both.Ends.TheVariants.{Any, NotCounter}
 use Rattle.niss_search.specs.declared.searching.both.Sides.{Sides}
 use Rattle.niss_search.specs.declared.searching.both.walk.Side.{Side}
 use Rattle.niss_search.specs.declared.searching.both.walk.Side.TheVariants.{Normal, Inverse}
@@ -114,44 +116,59 @@ popped old pushed now t None e same some none =
     absurd (omega (arith, ap length (sym (ap (λ (p : Path). p.turns) e) ∙ none.0), length-append old.turns (t ∷ [])))
 
 -- Is the last turn of a head idle?
-ends-by : (step : Step) (head : List Turn) (f : Follower) → IsFollower step f → ends_idle step (head ++ f.turn ∷ []) ≡ f.is_idle
-ends-by step head f is = ap (λ last. option_map_or (is_idle step) last false) (last_turn-push head f.turn) ∙ sym is.2
+idle-by : (step : Step) (head : List Turn) (f : Follower) → IsFollower step f → ends_idle step (head ++ f.turn ∷ []) ≡ f.is_idle
+idle-by step head f is = ap (λ last. option_map_or (is_idle step) last false) (last_turn-push head f.turn) ∙ sym is.2
 
-pub live_end : (step : Step) (head : List Turn) (f : Follower) (left : ℕ) (r : Bool) → IsFollower step f → r ≡ (left == 0 && f.is_idle) → r ≡ false
-    → left ≡ 0 → ends_idle step (head ++ f.turn ∷ []) ≡ false
-live_end step head f left r is test fails none =
-    let P : ℕ → Type 0 = λ n. (n == 0 && f.is_idle) ≡ false in
-    ends-by step head f is ∙ subst P none (sym test ∙ fails)
+-- is it left out by it?
+left-by : (ends : Ends) (head : List Turn) (t : Turn) → leaves_out ends (head ++ t ∷ []) ≡ skips ends t
+left-by Any head t = refl
+left-by NotCounter head t = ap (λ last. option_map_or (skips NotCounter) last false) (last_turn-push head t)
+
+ends-by : (ends : Ends) (step : Step) (head : List Turn) (f : Follower) → IsFollower step f
+    → ends_here ends step (head ++ f.turn ∷ []) ≡ (skips ends f.turn || f.is_idle)
+ends-by ends step head f is = λ i. left-by ends head f.turn i || idle-by step head f is i
+
+-- no turn is never the end
+pub no_end : (ends : Ends) (step : Step) → ends_here ends step [] ≡ false
+no_end Any step = refl
+no_end NotCounter step = refl
+
+pub live_end : (ends : Ends) (step : Step) (head : List Turn) (f : Follower) (left : ℕ) (r : Bool) → IsFollower step f
+    → r ≡ (left == 0 && (skips ends f.turn || f.is_idle)) → r ≡ false → left ≡ 0 → ends_here ends step (head ++ f.turn ∷ []) ≡ false
+live_end ends step head f left r is test fails none =
+    let P : ℕ → Type 0 = λ n. (n == 0 && (skips ends f.turn || f.is_idle)) ≡ false in
+    ends-by ends step head f is ∙ subst P none (sym test ∙ fails)
 
 -- What is done for heads: at one alone, and for those with one turn more by that turn.
-module _ (step : Step) (e : Place → Place) (side : Side) (tail : ℕ) where
+module _ (ends : Ends) (step : Step) (e : Place → Place) (side : Side) (tail : ℕ) where
   abbrev at : List Turn → PairPart
-  at = after_head step e side tail
+  at = after_head ends step e side tail
 
   abbrev pub next_heads : List Turn → ℕ → Follower → PairPart
-  next_heads head left f = after_heads step e side tail (head ++ f.turn ∷ []) left
+  next_heads head left f = after_heads ends step e side tail (head ++ f.turn ∷ []) left
 
-  pub heads-end : (head : List Turn) → after_heads step e side tail head 0 ≡ after_head step e side tail head
+  pub heads-end : (head : List Turn) → after_heads ends step e side tail head 0 ≡ after_head ends step e side tail head
   unfolding after_heads
   heads-end head = λ i. record { pairs = append-nil (at head).pairs i; looks = sum_by-one (λ h. (at h).looks) head i }
 
-  -- nothing is done after a head that ends in an idle turn
-  pub idle_end : (head : List Turn) (f : Follower) (left : ℕ) (r : Bool) → IsFollower step f → r ≡ (left == 0 && f.is_idle) → r ≡ true
-      → after_heads step e side tail (head ++ f.turn ∷ []) left ≡ record { pairs = []; looks = 0 }
+  -- nothing is done after a head that ends in an idle turn, or is left out
+  pub idle_end : (head : List Turn) (f : Follower) (left : ℕ) (r : Bool) → IsFollower step f → r ≡ (left == 0 && (skips ends f.turn || f.is_idle))
+      → r ≡ true → after_heads ends step e side tail (head ++ f.turn ∷ []) left ≡ record { pairs = []; looks = 0 }
   idle_end head f left r is test passes =
       let long = head ++ f.turn ∷ [] in
-      let both : (left == 0 && f.is_idle) ≡ true = sym test ∙ passes in
-      let none : left ≡ 0 = eqb-true left 0 (and_left (left == 0) f.is_idle both) in
-      let idle : ends_idle step long ≡ true = ends-by step head f is ∙ and_right (left == 0) f.is_idle both in
+      let by : Bool = skips ends f.turn || f.is_idle in
+      let both : (left == 0 && by) ≡ true = sym test ∙ passes in
+      let none : left ≡ 0 = eqb-true left 0 (and_left (left == 0) by both) in
+      let idle : ends_here ends step long ≡ true = ends-by ends step head f is ∙ and_right (left == 0) by both in
       let here = after_all (on_side side step) e long in
-      ap (after_heads step e side tail long) none ∙ heads-end long
+      ap (after_heads ends step e side tail long) none ∙ heads-end long
       ∙ (λ i. record {
-        pairs = cond (idle i) [] (kept step e (map (join side long) (reaching (on_other side step) here tail)));
+        pairs = cond (idle i) [] (kept ends step e (map (join side long) (reaching (on_other side step) here tail)));
         looks = cond (idle i) 0 (looks (on_other side step) (distance (on_other side step)) here tail);
       })
 
   pub heads-next : (head : List Turn) (left : ℕ) (fs : List Follower) → map (λ f. f.turn) fs ≡ filter (may_follow (last_turn head)) (turns_of step)
-      → after_heads step e side tail head (suc left) ≡ parts (next_heads head left) fs
+      → after_heads ends step e side tail head (suc left) ≡ parts (next_heads head left) fs
   unfolding after_heads
   heads-next head left fs listed = λ i. record { pairs = listed_pairs i; looks = listed_looks i } where
     turns : List Turn
@@ -192,9 +209,9 @@ filter_twice {X} {Y} r q k g (x ∷ xs) same = by_test (r x) (q (g x)) (same x) 
   by_test false true e rest = absurd (cc e)
 
 -- The pairs of a length are those that the heads give.
-module _ (step : Step) (e : Place → Place) where
+module _ (ends : Ends) (step : Step) (e : Place → Place) where
   abbrev first : Pair → Bool
-  first p = reaches step e p && not (begins_reached step e p)
+  first p = reaches step e p && is_kept ends step e p
 
   abbrev all : ℕ → List (List Turn)
   all k = all_canonical (turns_of step) k
@@ -204,62 +221,64 @@ module _ (step : Step) (e : Place → Place) where
   reach_alike Inverse head tail = refl
 
   live_head : (side : Side) (k : ℕ) (head : List Turn)
-      → kept step e (map (join side head) (reaching (on_other side step) (after_all (on_side side step) e head) k)) ≡ filter first (map (join side head) (all k))
+      → kept ends step e (map (join side head) (reaching (on_other side step) (after_all (on_side side step) e head) k)) ≡ filter first (map (join side head) (all k))
   live_head side k head =
-      filter_twice (λ t. (on_other side step).reached (after_all (on_other side step) (after_all (on_side side step) e head) t)) (reaches step e) (λ p. not (begins_reached step e p)) (join side head) (all k) (reach_alike side head)
+      filter_twice (λ t. (on_other side step).reached (after_all (on_other side step) (after_all (on_side side step) e head) t)) (reaches step e) (is_kept ends step e) (join side head) (all k) (reach_alike side head)
 
-  one_head : IdleTurnsLeaveSteps → (side : Side) (k : ℕ) (head : List Turn) → (after_head step e side k head).pairs ≡ filter first (map (join side head) (all k))
-  one_head law side k head = by_test (ends_idle step head) refl where
-    by_test : (b : Bool) → ends_idle step head ≡ b
-        → cond b [] (kept step e (map (join side head) (reaching (on_other side step) (after_all (on_side side step) e head) k))) ≡ filter first (map (join side head) (all k))
-    by_test true is = sym (idle_head law step e side head (all k) is)
-    by_test false is = live_head side k head
+  one_head : IdleTurnsLeaveSteps → (side : Side) (k : ℕ) (head : List Turn) → (after_head ends step e side k head).pairs ≡ filter first (map (join side head) (all k))
+  one_head law side k head = by_test (leaves_out ends head) (ends_idle step head) refl refl where
+    by_test : (a b : Bool) → leaves_out ends head ≡ a → ends_idle step head ≡ b
+        → cond (a || b) [] (kept ends step e (map (join side head) (reaching (on_other side step) (after_all (on_side side step) e head) k))) ≡ filter first (map (join side head) (all k))
+    by_test true b out is = sym (left_head ends step e side head (all k) out)
+    by_test false true out is = sym (idle_head law ends step e side head (all k) is)
+    by_test false false out is = live_head side k head
 
   abbrev start : Side → (tail head : ℕ) → PairPart
-  start side tail head = after_heads step e side tail [] head
+  start side tail head = after_heads ends step e side tail [] head
 
   start-pairs : IdleTurnsLeaveSteps → (side : Side) (tail head : ℕ) → (start side tail head).pairs ≡ filter first (flat_map (λ h. map (join side h) (all tail)) (all head))
   unfolding after_heads
   start-pairs law side tail head =
-      ap (flat_map (λ h. (after_head step e side tail h).pairs)) (below-all (turns_of step) head)
+      ap (flat_map (λ h. (after_head ends step e side tail h).pairs)) (below-all (turns_of step) head)
       ∙ (λ i. flat_map (λ h. one_head law side tail h i) (all head))
       ∙ sym (filter-flat_map first (λ h. map (join side h) (all tail)) (all head))
 
-  start-looks : (side : Side) (tail head : ℕ) → (start side tail head).looks ≡ sum_by (λ h. (after_head step e side tail h).looks) (all head)
+  start-looks : (side : Side) (tail head : ℕ) → (start side tail head).looks ≡ sum_by (λ h. (after_head ends step e side tail h).looks) (all head)
   unfolding after_heads
-  start-looks side tail head = ap (sum_by (λ h. (after_head step e side tail h).looks)) (below-all (turns_of step) head)
+  start-looks side tail head = ap (sum_by (λ h. (after_head ends step e side tail h).looks)) (below-all (turns_of step) head)
 
-  lengths-pairs : IdleTurnsLeaveSteps → (i j : ℕ) → (part_of_lengths step e i j).pairs ≡ filter first (pairs_of_lengths (turns_of step) i j)
+  lengths-pairs : IdleTurnsLeaveSteps → (i j : ℕ) → (part_of_lengths ends step e i j).pairs ≡ filter first (pairs_of_lengths (turns_of step) i j)
   lengths-pairs law i j = by_test (nat_le i j) refl where
-    by_test : (b : Bool) → nat_le i j ≡ b → (part_of_lengths step e i j).pairs ≡ filter first (pairs_of_lengths (turns_of step) i j)
+    by_test : (b : Bool) → nat_le i j ≡ b → (part_of_lengths ends step e i j).pairs ≡ filter first (pairs_of_lengths (turns_of step) i j)
     by_test true is = rw is (start-pairs law Normal j i)
     by_test false is = rw is (start-pairs law Inverse i j)
 
-  lengths-looks : (i j : ℕ) → (part_of_lengths step e i j).looks ≡ looks_of_lengths step e i j
+  lengths-looks : (i j : ℕ) → (part_of_lengths ends step e i j).looks ≡ looks_of_lengths step e ends i j
   lengths-looks i j = by_test (nat_le i j) refl where
-    by_test : (b : Bool) → nat_le i j ≡ b → (part_of_lengths step e i j).looks ≡ looks_of_lengths step e i j
+    by_test : (b : Bool) → nat_le i j ≡ b → (part_of_lengths ends step e i j).looks ≡ looks_of_lengths step e ends i j
     by_test true is = rw is (start-looks Normal j i)
     by_test false is = rw is (start-looks Inverse i j)
 
   -- what is done for a length, and for so many of its turns on the normal side
   abbrev pub part_of_length : Sides → ℕ → PairPart
-  part_of_length sides n = record { pairs = first_pairs step e sides n; looks = looks_of_pairs step e sides n }
+  part_of_length sides n = record { pairs = pairs_with step e ends sides n; looks = looks_with step e ends sides n }
 
   abbrev pub part_of_split : ℕ → ℕ → PairPart
-  part_of_split n i = part_of_lengths step e i (n - i)
+  part_of_split n i = part_of_lengths ends step e i (n - i)
 
   pub length-parts : IdleTurnsLeaveSteps → (sides : Sides) (n : ℕ) → part_of_length sides n ≡ parts (part_of_split n) (splits sides n)
-  unfolding first_pairs looks_of_pairs
+  unfolding pairs_with looks_with
   length-parts law sides n = λ i. record {
     pairs = (filter-flat_map first (λ k. pairs_of_lengths (turns_of step) k (n - k)) (splits sides n) ∙ sym (λ j. flat_map (λ k. lengths-pairs law k (n - k) j) (splits sides n))) i;
     looks = sym (λ j. sum_by (λ k. lengths-looks k (n - k) j) (splits sides n)) i;
   }
 
-  -- and up to the last length
+-- and up to the last length
+module _ (step : Step) (e : Place → Place) where
   abbrev pub whole : Sides → (n slack : ℕ) → PairPart
   whole sides n slack = record { pairs = pair_solutions step e sides n slack; looks = pair_looks step e sides n slack }
 
-  pub whole-parts : (sides : Sides) (n slack : ℕ) → whole sides n slack ≡ parts (part_of_length sides) (up_to (last_length (least_of (first_pairs step e sides) n) n slack))
+  pub whole-parts : (sides : Sides) (n slack : ℕ) → whole sides n slack ≡ parts (part_of_length Any step e sides) (up_to (last_length (least_of (first_pairs step e sides) n) n slack))
   unfolding pair_solutions pair_looks least_pair_length
   whole-parts sides n slack = λ i. record { pairs = from_least-all (first_pairs step e sides) n slack i; looks = pair_looks step e sides n slack }
 

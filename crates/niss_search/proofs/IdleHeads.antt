@@ -1,4 +1,5 @@
--- A pair whose head ends in an idle turn is never handed out: if it reaches the step, so do its turns before that one.
+-- A pair whose head ends in an idle turn is never handed out: if it reaches the step, so do its turns before that one. Nor is one whose
+-- head is left out.
 use Rattle.niss_search.proofs.Words.{◌≡◌, ◌⊎◌, arith, ◌+◌, ◌<◌, ◌≤◌, ℕ, ap, ◌∙◌, sym, refl, subst, Bool, true, false}
 use Rattle.niss_search.proofs.Words.{not, ◌&&◌, cond, inl, inr}
 use Rattle.niss_search.proofs.Words.{List, [], ◌∷◌, ◌++◌, length, map, filter, take, take_at, take_all, length-append}
@@ -9,9 +10,10 @@ use Rattle.niss_cube.specs.StepLaws.{LeavesStep, IdleTurnsLeaveSteps}
 unfoldable use Rattle.niss_cube.specs.Steps.{is_idle}
 use Rattle.niss_search.proofs.InverseLemmas.{apart}
 use Rattle.niss_search.proofs.BeginningLemmas.{any_at}
-use Rattle.niss_search.specs.BothSides.{Pair, pair, turned_before, inverse_side, ends_idle, reaches}
+use Rattle.niss_search.specs.BothSides.{Pair, pair, turned_before, inverse_side, ends_idle, reaches, leaves_out, has_ends}
 unfoldable use Rattle.niss_search.specs.BothSides.{begins_reached}
-use Rattle.niss_search.specs.BothWalk.{join}
+use Rattle.niss_search.specs.BothWalk.{join, is_kept}
+use Rattle.niss_search.specs.declared.searching.both.Ends.{Ends}
 use Rattle.niss_search.specs.declared.searching.both.walk.Side.{Side}
 use Rattle.niss_search.specs.declared.searching.both.walk.Side.TheVariants.{Normal, Inverse}
 
@@ -31,13 +33,34 @@ filter-none p g [] h = refl
 filter-none p g (x ∷ xs) h =
     (λ k. cond (h x k) (g x ∷ filter p (map g xs)) (filter p (map g xs))) ∙ filter-none p g xs h
 
-refused : (r b : Bool) → (r ≡ true → b ≡ true) → (r && not b) ≡ false
-refused false b h = refl
-refused true b h = ap not (h refl)
+refused : (r h b : Bool) → (r ≡ true → b ≡ true) → (r && (h && not b)) ≡ false
+refused false h b is = refl
+refused true false b is = refl
+refused true true b is = ap not (is refl)
 
-module _ (step : Step) (e : Place → Place) where
+left_normal : (r h b : Bool) → (r && ((false && h) && b)) ≡ false
+left_normal true h b = refl
+left_normal false h b = refl
+
+left_inverse : (r h b : Bool) → (r && ((h && false) && b)) ≡ false
+left_inverse true true b = refl
+left_inverse true false b = refl
+left_inverse false h b = refl
+
+module _ (ends : Ends) (step : Step) (e : Place → Place) where
   abbrev first : Pair → Bool
-  first p = reaches step e p && not (begins_reached step e p)
+  first p = reaches step e p && is_kept ends step e p
+
+  -- no pair of a head that is left out
+  left : (side : Side) (head tail : List Turn) → leaves_out ends head ≡ true → first (join side head tail) ≡ false
+  left Normal head tail is =
+      let p = pair head tail in
+      (λ k. reaches step e p && ((not (is k) && not (leaves_out ends tail)) && not (begins_reached step e p)))
+      ∙ left_normal (reaches step e p) (not (leaves_out ends tail)) (not (begins_reached step e p))
+  left Inverse head tail is =
+      let p = pair tail head in
+      (λ k. reaches step e p && ((not (leaves_out ends tail) && not (is k)) && not (begins_reached step e p)))
+      ∙ left_inverse (reaches step e p) (not (leaves_out ends tail)) (not (begins_reached step e p))
 
   begins-at : (p : Pair) (i j : ℕ) → i ≤ length p.normal → j ≤ length p.inverse
       → i + j < length p.normal + length p.inverse → reaches step e (pair (take i p.normal) (take j p.inverse)) ≡ true
@@ -88,19 +111,24 @@ module _ (step : Step) (e : Place → Place) where
     none : (side : Side) → first (join side long tail) ≡ false
     none side =
         let p = join side long tail in
-        refused (reaches step e p) (begins_reached step e p) (λ is. begun side (sym (alike side) ∙ is))
+        refused (reaches step e p) (has_ends ends p) (begins_reached step e p) (λ is. begun side (sym (alike side) ∙ is))
 
   abbrev Nothing : Side → List (List Turn) → List Turn → Type 0
   Nothing side tails head = filter first (map (join side head) tails) ≡ []
 
-pub idle_head : IdleTurnsLeaveSteps → (step : Step) (e : Place → Place) (side : Side) (head : List Turn)
-    (tails : List (List Turn)) → ends_idle step head ≡ true → Nothing step e side tails head
-idle_head law step e side head tails is = by_last (last_of head) where
-  by_last : (head ≡ []) ⊎ ((a : List Turn) × (t : Turn) × (head ≡ a ++ t ∷ [])) → Nothing step e side tails head
+pub left_head : (ends : Ends) (step : Step) (e : Place → Place) (side : Side) (head : List Turn)
+    (tails : List (List Turn)) → leaves_out ends head ≡ true → Nothing ends step e side tails head
+left_head ends step e side head tails is =
+    filter-none (first ends step e) (join side head) tails (λ tail. left ends step e side head tail is)
+
+pub idle_head : IdleTurnsLeaveSteps → (ends : Ends) (step : Step) (e : Place → Place) (side : Side) (head : List Turn)
+    (tails : List (List Turn)) → ends_idle step head ≡ true → Nothing ends step e side tails head
+idle_head law ends step e side head tails is = by_last (last_of head) where
+  by_last : (head ≡ []) ⊎ ((a : List Turn) × (t : Turn) × (head ≡ a ++ t ∷ [])) → Nothing ends step e side tails head
   by_last (inl none) = absurd (cc (is, ap (ends_idle step) none))
   by_last (inr w) =
       let last = ap last_turn w.2 ∙ last_turn-push w.0 w.1 in
       let idle : is_idle step w.1 ≡ true = sym (ap (λ t. option_map_or (is_idle step) t false) last) ∙ is in
-      let each : (tail : List Turn) → first step e (join side (w.0 ++ w.1 ∷ []) tail) ≡ false =
-      λ tail. none step e w.1 (law step w.1 idle) w.0 tail side in
-      subst (Nothing step e side tails) (sym w.2) (filter-none (first step e) (join side (w.0 ++ w.1 ∷ [])) tails each)
+      let each : (tail : List Turn) → first ends step e (join side (w.0 ++ w.1 ∷ []) tail) ≡ false =
+      λ tail. none ends step e w.1 (law step w.1 idle) w.0 tail side in
+      subst (Nothing ends step e side tails) (sym w.2) (filter-none (first ends step e) (join side (w.0 ++ w.1 ∷ [])) tails each)

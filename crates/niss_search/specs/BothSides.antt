@@ -1,5 +1,5 @@
 -- Solutions over both sides: turns on the normal side, and turns on the inverse.
-use Rattle.std.specs.Prelude.{◌≡◌, ℕ, ◌+◌, ◌-◌, ◌≤◌, ◌<◌, nat_le, nat_lt, Bool, true, false, not, ◌&&◌}
+use Rattle.std.specs.Prelude.{◌≡◌, ℕ, ◌+◌, ◌-◌, ◌≤◌, ◌<◌, nat_le, nat_lt, Bool, true, false, not, ◌&&◌, ◌||◌}
 use Rattle.std.specs.Prelude.{if◌then◌else◌, Result, Ok, Err}
 use Rattle.std.specs.Prelude.{List, length, take, map, filter, flat_map, sum_by, Option}
 use Rattle.std.specs.List.{list_any, range_with_len}
@@ -12,6 +12,10 @@ use Rattle.niss_search.specs.Names.{Turn, Step}
 use Rattle.niss_search.specs.Solutions.{Space, after_all, distance, looks, up_to, last_length, least_of, from_least}
 use Rattle.niss_search.specs.Cubes.{cubes}
 use Rattle.niss_search.specs.Delivery.{WentThrough, EndedIn}
+use Rattle.niss_moves.specs.declared.turn.Power.{Power}
+use Rattle.niss_moves.specs.declared.turn.Power.TheVariants.{Counter}
+use Rattle.niss_search.specs.declared.searching.both.Ends.{Ends}
+use Rattle.niss_search.specs.declared.searching.both.Ends.TheVariants.{Any, NotCounter}
 use Rattle.niss_search.specs.declared.searching.both.Sides.{Sides}
 use Rattle.niss_search.specs.declared.searching.both.Sides.TheVariants.{Normal, Inverse, Both}
 
@@ -62,6 +66,22 @@ pairs_of_length turns sides n = flat_map (λ i. pairs_of_lengths turns i (n - i)
 abbrev pub ends_idle : Step → List Turn → Bool
 ends_idle step s = option_map_or (is_idle step) (last_turn s) false
 
+-- Sequences that end in a counterclockwise quarter turn may be left out.
+abbrev pub is_counter : Power → Bool
+is_counter Counter = true
+is_counter _ = false
+
+abbrev pub skips : Ends → Turn → Bool
+skips Any t = false
+skips NotCounter t = is_counter t.power
+
+abbrev pub leaves_out : Ends → List Turn → Bool
+leaves_out Any s = false
+leaves_out NotCounter s = option_map_or (skips NotCounter) (last_turn s) false
+
+abbrev pub has_ends : Ends → Pair → Bool
+has_ends ends p = not (leaves_out ends p.normal) && not (leaves_out ends p.inverse)
+
 module _ (step : Step) (e : Place → Place) where
   -- Has the cube reached the step after a pair? Turns on the two sides don't see each other, so either side may come first.
   abbrev pub reaches : Pair → Bool
@@ -73,9 +93,14 @@ module _ (step : Step) (e : Place → Place) where
       list_any (λ j. list_any (λ i. nat_lt (i + j) (length p.normal + length p.inverse)
       && reaches (pair (take i p.normal) (take j p.inverse))) (up_to (length p.normal))) (up_to (length p.inverse))
 
-  -- the pairs of n turns on these sides that reach the step, and whose first turns don't
-  unfoldable pub first_pairs : Sides → ℕ → List Pair
-  first_pairs sides n = filter (λ p. reaches p && not (begins_reached p)) (pairs_of_length (turns_of step) sides n)
+  -- the pairs of n turns on these sides that have such ends and reach the step, and whose first turns don't
+  unfoldable pub pairs_with : Ends → Sides → ℕ → List Pair
+  pairs_with ends sides n =
+      filter (λ p. reaches p && (has_ends ends p && not (begins_reached p))) (pairs_of_length (turns_of step) sides n)
+
+  -- those with any ends
+  abbrev pub first_pairs : Sides → ℕ → List Pair
+  first_pairs sides n = pairs_with Any sides n
 
   -- the least length of one, of at most n turns
   unfoldable pub least_pair_length : Sides → ℕ → Option ℕ
@@ -86,19 +111,24 @@ module _ (step : Step) (e : Place → Place) where
   pair_solutions sides n slack = from_least (first_pairs sides) n slack
 
   -- The looks of a search: the sequences of the shorter side are gone through without a look, and after each the other side is
-  -- searched exactly as deep as it is long; but after none that ends in an idle turn.
-  abbrev pub looks_after : (from to : Space (turns_of step) (Place → Place)) → (i j : ℕ) → ℕ
-  looks_after from to i j =
-      sum_by (λ s. if ends_idle step s then 0 else looks to (distance to) (after_all from e s) j)
+  -- searched exactly as deep as it is long; but after none that ends in an idle turn, or is left out.
+  abbrev pub looks_after : Ends → (from to : Space (turns_of step) (Place → Place)) → (i j : ℕ) → ℕ
+  looks_after ends from to i j =
+      sum_by (λ s. if leaves_out ends s || ends_idle step s then 0 else looks to (distance to) (after_all from e s) j)
       (all_canonical (turns_of step) i)
 
-  abbrev pub looks_of_lengths : (i j : ℕ) → ℕ
-  looks_of_lengths i j =
-      if nat_le i j then looks_after (cubes step) (inverse_side step) i j else looks_after (inverse_side step) (cubes step) j i
+  abbrev pub looks_of_lengths : Ends → (i j : ℕ) → ℕ
+  looks_of_lengths ends i j =
+      if nat_le i j
+      then looks_after ends (cubes step) (inverse_side step) i j
+      else looks_after ends (inverse_side step) (cubes step) j i
 
-  -- those of the search for pairs of n turns
-  unfoldable pub looks_of_pairs : Sides → ℕ → ℕ
-  looks_of_pairs sides n = sum_by (λ i. looks_of_lengths i (n - i)) (splits sides n)
+  -- those of the search for pairs of n turns with such ends
+  unfoldable pub looks_with : Ends → Sides → ℕ → ℕ
+  looks_with ends sides n = sum_by (λ i. looks_of_lengths ends i (n - i)) (splits sides n)
+
+  abbrev pub looks_of_pairs : Sides → ℕ → ℕ
+  looks_of_pairs sides n = looks_with Any sides n
 
   -- those of the searches for each length, up to the last
   unfoldable pub pair_looks : Sides → (n slack : ℕ) → ℕ

@@ -1,6 +1,6 @@
 -- The search over both sides from within: the shorter side of a pair is its head, the other one its tail. (For the search's own
 -- functions.)
-use Rattle.std.specs.Prelude.{◌≡◌, ◌⊎◌, ℕ, ◌+◌, ◌^◌, ◌-◌, min, nat_le, if◌then◌else◌, Bool, true, false, not}
+use Rattle.std.specs.Prelude.{◌≡◌, ◌⊎◌, ℕ, ◌+◌, ◌^◌, ◌-◌, min, nat_le, if◌then◌else◌, Bool, true, false, not, ◌&&◌, ◌||◌}
 use Rattle.std.specs.Prelude.{List, [], length, take, map, filter, flat_map, sum_by}
 use Rattle.std.specs.List.{list_any, range_with_len}
 use Rattle.niss_moves.specs.Places.{Place, SameMap, IsPlace}
@@ -13,7 +13,8 @@ use Rattle.niss_search.specs.Solutions.{Space, Homomorphism, after_all, reaching
 use Rattle.niss_search.specs.Cubes.{cubes, HasPosition}
 use Rattle.niss_search.specs.Positions.{positions}
 use Rattle.niss_search.specs.Deepening.{below}
-use Rattle.niss_search.specs.BothSides.{Pair, pair, inverse_side, ends_idle, begins_reached}
+use Rattle.niss_search.specs.BothSides.{Pair, pair, inverse_side, ends_idle, begins_reached, leaves_out, has_ends}
+use Rattle.niss_search.specs.declared.searching.both.Ends.{Ends}
 use Rattle.niss_search.specs.declared.searching.both.walk.Side.{Side}
 use Rattle.niss_search.specs.declared.searching.both.walk.Side.TheVariants.{Normal, Inverse}
 use Rattle.niss_search.specs.declared.searching.both.walk.Split.{Split}
@@ -48,17 +49,24 @@ pub record PairPart : Type 0 where
 abbrev pub parts : {X : Type 0} → (X → PairPart) → List X → PairPart
 parts part xs = record { pairs = flat_map (λ x. (part x).pairs) xs; looks = sum_by (λ x. (part x).looks) xs }
 
--- those of pairs whose first turns don't reach the step
-abbrev pub kept : Step → (Place → Place) → List Pair → List Pair
-kept step e ps = filter (λ p. not (begins_reached step e p)) ps
+-- a pair that has such ends, and whose first turns don't reach the step
+abbrev pub is_kept : Ends → Step → (Place → Place) → Pair → Bool
+is_kept ends step e p = has_ends ends p && not (begins_reached step e p)
 
-module _ (step : Step) (e : Place → Place) (side : Side) (tail : ℕ) where
-  -- what is done after a head: the search for its tails, or nothing if it ends in an idle turn
+abbrev pub kept : Ends → Step → (Place → Place) → List Pair → List Pair
+kept ends step e ps = filter (is_kept ends step e) ps
+
+-- nothing is searched after a head that ends in an idle turn, or is left out
+abbrev pub ends_here : Ends → Step → List Turn → Bool
+ends_here ends step head = leaves_out ends head || ends_idle step head
+
+module _ (ends : Ends) (step : Step) (e : Place → Place) (side : Side) (tail : ℕ) where
+  -- what is done after a head: the search for its tails, or nothing
   abbrev pub after_head : List Turn → PairPart
   after_head head = let here = after_all (on_side side step) e head in record {
-    pairs = if ends_idle step head
-        then [] else kept step e (map (join side head) (reaching (on_other side step) here tail));
-    looks = if ends_idle step head then 0 else looks (on_other side step) (distance (on_other side step)) here tail;
+    pairs = if ends_here ends step head
+        then [] else kept ends step e (map (join side head) (reaching (on_other side step) here tail));
+    looks = if ends_here ends step head then 0 else looks (on_other side step) (distance (on_other side step)) here tail;
   }
 
   -- what is done for all heads that begin with one and have so many turns more
@@ -66,8 +74,8 @@ module _ (step : Step) (e : Place → Place) (side : Side) (tail : ℕ) where
   after_heads head left = parts after_head (below (turns_of step) head left)
 
 -- what is done for pairs of so many turns on each side
-abbrev pub part_of_lengths : (step : Step) → (e : Place → Place) → (i j : ℕ) → PairPart
-part_of_lengths step e i j = let split = split_of i j in after_heads step e split.side split.tail [] split.head
+abbrev pub part_of_lengths : Ends → (step : Step) → (e : Place → Place) → (i j : ℕ) → PairPart
+part_of_lengths ends step e i j = let split = split_of i j in after_heads ends step e split.side split.tail [] split.head
 
 -- The cube of the other side: on that, a head on this side stands before all that made it.
 abbrev pub IsOther : Step → Side → (e : Place → Place) → (head : List Turn) → (other : Place → Place) → Type 0
@@ -95,27 +103,28 @@ module _ {K : Type 0} where
   abbrev pub joined : Joined K → List Turn → Pair
   joined sink tail = join sink.side sink.head.now.turns tail
 
-  -- Do its first turns reach the step?
-  abbrev pub begun : Joined K → List Turn → Bool
-  begun sink tail = begins_reached sink.step (map_of sink.cube.now) (joined sink tail)
+  -- Is it handed on?
+  abbrev pub keeps : Joined K → List Turn → Bool
+  keeps sink tail = is_kept sink.ends sink.step (map_of sink.cube.now) (joined sink tail)
 
   -- It lends the same sink, and has the same head on the same side.
   pub record StaysJoined (old new : Joined K) : Type 0 where
     pub head : new.head.now ≡ old.head.now
     pub side : new.side ≡ old.side
     pub step : new.step ≡ old.step
+    pub ends : new.ends ≡ old.ends
     pub cube : new.cube.now ≡ old.cube.now
     pub same_sink : new.sink.ghost_name ≡ old.sink.ghost_name
 
-  -- A pair was counted, as far as numbers go, and the sink took it; or its first turns reach the step, and nothing was done.
+  -- A pair was counted, as far as numbers go, and the sink took it; or it isn't handed on, and nothing was done.
   abbrev pub JoinedTook : (K → Pair → K → Type 0) → Joined K → Path → Joined K → Type 0
   JoinedTook took old path new =
       StaysJoined old new
-      × (((begun old path.turns ≡ true) × ((new.sink.now ≡ old.sink.now) × (new.count ≡ old.count)))
-      ⊎ ((begun old path.turns ≡ false)
+      × (((keeps old path.turns ≡ false) × ((new.sink.now ≡ old.sink.now) × (new.count ≡ old.count)))
+      ⊎ ((keeps old path.turns ≡ true)
       × (took old.sink.now (joined old path.turns) new.sink.now × (new.count ≡ min (old.count + 1) (2 ^ 128 - 1)))))
 
   abbrev pub JoinedRefused : (K → Pair → K → Type 0) → Joined K → Path → Joined K → Type 0
   JoinedRefused refused old path new =
       StaysJoined old new
-      × ((begun old path.turns ≡ false) × refused old.sink.now (joined old path.turns) new.sink.now)
+      × ((keeps old path.turns ≡ true) × refused old.sink.now (joined old path.turns) new.sink.now)

@@ -20,7 +20,7 @@
 //! `search_after` hands out those alone that come after a sequence: so a caller goes through a long list in pieces.
 //!
 //! `search_both_within` hands out pairs of turns on a cube and turns on its inverse that reach the step together, to a
-//! `PairSink`; `search_pairs_of_length` those of one length, on one side or on both.
+//! `PairSink`; `search_pairs_of_length` those of one length, on one side or on both, with any ends or with one of twins.
 //!
 //! A sink says by `took` and `refused` what a path does to it, and so a caller knows what it was handed. One that
 //! promises nothing writes both of them so (`crates/eo_axes` is the whole program):
@@ -69,7 +69,7 @@ pub use path::{Lengths, Limit, TurnPath};
 pub use scan::next_at;
 pub use scramble::random_turns;
 pub use searching::{
-    Outcome, PairSink, Sides, Sink, begins_reached, search, search_after, search_both_within,
-    search_pairs_of_length, search_within,
+    Ends, Outcome, PairSink, PairsWanted, Sides, Sink, begins_reached, search, search_after,
+    search_both_within, search_pairs_of_length, search_within,
 };
 pub use tables::{Meter, Position, Tables};

@@ -20,7 +20,9 @@ use crate::laws::positions_follow_cubes;
 use crate::path::{Limit, TurnPath};
 use crate::tables::{Meter, Position, Tables};
 pub use after::search_after;
-pub use both::{PairSink, Sides, begins_reached, search_both_within, search_pairs_of_length};
+pub use both::{
+    Ends, PairSink, PairsWanted, Sides, begins_reached, search_both_within, search_pairs_of_length,
+};
 use depth_first::Descent;
 use niss_cube::laws::step_turns_in_order;
 use std::alloc::Allocator;

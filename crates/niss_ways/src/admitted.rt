@@ -1,9 +1,9 @@
 //! Which lengths of a step's solutions are let in.
 ghost use Rattle.std.specs.Prelude.{◌≡◌, ◌≤◌, IfOk};
 
-use crate::looks::{Cut, Exactly, Looks, NO_LENGTH};
+use crate::looks::{Cut, Looks, NO_LENGTH};
 use niss_cube::Cube;
-use niss_search::{Limit, PairSink, Sides, Tables, TurnPath};
+use niss_search::{Ends, Limit, PairSink, PairsWanted, Sides, Stopped, Tables, TurnPath};
 use std::alloc::Allocator;
 
 /// The least lengths of a step's solutions, on the scramble alone, on its inverse alone and over both, or 21; and by
@@ -17,19 +17,23 @@ pub struct Admitted {
     ghost small: { (normal ≤ 21) × (inverse ≤ 21) × (both ≤ 21) × (slack ≤ 20) },
 }
 
-/// Takes no solution.
+/// Refuses the first solution: that there is one is enough.
 #[derive(Drop)]
-struct Nobody;
+struct First;
 
-impl PairSink for Nobody {
-    type Fault = Cut;
+/// There is a solution.
+#[derive(Clone, Copy, Debug, PartialEq, Eq)]
+struct Found;
+
+impl PairSink for First {
+    type Fault = Found;
 
     ghost took = { λ old p new. Unit {0} };
 
     ghost refused = { λ old p new. Unit {0} };
 
-    fn take(&mut self, _normal: &TurnPath, _inverse: &TurnPath) -> Result<(), Cut> {
-        Ok(())
+    fn take(&mut self, _normal: &TurnPath, _inverse: &TurnPath) -> Result<(), Found> {
+        Err(Found)
     }
 }
 
@@ -48,17 +52,16 @@ fn least_on_both<A: Allocator>(
         let Some(limit) = Limit::new(length) else {
             break;
         };
-        let exactly = Exactly {
+        // a solution has a twin among these, of as many turns
+        let wanted = PairsWanted {
             sides: Sides::Both,
+            ends: Ends::NotCounter,
             length: limit,
         };
-        match looks.search(tables, cube, exactly, &mut Nobody) {
-            Ok(found) => {
-                if found > 0 {
-                    return Ok(length);
-                }
-            }
-            Err(_) => return Err(Cut),
+        match looks.search(tables, cube, wanted, &mut First) {
+            Ok(_) => {}
+            Err(Stopped::Refused(Found)) => return Ok(length),
+            Err(Stopped::Cut) => return Err(Cut),
         }
     }
     Ok(on_one)

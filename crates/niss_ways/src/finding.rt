@@ -55,8 +55,8 @@ pub struct Wish {
     /// On which axes the orientation is.
     pub axes: Axes,
     /// How many turns the first step has, from and to.
-    pub from: u8,
-    pub to: u8,
+    pub from: Limit,
+    pub to: Limit,
     /// How often it may be looked at most.
     pub most_looks: u64,
 }

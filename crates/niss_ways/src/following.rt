@@ -7,7 +7,7 @@ ghost use Rattle.niss_cube.specs.Steps.{goals_of, edge_step_on, may_start};
 ghost use Rattle.niss_cube.specs.declared.step.Goal.TheVariants.{Domino};
 ghost use Rattle.niss_ways.specs.Truth.{IsWay, IsReduction};
 
-use crate::looks::{Cut, Exactly, Looks};
+use crate::looks::{Cut, Looks};
 use crate::nearest::{Nearest, total_after};
 use crate::oriented::Oriented;
 use crate::solution::Solution;
@@ -15,7 +15,7 @@ use crate::start::Start;
 use crate::way::{Part, Way, rank_by};
 use niss_cube::laws::inverse_has_steps;
 use niss_cube::{Axis, Coordinate, Cube, Step};
-use niss_search::{Limit, Sides, Stopped, Tables};
+use niss_search::{Limit, PairsWanted, Sides, Stopped, Tables};
 use std::alloc::Allocator;
 
 /// The axis of the orientation that a reduction keeps, and its own.
@@ -162,8 +162,12 @@ impl<'a, A: Allocator> Between<'a, A> {
         let Some(length) = Limit::new(length) else {
             return Ok(());
         };
-        let exactly = Exactly { sides, length };
-        match looks.search_from(self.tables, &self.after.cube, exactly, nearest) {
+        let wanted = PairsWanted {
+            sides,
+            ends: nearest.ends(),
+            length,
+        };
+        match looks.search_from(self.tables, &self.after.cube, wanted, nearest) {
             Err(Stopped::Cut) => Err(Cut),
             _ => Ok(()),
         }

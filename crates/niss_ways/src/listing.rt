@@ -9,7 +9,8 @@ use crate::start::Start;
 use crate::way::{Names, Part};
 use niss_cube::{Cube, Step};
 use niss_search::{
-    Limit, Meter, PairSink, Sides, Stopped, Tables, TurnPath, search_pairs_of_length,
+    Ends, Limit, Meter, PairSink, PairsWanted, Sides, Stopped, Tables, TurnPath,
+    search_pairs_of_length,
 };
 use std::alloc::Allocator;
 
@@ -103,15 +104,12 @@ impl Rows<'_> {
     {
         let mut meter = Meter::new();
         let most = u128::from(listed.most_looks);
-        let ended = search_pairs_of_length(
-            tables,
-            cube,
-            listed.sides,
-            listed.length,
-            &mut meter,
-            self,
-            most,
-        );
+        let wanted = PairsWanted {
+            sides: listed.sides,
+            ends: Ends::Any,
+            length: listed.length,
+        };
+        let ended = search_pairs_of_length(tables, cube, wanted, &mut meter, self, most);
         self.found(&ended, meter.count() as u64)
     }
 

@@ -3,11 +3,11 @@ ghost use Rattle.std.specs.Prelude.{◌≡◌, ◌+◌, ◌≤◌, IfOk, IsTrue}
 ghost use Rattle.niss_cube.specs.Map.{map_of};
 ghost use Rattle.niss_search.specs.Budgets.{is_cut_in};
 ghost use Rattle.niss_cube.specs.Steps.{may_start};
-ghost use Rattle.niss_search.specs.BothSides.{first_pairs, looks_of_pairs};
+ghost use Rattle.niss_search.specs.BothSides.{pairs_with, looks_with};
 ghost use Rattle.niss_ways.specs.Searched.{Searched};
 
 use niss_cube::Cube;
-use niss_search::{Limit, Meter, PairSink, Sides, Stopped, Tables, search_pairs_of_length};
+use niss_search::{Meter, PairSink, PairsWanted, Stopped, Tables, search_pairs_of_length};
 use std::alloc::Allocator;
 
 /// More turns than a solution has.
@@ -80,25 +80,24 @@ impl Looks {
         Ok(tables.look(&tables.position(cube), &mut self.meter))
     }
 
-    /// Hands out the solutions of exactly so many turns on these sides, and returns how many they are: none if the step
-    /// may not start on the cube.
+    /// Hands out the wanted solutions, and returns how many they are: none if the step may not start on the cube.
     pub fn search<K: PairSink, A: Allocator>(
         &mut self,
         tables: &Tables<A>,
         cube: &Cube,
-        exactly: Exactly,
+        wanted: PairsWanted,
         sink: &mut K,
     ) -> Result<u128, Stopped<K::Fault>>
         ensures most { self.new.most ≡ self.old.most }
         ensures solutions { Searched K.took K.refused (may_start tables.now (map_of cube.now))
-            (first_pairs tables.now (map_of cube.now) exactly.sides exactly.length)
-            (looks_of_pairs tables.now (map_of cube.now) exactly.sides exactly.length)
+            (pairs_with tables.now (map_of cube.now) wanted.ends wanted.sides wanted.length)
+            (looks_with tables.now (map_of cube.now) wanted.ends wanted.sides wanted.length)
             self.old.meter self.new.meter sink.old sink.new is_cut_in (λ count. count) result }
     {
         if !tables.step().may_start(cube) {
             return Ok(0);
         }
-        self.search_from(tables, cube, exactly, sink)
+        self.search_from(tables, cube, wanted, sink)
     }
 
     /// The same from a cube on which the step may start.
@@ -106,33 +105,18 @@ impl Looks {
         &mut self,
         tables: &Tables<A>,
         cube: &Cube,
-        exactly: Exactly,
+        wanted: PairsWanted,
         sink: &mut K,
     ) -> Result<u128, Stopped<K::Fault>>
         requires { IsTrue (may_start tables.now (map_of cube.now)) }
         ensures most { self.new.most ≡ self.old.most }
         ensures solutions { Searched K.took K.refused (may_start tables.now (map_of cube.now))
-            (first_pairs tables.now (map_of cube.now) exactly.sides exactly.length)
-            (looks_of_pairs tables.now (map_of cube.now) exactly.sides exactly.length)
+            (pairs_with tables.now (map_of cube.now) wanted.ends wanted.sides wanted.length)
+            (looks_with tables.now (map_of cube.now) wanted.ends wanted.sides wanted.length)
             self.old.meter self.new.meter sink.old sink.new is_cut_in (λ count. count) result }
     {
         let most = self.most;
         let left = u128::from(most) - self.meter.count();
-        search_pairs_of_length(
-            tables,
-            cube,
-            exactly.sides,
-            exactly.length,
-            &mut self.meter,
-            sink,
-            left,
-        )
+        search_pairs_of_length(tables, cube, wanted, &mut self.meter, sink, left)
     }
-}
-
-/// Which solutions are searched for: on these sides, of exactly so many turns.
-#[derive(Clone, Copy, Debug)]
-pub struct Exactly {
-    pub sides: Sides,
-    pub length: Limit,
 }

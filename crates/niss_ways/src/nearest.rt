@@ -7,7 +7,7 @@ use crate::counting::cleaned;
 use crate::solution::Solution;
 use crate::start::Start;
 use niss_moves::Turn;
-use niss_search::{PairSink, TurnPath};
+use niss_search::{Ends, PairSink, TurnPath};
 
 /// No further reduction is asked for.
 #[derive(Clone, Copy, Debug, PartialEq, Eq)]
@@ -37,6 +37,15 @@ fn merges(first: &[Turn], then: &[Turn]) -> bool
 }
 
 impl Nearest<'_> {
+    /// With which ends reductions are asked for: if nothing merges, the first one comes before its twins.
+    pub fn ends(&self) -> Ends {
+        if self.is_plain {
+            Ends::NotCounter
+        } else {
+            Ends::Any
+        }
+    }
+
     /// How many moves there are in all with a reduction.
     fn total(&self, normal: &[Turn], inverse: &[Turn]) -> u16
         requires normal { length normal.now ≤ 20 }

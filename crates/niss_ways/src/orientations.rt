@@ -6,7 +6,7 @@ ghost use Rattle.niss_ways.specs.Sinks.{KeepsOrientations, KeepsRows};
 use crate::admitted::Admitted;
 use crate::finding::{FoundWays, Wish};
 use crate::following::{Following, Found};
-use crate::looks::{Cut, Exactly, Looks};
+use crate::looks::{Cut, Looks};
 use crate::reductions_after::{Both, ReductionsAfter};
 use crate::rows::take;
 use crate::solution::Solution;
@@ -15,7 +15,7 @@ use crate::tables::WayTables;
 use crate::totals::Totals;
 use crate::way::Way;
 use niss_cube::Axis;
-use niss_search::{Limit, PairSink, Sides, Tables, TurnPath};
+use niss_search::{Ends, Limit, PairSink, PairsWanted, Sides, Tables, TurnPath};
 use std::alloc::Allocator;
 
 /// What is done with an orientation.
@@ -213,7 +213,7 @@ impl<A: Allocator> Orientations<'_, A> {
         ensures room { KeepsOrientations self.old self.new }
     {
         self.axis = axis;
-        for length in wish.from..wish.to.saturating_add(1).min(21) {
+        for length in wish.from.get()..wish.to.get() + 1 {
             self.go_through(length, outer)?;
         }
         Ok(())
@@ -244,8 +244,13 @@ impl<A: Allocator> Orientations<'_, A> {
             return Ok(());
         };
         let cube = *self.start.cube();
-        let exactly = Exactly { sides, length };
-        match outer.search(tables.orientation, &cube, exactly, self) {
+        // one of twins is enough: those that stand for theirs are among these
+        let wanted = PairsWanted {
+            sides,
+            ends: Ends::NotCounter,
+            length,
+        };
+        match outer.search(tables.orientation, &cube, wanted, self) {
             Ok(_) => Ok(()),
             Err(_) => Err(Cut),
         }
@@ -350,6 +355,6 @@ pub fn find_orientations<A: Allocator>(
         tried: sink.tried,
         looks: most_looks - left,
         cut,
-        next: plan.longest() > wish.to,
+        next: plan.longest() > wish.to.get(),
     }
 }

@@ -6,7 +6,7 @@ ghost use Rattle.niss_ways.specs.Sinks.{KeepsReductions};
 use crate::admitted::Admitted;
 use crate::finding::{FoundWays, Wish};
 use crate::following::Following;
-use crate::looks::{Cut, Exactly, Looks};
+use crate::looks::{Cut, Looks};
 use crate::made::keeps_edges;
 use crate::nearest::total_after;
 use crate::rows::take;
@@ -15,7 +15,7 @@ use crate::start::Start;
 use crate::tables::WayTables;
 use crate::way::Way;
 use niss_cube::{Axis, Step, Turn};
-use niss_search::{Limit, PairSink, Sides, Tables, TurnPath};
+use niss_search::{Ends, Limit, PairSink, PairsWanted, Sides, Tables, TurnPath};
 use std::alloc::Allocator;
 
 /// Takes the reductions on both sides.
@@ -109,8 +109,8 @@ impl<'a, A: Allocator> Reductions<'a, A> {
         self.reduction = reduction;
         self.on_normal = admitted.normal;
         self.on_inverse = admitted.inverse;
-        self.next = self.next || admitted.longest() > wish.to;
-        for length in wish.from..wish.to.saturating_add(1).min(21) {
+        self.next = self.next || admitted.longest() > wish.to.get();
+        for length in wish.from.get()..wish.to.get() + 1 {
             self.go_through(&admitted, length, looks)?;
         }
         Ok(())
@@ -145,8 +145,13 @@ impl<'a, A: Allocator> Reductions<'a, A> {
         };
         let tables = self.reduction;
         let cube = *self.start.cube();
-        let exactly = Exactly { sides, length };
-        match looks.search(tables, &cube, exactly, self) {
+        // one of twins is enough: those that stand for theirs are among these
+        let wanted = PairsWanted {
+            sides,
+            ends: Ends::NotCounter,
+            length,
+        };
+        match looks.search(tables, &cube, wanted, self) {
             Ok(_) => Ok(()),
             Err(_) => Err(Cut),
         }

@@ -5,9 +5,10 @@ ghost use Rattle.niss_cube.specs.Map.{map_of};
 ghost use Rattle.niss_cube.specs.Steps.{may_start};
 ghost use Rattle.niss_search.specs.Budgets.{is_cut_in, HasSpent};
 ghost use Rattle.niss_search.specs.BothSides.{Pair, pair, HandsOut, fewest_normal, most_normal};
-ghost use Rattle.niss_search.specs.BothSides.{first_pairs, least_pair_length, pair_solutions};
-ghost use Rattle.niss_search.specs.BothSides.{looks_of_pairs, pair_looks};
+ghost use Rattle.niss_search.specs.BothSides.{skips, leaves_out, pairs_with, least_pair_length, pair_solutions};
+ghost use Rattle.niss_search.specs.BothSides.{looks_with, pair_looks};
 ghost use Rattle.niss_search.specs.BothWalk.{part_of_lengths};
+ghost use Rattle.niss_search.specs.declared.searching.both.Ends.TheVariants.{Any};
 ghost use Rattle.niss_search.specs.declared.searching.both.Sides.TheVariants.{Both};
 
 mod joined;
@@ -18,8 +19,8 @@ use crate::budget::{Stopped, UpTo};
 use crate::path::{Lengths, Limit, TurnPath};
 use crate::tables::{Meter, Tables};
 pub use joined::begins_reached;
-use niss_cube::Cube;
 use niss_cube::laws::idle_turns_leave_steps;
+use niss_cube::{Cube, Power, Turn};
 use std::alloc::Allocator;
 use walk::{Split, Walk};
 
@@ -51,6 +52,45 @@ impl Sides {
             Sides::Inverse => 0,
         }
     }
+}
+
+/// Which turns the sides of a pair may end in.
+#[derive(Clone, Copy, Debug, PartialEq, Eq)]
+pub enum Ends {
+    /// Any.
+    Any,
+    /// Any but a quarter turn counterclockwise: so of twins, which differ in the direction of such a turn, one comes.
+    NotCounter,
+}
+
+impl Ends {
+    /// Whether sequences that end in a turn are left out.
+    fn skips(self, turn: Turn) -> bool
+        ensures { result ≡ skips self turn }
+    {
+        match (self, turn.power) {
+            (Ends::NotCounter, Power::Counter) => true,
+            _ => false,
+        }
+    }
+
+    /// Whether a sequence is left out.
+    fn leaves_out(self, path: &TurnPath) -> bool
+        ensures { result ≡ leaves_out self path.now.turns }
+    {
+        match path.last() {
+            Some(turn) => self.skips(turn),
+            None => false,
+        }
+    }
+}
+
+/// Which pairs are searched for: on these sides, with such ends, of exactly so many turns.
+#[derive(Clone, Copy, Debug)]
+pub struct PairsWanted {
+    pub sides: Sides,
+    pub ends: Ends,
+    pub length: Limit,
 }
 
 /// What takes the solutions of a search over both sides, one pair at a time. It states what a pair does to it by two
@@ -99,29 +139,30 @@ pub fn search_both_within<K: PairSink>(
         tables,
         cube,
         sides: Sides::Both,
+        ends: Ends::Any,
         budget: budget_of(meter, looks),
     };
     search.from_least(lengths, meter, sink)
 }
 
-/// Hands each pair of exactly so many turns on these sides that reaches the step, and whose first turns don't, to the
-/// sink, in the order of `search_both_within`. Returns how many they are: so a caller goes from length to length.
+/// Hands each wanted pair that reaches the step, and whose first turns don't, to the sink, in the order of
+/// `search_both_within`. Returns how many they are: so a caller goes from length to length.
 ///
 /// The step may start on the cube, and the meter is at most at 2^127. The meter rises by one for each look, and by at
 /// most `looks`, as in `search_within`.
 pub fn search_pairs_of_length<K: PairSink>(
     tables: &Tables<impl Allocator>,
     cube: &Cube,
-    sides: Sides,
-    length: Limit,
+    wanted: PairsWanted,
     meter: &mut Meter,
     sink: &mut K,
     looks: u128,
 ) -> Result<u128, Stopped<K::Fault>>
     requires starts { IsTrue (may_start tables.now (map_of cube.now)) }
     requires meter { meter.old ≤ 2 ^ 127 }
-    ensures solutions { HandsOut K.took K.refused (first_pairs tables.now (map_of cube.now) sides length)
-        (looks_of_pairs tables.now (map_of cube.now) sides length)
+    ensures solutions { HandsOut K.took K.refused
+        (pairs_with tables.now (map_of cube.now) wanted.ends wanted.sides wanted.length)
+        (looks_with tables.now (map_of cube.now) wanted.ends wanted.sides wanted.length)
         meter.old meter.new sink.old sink.new is_cut_in (meter.old + looks) (λ count. count) result }
     ensures within { meter.new ≤ meter.old + looks }
     ensures spent { HasSpent is_cut_in (meter.old + looks) tables.now meter.new result }
@@ -129,10 +170,11 @@ pub fn search_pairs_of_length<K: PairSink>(
     let search = PairSearch {
         tables,
         cube,
-        sides,
+        sides: wanted.sides,
+        ends: wanted.ends,
         budget: budget_of(meter, looks),
     };
-    search.of_length(length.get(), meter, sink)
+    search.of_length(wanted.length.get(), meter, sink)
 }
 
 /// How far the meter may go by so many looks more. No search over both sides looks 2^126 times, so this may stay far
@@ -145,17 +187,19 @@ fn budget_of(meter: &Meter, looks: u128) -> UpTo
     }
 }
 
-/// A search for pairs: the tables of a step, the cube, on which sides it has turns, and how far the meter may go.
+/// A search for pairs: the tables of a step, the cube, on which sides it has turns, with which ends, and how far the meter
+/// may go.
 #[derive(Drop)]
 struct PairSearch<'a, A: Allocator> {
     tables: &'a Tables<A>,
     cube: &'a Cube,
     sides: Sides,
+    ends: Ends,
     budget: UpTo,
 }
 
 impl<A: Allocator> PairSearch<'_, A> {
-    /// Hands out the pairs of each length in turn, up to the last, and returns what they are.
+    /// Hands out the pairs with any ends of each length in turn, up to the last, and returns what they are.
     fn from_least<K: PairSink>(
         &self,
         lengths: Lengths,
@@ -163,6 +207,7 @@ impl<A: Allocator> PairSearch<'_, A> {
         sink: &mut K,
     ) -> Result<Outcome, Stopped<K::Fault>>
         requires starts { IsTrue (may_start self.now.tables.now (map_of self.now.cube.now)) }
+        requires any { self.now.ends ≡ Any }
         requires budget { meter.old ≤ self.now.budget.bound }
         requires bound { self.now.budget.bound ≤ 3 * 2 ^ 126 }
         ensures length { IfOk result (λ o. o.length
@@ -202,8 +247,8 @@ impl<A: Allocator> PairSearch<'_, A> {
         requires budget { meter.old ≤ self.now.budget.bound }
         requires bound { self.now.budget.bound ≤ 3 * 2 ^ 126 }
         ensures solutions { HandsOut K.took K.refused
-            (first_pairs self.now.tables.now (map_of self.now.cube.now) self.now.sides length)
-            (looks_of_pairs self.now.tables.now (map_of self.now.cube.now) self.now.sides length)
+            (pairs_with self.now.tables.now (map_of self.now.cube.now) self.now.ends self.now.sides length)
+            (looks_with self.now.tables.now (map_of self.now.cube.now) self.now.ends self.now.sides length)
             meter.old meter.new sink.old sink.new is_cut_in self.now.budget.bound (λ count. count) result }
         ensures counted { IfOk result (λ count. meter.old + count ≤ meter.new) }
         ensures within { meter.new ≤ self.now.budget.bound }
@@ -230,8 +275,8 @@ impl<A: Allocator> PairSearch<'_, A> {
         requires budget { meter.old ≤ self.now.budget.bound }
         requires bound { self.now.budget.bound ≤ 3 * 2 ^ 126 }
         ensures solutions { HandsOut K.took K.refused
-            (part_of_lengths self.now.tables.now (map_of self.now.cube.now) normal inverse).pairs
-            (part_of_lengths self.now.tables.now (map_of self.now.cube.now) normal inverse).looks
+            (part_of_lengths self.now.ends self.now.tables.now (map_of self.now.cube.now) normal inverse).pairs
+            (part_of_lengths self.now.ends self.now.tables.now (map_of self.now.cube.now) normal inverse).looks
             meter.old meter.new sink.old sink.new is_cut_in self.now.budget.bound (λ count. count) result }
         ensures counted { IfOk result (λ count. meter.old + count ≤ meter.new) }
         ensures within { meter.new ≤ self.now.budget.bound }
@@ -242,6 +287,7 @@ impl<A: Allocator> PairSearch<'_, A> {
             tables: self.tables,
             cube: self.cube,
             budget: &self.budget,
+            ends: self.ends,
             side: split.side,
             tail: split.tail,
         };

@@ -1,14 +1,14 @@
 //! The walk through the shorter sides of pairs, the heads, with a search of the other side after each for tails.
-ghost use Rattle.std.specs.Prelude.{◌≡◌, ◌+◌, ◌*◌, ◌≤◌, ◌^◌, ◌==◌, ◌&&◌, ◌++◌, ◌∷◌, false, [], length, IsTrue, IfOk};
+ghost use Rattle.std.specs.Prelude.{◌≡◌, ◌+◌, ◌*◌, ◌≤◌, ◌^◌, ◌==◌, ◌&&◌, ◌||◌, ◌++◌, ◌∷◌, false, [], length, IsTrue, IfOk};
 ghost use Rattle.niss_cube.specs.Map.{map_of};
 ghost use Rattle.niss_cube.specs.Steps.{may_start};
 ghost use Rattle.niss_search.specs.Budgets.{is_cut_in, HasSpent};
-ghost use Rattle.niss_search.specs.BothSides.{HandsOut, ends_idle};
-ghost use Rattle.niss_search.specs.BothWalk.{IsOther, after_heads, after_head, split_of};
+ghost use Rattle.niss_search.specs.BothSides.{HandsOut, skips};
+ghost use Rattle.niss_search.specs.BothWalk.{IsOther, after_heads, after_head, ends_here, split_of};
 ghost use Rattle.niss_search.specs.Followers.{IsFollower};
 
-use super::PairSink;
 use super::joined::Joined;
+use super::{Ends, PairSink};
 use crate::budget::{Stopped, UpTo};
 use crate::laws::{positions_follow_cubes, positions_follow_inverses};
 use crate::path::{Limit, TurnPath};
@@ -58,11 +58,11 @@ impl Split {
     }
 }
 
-/// Whether no turn comes after this one, and it is idle.
-fn is_idle_end(follower: Follower, left: u8) -> bool
-    ensures { result ≡ (left == 0 && follower.is_idle) }
+/// Whether no turn comes after this one, and nothing is searched after it: it is left out, or idle.
+fn is_end(ends: Ends, follower: Follower, left: u8) -> bool
+    ensures { result ≡ (left == 0 && (skips ends follower.turn || follower.is_idle)) }
 {
-    left == 0 && follower.is_idle
+    left == 0 && (ends.skips(follower.turn) || follower.is_idle)
 }
 
 /// A walk through heads on a side of a cube, with a search for tails of so many turns after each.
@@ -71,6 +71,7 @@ pub(super) struct Walk<'a, A: Allocator> {
     pub tables: &'a Tables<A>,
     pub cube: &'a Cube,
     pub budget: &'a UpTo,
+    pub ends: Ends,
     pub side: Side,
     pub tail: u8,
 }
@@ -88,8 +89,8 @@ impl<A: Allocator> Walk<'_, A> {
         requires budget { meter.old ≤ self.now.budget.now.bound }
         requires bound { self.now.budget.now.bound ≤ 3 * 2 ^ 126 }
         ensures solutions { HandsOut K.took K.refused
-            (after_heads self.now.tables.now (map_of self.now.cube.now) self.now.side self.now.tail [] head).pairs
-            (after_heads self.now.tables.now (map_of self.now.cube.now) self.now.side self.now.tail [] head).looks
+            (after_heads self.now.ends self.now.tables.now (map_of self.now.cube.now) self.now.side self.now.tail [] head).pairs
+            (after_heads self.now.ends self.now.tables.now (map_of self.now.cube.now) self.now.side self.now.tail [] head).looks
             meter.old meter.new sink.old sink.new is_cut_in self.now.budget.now.bound (λ count. count) result }
         ensures counted { IfOk result (λ count. meter.old + count ≤ meter.new) }
         ensures within { meter.new ≤ self.now.budget.now.bound }
@@ -112,8 +113,8 @@ impl<A: Allocator> Walk<'_, A> {
         }
     }
 
-    /// Goes on below a head with `left` turns more. If there are none, it ends in no idle turn. `other` is the cube of
-    /// the other side after it.
+    /// Goes on below a head with `left` turns more. If there are none, it ends in a turn after which something is searched.
+    /// `other` is the cube of the other side after it.
     #[cycle(heads)]
     fn go_on<K: PairSink>(
         &self,
@@ -128,14 +129,14 @@ impl<A: Allocator> Walk<'_, A> {
             head.old.turns (map_of other.now) }
         requires few { self.now.tail ≤ 20 }
         requires room { length head.old.turns + left ≤ head.old.limit }
-        requires end { left ≡ 0 → ends_idle self.now.tables.now head.old.turns ≡ false }
+        requires end { left ≡ 0 → ends_here self.now.ends self.now.tables.now head.old.turns ≡ false }
         requires budget { meter.old ≤ self.now.budget.now.bound }
         requires bound { self.now.budget.now.bound ≤ 3 * 2 ^ 126 }
         ensures head { head.new ≡ head.old }
         ensures solutions { HandsOut K.took K.refused
-            (after_heads self.now.tables.now (map_of self.now.cube.now) self.now.side self.now.tail
+            (after_heads self.now.ends self.now.tables.now (map_of self.now.cube.now) self.now.side self.now.tail
             head.old.turns left).pairs
-            (after_heads self.now.tables.now (map_of self.now.cube.now) self.now.side self.now.tail
+            (after_heads self.now.ends self.now.tables.now (map_of self.now.cube.now) self.now.side self.now.tail
             head.old.turns left).looks
             meter.old meter.new sink.old sink.new is_cut_in self.now.budget.now.bound (λ count. count) result }
         ensures counted { IfOk result (λ count. meter.old + count ≤ meter.new) }
@@ -152,8 +153,8 @@ impl<A: Allocator> Walk<'_, A> {
         Ok(count)
     }
 
-    /// Goes on below a head and one turn more with `left` turns after that. If there are none, it leaves out an idle turn:
-    /// a pair that reaches the step by it reaches it before.
+    /// Goes on below a head and one turn more with `left` turns after that. If there are none, it does nothing after an idle
+    /// turn: a pair that reaches the step by it reaches it before.
     #[cycle(heads)]
     fn follow<K: PairSink>(
         &self,
@@ -174,16 +175,16 @@ impl<A: Allocator> Walk<'_, A> {
         requires bound { self.now.budget.now.bound ≤ 3 * 2 ^ 126 }
         ensures head { head.new ≡ head.old }
         ensures solutions { HandsOut K.took K.refused
-            (after_heads self.now.tables.now (map_of self.now.cube.now) self.now.side self.now.tail
+            (after_heads self.now.ends self.now.tables.now (map_of self.now.cube.now) self.now.side self.now.tail
             (head.old.turns ++ follower.turn ∷ []) left).pairs
-            (after_heads self.now.tables.now (map_of self.now.cube.now) self.now.side self.now.tail
+            (after_heads self.now.ends self.now.tables.now (map_of self.now.cube.now) self.now.side self.now.tail
             (head.old.turns ++ follower.turn ∷ []) left).looks
             meter.old meter.new sink.old sink.new is_cut_in self.now.budget.now.bound (λ count. count) result }
         ensures counted { IfOk result (λ count. meter.old + count ≤ meter.new) }
         ensures within { meter.new ≤ self.now.budget.now.bound }
         ensures spent { HasSpent is_cut_in self.now.budget.now.bound self.now.tables.now meter.new result }
     {
-        if is_idle_end(follower, left) {
+        if is_end(self.ends, follower, left) {
             return Ok(0);
         }
         inverse_undoes();
@@ -212,12 +213,12 @@ impl<A: Allocator> Walk<'_, A> {
         requires other { IsOther self.now.tables.now self.now.side (map_of self.now.cube.now)
             head.now.turns (map_of other.now) }
         requires few { self.now.tail ≤ 20 }
-        requires end { ends_idle self.now.tables.now head.now.turns ≡ false }
+        requires end { ends_here self.now.ends self.now.tables.now head.now.turns ≡ false }
         requires budget { meter.old ≤ self.now.budget.now.bound }
         requires bound { self.now.budget.now.bound ≤ 3 * 2 ^ 126 }
         ensures solutions { HandsOut K.took K.refused
-            (after_head self.now.tables.now (map_of self.now.cube.now) self.now.side self.now.tail head.now.turns).pairs
-            (after_head self.now.tables.now (map_of self.now.cube.now) self.now.side self.now.tail head.now.turns).looks
+            (after_head self.now.ends self.now.tables.now (map_of self.now.cube.now) self.now.side self.now.tail head.now.turns).pairs
+            (after_head self.now.ends self.now.tables.now (map_of self.now.cube.now) self.now.side self.now.tail head.now.turns).looks
             meter.old meter.new sink.old sink.new is_cut_in self.now.budget.now.bound (λ count. count) result }
         ensures counted { IfOk result (λ count. meter.old + count ≤ meter.new) }
         ensures within { meter.new ≤ self.now.budget.now.bound }
@@ -235,6 +236,7 @@ impl<A: Allocator> Walk<'_, A> {
         let mut joined = Joined {
             step: self.tables.step(),
             cube: self.cube,
+            ends: self.ends,
             head,
             side: self.side,
             sink,

@@ -1,8 +1,9 @@
 use Rattle.niss_search.proofs.Words.{◌≡◌, ◌+◌, ◌-◌, ◌≤◌, ◌++◌, ◌∷◌, arith, ap, ◌∙◌, sym, refl, map_of, range_with_len, err_from_is_err_and, last_length, least_of}
 use Rattle.niss_search.proofs.ByLength.{least_below, least_below-more, length-next, length-within, least-is}
 use Rattle.niss_search.proofs.BothLemmas.{part_of_length, whole, whole-parts, same_went, same_stopped, least-is_of, parts_more, parts_stop, range_cut, range_push, none_yet}
-unfoldable use Rattle.niss_search.specs.BothSides.{first_pairs}
+use Rattle.niss_search.specs.BothSides.{first_pairs}
 use Rattle.niss_search.specs.BothWalk.{parts}
+use Rattle.niss_search.specs.declared.searching.both.Ends.TheVariants.{Any}
 use Rattle.niss_search.proofs.searching.both.PairSearch.from_least.Goals as goal
 
 pub loop-length-init : goal.loop-length-init
@@ -28,16 +29,16 @@ returns-in_err-found-clause-solutions g c =
     let d = c.loop-length.length in
     let inv = c.loop-length.invariant in
     let p = err_from_is_err_and c.from_residual.result c.from_residual.ensures.1 in
-    let stops = rw c.in_err-found.was at c.of_length.ensures.solutions in
+    let stops = rw (c.requires.any, c.in_err-found.was) at c.of_length.ensures.solutions in
     let last = rw inv.least at c.last_length.ensures.value in
     let within : d ≤ last_length (least_of each n) n slack = length-within each n slack d (omega (arith, last, c.loop-length-test.true)) in
     let here : 0 + d ≡ d = omega arith in
     let split = range_cut 0 d (last_length (least_of each n) n slack + 1) (omega (arith, within)) in
     let rest = last_length (least_of each n) n slack + 1 - d - 1 in
-    let all = whole-parts step e search.sides n slack ∙ ap (parts (part_of_length step e search.sides)) (split ∙ ap (λ j. range_with_len 0 d ++ j ∷ range_with_len (j + 1) rest) here) in
+    let all = whole-parts step e search.sides n slack ∙ ap (parts (part_of_length Any step e search.sides)) (split ∙ ap (λ j. range_with_len 0 d ++ j ∷ range_with_len (j + 1) rest) here) in
     rw (p.1, p.2)
     (same_stopped g.K.PairSink.took g.K.PairSink.refused (whole step e search.sides n slack) _ all
-    (parts_stop g.K.PairSink.took g.K.PairSink.refused (part_of_length step e search.sides) (range_with_len 0 d) d inv.went _ stops))
+    (parts_stop g.K.PairSink.took g.K.PairSink.refused (part_of_length Any step e search.sides) (range_with_len 0 d) d inv.went _ stops))
 
 pub overflow_add-solutions : goal.overflow_add-solutions
 overflow_add-solutions g c =
@@ -51,7 +52,7 @@ loop-length-preserved g c =
     let each = first_pairs step e search.sides in
     let d = c.loop-length.length in
     let inv = c.loop-length.invariant in
-    let went = rw c.in_ok-found.was at c.of_length.ensures.solutions in
+    let went = rw (c.requires.any, c.in_ok-found.was) at c.of_length.ensures.solutions in
     let last = rw inv.least at c.last_length.ensures.value in
     let here : 0 + d ≡ d = omega arith in
     record {
@@ -60,7 +61,7 @@ loop-length-preserved g c =
       within = omega (arith, length-next each c.args.lengths.limit c.args.lengths.slack d (omega (arith, last, c.loop-length-test.true)));
       counted = omega (arith, inv.counted, c.in_ok-found.ensures.counted);
       went = rw (range_push 0 d, here)
-          (parts_more g.K.PairSink.took g.K.PairSink.refused (part_of_length step e search.sides) (range_with_len 0 d) d inv.went went);
+          (parts_more g.K.PairSink.took g.K.PairSink.refused (part_of_length Any step e search.sides) (range_with_len 0 d) d inv.went went);
     }
 
 pub returns-clause-length : goal.returns-clause-length
@@ -87,7 +88,7 @@ returns-clause-solutions g c =
     let last = rw inv.least at c.last_length.ensures.value in
     let end : c.loop-length.length ≡ last_length (least_below each c.loop-length.length) n slack + 1 = omega (arith, last, inv.within, c.loop-length-test.false) in
     let last_is : last_length (least_of each n) n slack + 1 ≡ c.loop-length.length = rw (least-is each n slack c.loop-length.length end) (sym end) in
-    let all = whole-parts step e search.sides n slack ∙ ap (λ k. parts (part_of_length step e search.sides) (range_with_len 0 k)) last_is in
+    let all = whole-parts step e search.sides n slack ∙ ap (λ k. parts (part_of_length Any step e search.sides) (range_with_len 0 k)) last_is in
     same_went g.K.PairSink.took g.K.PairSink.refused (whole step e search.sides n slack) _ all inv.went
 
 pub returns-clause-within : goal.returns-clause-within

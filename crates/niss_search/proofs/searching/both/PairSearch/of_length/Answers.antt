@@ -19,11 +19,11 @@ returns-in_err-count-clause-solutions g c =
     let stops = rw c.in_err-count.was at c.of_lengths.ensures.solutions in
     let here : least + (k - least) ≡ k = omega (arith, inv.from) in
     let split = range_cut least (k - least) all (omega (arith, inv.from, c.loop-normal-test.true, c.fewest_normal-normal.ensures, c.most_normal-normal-end.ensures)) in
-    let part = parts (part_of_split step e n) in
-    let whole = length-parts step e c.idle_turns_leave_steps.ensures search.sides n ∙ ap part (split ∙ ap (λ j. range_with_len least (k - least) ++ j ∷ range_with_len (j + 1) (all - (k - least) - 1)) here) in
+    let part = parts (part_of_split search.ends step e n) in
+    let whole = length-parts search.ends step e c.idle_turns_leave_steps.ensures search.sides n ∙ ap part (split ∙ ap (λ j. range_with_len least (k - least) ++ j ∷ range_with_len (j + 1) (all - (k - least) - 1)) here) in
     rw (p.1, p.2)
-    (same_stopped g.K.PairSink.took g.K.PairSink.refused (part_of_length step e search.sides n) _ whole
-    (parts_stop g.K.PairSink.took g.K.PairSink.refused (part_of_split step e n) (range_with_len least (k - least)) k inv.went _ stops))
+    (same_stopped g.K.PairSink.took g.K.PairSink.refused (part_of_length search.ends step e search.sides n) _ whole
+    (parts_stop g.K.PairSink.took g.K.PairSink.refused (part_of_split search.ends step e n) (range_with_len least (k - least)) k inv.went _ stops))
 
 pub loop-normal-preserved : goal.loop-normal-preserved
 loop-normal-preserved g c =
@@ -42,7 +42,7 @@ loop-normal-preserved g c =
       within = c.of_lengths.ensures.within;
       counted = omega (arith, inv.counted, c.in_ok-count.ensures.counted);
       went = rw (next, range_push least (k - least), here)
-          (parts_more g.K.PairSink.took g.K.PairSink.refused (part_of_split step e n) (range_with_len least (k - least)) k inv.went went);
+          (parts_more g.K.PairSink.took g.K.PairSink.refused (part_of_split search.ends step e n) (range_with_len least (k - least)) k inv.went went);
     }
 
 pub returns-clause-solutions : goal.returns-clause-solutions
@@ -55,5 +55,5 @@ returns-clause-solutions g c =
     let inv = c.loop-normal.invariant in
     let end : c.loop-normal.normal - least ≡ most_normal search.sides n + 1 - least =
     omega (arith, inv.from, c.loop-normal-test.false, c.loop-normal.auto.normal-end, c.fewest_normal-normal.ensures, c.most_normal-normal-end.ensures, fewest-within search.sides n) in
-    let whole = length-parts step e c.idle_turns_leave_steps.ensures search.sides n ∙ ap (λ k. parts (part_of_split step e n) (range_with_len least k)) (sym end) in
-    same_went g.K.PairSink.took g.K.PairSink.refused (part_of_length step e search.sides n) _ whole inv.went
+    let whole = length-parts search.ends step e c.idle_turns_leave_steps.ensures search.sides n ∙ ap (λ k. parts (part_of_split search.ends step e n) (range_with_len least k)) (sym end) in
+    same_went g.K.PairSink.took g.K.PairSink.refused (part_of_length search.ends step e search.sides n) _ whole inv.went

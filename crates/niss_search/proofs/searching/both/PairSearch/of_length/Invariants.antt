@@ -7,7 +7,7 @@ use Rattle.niss_search.proofs.searching.both.PairSearch.of_length.Given as goal
 abbrev pub invariant-loop-normal : goal.invariant-loop-normal
 invariant-loop-normal g l =
     let least = fewest_normal l.self.sides l.length in
-    let done = parts (part_of_split l.self.tables.now (map_of l.self.cube.now) l.length) (range_with_len least (l.normal - least)) in record {
+    let done = parts (part_of_split l.self.ends l.self.tables.now (map_of l.self.cube.now) l.length) (range_with_len least (l.normal - least)) in record {
       from : least ≤ l.normal;
       within : l.meter ≤ l.self.budget.bound;
       counted : l.fn.meter + l.count ≤ l.meter;

@@ -7,14 +7,13 @@ use Rattle.niss_search.proofs.InverseLemmas.{other_next}
 use Rattle.niss_search.proofs.BothLemmas.{parts_more, parts_stop, list_split, heads-end, heads-next, next_heads, popped, same_went, none_yet, idle_end, live_end}
 use Rattle.niss_moves.specs.declared.token.Token.TheVariants as token
 unfoldable use Rattle.niss_search.specs.BothWalk.{after_heads}
-use Rattle.niss_search.specs.BothWalk.{parts, IsOther}
-use Rattle.niss_search.specs.BothSides.{ends_idle}
+use Rattle.niss_search.specs.BothWalk.{parts, IsOther, ends_here}
 use Rattle.niss_search.proofs.searching.both.walk.Walk.+heads.Goals as goal
 
 pub go_on-returns-then-left-eq0-clause-solutions : goal.go_on-returns-then-left-eq0-clause-solutions
 go_on-returns-then-left-eq0-clause-solutions g t c =
     let walk = c.args.self.now in
-    rw (c.if-left-eq0.true, heads-end walk.tables.now (map_of walk.cube.now) walk.side walk.tail c.args.head.now.turns) c.search_tails.ensures.solutions
+    rw (c.if-left-eq0.true, heads-end walk.ends walk.tables.now (map_of walk.cube.now) walk.side walk.tail c.args.head.now.turns) c.search_tails.ensures.solutions
 
 pub go_on-search_tails-requires-clause-end : goal.go_on-search_tails-requires-clause-end
 go_on-search_tails-requires-clause-end g t c = c.requires.end c.if-left-eq0.true
@@ -59,11 +58,11 @@ go_on-returns-in_err-count-clause-solutions g t c =
     let items = c.turns_after-follower-items.result.now in
     let i = c.loop-follower.follower-index in
     let p = err_from_is_err_and c.from_residual.result c.from_residual.ensures.1 in
-    let part = next_heads step e walk.side walk.tail head left in
+    let part = next_heads walk.ends step e walk.side walk.tail head left in
     let stops = rw (inv.head, c.in_err-count.was) at c.follow.ensures.solutions in
     let one : c.args.left ≡ suc left = omega (arith, c.if-left-eq0.false) in
-    let all : after_heads step e walk.side walk.tail head c.args.left ≡ parts part items =
-    ap (after_heads step e walk.side walk.tail head) one ∙ heads-next step e walk.side walk.tail head left items (rw c.last.ensures at c.turns_after-follower-items.ensures.turns) in
+    let all : after_heads walk.ends step e walk.side walk.tail head c.args.left ≡ parts part items =
+    ap (after_heads walk.ends step e walk.side walk.tail head) one ∙ heads-next walk.ends step e walk.side walk.tail head left items (rw c.last.ensures at c.turns_after-follower-items.ensures.turns) in
     let split = list_split items i no_follower c.loop-follower-test.true in
     rw (p.1, p.2, all, split) (parts_stop g.K.PairSink.took g.K.PairSink.refused part (take i items) (get_or items i no_follower) inv.went _ stops)
 
@@ -81,7 +80,7 @@ go_on-loop-follower-preserved g t c =
     let left = c.args.left - 1 in
     let items = c.turns_after-follower-items.result.now in
     let i = c.loop-follower.follower-index in
-    let part = next_heads step e walk.side walk.tail head left in
+    let part = next_heads walk.ends step e walk.side walk.tail head left in
     let went = rw (inv.head, c.in_ok-count.was) at c.follow.ensures.solutions in
     record {
       head = c.follow.ensures.head ∙ inv.head;
@@ -103,10 +102,10 @@ go_on-returns-clause-solutions g t c =
     let head = c.args.head.now.turns in
     let left = c.args.left - 1 in
     let items = c.turns_after-follower-items.result.now in
-    let part = next_heads step e walk.side walk.tail head left in
+    let part = next_heads walk.ends step e walk.side walk.tail head left in
     let one : c.args.left ≡ suc left = omega (arith, c.if-left-eq0.false) in
-    let all : after_heads step e walk.side walk.tail head c.args.left ≡ parts part items =
-    ap (after_heads step e walk.side walk.tail head) one ∙ heads-next step e walk.side walk.tail head left items (rw c.last.ensures at c.turns_after-follower-items.ensures.turns) in
+    let all : after_heads walk.ends step e walk.side walk.tail head c.args.left ≡ parts part items =
+    ap (after_heads walk.ends step e walk.side walk.tail head) one ∙ heads-next walk.ends step e walk.side walk.tail head left items (rw c.last.ensures at c.turns_after-follower-items.ensures.turns) in
     let end : take c.loop-follower.follower-index items ≡ items = take_all c.loop-follower.follower-index items (omega (arith, c.loop-follower-test.false, c.loop-follower.auto.follower-index-end)) in
     rw all (rw end at inv.went)
 
@@ -116,14 +115,14 @@ go_on-returns-clause-counted g t c = c.loop-follower.invariant.counted
 pub go_on-returns-clause-within : goal.go_on-returns-clause-within
 go_on-returns-clause-within g t c = c.loop-follower.invariant.within
 
-pub follow-returns-then-is_idle_end-clause-solutions : goal.follow-returns-then-is_idle_end-clause-solutions
-follow-returns-then-is_idle_end-clause-solutions g t c =
+pub follow-returns-then-is_end-clause-solutions : goal.follow-returns-then-is_end-clause-solutions
+follow-returns-then-is_end-clause-solutions g t c =
     let walk = c.args.self.now in
     let head = c.args.head.now.turns in
     let e = map_of walk.cube.now in
     same_went g.K.PairSink.took g.K.PairSink.refused
-    (after_heads walk.tables.now e walk.side walk.tail (head ++ c.args.follower.turn ∷ []) c.args.left) _
-    (idle_end walk.tables.now e walk.side walk.tail head c.args.follower c.args.left c.is_idle_end.result c.requires.follower c.is_idle_end.ensures c.if-is_idle_end.true)
+    (after_heads walk.ends walk.tables.now e walk.side walk.tail (head ++ c.args.follower.turn ∷ []) c.args.left) _
+    (idle_end walk.ends walk.tables.now e walk.side walk.tail head c.args.follower c.args.left c.is_end.result c.requires.follower c.is_end.ensures c.if-is_end.true)
     (none_yet g.K.PairSink.took g.K.PairSink.refused c.args.meter.now c.args.sink.now)
 
 pub follow-push-requires : goal.follow-push-requires
@@ -141,9 +140,9 @@ follow-go_on-found-requires g t c κs within =
     let is_pushed : c.push.new.self ≡ pushed = c.push.ensures in
     let Room : Path → Type 0 = λ q. length q.turns + c.args.left ≤ q.limit in
     let Other : Path → Type 0 = λ q. IsOther step walk.side (map_of walk.cube.now) q.turns (map_of c.turn_before.new.self) in
-    let End : Path → Type 0 = λ q. c.args.left ≡ 0 → ends_idle step q.turns ≡ false in
+    let End : Path → Type 0 = λ q. c.args.left ≡ 0 → ends_here walk.ends step q.turns ≡ false in
     let room : Room pushed = omega (arith, c.requires.room, length-append path.turns (turn ∷ [])) in
-    let end : End pushed = live_end step path.turns c.args.follower c.args.left c.is_idle_end.result column c.is_idle_end.ensures c.if-is_idle_end.false in
+    let end : End pushed = live_end walk.ends step path.turns c.args.follower c.args.left c.is_end.result column c.is_end.ensures c.if-is_end.false in
     let other : Other pushed =
     other_next c.cubes_permute_places.ensures (λ t q. c.places_stay.ensures (token.Face t) q) step (λ t q. c.inverse_undoes.ensures (token.Face t ∷ []) q) walk.side walk.cube.now c.args.other.now c.turn_before.new.self path.turns turn c.inverse.result
     c.inverse.ensures c.requires.other c.turn_before.ensures in

@@ -12,7 +12,7 @@ decreases-follow g l = 2 * l.left + 1
 
 abbrev pub invariant-go_on-loop-follower : goal.invariant-go_on-loop-follower
 invariant-go_on-loop-follower g l =
-    let done = parts (next_heads l.self.tables.now (map_of l.self.cube.now) l.self.side l.self.tail l.fn.head.turns (l.left - 1)) (take l.follower-index l.follower-items) in record {
+    let done = parts (next_heads l.self.ends l.self.tables.now (map_of l.self.cube.now) l.self.side l.self.tail l.fn.head.turns (l.left - 1)) (take l.follower-index l.follower-items) in record {
       head : l.head ≡ l.fn.head;
       within : l.meter ≤ l.self.budget.now.bound;
       counted : l.fn.meter + l.count ≤ l.meter;

@@ -1,5 +1,5 @@
 use Rattle.niss_search.proofs.Words.{◌≡◌, take, false, list_any, range_with_len, SameMap, after_all, cubes, reached, map_of}
-use Rattle.niss_search.proofs.searching.both.joined.reached_along.Given as goal
+use Rattle.niss_search.proofs.searching.both.joined.reaches_by.Given as goal
 
 abbrev pub invariant-loop-turn : goal.invariant-loop-turn
 invariant-loop-turn l = record {
