@@ -38,22 +38,26 @@ def clear(browser: Browser) -> None:
 def reads_one(tally: Tally, browser: Browser) -> None:
     """A scramble with a solution below it, one with a name, a solution beside the steps, a label before it."""
     for text, scramble, line, kept, said in ONE:
-        browser.walk(tally, f"{text!r}", ("open", {}), ("script", PASTE, text, {}), ("comes", "bracketed", line, {}),
+        clear(browser)
+        browser.walk(tally, f"{text!r}", ("script", PASTE, text, {}), ("comes", "bracketed", line, {}),
             ("comes", KEPT, kept, {"scramble=": scramble, "scramble-read": said, "scramble-fault": ""}))
 
 
 def doubts(tally: Tally, browser: Browser) -> None:
     """A text that may be meant otherwise than it is read: why is said, with the place marked, until anything is changed, and not beside a fault."""
     for text, scramble, line, said, sign, before in DOUBTS:
-        browser.walk(tally, f"{text!r}", ("open", {"scramble-doubt?": False}), ("script", PASTE, text, {}),
+        clear(browser)
+        browser.walk(tally, f"{text!r}", ("script", PASTE, text, {}),
             ("comes", "#scramble-doubt p", [f"In doubt: {said}."], {"#scramble-doubt mark": [sign], "scramble=": scramble, "bracketed": line}))
         shown = browser.texts("#scramble-doubt pre")[0].split("\n")
         tally.equal(f"the place of the doubt of {text!r}", (shown[1].index("^"), shown[0][before]), (before, sign))
         browser.walk(tally, "it goes away", ("fill", "scramble", "R U", {"scramble-doubt?": False}), ("fill", "scramble", "r q", {"scramble-doubt?": False}))
     small = ["In doubt: “r” is read as a wide turn."]
-    browser.walk(tally, "a scramble in small letters", ("open", {}), ("fill", "scramble", "r u f", {"#scramble-doubt p": small}),
+    clear(browser)
+    browser.walk(tally, "a scramble in small letters",  ("fill", "scramble", "r u f", {"#scramble-doubt p": small}),
         ("submit", "own", "F", {}), ("comes", "steps", 1, {"scramble-doubt?": False}))
-    browser.walk(tally, "a solution that solves", ("open", {}), ("script", PASTE, "r u f\n\nf' u' r'", {}),
+    clear(browser)
+    browser.walk(tally, "a solution that solves", ("script", PASTE, "r u f\n\nf' u' r'", {}),
         ("comes", "steps", 1, {"scramble-doubt?": False}))
 
 
@@ -73,7 +77,7 @@ def chooses(tally: Tally, browser: Browser) -> None:
             ("script", "history.back()", {}), ("comes", "scramble=", "F' L2 U", second), ("act", chip(3), {"scramble=": "B2 R D"}),
             ("act", chip(1), {}), ("comes", "kept", 1, first))
         browser.walk(tally, f"{width}: another scramble, and back", ("act", "#random", {SHOWN: ["4"], "scramble-read": ""}),
-            ("script", "history.back()", {}), ("comes", "bracketed", "D", first), ("fill", "scramble", "", {CHIPS: ["1 \u26051", "2", "3", "4"]}),
+            ("script", "history.back()", {}), ("comes", "bracketed", "D", first), ("fill", "scramble", "", {CHIPS: ["1 \u26051", "2", "3"]}),
             ("fill", "scramble", " ", {}), ("act", chip(1), {}), ("comes", "scramble=", "R U F", first),
             ("script", PASTE, "U2 F", {"scramble-read": "", "scramble-fault": ""}))
 

@@ -11,6 +11,9 @@ PASTE_ALL = """const field = part('scramble'), clipboardData = new DataTransfer(
     clipboardData.setData('text/plain', arguments[0]);
     field.focus();
     field.dispatchEvent(new ClipboardEvent('paste', { clipboardData, bubbles: true, cancelable: true }))"""
+NOTE = """const field = document.querySelector('.note-field');
+    field.value = arguments[0];
+    field.dispatchEvent(new Event('change'))"""
 NO_CLIPBOARD = "Object.defineProperty(navigator, 'clipboard', { value: { writeText: async (text) => { window.copied = text } } })"
 REFUSES = "Storage.prototype.setItem = () => { throw new DOMException('no room', 'QuotaExceededError') }"
 
@@ -26,7 +29,7 @@ def keeps_each(tally: Tally, browser: Browser) -> None:
     """Of a mean each scramble keeps its line, its list, what is kept with its notes, and how far the page was scrolled."""
     begin(browser, tally, "a mean")
     browser.walk(tally, "the first one", ("submit", "own", "D L", {}), ("comes", "steps", 1, {}), ("act", "#keep-line", {}),
-        ("fill", ".note-field", "good", {CHIPS: ["1 ★1", "2", "3"]}), ("press", "1", {}), ("comes", "solutions?", True, {}))
+        ("script", NOTE, "good", {CHIPS: ["1 ★1", "2", "3"]}), ("press", "1", {}), ("comes", "solutions?", True, {}))
     first = browser.hash()
     browser.walk(tally, "the second one", ("act", chip(2), {"scramble=": "F' L2 U", SHOWN: ["2"], "steps": 0, "kept": 0, "solutions?": False}),
         ("submit", "own", "B (U)", {}), ("comes", "steps", 1, {}), ("act", "#keep-line", {}), ("comes", CHIPS, ["1 ★1", "2 ★1", "3"], {}))
@@ -80,7 +83,7 @@ def copies(tally: Tally, browser: Browser) -> None:
     stub = browser.before_page(NO_CLIPBOARD)
     begin(browser, tally, "a mean")
     browser.walk(tally, "to be copied", ("submit", "own", "D (L)", {}), ("comes", "steps", 1, {}), ("act", "#keep-line", {}),
-        ("fill", ".note-field", "it's <b>good</b>, 9", {}), ("act", "#copy-desk", {}))
+        ("script", NOTE, "it's <b>good</b>, 9", {}), ("act", "#copy-desk", {}))
     text = browser.script("return window.copied")
     tally.holds("it shows the scrambles", all(each in text for each in ("1. R U F\n", "2. F' L2 U\n", "3. B2 R D\n")))
     browser.script(CLEAR)
@@ -102,6 +105,7 @@ def says_what_is_refused(tally: Tally, browser: Browser) -> None:
         ("comes", CHIPS, ["1", "2", "3"], {"desk-note": said}), ("submit", "own", "D", {}), ("comes", "steps", 1, {}), ("act", "#keep-line", {}),
         ("act", chip(2), {"kept": 0}), ("act", chip(1), {"bracketed": "D", KEPT: ["D"], CHIPS: ["1 ★1", "2", "3"]}))
     browser.no_longer(stub)
+    browser.open()
 
 
 def reads_what_is_right(tally: Tally, browser: Browser) -> None:
