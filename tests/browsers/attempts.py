@@ -76,7 +76,8 @@ def chooses(tally: Tally, browser: Browser) -> None:
         browser.walk(tally, f"{width}: mended", ("fill", "scramble", "B2 R D", {"scramble-read": "", SHOWN: ["3"]}),
             ("script", "history.back()", {}), ("comes", "scramble=", "F' L2 U", second), ("act", chip(3), {"scramble=": "B2 R D"}),
             ("act", chip(1), {}), ("comes", "kept", 1, first))
-        browser.walk(tally, f"{width}: another scramble, and back", ("act", "#random", {SHOWN: ["4"], "scramble-read": ""}),
+        browser.walk(tally, f"{width}: another scramble, and back", ("script", "part('random').click()", {}),
+            ("comes", SHOWN, ["4"], {"scramble-read": ""}),
             ("script", "history.back()", {}), ("comes", "bracketed", "D", first), ("fill", "scramble", "", {CHIPS: ["1 \u26051", "2", "3"]}),
             ("fill", "scramble", " ", {}), ("act", chip(1), {}), ("comes", "scramble=", "R U F", first),
             ("script", PASTE, "U2 F", {"scramble-read": "", "scramble-fault": ""}))

@@ -122,7 +122,7 @@ export class Page {
     this.#isReading = true;
     this.#nextFocus.set(document.activeElement?.matches("#again") ? "table" : undefined);
     dropAddress();
-    if (written) return this.#scramble.open(written);
+    if (written && this.#scramble.open(written)) return;
     if (place) this.#wayBack.set(place);
     setBusy("results", true);
     tell(part("alert"), fault);

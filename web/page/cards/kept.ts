@@ -3,7 +3,7 @@ import { Stopped } from "../../module/shared/faults.js";
 import { nameOf, withStar } from "../state/candidates.js";
 import { fitsAddress, type Candidate, type List, type State } from "../state/address.js";
 import { lastOf, present } from "../shared/certain.js";
-import { copy, fmcOfAll } from "../shared/copying.js";
+import { copy, fmcOfAll, setUps } from "../shared/copying.js";
 import { announce, button, counted, element, part, spoken, tell, type PageElement } from "../shared/element.js";
 import { LONGEST_NOTE, MOST_CANDIDATES } from "../state/limits.js";
 import { WayTo } from "../state/history.js";
@@ -127,6 +127,12 @@ export class KeptCandidates {
       announce(`${counted(length, "line")} ${length === 1 ? "is" : "are"} kept again.`);
     });
     part("kept-sort").addEventListener("change", () => this.#draw());
+    // a sheet has the set-ups
+    for (const kind of ["beforeprint", "afterprint"]) {
+      addEventListener(kind, () => {
+        for (const each of this.#list.querySelectorAll<PageElement>("details")) each.open = kind === "beforeprint";
+      });
+    }
   }
 
   /** Shows candidates; what the engine says of them comes by `describe`. */
@@ -252,12 +258,15 @@ export class KeptCandidates {
       },
     });
     this.#notes[at] = field;
+    const cubes = walk === null ? [] : [element("details", {},
+      element("summary", {}, "Set-ups"), element("dl", {}, ...setUps(walk.now.lines)))];
     return element("li", {},
       stepOf(parts, walk),
       element("span", { class: "row" },
         field,
         act("Go on", "on", () => this.#acts.goOn(parts, list)),
-        act("Remove", "away", () => this.#remove(at))));
+        act("Remove", "away", () => this.#remove(at))),
+      ...cubes);
   }
 
   /** Takes a candidate away; the focus, if it was in its row, goes to the next one.

@@ -61,6 +61,8 @@ export class ScrambleField {
   #isCut = false;
   /** the text that was read last, and what makes one doubt how it was read */
   #lastText = "";
+  /** what the field has of it */
+  #shown = "";
   #doubt: AttemptDoubt | null = null;
 
   constructor(calls: Calls, reader: Reader, acts: ScrambleActs) {
@@ -117,6 +119,7 @@ export class ScrambleField {
       this.#leftOut = [];
     }
     this.#last = scramble || this.#last;
+    this.#shown = this.#field.value;
     this.#isEmptied = false;
     this.#isDraft = false;
   }
@@ -190,6 +193,8 @@ export class ScrambleField {
   /** @param isReplaced by a text that was pasted: by another scramble, if it isn't the same again */
   #read(isReplaced: boolean, isPasted: boolean) {
     const text = this.#field.value;
+    // an empty line more is nothing new
+    if (!isPasted && this.#isRead && text.trim() === this.#shown.trim()) return;
     const attempts = this.#reader.attempts(text);
     const plain = this.#reader.plainLine(text);
     const whole = spaced(attempts[0].scramble) === spaced(plain) ? asTyped(plain) : null;
@@ -197,11 +202,13 @@ export class ScrambleField {
     this.#take({ text, at: 0 }, attempts, { isReplaced, whole, others: isPasted ? others : [] });
   }
 
-  /** Reads a scramble of a text that was pasted with others, as if it alone had been pasted. */
+  /** Reads a scramble of a text that was pasted with others, as if it alone had been pasted.
+   * @returns whether it is there: the page that kept the text may have had another reader */
   open(written: Written) {
     const attempts = this.#reader.attempts(written.text);
-    // the reader may be another one than that of the page which kept the text
-    if (written.at < attempts.length) this.#take(written, attempts, { isReplaced: true, whole: null, others: [] });
+    const isThere = Object.hasOwn(attempts, written.at);
+    if (isThere) this.#take(written, attempts, { isReplaced: true, whole: null, others: [] });
+    return isThere;
   }
 
   /** @param written which of the attempts of a text is taken
@@ -215,6 +222,7 @@ export class ScrambleField {
     if (whole === null) this.#field.value = line;
     const fmc = steps.length + candidates.length > 0 ? written : null;
     this.#lastText = written.text;
+    this.#shown = this.#field.value;
     const isNew = this.#isOther(spaced(scramble), isReplaced, fmc !== null);
     const left = attempts.length - 1 - others.length;
     this.#leftOut = [
