@@ -96,14 +96,16 @@ def is_whole(tally: Tally, page: str) -> None:
     tally.equal("marks that are left", re.findall(r">@\w+@<|\"@\w+@\"", page), [])
 
 
-def is_indented(tally: Tally) -> None:
-    """All JavaScript has one indent: of two blanks."""
+def is_laid_out(tally: Tally) -> None:
+    """All scripts have one layout: indents of two blanks, 120 columns, a comment that begins on its first line, and no blank at a line's end."""
     scripts = sorted(each for kind in ("*.ts", "*.cjs") for each in (TOP / "web").rglob(kind))
     tally.holds("there are scripts", len(scripts) > 60)
     for script in scripts:
         code = [line for line in script.read_text().splitlines() if not line.lstrip().startswith("*")]
         least = min((len(line) - len(line.lstrip()) for line in code if line.startswith(" ")), default=2)
         tally.equal(f"{script.relative_to(TOP)}: its indent", least, 2)
+        odd = [line for line in script.read_text().splitlines() if len(line) > 120 or line != line.rstrip() or line.strip() == "/**" or "\t" in line]
+        tally.equal(f"{script.relative_to(TOP)}: lines of another layout", odd, [])
 
 
 def refuses(tally: Tally) -> None:
@@ -135,7 +137,7 @@ def main() -> None:
     is_as_large_as_said(tally, text.encode())
     for part in (is_closed, is_plain, is_whole):
         part(tally, text)
-    is_indented(tally)
+    is_laid_out(tally)
     refuses(tally)
     tally.end()
 

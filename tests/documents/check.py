@@ -175,7 +175,7 @@ def names_of_scripts(tally: Tally) -> None:
 def says_its_task(script: Path) -> bool:
     """Whether the first line of a script, but the one that names its interpreter, is a comment."""
     lines = [line for line in script.read_text(encoding="utf-8").splitlines() if not line.startswith("#!")]
-    return re.match(r"// \S|/\*\*$", lines[0]) is not None
+    return re.match(r"// \S|/\*\* \S", lines[0]) is not None
 
 
 def scripts() -> list[Path]:

@@ -2,7 +2,7 @@
 import { Engine } from "../module/engine/engine.js";
 import { NissyFault, type FaultParts } from "../module/shared/faults.js";
 import { Nissy } from "../module/nissy.js";
-import { bestIn } from "../module/calls/replies.js";
+import { bestIn, type BestReply } from "../module/calls/replies.js";
 import { bestRequest } from "../module/calls/requests.js";
 import { serveBy, type Port } from "../module/workers/serve.js";
 import { STEPS, type Step } from "../module/shared/steps.js";
@@ -11,7 +11,6 @@ import { rowsOfList } from "./answers/list-rows.js";
 import { countsAfter, examine, framesOf, walkKept } from "./answers/examine.js";
 import { bracketed, sizeOfCase, stateOf, stepNamed } from "./shared/offered-steps.js";
 import { sidesOfTwins } from "./shared/twins.js";
-import type { BestReply } from "../module/engine/best-search.js";
 import type { BestRow, BestStep } from "../module/shared/ways.js";
 import type { FoundOnAxis, Question, Row } from "./cards/finder.js";
 

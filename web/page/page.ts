@@ -3,7 +3,7 @@ import { NissyFault, Stopped } from "../module/shared/faults.js";
 import { emptyState, hasLines, readAddress, type List, type State } from "./state/address.js";
 import { BestContinuations } from "./cards/best.js";
 import { Readiness, type Calls } from "./shared/questions.js";
-import { thrownError, lastOf } from "./shared/certain.js";
+import { lastOf } from "./shared/certain.js";
 import { copy } from "./shared/copying.js";
 import { Nets } from "./cards/cube.js";
 import { announce, announceLater, part, setBusy, spoken, tell } from "./shared/element.js";
@@ -133,7 +133,7 @@ export class Page {
       if (hasLines(state)) Object.assign(state, await this.#calls.ask("readAddressed", state));
     } catch (stop) {
       if (turn !== this.#turn) return;
-      if (!(stop instanceof NissyFault)) return this.#showUnread(state, thrownError(stop));
+      if (!(stop instanceof NissyFault)) return this.#showUnread(state, stop);
       tell(part("alert"), `The steps of this address can't be read: ${stop.text}.`);
       Object.assign(state, { parts: [], list: null });
     }
@@ -146,7 +146,7 @@ export class Page {
   }
 
   /** Shows what an address says as it stands there, where no engine reads it. */
-  #showUnread({ scramble, parts }: State, fault: Error) {
+  #showUnread({ scramble, parts }: State, fault: unknown) {
     this.#scramble.show(scramble);
     this.#line.show(parts);
     awaitAnswer(null);
@@ -221,7 +221,7 @@ export class Page {
     try {
       await this.#answer(turn, asked);
     } catch (fault) {
-      if (turn === this.#turn) this.#refuse(thrownError(fault));
+      if (turn === this.#turn) this.#refuse(fault);
     }
     if (turn !== this.#turn) return;
     awaitAnswer(null);
@@ -323,7 +323,6 @@ export class Page {
     this.#goBack();
   }
 
-  /** Shows what the engine says of the lines that are kept. */
   #showKept() {
     const { kept, parts } = this.#state;
     this.#kept.show(kept);
@@ -378,7 +377,7 @@ export class Page {
   }
 
   /** @param fault why there is no answer */
-  #refuse(fault: Error) {
+  #refuse(fault: unknown) {
     if (fault instanceof Stopped) return;
     setBusy("results", false);
     part("results").inert = true;

@@ -1,17 +1,17 @@
 // Reads what the engine writes as values, or throws what is wrong.
-import { eachOf, type Text } from "../shared/bytes.js";
-import { checkOf, factsFrom, type Check, type Facts, type SeenCheck, type SeenFacts } from "../shared/facts.js";
 import { NissyFault, SearchCut, cutOfAll, withoutTraces } from "../shared/faults.js";
-import { STATUS, hasValue } from "../engine/status.js";
-import { formPlacesOf, tokensOf, type FormPlace, type Token } from "../text/tokens.js";
+import { SEARCH_ANSWER } from "../shared/layout.js";
 import { textIn } from "../shared/utf8.js";
-import { bothSidesIn, waysIn, type BestStep } from "../shared/ways.js";
-import type { AllRequest, Sides, Telling } from "./requests.js";
+import { checkFrom, factsFrom } from "./facts-read.js";
+import { bothSidesIn, waysIn, type BestRow, type BestStep } from "../shared/ways.js";
+import { START_FAULT, STATUS, hasValue } from "../engine/status.js";
+import { formPlacesOf, tokensOf, type FormPlace, type Token } from "../text/tokens.js";
+import type { Check, Facts } from "../shared/facts.js";
 import type { Attempt, AttemptDoubt } from "../text/attempts.js";
-import type { Best, BestReply } from "../engine/best-search.js";
 import type { FormInText, SeenAttempt } from "../text/attempt-checks.js";
-import type { PlainLine, TextPlace } from "../text/written.js";
-import type { SeenParts } from "../engine/over-sides.js";
+import type { Sides, Telling } from "./requests.js";
+import type { Text } from "../shared/bytes.js";
+import type { TextPlace } from "../text/written.js";
 
 /** What a run returns. */
 export type Answer = {
@@ -28,8 +28,9 @@ export type Answer = {
 /** A solution: its moves, and how many turns they are. */
 export type Solution = { moves: string; length: number };
 
-/** Solutions. Those of a search that was cut begin its list, and `cut` is there. */
-export type Solutions = Solution[] & { cut?: true };
+/** Solutions; `more`: whether there are others beyond `most`, and `nodes`: at how many positions the search looked.
+ * Those of a search that was cut begin its list, and `cut` is there. */
+export type Solutions = Solution[] & { readonly more: boolean; readonly nodes: number; cut?: true };
 
 /** Those over both sides. */
 export type SideSolutions = BestStep[] & { cut?: true };
@@ -37,20 +38,15 @@ export type SideSolutions = BestStep[] & { cut?: true };
 /** What `solve` tells, whether sides are asked for or not. */
 export type SolutionsOn<On extends Sides | undefined> = On extends string ? SideSolutions : Solutions;
 
-/**
- * How many solutions there are: the least length, null if there are none, and at how many positions the search looked.
- * If the search was cut, `cut` is there, and the numbers are those of what it found until then.
- */
+/** How many solutions there are: the least length, null if there are none, and at how many positions the search looked.
+ * If the search was cut, `cut` is there, and the numbers are those of what it found until then. */
 export type Count = { length: number | null; solutions: number; nodes: number; cut?: true };
 
-/**
- * A line that can't be read: the number of its fault, where that is, in bytes and in characters, and the program's
- * words for it.
- */
+/** A line that can't be read: the number of its fault, where that is, in bytes and in characters, and the program's
+ * words for it. */
 export type LineFault = { status: 1; fault: 1 | 2 | 3 | 4 | 5; column: number; character: number; text: string };
 
-/**
- * A cube at which a step can't begin: the step, the one that must hold before, and what the program says of that one.
+/** A cube at which a step can't begin: the step, the one that must hold before, and what the program says of that one.
  */
 export type StartFault = { status: 1; fault: 6; step: string; start: string; text: string };
 
@@ -59,26 +55,28 @@ export type Refused = { status: 2 | 3 | 4 };
 
 /** How a call on a line ended that has no value. */
 export type NoValue = LineFault | StartFault | Refused;
+/** Of a call on two lines, of which `line` is at fault: 1, the first, or 2. */
+export type OfTwo = NoValue & { line: number };
+/** The struct of an answer with a value, which stands at a place of some bytes. */
+export type Seen = { status: 0 | 5; answer: Uint8Array; at: number };
 /** Of a call that writes. */
 export type LineReply = { status: 0; out: string } | NoValue;
-/** Of a search that may be cut. */
-export type SeenCount = { status: 0 | 5; least: number; more: boolean; solutions: number; nodes: number };
-export type CountReply = SeenCount | NoValue;
-export type SolveReply = SeenCount & { out: string } | NoValue;
-export type SidesReply = SeenParts | NoValue;
-export type SolveBytesReply = SeenCount & { out: Uint8Array } | NoValue;
-export type FactsReply = SeenFacts | NoValue;
-/** Of which `line` is the line at fault: 1, the scramble, or 2, the solution. */
-export type CheckReply = SeenCheck | NoValue & { line: number };
-/** Of which a fault has the number of its line. */
-export type LineAfterReply = LineReply & { line?: number };
+export type SolveReply = Seen & { out: string } | NoValue;
+export type SolveBytesReply = Seen & { out: Uint8Array } | NoValue;
+/** The rows that were found, as the module has them, and at how many positions it looked. */
+export type FoundParts = { status: 0 | 5; parts: Uint8Array; nodes: number };
+/** The same of ways on; `tried`: how many were. */
+export type FoundWays = { ways: Uint8Array; tried: number; nodes: number };
+export type BestReply = FoundWays & { status: 0 | 5 } | OfTwo;
 
-/**
- * An attempt of a text. `check` is null if it has no solution, or if a part is at fault: `fault` says so, its `part`
+/** The best, in their order, and at how many positions the search looked. If it ended at its bound, `cut` is there:
+ * then these are the best of what was tried until then. */
+export type Best = BestRow[] & { nodes: number; cut?: true };
+
+/** An attempt of a text. `check` is null if it has no solution, or if a part is at fault: `fault` says so, its `part`
  * says which, and `place` where in the text; both are null of an attempt without a fault. `forms` are those of a
  * solution that was checked. `doubt` tells why an attempt may be read otherwise than it was meant, and is null if it is
- * solved, has a fault, or is in none.
- */
+ * solved, has a fault, or is in none. */
 export type AttemptCheck = {
   attempt: Attempt;
   check: Check | null;
@@ -88,31 +86,24 @@ export type AttemptCheck = {
   doubt: AttemptDoubt | null;
 };
 
-export type OneReply = Answer | LineReply | CountReply | SolveReply | FactsReply | CheckReply | SidesReply | BestReply
-  | LineAfterReply;
-export type TextReply = PlainLine | Attempt[] | SeenAttempt[];
-export type Reply = OneReply | OneReply[] | TextReply;
+/** To one line or more of a call, but for runs. */
+export type OneReply = Answer | LineReply | Seen | SolveReply | FoundParts | BestReply | OfTwo;
 
 /** What the lines are called of calls that take two. */
-const OF_CHECK = ["scramble", "solution"];
-const OF_BEST = ["scramble", "moves so far"];
+const NAMES_OF_CHECK = ["scramble", "solution"];
+const NAMES_OF_BEST = ["scramble", "moves so far"];
 
 const BRACKET = "(".charCodeAt(0);
 const ZERO = "0".charCodeAt(0);
 
-/** The number of the fault that a step can't begin at a cube. */
-export const START = 6;
-
 function faultIn(reply: LineFault | StartFault): NissyFault {
-  if (reply.fault !== START) return new NissyFault(reply.text, reply);
+  if (reply.fault !== START_FAULT) return new NissyFault(reply.text, reply);
   const { step, start, text } = reply;
   return new NissyFault(`${start} ${text}`, { step, start });
 }
 
-/**
- * @param what the line is called
- * @returns what is wrong
- */
+/** @param what the line is called
+ * @returns what is wrong */
 function errorIn(reply: NoValue, what = "line"): Error {
   switch (reply.status) {
     case STATUS.fault:
@@ -126,11 +117,16 @@ function errorIn(reply: NoValue, what = "line"): Error {
   }
 }
 
+/** What is thrown of one of two lines, which have names. */
+function errorOfTwo(reply: OfTwo, names: readonly string[]): Error {
+  const part = names[reply.line - 1];
+  const error = errorIn(reply, part);
+  return error instanceof NissyFault ? error.inLine(reply.line, part) : error;
+}
+
 /** @returns the same, which has a value */
-function withValue<Reply extends LineReply | CountReply | SolveReply | SidesReply | FactsReply | CheckReply>(
-  reply: Reply,
-): Exclude<Reply, NoValue> {
-  if (!hasValue(reply.status)) throw errorIn(reply as NoValue);
+function withValue<Reply extends { status: number }>(reply: Reply): Exclude<Reply, NoValue> {
+  if (!hasValue(reply.status)) throw errorIn(reply as unknown as NoValue);
   return reply as Exclude<Reply, NoValue>;
 }
 
@@ -154,11 +150,9 @@ export function outputLinesIn({ status, out, err }: Answer): string[] {
   return endedLines(textIn(out));
 }
 
-/**
- * The solutions, of which each has a line such as `F B' (2)`, or `(0)` if no move is needed. There may be millions, so
- * no string is made of a line.
- */
-function solutionsFrom(out: string): Solutions {
+/** The solutions, of which each has a line such as `F B' (2)`, or `(0)` if no move is needed. There may be millions, so
+ * no string is made of a line. */
+function solutionsFrom(out: string): Solution[] {
   const digit = (at: number) => out.charCodeAt(at) - ZERO;
   const solutions = [];
   for (let begin = 0, end = out.indexOf("\n"); end >= 0; begin = end + 1, end = out.indexOf("\n", begin)) {
@@ -172,126 +166,86 @@ function solutionsFrom(out: string): Solutions {
   return solutions;
 }
 
-const countSeen = ({ least, solutions, nodes }: SeenCount): Count =>
-  ({ length: solutions === 0 ? null : least, solutions, nodes });
+/** The same number: one of 32 bits stands in the object that has it, and takes no memory of its own there. */
+const kept = (number: number) => ((number | 0) === number ? number | 0 : number);
 
-/** @param seen whose cut isn't thrown */
-export const countTold = (seen: SeenCount): Count =>
-  (seen.status === STATUS.cut ? { ...countSeen(seen), cut: true } : countSeen(seen));
+const READ = SEARCH_ANSWER.read;
 
-function solutionsSeen(
-  seen: SeenCount & { out: string } | SeenParts,
-): { solutions: Solutions | SideSolutions; count: Count } {
-  if ("out" in seen) return { solutions: solutionsFrom(seen.out), count: countSeen(seen) };
-  const solutions = bothSidesIn(seen.parts);
+function countSeen({ answer, at }: Seen): Count {
+  const count = kept(READ.solutions(answer, at));
+  return { length: count === 0 ? null : READ.least(answer, at), solutions: count, nodes: kept(READ.nodes(answer, at)) };
+}
+
+/** What is told of a search that was cut, unless that is thrown. */
+function cutOr<Value>(status: number, cut: Telling, value: Value & { cut?: true }, error: () => SearchCut): Value {
+  if (status !== STATUS.cut) return value;
+  if (cut === "throw") throw error();
+  value.cut = true;
+  return value;
+}
+
+/** @returns the solutions of a step, on the sides that are asked for */
+export function solutionsIn(reply: SolveReply | FoundParts | NoValue, { cut }: { cut: Telling }): any {
+  const seen = withValue(reply);
+  if ("out" in seen) {
+    const [more, nodes] = [READ.more(seen.answer, seen.at) === 1, kept(READ.nodes(seen.answer, seen.at))];
+    // beside its list, as its length is
+    const told = { more: { value: more }, nodes: { value: nodes } };
+    const solutions = Object.defineProperties(solutionsFrom(seen.out), told) as Solutions;
+    return cutOr(seen.status, cut, solutions, () => new SearchCut(countSeen(seen), solutions));
+  }
+  const solutions: SideSolutions = bothSidesIn(seen.parts);
   const count = { length: solutions[0]?.length ?? null, solutions: solutions.length, nodes: seen.nodes };
-  return { solutions, count };
+  return cutOr(seen.status, cut, solutions, () => new SearchCut(count, solutions));
 }
 
-/** @returns its solutions */
-export function solutionsIn(reply: SolveReply | SidesReply, { cut }: { cut: Telling }): any {
+export function countIn(reply: Seen | NoValue, { cut }: { cut: Telling }): Count {
   const seen = withValue(reply);
-  const { solutions, count } = solutionsSeen(seen);
-  if (seen.status === STATUS.done) return solutions;
-  if (cut === "throw") throw new SearchCut(count, solutions);
-  solutions.cut = true;
-  return solutions;
+  const count = countSeen(seen);
+  return cutOr(seen.status, cut, count, () => new SearchCut(count, null));
 }
 
-export function countIn(reply: CountReply, { cut }: { cut: Telling }): Count {
-  const seen = withValue(reply);
-  if (seen.status === STATUS.cut && cut === "throw") throw new SearchCut(countSeen(seen), null);
-  return countTold(seen);
-}
+export const factsIn = (reply: Seen | NoValue): Facts => {
+  const { answer, at } = withValue(reply);
+  return factsFrom(answer, at);
+};
 
-export const factsIn = (reply: FactsReply): Facts => factsFrom(withValue(reply).numbers, 0);
-
-export function checkIn(reply: CheckReply): Check {
-  if (reply.status === STATUS.done) return checkOf(reply);
-  throw errorOfCheck(reply);
-}
-
-function errorOfCheck(reply: NoValue & { line: number }): Error {
-  const part = OF_CHECK[reply.line - 1];
-  const error = errorIn(reply, part);
-  return error instanceof NissyFault ? error.inLine(reply.line, part) : error;
+export function checkIn(reply: Seen | OfTwo): Check {
+  if (!("answer" in reply)) throw errorOfTwo(reply, NAMES_OF_CHECK);
+  return checkFrom(reply.answer, reply.at);
 }
 
 function attemptCheckIn({ attempt, seen, place, forms, doubt }: SeenAttempt): AttemptCheck {
-  if (seen === null) return { attempt, check: null, fault: null, place, forms, doubt };
-  if (seen.status === STATUS.fault) {
-    const fault = new NissyFault(seen.text, seen, OF_CHECK[seen.line - 1]);
-    return { attempt, check: null, fault, place, forms, doubt };
+  const told = { attempt, place, forms, doubt };
+  if (seen === null) return { ...told, check: null, fault: null };
+  if ("answer" in seen) {
+    return { ...told, check: attempt.solution === null ? null : checkFrom(seen.answer, seen.at), fault: null };
   }
-  if (seen.status !== STATUS.done) throw errorOfCheck(seen);
-  return { attempt, check: attempt.solution === null ? null : checkOf(seen), fault: null, place, forms, doubt };
+  if (seen.status !== STATUS.fault) throw errorOfTwo(seen, NAMES_OF_CHECK);
+  return { ...told, check: null, fault: new NissyFault(seen.text, seen, NAMES_OF_CHECK[seen.line - 1]) };
 }
 
 export const attemptChecksIn = (replies: SeenAttempt[]): AttemptCheck[] =>
   withoutTraces(() => replies.map(attemptCheckIn));
 
-/**
- * What is thrown of a scramble or of the moves so far.
- * @param line of which it is
- */
-const errorOfBest = (reply: NoValue, line: number) => inLine(errorIn(reply), line, OF_BEST[line - 1]);
-
-export function lineAfterIn(reply: LineAfterReply): string {
-  if (reply.status === STATUS.done) return reply.out;
-  throw errorOfBest(reply, Number(reply.line));
+export function lineAfterIn(reply: LineReply | OfTwo): string {
+  if ("out" in reply) return reply.out;
+  throw errorOfBest(reply as OfTwo);
 }
 
 export function bestIn(reply: BestReply, { cut }: { cut: Telling }): Best {
-  if (!("ways" in reply)) throw errorOfBest(reply, reply.line);
-  if (reply.status === STATUS.cut && cut === "throw") throw cutOfAll(reply.nodes);
+  if (!("ways" in reply)) throw errorOfBest(reply);
   const best: Best = Object.assign(waysIn(reply.ways), { nodes: reply.nodes });
-  if (reply.status === STATUS.cut) best.cut = true;
-  return best;
+  return cutOr(reply.status, cut, best, () => cutOfAll(reply.nodes));
 }
 
-/** Whether the reply for a line of many ends the call, so that no line behind it is answered. */
-export function endsAll({ each, faults }: AllRequest, reply: OneReply) {
-  if (reply.status === STATUS.cut) return "cut" in each && each.cut === "throw";
-  return reply.status !== STATUS.done && faults === "throw";
-}
+/** What is thrown of a scramble or of the moves so far: also one of too many bytes has the number of its line. */
+const errorOfBest = (reply: OfTwo) => inLine(errorIn(reply), reply.line, NAMES_OF_BEST[reply.line - 1]);
 
-/**
- * What is wrong, with the number of the line in which it is.
- * @param part what a fault calls the line, if not by its number
- */
-function inLine(error: unknown, line: number, part?: string) {
+/** What is wrong, with the number of the line in which it is.
+ * @param part what a fault calls the line, if not by its number */
+export function inLine(error: unknown, line: number, part?: string) {
   if (error instanceof NissyFault) return error.inLine(line, part);
   if (error instanceof SearchCut) return error.inLine(line);
   return error instanceof RangeError ? new RangeError(`line ${line}: ${error.message}`) : error;
 }
-
-/**
- * What is told of a line of many: a value, or in its place what is wrong with the line, if the option `faults` says so.
- */
-export type Told<Value, Faults> = Faults extends "value" ? Value | NissyFault | RangeError : Value;
-
-/**
- * What is told of a line of many. What is thrown of one has its number, and so has what is told in its place.
- * @returns a value, or a fault if they are told so
- */
-export function toldOf<Read, Value>(
-  reply: Read, index: number, { each, faults }: { each: { call: string }; faults: Telling },
-  one: (reply: Read) => Value,
-): any {
-  try {
-    return one(reply);
-  } catch (thrown) {
-    const isOfPair = each.call === "check" && thrown instanceof NissyFault;
-    const error = isOfPair ? thrown.inPair(index + 1) : inLine(thrown, index + 1);
-    if (faults === "throw" || error instanceof SearchCut) throw error;
-    return error;
-  }
-}
-
-/**
- * The replies for many lines, each read by itself.
- * @returns values, and faults in the places of some if they are told so
- */
-export const allOf = <Read, Value>(
-  replies: Read[], asked: { each: { call: string }; faults: Telling }, one: (reply: Read) => Value,
-): any[] => eachOf(replies, (reply, index) => toldOf(reply, index, asked, one));

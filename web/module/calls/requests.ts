@@ -1,9 +1,10 @@
 // What is asked of the engine, in plain values that a worker can be sent, each checked if it comes from a caller.
 import {
-  bytesOf, eachOf, joinedWords, readableLine, stringOf, takenLine, wholeNumber, wideNumber, type Text,
+  bytesOf, eachOf, joinedWords, stringOf, takenLine, wholeNumber, wideNumber, type Text,
 } from "../shared/bytes.js";
-import { optionOf } from "./options.js";
 import { textIn } from "../shared/utf8.js";
+import { optionOf } from "./options.js";
+import type { AllRequest } from "./many.js";
 
 /** What is made of a line. */
 export type Rewriting = "invert" | "unniss" | "cleanup" | "facelets";
@@ -42,27 +43,14 @@ export type OfEach = CountRequest | SolveRequest | SidesRequest | FactsRequest |
 /** What `check` is given; null is one of too many bytes. */
 export type Pair = { scramble: Text | null; solution: Text | null };
 export type OneRequest = RunRequest | LineRequest | OfEach | LineAfterRequest | ScrambleRequest | StepsRequest;
-/**
- * What is asked of each line, or pair, whose own line is none, or null for one of too many bytes; `isPiece`: the
- * lines are some of a call's, so a worker tells how long it took.
- */
-export type AllRequest = {
-  call: "all";
-  each: OfEach;
-  lines: (Text | Pair | null)[];
-  faults: Telling;
-  isPiece?: boolean;
-};
 /** What an engine is asked. */
 export type Request = OneRequest | TextRequest | AllRequest;
 
-/**
- * How far a step is searched: `limit`, the most turns of a solution, 20 at most and if it isn't given; `slack`, how
+/** How far a step is searched: `limit`, the most turns of a solution, 20 at most and if it isn't given; `slack`, how
  * many turns more than the shortest a solution may have, none if it isn't given; `most`, after how many solutions the
  * search ends, after all if it isn't given; `nodes`, at how many positions it looks at most, at as many as there are if
  * it isn't given. A search that would look at more is cut: `cut` says whether `SearchCut` is thrown, as it is if it
- * isn't given, or what was found until then returned.
- */
+ * isn't given, or what was found until then returned. */
 export type Wanted = {
   limit?: number | undefined;
   slack?: number | undefined;
@@ -71,35 +59,19 @@ export type Wanted = {
   cut?: Telling | undefined;
 };
 
-/**
- * On which sides the moves of solutions may be: on the line alone, as they are if it isn't given, on its inverse alone,
- * or on both; each solution then says its moves on both.
- */
+/** On which sides the moves of solutions may be: on the line alone, as they are if it isn't given, on its inverse
+ * alone, or on both; each solution then says its moves on both. */
 export type OnSides<On extends Sides | undefined = Sides | undefined> = { sides?: On };
-
-/** What `Wanted` was called for counts while they had fewer options. */
-export type Within = Wanted;
-
-/** What becomes of the faults of many lines: undefined has the first thrown. */
-export type OnFaults = Telling | undefined;
-
-/**
- * What is asked of many lines; `faults` says whether the first fault is thrown, as it is if it isn't given, or each in
- * the place of the line's answer.
- */
-export type Many<Faults extends OnFaults = OnFaults> = { faults?: Faults };
 
 /** Scrambles that are known, of which a text has solutions alone. */
 export type Known = { scrambles?: readonly Text[] | undefined };
 
-/**
- * What is wanted of the best ways on: `soFar`, the moves that were made after the scramble, those in brackets on its
+/** What is wanted of the best ways on: `soFar`, the moves that were made after the scramble, those in brackets on its
  * inverse, none if it isn't given; `slack`, how many turns longer the first step may be than the shortest on the
  * scramble alone, on its inverse alone, or over both, none if it isn't given; `most`, how many rows, 20 if it isn't
  * given; `nodes`, at how many positions it looks at most, at as many as there are if it isn't given. In a pool each
  * axis is searched up to this bound. If it would look at more, it is cut: `cut` says whether `SearchCut` is thrown, as
- * it is if it isn't given, or the best of what was tried until then returned.
- */
+ * it is if it isn't given, or the best of what was tried until then returned. */
 export type BestWanted = {
   soFar?: Text | undefined;
   slack?: number | undefined;
@@ -130,18 +102,16 @@ export function runRequest(words: unknown, input: unknown = "", room: unknown = 
 export const lineRequest = (call: Rewriting, line: unknown): LineRequest =>
   ({ call, line: takenLine(line, "the line") });
 
-/**
- * An option that is a bound, which Infinity and nothing leave open.
+/** An option that is a bound, which Infinity and nothing leave open.
  * @param what it is, for the error
- * @param otherwise what it is if it isn't given
- */
+ * @param otherwise what it is if it isn't given */
 function boundOf(options: unknown, name: string, what: string, otherwise: number = Infinity) {
   const given = optionOf(options, name, otherwise);
   return given === Infinity ? given : wholeNumber(given, what, Number.MAX_SAFE_INTEGER);
 }
 
 /** An option that says whether something is thrown. */
-function toldBy(options: unknown, name: string): Telling {
+export function toldBy(options: unknown, name: string): Telling {
   const given = optionOf(options, name, "throw");
   if (typeof given !== "string") throw new TypeError(`the option ${name} is no string`);
   if (given !== "throw" && given !== "value") throw new RangeError(`the option ${name} is neither "throw" nor "value"`);
@@ -174,6 +144,9 @@ export function listRequest(step: unknown, line: unknown, options: unknown = {})
   if (!SIDES_OF_LISTS.includes(sides)) throw new RangeError('the option sides is none of "normal", "inverse", "both"');
   return { call: "solveSides", sides: sides as Sides, ...searchOf(step, line, options) };
 }
+
+/** The options of what is gone through one after another. */
+export const OF_SOLUTIONS = ["limit", "slack"];
 
 /** @param options of which the bounds on the turns count */
 export const solutionsRequest = (step: unknown, line: unknown, options: unknown = {}): SolveRequest =>
@@ -229,38 +202,6 @@ export const bestRequest = (scramble: unknown, options: unknown = {}): BestReque
   cut: toldBy(options, "cut"),
   axes: ALL_AXES,
 });
-
-/** @param each what is asked of each line */
-export function allRequest<Each extends OfEach>(
-  each: () => Each, lines: unknown, options: unknown = {},
-): AllRequest & { each: Each } {
-  if (!Array.isArray(lines)) throw new TypeError("the lines are no array");
-  const asked = each();
-  const faults = toldBy(options, "faults");
-  const take = faults === "value" ? readableLine : takenLine;
-  return { call: "all", each: asked, faults, lines: eachOf(lines, (line, index) => take(line, `line ${index + 1}`)) };
-}
-
-/**
- * One of many pairs.
- * @param number from 1
- */
-function pairOf(pair: unknown, number: number, take: typeof readableLine): Pair {
-  if (!Array.isArray(pair) || pair.length !== 2) throw new TypeError(`pair ${number} is no array of two lines`);
-  const [scramble, solution] = pair;
-  return {
-    scramble: take(scramble, `the scramble of pair ${number}`),
-    solution: take(solution, `the solution of pair ${number}`),
-  };
-}
-
-export function pairsRequest(pairs: unknown, options: unknown = {}): AllRequest & { each: CheckRequest } {
-  if (!Array.isArray(pairs)) throw new TypeError("the pairs are no array");
-  const faults = toldBy(options, "faults");
-  const take = faults === "value" ? readableLine : takenLine;
-  const lines = eachOf(pairs, (pair, index) => pairOf(pair, index + 1, take));
-  return { call: "all", each: checkRequest("", ""), faults, lines };
-}
 
 export const scrambleRequest = (state: unknown, stream: unknown, length: unknown): ScrambleRequest => ({
   call: "scramble",

@@ -6,10 +6,8 @@ import { optionOf } from "./options.js";
 /** What gives a call up: it rejects with the signal's reason. */
 export type Stoppable = { signal?: AbortSignal | undefined };
 
-/**
- * What is told how far a call is: how much is done, and of how much, null until that is known. What it throws ends the
- * call; of a worker so does a promise that it returns and that rejects.
- */
+/** What is told how far a call is: how much is done, and of how much, null until that is known. What it throws ends the
+ * call; of a worker so does a promise that it returns and that rejects. */
 export type Followed = { onProgress?: ((done: number, all: number | null) => unknown) | undefined };
 
 export type Progress = { done: number; all: number | null };

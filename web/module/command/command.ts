@@ -7,19 +7,18 @@ import { MOST_INPUT } from "../shared/bytes.js";
 import { Engine } from "../engine/engine.js";
 import { NoWebAssembly } from "../shared/faults.js";
 import { InputLines, split } from "./input-lines.js";
-import { SOLUTION } from "../engine/layout.js";
+import { SEARCH_ANSWER, SOLUTION } from "../shared/layout.js";
 import {
-  linesIn, type Answer, type CountReply, type LineFault, type LineReply, type NoValue, type SeenCount, type StartFault,
+  linesIn, type Answer, type LineFault, type LineReply, type NoValue, type Seen, type StartFault,
 } from "../calls/replies.js";
 import { countRequest, runRequest, solveRequest, stepsRequest } from "../calls/requests.js";
 import { Stop } from "./stop.js";
 import { readSome, writeAll } from "./streams.js";
 
 /** Some solutions of a list. */
-export type Piece = SeenCount & { out: Uint8Array };
+export type Piece = Seen & { out: Uint8Array };
 
-/**
- * A search, and the words of the line that it is asked for: if there are none, it is asked for each line of the input.
+/** A search, and the words of the line that it is asked for: if there are none, it is asked for each line of the input.
  */
 export type Search = {
   command: "solve" | "count" | "near";
@@ -71,11 +70,9 @@ function read(buffer: Uint8Array) {
   }
 }
 
-/**
- * Makes a run without a search, and writes its output.
+/** Makes a run without a search, and writes its output.
  * @param first the number of the input's first line
- * @returns how many bytes it wrote
- */
+ * @returns how many bytes it wrote */
 function run(engine: Engine, words: string[], input: Uint8Array, first = 1): number {
   const { status, out, err } = engine.answer(runRequest(words, input, RUN_ROOM)) as Answer;
   write(out);
@@ -83,11 +80,9 @@ function run(engine: Engine, words: string[], input: Uint8Array, first = 1): num
   return out.length;
 }
 
-/**
- * What was found of a line, unless it is at fault.
- * @param number the line's
- */
-function found<Found extends SeenCount>(reply: Found | NoValue, number: number): Found {
+/** What was found of a line, unless it is at fault.
+ * @param number the line's */
+function found<Found extends Seen>(reply: Found | NoValue, number: number): Found {
   if (reply.status === STATUS.fault) throw Stop.ofLine(number, reply as LineFault | StartFault);
   if (!hasValue(reply.status)) throw Stop.outOfMemory();
   return reply as Found;
@@ -95,20 +90,24 @@ function found<Found extends SeenCount>(reply: Found | NoValue, number: number):
 
 /** Writes how many solutions a line has. */
 function writeCount(engine: Engine, { step, limit }: Search, line: Uint8Array, number: number) {
-  const reply = engine.answer(countRequest(step, line, { limit })) as CountReply;
-  const { least, solutions, nodes } = found(reply, number);
+  const reply = engine.answer(countRequest(step, line, { limit })) as Seen | NoValue;
+  const seen = found(reply, number);
+  const [least, solutions, nodes] = [READ.least, READ.solutions, READ.nodes].map((read) => read(seen.answer, seen.at));
   writeText(`length ${solutions === 0 ? "none" : least} solutions ${solutions} nodes ${nodes}\n`);
 }
 
+const READ = SEARCH_ANSWER.read;
+const hasMore = ({ answer, at }: Piece) => READ.more(answer, at) === 1;
+
 /** Writes a piece of a list, and an empty line behind the last one. */
-function writePiece({ out, more }: Piece) {
+function writePiece(piece: Piece) {
+  const { out } = piece;
   pieceRoom.set(out);
   pieceRoom[out.length] = LINE_FEED;
-  write(pieceRoom.subarray(0, more ? out.length : out.length + 1));
+  write(pieceRoom.subarray(0, hasMore(piece) ? out.length : out.length + 1));
 }
 
-/**
- * The moves of the last of some solutions, of which each has a line such as `F B' (2)`, or `(0)` if no move is needed.
+/** The moves of the last of some solutions, of which each has a line such as `F B' (2)`, or `(0)` if no move is needed.
  */
 const lastMoves = (out: Uint8Array) =>
   textIn(out.subarray(out.lastIndexOf(LINE_FEED, out.length - 2) + 1, out.lastIndexOf(BRACKET))).trimEnd();
@@ -117,12 +116,12 @@ const lastMoves = (out: Uint8Array) =>
 function writeSolutions(engine: Engine, { step, limit, slack }: Search, line: Uint8Array, number: number) {
   const request = solveRequest(step, line, { limit, slack, most: MOST_OF_PIECE });
   let piece = found(engine.solutionBytes(request), number);
-  if (piece.solutions === 0) {
+  if (READ.solutions(piece.answer, piece.at) === 0) {
     writeText(`no solution within ${limit} moves\n\n`);
     return;
   }
   writePiece(piece);
-  while (piece.more) {
+  while (hasMore(piece)) {
     piece = found(engine.solutionBytes({ ...request, after: lastMoves(piece.out) }), number);
     writePiece(piece);
   }
@@ -163,10 +162,8 @@ function makeSearch(engine: Engine, search: Search) {
   else new InputLines(read).answer((lines, first) => searchLines(engine, search, lines, first));
 }
 
-/**
- * Does what the words say. If they read lines, they write nothing for an input without any; of the others only no
- * scrambles write nothing.
- */
+/** Does what the words say. If they read lines, they write nothing for an input without any; of the others only no
+ * scrambles write nothing. */
 function obey(engine: Engine, words: string[]) {
   const search = searchOf(engine, words);
   if (search !== undefined) makeSearch(engine, search);

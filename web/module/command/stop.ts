@@ -1,7 +1,7 @@
 // What ends the command before its time: a status, and what is said of it.
 import { MOST_INPUT } from "../shared/bytes.js";
-import { START, type LineFault, type StartFault } from "../calls/replies.js";
-import { STATUS } from "../engine/status.js";
+import { START_FAULT, STATUS } from "../engine/status.js";
+import type { LineFault, StartFault } from "../calls/replies.js";
 
 export class Stop extends Error {
   status: number;
@@ -30,12 +30,11 @@ export class Stop extends Error {
     return new Stop(STATUS.stopped, `nissy: input longer than ${MOST_INPUT} bytes\n`);
   }
 
-  /**
-   * A fault of a line.
-   * @param number the line's
-   */
+  /** A fault of a line.
+   * @param number the line's */
   static ofLine(number: number, fault: LineFault | StartFault) {
-    const said = fault.fault === START ? `: ${fault.start} ${fault.text}` : `, column ${fault.column}: ${fault.text}`;
+    const said = fault.fault === START_FAULT
+      ? `: ${fault.start} ${fault.text}` : `, column ${fault.column}: ${fault.text}`;
     return new Stop(STATUS.fault, `nissy: line ${number}${said}\n`);
   }
 

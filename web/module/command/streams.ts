@@ -8,10 +8,8 @@ const LONGEST_REST = 16;
 
 const nobody = new Int32Array(new SharedArrayBuffer(4));
 
-/**
- * Does what may find that its stream isn't ready, and then tries again: npm and other programs in node hand on streams
- * that don't wait.
- */
+/** Does what may find that its stream isn't ready, and then tries again: npm and other programs in node hand on streams
+ * that don't wait. */
 function whenReady(attempt: () => number): number {
   for (let rest = FIRST_REST; ; rest = Math.min(2 * rest, LONGEST_REST)) {
     try {
@@ -23,10 +21,8 @@ function whenReady(attempt: () => number): number {
   }
 }
 
-/**
- * Reads some next bytes into a buffer, as many as have come and have room there.
- * @returns how many, none at the end
- */
+/** Reads some next bytes into a buffer, as many as have come and have room there.
+ * @returns how many, none at the end */
 export function readSome(stream: number, buffer: Uint8Array): number {
   try {
     return whenReady(() => readSync(stream, buffer, 0, buffer.length, null));

@@ -1,14 +1,14 @@
 // Searches and facts of many lines. Those that the module takes many of in one call go to it in pieces.
-import { bestOf } from "./best-search.js";
-import { FACTS_ANSWER, HEAD, LINES_ANSWER, SEARCH_ANSWER } from "./layout.js";
-import { bound, checked, counted, refusal, seen, solved } from "./line-calls.js";
-import { aligned, roomFor, type InstanceMemory } from "./memory.js";
-import { solvedOverSides } from "./over-sides.js";
-import { countAt, factsAt, headAt, type Head } from "./read-answers.js";
-import { endsAll, type OneReply } from "../calls/replies.js";
+import { endsAll, type AllReply, type AllRequest } from "../calls/many.js";
+import { CHECK_ANSWER, FACTS_ANSWER, LINES_ANSWER, SEARCH_ANSWER } from "../shared/layout.js";
+import { boundsOf, refusal } from "./line-calls.js";
+import { roomFor } from "./memory.js";
 import { STATUS, hasValue } from "./status.js";
-import type { AllRequest, CountRequest, OfEach, Pair } from "../calls/requests.js";
-import type { Exports, Instance } from "./instance.js";
+import { encoded } from "../shared/utf8.js";
+import type { Given, Instance } from "./instance.js";
+import type { OfEach, Pair } from "../calls/requests.js";
+import type { OneReply, Seen } from "../calls/replies.js";
+import type { Struct } from "../shared/structs.js";
 import type { Text } from "../shared/bytes.js";
 
 /** So many lines go to the module at once, of so many bytes unless the first one has more. */
@@ -17,15 +17,18 @@ const MOST_OF_TEXT = 262_144;
 
 const LINE_FEED = 10;
 
+/** The struct of an answer that has all that is told. */
+const STRUCTS: Partial<Record<OfEach["call"], Struct>> = {
+  facts: FACTS_ANSWER, count: SEARCH_ANSWER, check: CHECK_ANSWER,
+};
+
 const hasLineFeed = (line: Text) => (typeof line === "string" ? line.includes("\n") : line.includes(LINE_FEED));
 
 /** The reply to a line of too many bytes. */
 const TOO_LONG = { status: STATUS.stopped } as const;
 
-/**
- * The piece that begins with this line: it has none of too many bytes, and none with a line feed, which would be two to
- * the module.
- */
+/** The piece that begins with this line: it has none of too many bytes, and none with a line feed, which would be
+ * two to the module. */
 function pieceFrom(lines: (Text | null)[], begin: number) {
   const most = Math.min(lines.length, begin + MOST_LINES);
   let end = begin;
@@ -38,105 +41,87 @@ function pieceFrom(lines: (Text | null)[], begin: number) {
   return lines.slice(begin, end) as Text[];
 }
 
-/**
- * Writes lines, each with a line feed.
- * @returns how many bytes they took
- */
-function putLines(memory: InstanceMemory, at: number, lines: Text[]): number {
-  let place = at;
-  let text = "";
-  for (let next = 0; next < lines.length; next += 1) {
-    const line = lines[next];
-    if (typeof line === "string") {
-      text += `${line}\n`;
-      continue;
+/** @returns lines as one text, each with a line feed */
+function joinedLines(lines: Text[]): Text {
+  if (lines.every((line) => typeof line === "string")) return `${lines.join("\n")}\n`;
+  const pieces = lines.map((line) => (typeof line === "string" ? encoded(line) : line));
+  const text = new Uint8Array(pieces.reduce((sum, { length }) => sum + length + 1, 0));
+  let at = 0;
+  for (const piece of pieces) {
+    text.set(piece, at);
+    at += piece.length + 1;
+    text[at - 1] = LINE_FEED;
+  }
+  return text;
+}
+
+/** What is asked of many lines by one call of the module: its name, and what it is given beside lines and answers. */
+type Question = { name: string; first: Given[]; then: Given[] };
+
+/** The replies to lines in turn, up to the first that ends the call. */
+class Replies implements AllReply {
+  count = 0;
+  size: number;
+  values: Uint8Array;
+  others: AllReply["others"] = [];
+  isOver = false;
+  #request: AllRequest;
+
+  constructor(request: AllRequest) {
+    this.#request = request;
+    this.size = STRUCTS[request.each.call]?.bytes ?? 0;
+    this.values = new Uint8Array(this.size * request.lines.length);
+  }
+
+  /** Takes the reply to the next line. */
+  take(reply: OneReply) {
+    this.isOver = Boolean(endsAll(this.#request, reply));
+    const isValue = this.size > 0 && "answer" in reply && !this.isOver;
+    if (isValue) this.values.set((reply as Seen).answer, this.count * this.size);
+    else this.others.push([this.count, reply]);
+    this.count += 1;
+  }
+
+  /** Takes answers that stand one after another, of which each without a value is replied to otherwise. */
+  takeAll(answers: Uint8Array, other: (nth: number) => OneReply) {
+    this.values.set(answers, this.count * this.size);
+    for (let nth = 0; nth * this.size < answers.length && !this.isOver; nth += 1) {
+      if (hasValue(answers[nth * this.size])) this.count += 1;
+      else this.take(other(nth));
     }
-    place += memory.putLine(place, text);
-    place += memory.putLine(place, line);
-    text = "\n";
   }
-  return place + memory.putLine(place, text) - at;
+
+  /** What is sent and read. */
+  get told(): AllReply {
+    const { count, size, values, others } = this;
+    return { count, size, values: count * size < values.length ? values.slice(0, count * size) : values, others };
+  }
 }
 
-/**
- * What is asked of a piece by one call of the module: how many bytes an answer has, how one with a value is read, and
- * the call.
- */
-export type Question = {
-  bytes: number;
-  read: (memory: InstanceMemory, at: number) => OneReply;
-  ask: (exports: Exports, answer: bigint, text: bigint, length: bigint, answers: bigint, room: bigint) => undefined;
-};
-
-const FACTS: Question = {
-  bytes: FACTS_ANSWER.bytes,
-  read: factsAt,
-  ask: (exports, answer, text, length, answers, room) => exports.nissy_facts_lines(answer, text, length, answers, room),
-};
-
-/** @param tables where those of the step are */
-const countsBy = (tables: number, { limit, slack, most, nodes }: CountRequest): Question => ({
-  bytes: SEARCH_ANSWER.bytes,
-  read: countAt,
-  ask: (exports, answer, text, length, answers, room) =>
-    exports.nissy_count_lines(
-      answer, BigInt(tables), text, length, limit, slack, bound(most), bound(nodes), answers, room,
-    ),
-});
-
-/**
- * Asks the module of a piece, and reads its answers.
- * @param step which is searched, if one is
- */
-function answerPiece(instance: Instance, { bytes, read, ask }: Question, lines: Text[], step: string): OneReply[] {
-  const { memory, answer, free } = instance;
-  const text = aligned(free + lines.length * bytes);
-  memory.reach(lines.reduce((end, line) => end + roomFor(line) + roomFor("\n"), text));
-  const length = putLines(memory, text, lines);
-  instance.call((exports) =>
-    ask(exports, BigInt(answer), BigInt(text), BigInt(length), BigInt(free), BigInt(lines.length)));
-  const isWhole = instance.answered(LINES_ANSWER.lines) === lines.length;
+/** Asks the module of a piece. */
+function answerPiece(
+  instance: Instance, { name, first, then }: Question, lines: Text[], step: string, replies: Replies,
+) {
+  const { size } = replies;
+  const given = [...first, { text: joinedLines(lines) }, ...then, { rows: lines.length, of: { bytes: size } }];
+  const places = instance.ask(name, given);
+  const isWhole = instance.answered(LINES_ANSWER.read.lines) === lines.length;
   if (!isWhole) throw new Error("the module took other lines than it was given");
-  const told = lines.map((_, at) => {
-    const place = free + at * bytes;
-    return hasValue(memory.byte(place + HEAD.status)) ? read(memory, place) : headAt(memory, place);
-  });
-  // all of them are read before the module is asked for the words of a fault, which it writes over them
-  return told.map((each, at) =>
-    (hasValue(each.status)
-      ? (each as OneReply)
-      : refusal(instance, each as Head, lines[at], step)));
+  // a copy, since the module is asked for the words of a fault, which it may write over them
+  const answers = instance.memory.copy(places[given.length - 1], lines.length * size);
+  replies.takeAll(answers, (nth) => refusal(instance, lines[nth], step, answers, nth * size));
 }
 
-/** Answers one line. */
-export function answerLine(instance: Instance, request: OfEach): OneReply {
-  switch (request.call) {
-    case "solve":
-      return solved(instance, request);
-    case "count":
-      return counted(instance, request);
-    case "solveSides":
-      return solvedOverSides(instance, request);
-    case "best":
-      return bestOf(instance, request, () => {});
-    case "check":
-      return checked(instance, request);
-    default:
-      return seen(instance, request);
-  }
-}
-
-/**
- * What is asked of many lines at once, or null if each has to be asked by itself: the module has no such call, or the
- * first fault, or the first search that is cut, ends all, so that what is behind it isn't searched.
- */
+/** What is asked of many lines at once, or null if each has to be asked by itself: the module has no such call, or the
+ * first fault, or the first search that is cut, ends all, so that what is behind it isn't searched. */
 function questionOf(instance: Instance, { each, faults }: AllRequest): Question | null {
-  if (each.call === "facts") return FACTS;
+  if (each.call === "facts") return { name: "nissy_facts_lines", first: [], then: [] };
   if (each.call === "best" || each.call === "check") return null;
   // a step that isn't there is told though there may be no line
   const tables = instance.tablesOf(each.step);
   const goesOn = faults === "value" && (each.nodes === Infinity || each.cut === "value");
-  return each.call === "count" && goesOn ? countsBy(tables, each) : null;
+  if (each.call !== "count" || !goesOn) return null;
+  return { name: "nissy_count_lines", first: [BigInt(tables)], then: boundsOf(each) };
 }
 
 /** What is asked of one of many lines. */
@@ -154,29 +139,21 @@ function tooLong(line: Text | Pair | null): OneReply | null {
   return line.solution === null ? { ...TOO_LONG, line: 2 } : null;
 }
 
-/** Answers the next lines, one at least. */
-function answerNext(
-  instance: Instance, { each, lines }: AllRequest, question: Question | null, begin: number,
-): OneReply[] {
-  const piece = question === null ? [] : pieceFrom(lines as (Text | null)[], begin);
-  const line = lines[begin] as Text | Pair;
-  const refused = tooLong(lines[begin]);
-  if (refused !== null) return [refused];
-  if (question === null || piece.length === 0) return [answerLine(instance, askedOfLine(each, line))];
-  return answerPiece(instance, question, piece, "step" in each ? each.step : "");
-}
-
-/** Answers lines in turn, up to the first whose answer ends the call. */
-export function answerAll(instance: Instance, request: AllRequest): OneReply[] {
-  const { lines } = request;
+/** Answers lines in turn, up to the first whose answer ends the call.
+ * @param answer to what is asked of a line by itself */
+export function answerAll(
+  instance: Instance, request: AllRequest, answer: (asked: OfEach) => OneReply,
+): AllReply {
+  const { each, lines } = request;
   const question = questionOf(instance, request);
-  const replies: OneReply[] = [];
-  const isLast = (reply: OneReply) => {
-    replies.push(reply);
-    return endsAll(request, reply);
-  };
-  while (replies.length < lines.length) {
-    if (answerNext(instance, request, question, replies.length).some(isLast)) break;
+  const replies = new Replies(request);
+  while (replies.count < lines.length && !replies.isOver) {
+    const line = lines[replies.count];
+    const piece = question === null ? [] : pieceFrom(lines as (Text | null)[], replies.count);
+    const refused = tooLong(line);
+    if (question !== null && piece.length > 0) {
+      answerPiece(instance, question, piece, "step" in each ? each.step : "", replies);
+    } else replies.take(refused ?? answer(askedOfLine(each, line as Text | Pair)));
   }
-  return replies;
+  return replies.told;
 }

@@ -1,15 +1,11 @@
 // The solutions of a step over both sides of a line, by calls of the module on those of one length.
-import { LONG, SIDES_ANSWER, SIDES_WANTED, WAY_PART } from "./layout.js";
+import { SIDES_ANSWER, SIDES_WANTED, WAY_PART } from "../shared/layout.js";
+import { structOf } from "../shared/structs.js";
 import { refusal } from "./line-calls.js";
-import { aligned, roomFor } from "./memory.js";
-import { headAt } from "./read-answers.js";
 import { STATUS, hasValue } from "./status.js";
+import type { FoundParts, NoValue } from "../calls/replies.js";
 import type { Instance } from "./instance.js";
-import type { NoValue } from "../calls/replies.js";
 import type { SidesRequest } from "../calls/requests.js";
-
-/** The rows as the module has them. */
-export type SeenParts = { status: 0 | 5; parts: Uint8Array; nodes: number };
 
 /** The numbers of the sides that moves may be on. */
 const NUMBERS = { normal: 1, inverse: 2, both: 3 };
@@ -30,7 +26,7 @@ class PartsFound {
     this.nodes += nodes;
   }
 
-  told(status: 0 | 5): SeenParts {
+  told(status: 0 | 5): FoundParts {
     const parts = new Uint8Array(this.count * WAY_PART.bytes);
     let at = 0;
     for (const piece of this.#pieces) {
@@ -41,44 +37,30 @@ class PartsFound {
   }
 }
 
-/**
- * Asks the module for solutions of one length.
+/** Asks the module for solutions of one length.
  * @param piece `passed`: how many are passed over; `rows`: how many have place; `nodes`: at how many positions it may
- * look
- */
+ * look */
 function partsIn(
   instance: Instance, { step, line, sides }: SidesRequest,
   { length, passed, rows, nodes }: { length: number; passed: number; rows: number; nodes: number },
-): SeenParts & { more: boolean } | NoValue {
-  const tables = instance.tablesOf(step);
-  const { memory, answer, free: wanted } = instance;
-  const lineAt = aligned(wanted + SIDES_WANTED.bytes);
-  const room = aligned(lineAt + roomFor(line));
-  memory.reach(room + rows * WAY_PART.bytes);
-  memory.putNumber(wanted + SIDES_WANTED.sides, 1, NUMBERS[sides]);
-  memory.putNumber(wanted + SIDES_WANTED.length, 1, length);
-  memory.putNumber(wanted + SIDES_WANTED.counts, 1, 0);
-  memory.putNumber(wanted + SIDES_WANTED.passed, LONG, passed);
-  memory.putNumber(wanted + SIDES_WANTED.nodes, LONG, Math.min(nodes, Number.MAX_SAFE_INTEGER));
-  const size = memory.putLine(lineAt, line);
-  instance.call(({ nissy_solve_sides: solve }) => solve(
-    BigInt(answer), BigInt(tables), BigInt(lineAt), BigInt(size), BigInt(lineAt), 0n, BigInt(wanted), BigInt(room),
-    BigInt(rows),
-  ));
-  const head = headAt(memory, answer);
-  if (!hasValue(head.status)) return refusal(instance, head, line, step);
+): FoundParts & { more: boolean } | NoValue {
+  const mostNodes = Math.min(nodes, Number.MAX_SAFE_INTEGER);
+  const wanted = structOf(SIDES_WANTED, { sides: NUMBERS[sides], length, counts: 0, passed, mostNodes });
+  const places = instance.ask("nissy_solve_sides", [
+    BigInt(instance.tablesOf(step)), { text: line }, { text: "" }, { struct: wanted }, { rows, of: WAY_PART },
+  ]);
+  const { status } = instance;
+  if (!hasValue(status)) return refusal(instance, line, step);
   return {
-    status: head.status === STATUS.cut ? STATUS.cut : STATUS.done,
-    more: memory.byte(answer + SIDES_ANSWER.more) === 1,
-    parts: memory.copy(room, instance.answered(SIDES_ANSWER.rows) * WAY_PART.bytes),
-    nodes: instance.answered(SIDES_ANSWER.nodes),
+    status: status as 0 | 5,
+    more: instance.answered(SIDES_ANSWER.read.more) === 1,
+    parts: instance.memory.copy(places[4], instance.answered(SIDES_ANSWER.read.rows) * WAY_PART.bytes),
+    nodes: instance.answered(SIDES_ANSWER.read.nodes),
   };
 }
 
-/**
- * Takes the solutions of a length.
- * @returns 5 if it was cut
- */
+/** Takes the solutions of a length.
+ * @returns 5 if it was cut */
 function takeLength(
   instance: Instance, request: SidesRequest, length: number, found: PartsFound,
 ): NoValue | { status: 0 | 5 } {
@@ -95,7 +77,7 @@ function takeLength(
 }
 
 /** The solutions of a step over the sides that are asked for, from the shortest on. */
-export function solvedOverSides(instance: Instance, request: SidesRequest): SeenParts | NoValue {
+export function solvedOverSides(instance: Instance, request: SidesRequest): FoundParts | NoValue {
   const found = new PartsFound();
   let longest = request.limit;
   for (let length = 0; length <= longest; length += 1) {

@@ -1,16 +1,13 @@
 // A run of the program by an instance of the module, made again with more as long as it had too little.
-import { ERROR_ROOM, HEAD, LONG, ROOM, RUN_ANSWER } from "./layout.js";
-import { aligned } from "./memory.js";
+import { ERROR_ROOM, RUN_ANSWER } from "../shared/layout.js";
+import { ROOM, type Instance } from "./instance.js";
 import { STATUS } from "./status.js";
 import { textIn } from "../shared/utf8.js";
 import type { Answer } from "../calls/replies.js";
-import type { Instance } from "./instance.js";
 import type { RunRequest } from "../calls/requests.js";
 
-/**
- * How many bytes are lent for the tables of a run at first: those of any step fit, so that a page takes the same memory
- * from call to call. Longer words take more.
- */
+/** How many bytes are lent for the tables of a run at first: those of any step fit, so that a page takes the same
+ * memory from call to call. Longer words take more. */
 const FIRST_LENT = 3 * 1_048_576;
 const MOST_LENT = 1_024 * 1_048_576;
 
@@ -38,36 +35,21 @@ function withEnough(
 
 const isRefusedMemory = (answer: Answer) => answer.status === STATUS.stopped && textIn(answer.err) === OUT_OF_MEMORY;
 
-/**
- * @param room how many bytes the output may take
- * @param lent how many the tables may take
- */
+/** @param room how many bytes the output may take
+ * @param lent how many the tables may take */
 function runOnce(instance: Instance, { words, input }: RunRequest, room: number, lent: number): Answer {
-  const { memory, answer } = instance;
-  const lending = instance.free;
-  const err = aligned(lending + ROOM.bytes);
-  const block = aligned(err + ERROR_ROOM);
-  const wordsAt = aligned(block + lent);
-  const inputAt = aligned(wordsAt + words.length);
-  const out = aligned(inputAt + input.length);
-  memory.reach(out + room);
-  const wordsLength = memory.putLine(wordsAt, words);
-  const inputLength = memory.putLine(inputAt, input);
-  memory.putRoom(lending, block, lent);
-  instance.call(({ nissy_run: run }) =>
-    run(
-      BigInt(answer), BigInt(lending), BigInt(wordsAt), BigInt(wordsLength), BigInt(inputAt), BigInt(inputLength),
-      BigInt(out), BigInt(room), BigInt(err), BigInt(ERROR_ROOM),
-    ));
-  if (memory.number(lending + ROOM.size, LONG) !== lent) {
+  const { memory } = instance;
+  const given = [{ lent }, { text: words }, { text: input }, { room }, { room: ERROR_ROOM }];
+  const [lending, , , out, err] = instance.ask("nissy_run", given);
+  if (ROOM.read.size(memory.all, lending) !== lent) {
     instance.break();
     throw new Error("the module kept memory that it was lent");
   }
   return {
-    status: memory.byte(answer + HEAD.status),
-    out: memory.copy(out, instance.answered(RUN_ANSWER.outLength)),
-    err: memory.copy(err, instance.answered(RUN_ANSWER.errLength)),
-    full: memory.byte(answer + RUN_ANSWER.outTooSmall) !== 0,
+    status: instance.status,
+    out: memory.copy(out, instance.answered(RUN_ANSWER.read.outLength)),
+    err: memory.copy(err, instance.answered(RUN_ANSWER.read.errLength)),
+    full: instance.answered(RUN_ANSWER.read.outTooSmall) !== 0,
   };
 }
 

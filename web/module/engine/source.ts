@@ -5,10 +5,8 @@ import { NoWebAssembly } from "../shared/faults.js";
 /** What the module can be had from: its bytes, what they are compiled to, or an answer to a request for them. */
 export type ModuleSource = ArrayBuffer | Uint8Array | WebAssembly.Module | Response;
 
-/**
- * The kind of an object by its own name for it, which is the same in each realm: there are as many classes of a name as
- * realms.
- */
+/** The kind of an object by its own name for it, which is the same in each realm: there are as many classes of a
+ * name as realms. */
 const tagOf = (value: unknown) => Object.prototype.toString.call(value).slice("[object ".length, -1);
 
 async function bodyOf(response: Response): Promise<ArrayBuffer> {
@@ -16,10 +14,8 @@ async function bodyOf(response: Response): Promise<ArrayBuffer> {
   return response.arrayBuffer();
 }
 
-/**
- * What there is of the module already, compiled: its bytes are taken before this returns.
- * @returns none if this is no module
- */
+/** What there is of the module already, compiled: its bytes are taken before this returns.
+ * @returns none if this is no module */
 function compiledFrom(given: unknown): Promise<WebAssembly.Module> | undefined {
   if (isBytes(given)) return WebAssembly.compile(new Uint8Array(given));
   switch (tagOf(given)) {

@@ -5,3 +5,6 @@ export const STATUS = { done: 0, fault: 1, usage: 2, stopped: 3, room: 4, cut: 5
 
 /** Whether an answer of this status has a value. */
 export const hasValue = (status: number) => status === STATUS.done || status === STATUS.cut;
+
+/** The number of the fault that a step can't begin at a cube. */
+export const START_FAULT = 6;

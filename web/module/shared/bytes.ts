@@ -23,11 +23,9 @@ const KIND = Object.getOwnPropertyDescriptor(Object.getPrototypeOf(Uint8Array.pr
 
 export const isBytes = (value: unknown): value is Uint8Array => KIND?.call(value) === "Uint8Array";
 
-/**
- * The bytes of a text: those of UTF-8 for a string, and of an array of bytes a copy. Anything else is refused: an
+/** The bytes of a text: those of UTF-8 for a string, and of an array of bytes a copy. Anything else is refused: an
  * object that says of itself how long it is could reach what another caller left in the memory.
- * @param what it is, for the error
- */
+ * @param what it is, for the error */
 export function bytesOf(text: unknown, what: string): Uint8Array {
   if (typeof text === "string") return encoded(text);
   if (!isBytes(text)) throw new TypeError(`${what} is neither a string nor a Uint8Array`);
@@ -35,11 +33,9 @@ export function bytesOf(text: unknown, what: string): Uint8Array {
   return new Uint8Array(text);
 }
 
-/**
- * A line as it is handed on: a short string, or bytes of which nobody else has any. One of too many bytes is null: the
+/** A line as it is handed on: a short string, or bytes of which nobody else has any. One of too many bytes is null: the
  * module isn't given it, since its memory keeps the size that it once had.
- * @param what it is, for the error
- */
+ * @param what it is, for the error */
 export function readableLine(line: unknown, what: string): Text | null {
   const isString = typeof line === "string";
   if (isString && line.length <= SHORT) return line;
@@ -48,10 +44,8 @@ export function readableLine(line: unknown, what: string): Text | null {
   return bytes === null || bytes.length > MOST_INPUT ? null : bytes;
 }
 
-/**
- * The same, but one of too many bytes is refused.
- * @param what it is, for the error
- */
+/** The same, but one of too many bytes is refused.
+ * @param what it is, for the error */
 export function takenLine(line: unknown, what: string): Text {
   const taken = readableLine(line, what);
   if (taken === null) throw new RangeError(`${what} has more bytes than the engine reads`);
@@ -62,10 +56,8 @@ export function takenLine(line: unknown, what: string): Text {
 const OF_APOSTROPHE = 3;
 const LAST_OF_ASCII = 0x7f;
 
-/**
- * Which character of a line stands at a column, from 1: what stands before a fault spells moves, so it can be read.
- * @param column in bytes from 1
- */
+/** Which character of a line stands at a column, from 1: what stands before a fault spells moves, so it can be read.
+ * @param column in bytes from 1 */
 export function characterAt(line: Text, column: number) {
   if (typeof line !== "string") return textIn(line.subarray(0, column - 1)).length + 1;
   let at = 0;
@@ -99,10 +91,8 @@ export function stringOf(value: unknown, what: string): string {
   return value;
 }
 
-/**
- * @param what it is, for the error
- * @returns a whole number from 0 to the most
- */
+/** @param what it is, for the error
+ * @returns a whole number from 0 to the most */
 export function wholeNumber(value: unknown, what: string, most: number): number {
   if (typeof value !== "number") throw new TypeError(`${what} is no number`);
   const isWithin = Number.isSafeInteger(value) && value >= 0 && value <= most;
@@ -110,10 +100,8 @@ export function wholeNumber(value: unknown, what: string, most: number): number 
   return value;
 }
 
-/**
- * @param what it is, for the error
- * @returns a whole number of 64 bits
- */
+/** @param what it is, for the error
+ * @returns a whole number of 64 bits */
 export function wideNumber(value: unknown, what: string): bigint {
   if (typeof value === "number") return BigInt(wholeNumber(value, what, Number.MAX_SAFE_INTEGER));
   if (typeof value !== "bigint") throw new TypeError(`${what} is neither a number nor a bigint`);

@@ -1,8 +1,7 @@
 // What calls throw beside a `TypeError` for a value of another type and a `RangeError` for one out of its range.
 import type { Count, Solution } from "../calls/replies.js";
 
-/**
- * Where a fault is: `column`, in bytes of UTF-8 from 1, and `character`, the same in characters as JavaScript counts
+/** Where a fault is: `column`, in bytes of UTF-8 from 1, and `character`, the same in characters as JavaScript counts
  * them, both null if it isn't at one place; `step`, which can't begin at the line's cube, null if the line can't be
  * read, and `start`, the step that would have to hold before that one; `line`, of many, from 1, null if there was one.
  */
@@ -34,11 +33,9 @@ export class NissyFault extends Error {
   line: number | null;
   part: string;
 
-  /**
-   * @param text what is wrong
+  /** @param text what is wrong
    * @param place null is what isn't given
-   * @param part what the line is called, such as `scramble`: the message says that in place of its number
-   */
+   * @param part what the line is called, such as `scramble`: the message says that in place of its number */
   constructor(
     text: string, { column = null, character = null, step = null, start = null, line = null }: Partial<FaultPlace>,
     part = "",
@@ -54,19 +51,15 @@ export class NissyFault extends Error {
     this.part = part;
   }
 
-  /**
-   * The same in a line of many.
+  /** The same in a line of many.
    * @param line from 1
-   * @param part what the line is called, if not by its number
-   */
+   * @param part what the line is called, if not by its number */
   inLine(line: number, part?: string) {
     return new NissyFault(this.text, { ...this.#place(), line }, part);
   }
 
-  /**
-   * The same of one of many pairs of lines, which have names: the message says the number too.
-   * @param line from 1
-   */
+  /** The same of one of many pairs of lines, which have names: the message says the number too.
+   * @param line from 1 */
   inPair(line: number) {
     const fault = this.inLine(line, this.part);
     fault.message = `line ${line}, ${this.message}`;
@@ -102,11 +95,9 @@ export class SearchCut extends Error {
   found: Solution[] | null;
   line: number | null;
 
-  /**
-   * @param count what it had counted until then
+  /** @param count what it had counted until then
    * @param found the solutions that it had found, with which its list begins; null of a count or of the best
-   * @param line of many, from 1; null if there was one
-   */
+   * @param line of many, from 1; null if there was one */
   constructor(count: Count, found: Solution[] | null, line: number | null = null) {
     const text = `the search was cut after ${count.nodes} nodes`;
     super(line === null ? text : `line ${line}: ${text}`);
@@ -116,19 +107,15 @@ export class SearchCut extends Error {
     this.line = line;
   }
 
-  /**
-   * The same in a line of many.
-   * @param line from 1
-   */
+  /** The same in a line of many.
+   * @param line from 1 */
   inLine(line: number) {
     return new SearchCut(this.count, this.found, line);
   }
 }
 
-/**
- * The cut of several searches together, which tells of none of them.
- * @param nodes at how many positions they looked
- */
+/** The cut of several searches together, which tells of none of them.
+ * @param nodes at how many positions they looked */
 export const cutOfAll = (nodes: number) => new SearchCut({ length: null, solutions: 0, nodes }, null);
 
 /** This host runs no module at all. */

@@ -10,10 +10,8 @@ export const STEPS = Object.freeze([
 /** The name of a step. */
 export type Step = typeof STEPS[number];
 
-/**
- * What calls take as a step: tsc refuses a literal that names none, and a string that it doesn't know is judged by the
- * call.
- */
+/** What calls take as a step: tsc refuses a literal that names none, and a string that it doesn't know is judged by the
+ * call. */
 export type StepName<Name extends string> = Name & (string extends Name ? string : Name extends Step ? string : never);
 
 /** Whether a value is the name of a step. */

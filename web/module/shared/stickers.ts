@@ -8,10 +8,8 @@ export type NetPlace = Readonly<{ row: number; column: number }>;
 /** Where the faces begin in the net, U, R, F, D, L and B. */
 const FACES_IN_NET = [[0, 3], [3, 6], [3, 3], [6, 3], [3, 0], [3, 9]];
 
-/**
- * Where each letter of what `facelets` returns stands in the usual net of 9 rows and 12 columns: U above F; L, F, R and
- * B in a row; D below F.
- */
+/** Where each letter of what `facelets` returns stands in the usual net of 9 rows and 12 columns: U above F; L, F, R
+ * and B in a row; D below F. */
 export const NET: readonly NetPlace[] = Object.freeze(FACES_IN_NET.flatMap(([row, column]) =>
   Array.from({ length: 9 }, (_, at) => Object.freeze({ row: row + Math.floor(at / 3), column: column + (at % 3) }))));
 
@@ -55,12 +53,10 @@ function centresOf(letters: string): string {
   return centres;
 }
 
-/**
- * The stickers of some places: the numbers of their letters in what `facelets` returns, from 0, those of a place in the
- * order of its name. Places are named by the centres, as `facts` names them: give the `letters` of a cube that slices
- * or rotations may have turned.
- * @param letters what `facelets` returns of the cube, else it is an unturned one
- */
+/** The stickers of some places: the numbers of their letters in what `facelets` returns, from 0, those of a place in
+ * the order of its name. Places are named by the centres, as `facts` names them: give the `letters` of a cube that
+ * slices or rotations may have turned.
+ * @param letters what `facelets` returns of the cube, else it is an unturned one */
 export function stickersOf(places: readonly (EdgePlace | CornerPlace)[], letters?: string): number[] {
   const centres = letters === undefined ? FACE_LETTERS : centresOf(letters);
   return places.flatMap((place) => {

@@ -5,23 +5,21 @@ import {
 } from "./attempts.js";
 import { knownParts, type KnownPart } from "./known.js";
 import { checked, rewritten, solvingStep } from "../engine/line-calls.js";
-import { STATUS } from "../engine/status.js";
+import { CHECK_ANSWER } from "../shared/layout.js";
 import { formPlacesOf, type FormPlace } from "./tokens.js";
 import { unitOf, type PlainLine, type TextPlace, type TextPlaces } from "./written.js";
-import type { CheckReply } from "../calls/replies.js";
+import type { OfTwo, Seen } from "../calls/replies.js";
 import type { Instance } from "../engine/instance.js";
 import type { TextInMemory } from "./text-calls.js";
 
 /** Forms of a solution as `formPlaces` tells them, and where they stand in the text. */
 export type FormInText = Pick<FormPlace, "text" | "forms"> & { place: TextPlace };
 
-/**
- * An attempt of a text with what the module says of its scramble and solution, null if it wasn't asked; `place` is that
- * of a fault.
- */
+/** An attempt of a text with what the module says of its scramble and solution, null if it wasn't asked; `place` is
+ * that of a fault. */
 export type SeenAttempt = {
   attempt: Attempt;
-  seen: CheckReply | null;
+  seen: Seen | OfTwo | null;
   place: TextPlace | null;
   forms: FormInText[];
   doubt: AttemptDoubt | null;
@@ -33,7 +31,7 @@ const NO_SOLUTION = "";
 /** Of how many steps the module looks for a part. */
 const MOST_STEPS = 8;
 
-const checkBy = (instance: Instance, scramble: string, solution: string): CheckReply =>
+const checkBy = (instance: Instance, scramble: string, solution: string): Seen | OfTwo =>
   checked(instance, { call: "check", scramble, solution });
 
 /** The first steps of an attempt and its candidates in the text, each once. */
@@ -60,9 +58,11 @@ const formsInText = (solution: PlainLine, places: TextPlaces): FormInText[] =>
 function seenAttempt(instance: Instance, attempt: Attempt, places: TextPlaces): SeenAttempt {
   const { scramble, solution } = attempt;
   const seen = checkBy(instance, scramble.line, solution?.line ?? NO_SOLUTION);
-  if (seen.status === STATUS.done) {
-    const doubt = solution !== null && seen.solved ? null : doubtOf(instance, attempt, places);
-    const forms = solution === null || seen.forms === 0 ? [] : formsInText(solution, places);
+  if ("answer" in seen) {
+    const { solved, forms: formsOf } = CHECK_ANSWER.read;
+    const isSolved = solution !== null && solved(seen.answer, seen.at) === 1;
+    const doubt = isSolved ? null : doubtOf(instance, attempt, places);
+    const forms = solution === null || formsOf(seen.answer, seen.at) === 0 ? [] : formsInText(solution, places);
     return { attempt, seen, place: null, forms, doubt };
   }
   const faulty = solution === null || seen.line === 1 ? scramble : solution;

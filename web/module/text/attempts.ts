@@ -8,7 +8,7 @@ import type { PlainLine, TextPlace, WrittenText } from "./written.js";
 export type AttemptCandidate = { steps: PlainLine[]; solution: PlainLine; note: string };
 
 /** What makes one doubt a line, by the module's numbers, and what does in a check. */
-const REASONS = 
+const REASONS =
   ["", "another scramble", "several solutions", "side", "letters", "small letters", "comment"] as const;
 export const A_PART = "a part";
 /** What else does in a check of solutions of known scrambles. */
@@ -21,13 +21,11 @@ export type AttemptDoubt = {
   place: TextPlace;
 };
 
-/**
- * An attempt at a scramble, each part with its places in the whole text. `name` is what tells the scramble from others,
- * such as `2.`, or empty; so many lines of prose stand `before` the first one; `steps` are the lines of the solution,
- * each of which a comment or a label may describe, and `candidates` the blocks after a blank line. `solution` is the
- * block whose label says so, else the steps in one, and null if it can't be told, or if there is none. `doubt` counts
- * if the solution doesn't solve the scramble, and is null if there is none.
- */
+/** An attempt at a scramble, each part with its places in the whole text. `name` is what tells the scramble from
+ * others, such as `2.`, or empty; so many lines of prose stand `before` the first one; `steps` are the lines of the
+ * solution, each of which a comment or a label may describe, and `candidates` the blocks after a blank line.
+ * `solution` is the block whose label says so, else the steps in one, and null if it can't be told, or if there is
+ * none. `doubt` counts if the solution doesn't solve the scramble, and is null if there is none. */
 export type Attempt = {
   name: string;
   scramble: PlainLine;
@@ -94,10 +92,8 @@ export class AttemptReader {
     return this.#written.part(headEnd, end).replace(/^\/\/\s*/, "");
   }
 
-  /**
-   * What all of some lines have in one, which is the one step if there is no other.
-   * @param which of them are wanted
-   */
+  /** What all of some lines have in one, which is the one step if there is no other.
+   * @param which of them are wanted */
   #inOne(steps: PlainLine[], lines: TextLine[], which: number) {
     return steps.length === 1 ? steps[0] : this.#text.moves(lines, which);
   }

@@ -4,11 +4,9 @@ import { AttemptReader, LINE_KIND, byAttempt, hasScramble, inRuns, type Attempt 
 import { TextInMemory, type TextLine } from "./text-calls.js";
 import type { Instance } from "../engine/instance.js";
 
-/**
- * What stands in a text under a head, or in a block if it has no heads: which of the scrambles it is of, from 0, or
+/** What stands in a text under a head, or in a block if it has no heads: which of the scrambles it is of, from 0, or
  * null if that can't be told; its first unit; and its attempts, of which the first has what stands there without a
- * scramble, and others one of their own.
- */
+ * scramble, and others one of their own. */
 export type KnownPart = { scramble: number | null; begin: number; attempts: Attempt[] };
 
 /** A whole scramble, behind which the module reads lines as steps. */
@@ -86,10 +84,8 @@ class KnownReader {
   }
 }
 
-/**
- * Which scramble each part is of: that whose number its head has, and no other head; if none has one, and there are as
- * many parts as scrambles, each that in its place.
- */
+/** Which scramble each part is of: that whose number its head has, and no other head; if none has one, and there are as
+ * many parts as scrambles, each that in its place. */
 function scramblesOf(names: string[], count: number): (number | null)[] {
   const numbers = names.map(numberOf);
   if (names.length === count && numbers.every((number) => number === "")) return numbers.map((_, at) => at);

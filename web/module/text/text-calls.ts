@@ -1,12 +1,11 @@
 // The calls of the module that read text as solvers write it, which stands in its memory meanwhile.
-import { LONG, PLAIN_ANSWER, TEXT_ANSWER, TEXT_LINE } from "../engine/layout.js";
-import { aligned, type InstanceMemory } from "../engine/memory.js";
+import { PLAIN_ANSWER, TEXT_ANSWER, TEXT_LINE } from "./text-layout.js";
+import { aligned } from "../engine/memory.js";
 import { STATUS } from "../engine/status.js";
 import type { Exports, Instance } from "../engine/instance.js";
 import type { PlainLine, WrittenText } from "./written.js";
 
-/**
- * What the module tells of a line of a text, the `nth` from 0: numbers of its kind and its doubt, and places in bytes.
+/** What the module tells of a line of a text, the `nth` from 0: numbers of its kind and its doubt, and places in bytes.
  */
 export type TextLine = {
   nth: number;
@@ -26,8 +25,7 @@ export type TextLine = {
   doubtAt: number;
 };
 
-/**
- * Calls the module, which writes a line: what each call is handed over first, and rooms for the line and its places.
+/** Calls the module, which writes a line: what each call is handed over first, and rooms for the line and its places.
  */
 export type Writing = (exports: Exports, text: bigint[], rooms: bigint[]) => undefined;
 
@@ -40,27 +38,33 @@ export const MOVES_OF = { scramble: 0, steps: 1, solution: 2 };
 /** The bytes that end a line, two of which may end one together. */
 const LINE_ENDS = [0x0a, 0x0d];
 
+/** How many bytes a place has. */
+const OF_PLACE = 8;
+
 /** So many bytes are written of each of a text at most, and of the end of a line beside brackets around its moves. */
 const MOST_OF_BYTE = 3;
 const OF_LINE = 3;
 
-const textLineAt = (memory: InstanceMemory, at: number, nth: number): TextLine => ({
-  nth,
-  kind: memory.byte(at + TEXT_LINE.kind),
-  isSolution: memory.byte(at + TEXT_LINE.solution) === 1,
-  isHeaded: memory.byte(at + TEXT_LINE.headed) === 1,
-  isLabelled: memory.byte(at + TEXT_LINE.labelled) === 1,
-  doubt: memory.byte(at + TEXT_LINE.doubt),
-  attempt: memory.long(at + TEXT_LINE.attempt),
-  group: memory.long(at + TEXT_LINE.group),
-  begin: memory.long(at + TEXT_LINE.begin),
-  headEnd: memory.long(at + TEXT_LINE.headEnd),
-  labelBegin: memory.long(at + TEXT_LINE.labelBegin),
-  labelEnd: memory.long(at + TEXT_LINE.labelEnd),
-  moves: memory.long(at + TEXT_LINE.moves),
-  end: memory.long(at + TEXT_LINE.end),
-  doubtAt: memory.long(at + TEXT_LINE.doubtAt),
-});
+function textLineAt(bytes: Uint8Array, at: number, nth: number): TextLine {
+  const { read } = TEXT_LINE;
+  return {
+    nth,
+    kind: read.kind(bytes, at),
+    isSolution: read.solution(bytes, at) === 1,
+    isHeaded: read.headed(bytes, at) === 1,
+    isLabelled: read.labelled(bytes, at) === 1,
+    doubt: read.doubt(bytes, at),
+    attempt: read.attempt(bytes, at),
+    group: read.group(bytes, at),
+    begin: read.begin(bytes, at),
+    headEnd: read.headEnd(bytes, at),
+    labelBegin: read.labelBegin(bytes, at),
+    labelEnd: read.labelEnd(bytes, at),
+    moves: read.moves(bytes, at),
+    end: read.end(bytes, at),
+    doubtAt: read.doubtAt(bytes, at),
+  };
+}
 
 /** A text in the memory of an instance, until that is called for anything else. */
 export class TextInMemory {
@@ -81,7 +85,7 @@ export class TextInMemory {
     this.#free = this.#lines;
     this.#room = bytes.length;
     memory.reach(this.#lines);
-    memory.putLine(this.#text, bytes);
+    memory.put(this.#text, bytes);
   }
 
   /** The text in bytes and in units. */
@@ -103,8 +107,8 @@ export class TextInMemory {
     const lines = [];
     for (let nth = 0; nth < count; nth += 1) {
       const at = this.#lines + nth * TEXT_LINE.bytes;
-      const isBlank = memory.byte(at + TEXT_LINE.kind) === BLANK && memory.byte(at + TEXT_LINE.headed) === 0;
-      if (!isBlank) lines.push(textLineAt(memory, at, nth));
+      const line = textLineAt(memory.all, at, nth);
+      if (line.kind !== BLANK || line.isHeaded) lines.push(line);
     }
     return lines;
   }
@@ -115,7 +119,7 @@ export class TextInMemory {
     this.#instance.memory.reach(this.#lines + room * TEXT_LINE.bytes);
     const lines = [BigInt(this.#lines), BigInt(room)];
     this.#instance.call((exports) => exports.nissy_text_lines(...this.#handedOver(), ...lines));
-    return this.#instance.answered(TEXT_ANSWER.lines);
+    return this.#instance.answered(TEXT_ANSWER.read.lines);
   }
 
   /** @returns how many lines the text has at most */
@@ -125,10 +129,8 @@ export class TextInMemory {
     return most;
   }
 
-  /**
-   * The moves of those of some lines that are wanted, once all lines were told; those between them count too.
-   * @param which are wanted, by the module's numbers
-   */
+  /** The moves of those of some lines that are wanted, once all lines were told; those between them count too.
+   * @param which are wanted, by the module's numbers */
   moves(lines: TextLine[], which: number): PlainLine {
     if (lines.length === 0) return this.#written.plain(new Uint8Array(0), [], 0);
     const { nth } = lines[0];
@@ -144,28 +146,27 @@ export class TextInMemory {
 
   /** @returns what the module writes of the text */
   #plainBy(write: Writing): PlainLine {
-    const { memory, answer } = this.#instance;
+    const { memory } = this.#instance;
     const room = [this.#room, MOST_OF_BYTE * this.#room].find((size) => this.#isWritten(write, size)) ?? 0;
-    const length = this.#instance.answered(PLAIN_ANSWER.length);
-    const leftOut = memory.byte(answer + PLAIN_ANSWER.leftOut);
+    const length = this.#instance.answered(PLAIN_ANSWER.read.length);
+    const leftOut = this.#instance.answered(PLAIN_ANSWER.read.leftOut);
     return this.#written.plain(memory.bytes(this.#outOf(room), length), memory.longs(this.#free, length), leftOut);
   }
 
   /** @param room for so many bytes
    * @returns where they are written, behind their places */
   #outOf(room: number): number {
-    return this.#free + LONG * room;
+    return this.#free + OF_PLACE * room;
   }
 
   /** @param room for so many bytes
    * @returns whether it is enough */
   #isWritten(write: Writing, room: number): boolean {
-    const { memory, answer } = this.#instance;
     const out = this.#outOf(room);
-    memory.reach(out + room);
+    this.#instance.memory.reach(out + room);
     const size = BigInt(room);
     const rooms = [BigInt(out), size, BigInt(this.#free), size];
     this.#instance.call((exports) => write(exports, this.#handedOver(), rooms));
-    return memory.byte(answer) === STATUS.done;
+    return this.#instance.status === STATUS.done;
   }
 }

@@ -5,8 +5,7 @@ import { encoded, textIn } from "../shared/utf8.js";
 /** A text as one line: `places` has the place in the text of each of its signs, and `leftOut` names what it hasn't. */
 export type PlainLine = { line: string; places: number[]; leftOut: string[] };
 
-/**
- * Where a fault, a form or a doubt stands in a text: `at` from 0, and its line and the character there, both from 1.
+/** Where a fault, a form or a doubt stands in a text: `at` from 0, and its line and the character there, both from 1.
  */
 export type TextPlace = { at: number; line: number; column: number };
 
@@ -106,10 +105,8 @@ export class TextPlaces {
   }
 }
 
-/**
- * The unit at which a fault or a form of a plain line stands in the text that it is of. What isn't at a sign of the
- * line is at its end.
- */
+/** The unit at which a fault or a form of a plain line stands in the text that it is of. What isn't at a sign of the
+ * line is at its end. */
 export const unitOf = (character: number, { places }: PlainLine) =>
   places[character - 1] ?? (places.length === 0 ? 0 : places[places.length - 1] + 1);
 
@@ -165,11 +162,9 @@ export class WrittenText {
     return this.#text.slice(this.#own(begin), this.#own(end)).trim();
   }
 
-  /**
-   * What the module wrote of the text.
+  /** What the module wrote of the text.
    * @param places of each in the text's bytes
-   * @param leftOut its bits
-   */
+   * @param leftOut its bits */
   plain(bytes: Uint8Array, places: number[], leftOut: number): PlainLine {
     const units: number[] = [];
     for (let at = 0; at < bytes.length; at += 1) {

@@ -1,18 +1,15 @@
 // Many lines in pieces: which of them are asked for next, and what is told of them in the order of the lines.
-import { putValues } from "./packing.js";
-import { endsAll, toldOf, type OneReply } from "../calls/replies.js";
-import type { AllRequest } from "../calls/requests.js";
-import type { BestProgress } from "../engine/best-search.js";
+import { endsAll, putTold, toldOf, type AllRequest, type ReadOne } from "../calls/many.js";
+import type { OneReply } from "../calls/replies.js";
+import type { Progress } from "../calls/signals.js";
 import type { PieceReply } from "./serve.js";
 
 /** The lines of the first pieces, and the most of any. */
 const FIRST_LINES = 16;
 const MOST_LINES = 4_096;
 
-/**
- * A piece that takes fewer milliseconds has more lines follow, one that takes more half as many: so a worker seldom
- * waits for the next one, and none long for the last one of another.
- */
+/** A piece that takes fewer milliseconds has more lines follow, one that takes more half as many: so a worker seldom
+ * waits for the next one, and none long for the last one of another. */
 const SHORT = 10;
 const LONG = 40;
 
@@ -26,7 +23,7 @@ const PIECES = 2;
 /** The pieces of a request. */
 export class Pieces {
   #request: AllRequest;
-  #one: (reply: any) => unknown;
+  #one: ReadOne;
   #workers: number;
   /** Where each piece begins. */ #begins: number[] = [];
   /** What is told of each line. */ #told: unknown[];
@@ -40,21 +37,17 @@ export class Pieces {
   #done = 0;
   #isQuick = false;
 
-  /**
-   * @param workers how many share the pieces
-   * @param one reads a reply
-   */
-  constructor(request: AllRequest, workers: number, one: (reply: any) => unknown) {
+  /** @param workers how many share the pieces
+   * @param one reads a reply */
+  constructor(request: AllRequest, workers: number, one: ReadOne) {
     this.#request = request;
     this.#workers = workers;
     this.#one = one;
     this.#told = new Array(request.lines.length);
   }
 
-  /**
-   * How many pieces a worker has: a second one, if they are quick, to go on with while this thread reads the first
-   * one's answer. Behind a slow one it would wait though another worker may be idle.
-   */
+  /** How many pieces a worker has: a second one, if they are quick, to go on with while this thread reads the first
+   * one's answer. Behind a slow one it would wait though another worker may be idle. */
   get ofEach() {
     return this.#isQuick ? 2 : 1;
   }
@@ -80,10 +73,8 @@ export class Pieces {
     return this.#begins[at + 1] ?? this.#begun;
   }
 
-  /**
-   * Learns from a worker's reply to a piece how many lines the next ones have, and whether any are wanted. Several that
-   * were as long make the next ones shorter once.
-   */
+  /** Learns from a worker's reply to a piece how many lines the next ones have, and whether any are wanted. Several
+   * that were as long make the next ones shorter once. */
   hear(at: number, { others, milliseconds }: PieceReply) {
     if (others.some(([, reply]) => endsAll(this.#request, reply))) this.#wanted = Math.min(this.#wanted, at + 1);
     const lines = this.#endOf(at) - this.#begins[at];
@@ -96,10 +87,10 @@ export class Pieces {
   }
 
   /** Takes what a worker's reply to a piece tells. */
-  take(at: number, { values, others }: PieceReply) {
+  take(at: number, reply: PieceReply) {
     const begin = this.#begins[at];
-    if (values !== null) putValues(this.#told, begin, values);
-    for (const [place, reply] of others) this.#told[begin + place] = this.#read(reply, begin + place);
+    const { each } = this.#request;
+    putTold(this.#told, begin, reply, (seen) => this.#one(seen, each), (other, index) => this.#read(other, index));
     this.#done += this.#endOf(at) - begin;
     this.#isTold[at] = true;
     while (this.#isTold[this.#known]) this.#known += 1;
@@ -132,7 +123,7 @@ export class Pieces {
   }
 
   /** @returns how many lines have their reply */
-  progress(): BestProgress {
+  progress(): Progress {
     return { done: this.#done, all: this.#request.lines.length };
   }
 }

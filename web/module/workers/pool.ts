@@ -1,23 +1,19 @@
 // Several workers that share many lines: these go to them in pieces, and the answers come back in the order of the
 // lines. Another call goes to the worker that has least to do, or to the first one that has nothing to do.
-import { wholeNumber, type Text } from "../shared/bytes.js";
-import { Stopped } from "../shared/faults.js";
-import { Pieces } from "./pieces.js";
-import { bestIn, checkIn, countIn, factsIn, solutionsIn, type Count, type SolutionsOn, type Told } from "../calls/replies.js";
-import {
-  allRequest, bestRequest, countRequest, factsRequest, listRequest, pairsRequest, type AllRequest, type BestRequest,
-  type BestWanted, type Many, type OnFaults, type OnSides, type Sides, type Wanted,
-} from "../calls/requests.js";
-import { Signals, Telling, reasonOf, signalOf, type Followed, type Stoppable } from "../calls/signals.js";
-import { SingleCalls } from "../calls/single-calls.js";
+import { LaterCalls } from "../calls/later-calls.js";
+import { bestIn, type Best, type BestReply } from "../calls/replies.js";
+import { Signals, Telling, reasonOf, signalOf, type Progress } from "../calls/signals.js";
 import { compiled, type ModuleSource } from "../engine/source.js";
 import { STATUS } from "../engine/status.js";
+import { wholeNumber } from "../shared/bytes.js";
+import { Stopped } from "../shared/faults.js";
 import { byRank } from "../shared/ways.js";
+import { Pieces } from "./pieces.js";
 import { WorkerQueue, type NewWorker, type SentModule } from "./worker-queue.js";
-import type { Best, BestProgress, BestReply } from "../engine/best-search.js";
-import type { Check, Facts } from "../shared/facts.js";
+import type { AllRequest, ReadOne } from "../calls/many.js";
+import type { BestRequest, Request } from "../calls/requests.js";
 import type { PieceReply } from "./serve.js";
-import type { StepName } from "../shared/steps.js";
+import type { Row } from "../calls/call-table.js";
 
 /** The most workers of a pool. */
 const MOST_WORKERS = 1_024;
@@ -26,15 +22,13 @@ const MOST_WORKERS = 1_024;
 export type Going = { stop: AbortController; reason: unknown };
 
 /** How far all of some requests are. */
-const sumOf = (each: BestProgress[]): BestProgress => ({
+const sumOf = (each: Progress[]): Progress => ({
   done: each.reduce((sum, { done }) => sum + done, 0),
   all: each.reduce((sum: number | null, { all }) => (sum === null || all === null ? null : sum + all), 0),
 });
 
-/**
- * The axes that each request is for: as many as there are workers, so that each soon knows how many orientations it
- * has. A bound is for each axis by itself.
- */
+/** The axes that each request is for: as many as there are workers, so that each soon knows how many orientations it
+ * has. A bound is for each axis by itself. */
 function sharesOf(workers: number, { axes, nodes }: BestRequest) {
   const shares = nodes === Infinity ? Math.min(workers, axes.length) : axes.length;
   return Array.from({ length: shares }, (_, at) => axes.filter((_, place) => place % shares === at));
@@ -51,10 +45,8 @@ function joinedBest(replies: BestReply[], request: BestRequest): Best {
   return best;
 }
 
-/**
- * Asks a worker of the next pieces that none has, until there are none.
- * @param ways `whole` is called once all is told that is wanted: what is behind a fault isn't waited for
- */
+/** Asks a worker of the next pieces that none has, until there are none.
+ * @param ways `whole` is called once all is told that is wanted: what is behind a fault isn't waited for */
 function workOn(
   queue: WorkerQueue, pieces: Pieces,
   { signal, tell, whole, failed }: {
@@ -84,26 +76,22 @@ function workOn(
   ask();
 }
 
-/**
- * Engines in several workers. What `Nissy` throws, the promises of their calls are rejected with; so is each whose
- * worker ends.
- */
-export class WorkerPool extends SingleCalls {
+/** Engines in several workers. What `Nissy` throws, the promises of their calls are rejected with; so is each whose
+ * worker ends. */
+export class WorkerPool extends LaterCalls<"pool"> {
   #queues: WorkerQueue[];
   #going = new Set<Going>();
   #signals: Signals<Going> = new Signals((going, signal) => this.#giveUp(going, reasonOf(signal)));
 
   /** Engines whose workers are started by the first calls. */
   constructor(workers: number, module: SentModule, newWorker: NewWorker) {
-    super((request, options) => this.#together(options, (signal) => this.#idlest().answer(request, { signal })));
+    super((request, options) => this.#ask(request, options), (...asked) => this.#tell(...asked), true);
     const idle = (queue: WorkerQueue) => this.#takeOver(queue);
     this.#queues = Array.from({ length: workers }, () => new WorkerQueue(module, newWorker, idle));
   }
 
-  /**
-   * Starts engines. Rejects with `NoWebAssembly` if the host runs none, and with `EngineMissing` if the workers can't
-   * be started.
-   */
+  /** Starts engines. Rejects with `NoWebAssembly` if the host runs none, and with `EngineMissing` if the workers can't
+   * be started. */
   static async startBy(
     workers: number, source: ModuleSource | Promise<ModuleSource>, newWorker: NewWorker,
   ): Promise<WorkerPool> {
@@ -130,39 +118,22 @@ export class WorkerPool extends SingleCalls {
     return this.#queues.reduce((least, queue) => (queue.length < least.length ? queue : least));
   }
 
-  async solveAll<Name extends string, Faults extends OnFaults = "throw", On extends Sides | undefined = undefined>(
-    step: StepName<Name>, lines: readonly Text[], options?: Wanted & OnSides<On> & Many<Faults> & Followed & Stoppable,
-  ): Promise<Told<SolutionsOn<On>, Faults>[]> {
-    const request = allRequest(() => listRequest(step, "", options), lines, options);
-    return this.#answerAll(request, options, (reply) => solutionsIn(reply, request.each));
+  /** What a call tells: of many lines, of the best, shared by all, or by the worker that has least to do. */
+  async #tell({ read, one, isFollowed }: Row, request: Request, options: unknown): Promise<unknown> {
+    if (request.call === "all" && one) return this.#tellAll(request, options, one);
+    if (request.call === "best" && isFollowed) return this.#tellBest(request, options);
+    return read(await this.#ask(request, options), request);
   }
 
-  async countAll<Name extends string, Faults extends OnFaults = "throw">(
-    step: StepName<Name>, lines: readonly Text[], options?: Wanted & Many<Faults> & Followed & Stoppable,
-  ): Promise<Told<Count, Faults>[]> {
-    const request = allRequest(() => countRequest(step, "", options), lines, options);
-    return this.#answerAll(request, options, (reply) => countIn(reply, request.each));
+  #ask(request: Request, options: unknown) {
+    return this.#together(options, (signal) => this.#idlest().answer(request, { signal }));
   }
 
-  async factsAll<Faults extends OnFaults = "throw">(
-    lines: readonly Text[], options?: Many<Faults> & Followed & Stoppable,
-  ): Promise<Told<Facts, Faults>[]> {
-    const request = allRequest(() => factsRequest(""), lines, options);
-    return this.#answerAll(request, options, factsIn);
-  }
-
-  async checkAll<Faults extends OnFaults = "throw">(
-    pairs: readonly (readonly [Text, Text])[], options?: Many<Faults> & Followed & Stoppable,
-  ): Promise<Told<Check, Faults>[]> {
-    return this.#answerAll(pairsRequest(pairs, options), options, checkIn);
-  }
-
-  async best(scramble: Text, options?: BestWanted & Followed & Stoppable): Promise<Best> {
-    const whole = bestRequest(scramble, options);
+  async #tellBest(whole: BestRequest, options: unknown): Promise<Best> {
     const requests = sharesOf(this.size, whole).map((axes) => ({ ...whole, axes }));
     const telling = new Telling(options);
-    const progress: BestProgress[] = requests.map(() => ({ done: 0, all: null }));
-    const follow = (at: number) => (told: BestProgress) => {
+    const progress: Progress[] = requests.map(() => ({ done: 0, all: null }));
+    const follow = (at: number) => (told: Progress) => {
       progress[at] = told;
       return telling.tell(sumOf(progress));
     };
@@ -170,13 +141,6 @@ export class WorkerPool extends SingleCalls {
       Promise.all(requests.map((request, at) => this.#queues[at % this.size].answer(request, { signal }, follow(at)))));
     await telling.heard();
     return joinedBest(replies, whole);
-  }
-
-  async bestAll<Faults extends OnFaults = "throw">(
-    scrambles: readonly Text[], options?: BestWanted & Many<Faults> & Followed & Stoppable,
-  ): Promise<Told<Best, Faults>[]> {
-    const request = allRequest(() => bestRequest("", options), scrambles, options);
-    return this.#answerAll(request, options, (reply) => bestIn(reply, request.each));
   }
 
   /** Gives up all calls. */
@@ -190,14 +154,9 @@ export class WorkerPool extends SingleCalls {
     for (const queue of this.#queues) queue.end();
   }
 
-  /**
-   * Asks the workers of many lines, each of the next piece that none has.
-   * @param one reads a reply
-   * @returns what is told in the order of the lines
-   */
-  async #answerAll(
-    request: AllRequest, options: (Followed & Stoppable) | undefined, one: (reply: any) => unknown,
-  ): Promise<any[]> {
+  /** Asks the workers of many lines, each of the next piece that none has.
+   * @returns what is told in the order of the lines */
+  async #tellAll(request: AllRequest, options: unknown, one: ReadOne): Promise<unknown[]> {
     const telling = new Telling(options);
     const pieces = new Pieces(request, this.size, one);
     await this.#together(options, (signal) => new Promise((resolve, failed) => {
@@ -212,7 +171,7 @@ export class WorkerPool extends SingleCalls {
   }
 
   /** Makes the requests of a call, which are given up together, if one of them fails too. */
-  async #together<Value>(options: Stoppable | undefined, ask: (signal: AbortSignal) => Promise<Value>): Promise<Value> {
+  async #together<Value>(options: unknown, ask: (signal: AbortSignal) => Promise<Value>): Promise<Value> {
     const signal = signalOf(options);
     if (signal?.aborted) throw reasonOf(signal);
     const going: Going = { stop: new AbortController(), reason: undefined };

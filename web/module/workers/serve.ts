@@ -1,18 +1,18 @@
 // The engine's side of a worker: the first message brings the module, and each later one is answered.
 import { Engine } from "../engine/engine.js";
-import { packed } from "./packing.js";
-import type { AllRequest, Request } from "../calls/requests.js";
-import type { BestProgress } from "../engine/best-search.js";
-import type { OneReply, Reply } from "../calls/replies.js";
+import type { AllReply } from "../calls/many.js";
+import type { Progress } from "../calls/signals.js";
+import type { Reply } from "../engine/engine.js";
+import type { Request } from "../calls/requests.js";
 
 /** The first message. */
 export type Beginning = { module: WebAssembly.Module | ArrayBuffer | Uint8Array };
 /** Each later one. */
 export type Question = { id: number; request: Request };
 /** And how long the worker took for it. */
-export type PieceReply = ReturnType<typeof packed> & { milliseconds: number };
+export type PieceReply = AllReply & { milliseconds: number };
 /** What comes before some answers. */
-export type Progressed = { id: number; progress: BestProgress };
+export type Progressed = { id: number; progress: Progress };
 export type Answered = { id: number; reply: Reply | PieceReply };
 export type Unanswered = { id: number; error: { name: string; message: string } };
 
@@ -22,14 +22,12 @@ export type Port = {
   postMessage: (message: any, handedOver?: any[]) => void;
 };
 
-/** The buffers of an answer, which needs them no longer here. */
-const buffersOf = (reply: Reply) => ["out", "err", "ways", "parts"]
+/** The buffers of a reply, which needs them no longer here. */
+const buffersOf = (reply: Reply) => ["out", "err", "ways", "parts", "values"]
   .flatMap((name) => (reply as any)[name]?.buffer ?? []);
 
-/**
- * Answers what comes through a port, once the first message has brought the module.
- * @param answer posts the answers to a later message; what it throws is posted as an error
- */
+/** Answers what comes through a port, once the first message has brought the module.
+ * @param answer posts the answers to a later message; what it throws is posted as an error */
 export function serveBy<Started>(
   port: Port, start: (module: any) => Promise<Started>, answer: (started: Started, question: any) => void,
 ) {
@@ -50,23 +48,13 @@ export function serveBy<Started>(
   });
 }
 
-/** What a worker sends of some of a call's lines. */
-function pieceReply(engine: Engine, request: AllRequest): PieceReply {
-  const begun = performance.now();
-  const replies = packed(request, engine.answer(request) as OneReply[]);
-  return { ...replies, milliseconds: performance.now() - begun };
-}
-
-/** Has an engine answer what comes through a port. */
+/** Has an engine answer what comes through a port; of some of a call's lines it says how long they took. */
 export function serve(port: Port) {
   serveBy(port, (module) => Engine.start(module), (engine, { id, request }: Question) => {
-    if (request.call === "all" && request.isPiece) {
-      const reply = pieceReply(engine, request);
-      port.postMessage({ id, reply }, reply.values === null ? [] : [reply.values.numbers]);
-      return;
-    }
-    const tell = (progress: BestProgress) => port.postMessage({ id, progress });
-    const reply = engine.answer(request, tell);
-    port.postMessage({ id, reply }, buffersOf(reply));
+    const begun = performance.now();
+    const reply = engine.answer(request, (progress) => port.postMessage({ id, progress }));
+    const isPiece = request.call === "all" && request.isPiece;
+    const told = isPiece ? { ...reply, milliseconds: performance.now() - begun } : reply;
+    port.postMessage({ id, reply: told }, buffersOf(reply));
   });
 }

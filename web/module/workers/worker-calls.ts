@@ -1,88 +1,37 @@
-// Calls of an engine in a worker as promises, one after another: those that are one request each, and the others.
-import {
-  allOf, bestIn, checkIn, countIn, factsIn, solutionsIn, type Count, type SolutionsOn, type Told,
-} from "../calls/replies.js";
-import {
-  allRequest, bestRequest, countRequest, factsRequest, listRequest, pairsRequest, type BestWanted, type Many,
-  type OnFaults, type OnSides, type Sides, type Wanted,
-} from "../calls/requests.js";
-import { Telling, type Followed, type Stoppable } from "../calls/signals.js";
-import { SingleCalls } from "../calls/single-calls.js";
+// Calls of an engine in a worker as promises, one after another.
+import { LaterCalls } from "../calls/later-calls.js";
+import { Telling } from "../calls/signals.js";
 import { compiled, type ModuleSource } from "../engine/source.js";
 import { WorkerQueue, type NewWorker, type SentModule } from "./worker-queue.js";
-import type { Best } from "../engine/best-search.js";
-import type { Check, Facts } from "../shared/facts.js";
-import type { StepName } from "../shared/steps.js";
-import type { Text } from "../shared/bytes.js";
+import type { Request } from "../calls/requests.js";
+import type { Stoppable } from "../calls/signals.js";
 
-/**
- * The engine in a worker. Its calls are those of `Nissy`, and what these throw, the promises are rejected with. Each
- * may be given up by an `AbortSignal`: the tables of the steps are built anew after a call that ran.
- */
-export class WorkerCalls extends SingleCalls {
+/** The engine in a worker. Its calls are those of `Nissy`, and what these throw, the promises are rejected with. Each
+ * may be given up by an `AbortSignal`: the tables of the steps are built anew after a call that ran. */
+export class WorkerCalls extends LaterCalls<"worker"> {
   #queue: WorkerQueue;
 
   /** An engine whose worker is started by the first call. */
   constructor(module: SentModule, newWorker: NewWorker) {
-    super((request, options) => this.#queue.answer(request, options));
-    this.#queue = new WorkerQueue(module, newWorker);
+    const queue = new WorkerQueue(module, newWorker);
+    const ask = (request: Request, options: unknown) => queue.answer(request, options as Stoppable);
+    super(ask, async (row, request, options) => {
+      if (!row.isFollowed) return row.read(await ask(request, options), request);
+      const telling = new Telling(options);
+      const reply = await queue.answer(request, options as Stoppable, telling.tell);
+      await telling.heard();
+      return row.read(reply, request);
+    }, false);
+    this.#queue = queue;
   }
 
-  /**
-   * Starts an engine. Rejects with `NoWebAssembly` if the host runs none, and with `EngineMissing` if the worker can't
-   * be started.
-   */
+  /** Starts an engine. Rejects with `NoWebAssembly` if the host runs none, and with `EngineMissing` if the worker can't
+   * be started. */
   static async startBy(source: ModuleSource | Promise<ModuleSource>, newWorker: NewWorker): Promise<WorkerCalls> {
     const calls = new this(await compiled(source), newWorker);
     // one that isn't answered means that the worker can't be started
     await calls.steps();
     return calls;
-  }
-
-  async solveAll<Name extends string, Faults extends OnFaults = "throw", On extends Sides | undefined = undefined>(
-    step: StepName<Name>, lines: readonly Text[], options?: Wanted & OnSides<On> & Many<Faults> & Stoppable,
-  ): Promise<Told<SolutionsOn<On>, Faults>[]> {
-    const request = allRequest(() => listRequest(step, "", options), lines, options);
-    const replies = await this.#queue.answer(request, options);
-    return allOf(replies, request, (reply: any) => solutionsIn(reply, request.each));
-  }
-
-  async countAll<Name extends string, Faults extends OnFaults = "throw">(
-    step: StepName<Name>, lines: readonly Text[], options?: Wanted & Many<Faults> & Stoppable,
-  ): Promise<Told<Count, Faults>[]> {
-    const request = allRequest(() => countRequest(step, "", options), lines, options);
-    const replies = await this.#queue.answer(request, options);
-    return allOf(replies, request, (reply: any) => countIn(reply, request.each));
-  }
-
-  async factsAll<Faults extends OnFaults = "throw">(
-    lines: readonly Text[], options?: Many<Faults> & Stoppable,
-  ): Promise<Told<Facts, Faults>[]> {
-    const request = allRequest(() => factsRequest(""), lines, options);
-    return allOf(await this.#queue.answer(request, options), request, factsIn);
-  }
-
-  async checkAll<Faults extends OnFaults = "throw">(
-    pairs: readonly (readonly [Text, Text])[], options?: Many<Faults> & Stoppable,
-  ): Promise<Told<Check, Faults>[]> {
-    const request = pairsRequest(pairs, options);
-    return allOf(await this.#queue.answer(request, options), request, checkIn);
-  }
-
-  async best(scramble: Text, options?: BestWanted & Followed & Stoppable): Promise<Best> {
-    const request = bestRequest(scramble, options);
-    const telling = new Telling(options);
-    const reply = await this.#queue.answer(request, options, telling.tell);
-    await telling.heard();
-    return bestIn(reply, request);
-  }
-
-  async bestAll<Faults extends OnFaults = "throw">(
-    scrambles: readonly Text[], options?: BestWanted & Many<Faults> & Stoppable,
-  ): Promise<Told<Best, Faults>[]> {
-    const request = allRequest(() => bestRequest("", options), scrambles, options);
-    const replies = await this.#queue.answer(request, options);
-    return allOf(replies, request, (reply: any) => bestIn(reply, request.each));
   }
 
   /** Gives up the calls that wait for their turn; one that runs goes on. */

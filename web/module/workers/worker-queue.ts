@@ -43,10 +43,8 @@ const followsAtOnce = ({ signal }: Call, next: Call) =>
 const errorOf = ({ name, message }: { name: string; message: string }): Error =>
   (name === "RangeError" ? new RangeError(message) : new EngineMissing(message));
 
-/**
- * What starts a worker of a browser.
- * @param place where its script is looked for
- */
+/** What starts a worker of a browser.
+ * @param place where its script is looked for */
 export function listenedTo(made: () => Worker, place?: () => string): NewWorker {
   return (took, failed) => {
     const worker = made();
@@ -72,10 +70,8 @@ export class WorkerQueue {
   #next = 0;
   #idle: (queue: WorkerQueue) => void;
 
-  /**
-   * A worker that is started by the first request.
-   * @param idle is told when all requests are answered
-   */
+  /** A worker that is started by the first request.
+   * @param idle is told when all requests are answered */
   constructor(module: SentModule, newWorker: NewWorker, idle: (queue: WorkerQueue) => void = () => {}) {
     this.#module = module;
     this.#newWorker = newWorker;
@@ -124,10 +120,8 @@ export class WorkerQueue {
     });
   }
 
-  /**
-   * Has the first request that waits for another worker, if there is one that isn't a piece.
-   * @returns whether there was
-   */
+  /** Has the first request that waits for another worker, if there is one that isn't a piece.
+   * @returns whether there was */
   takeOver(other: WorkerQueue): boolean {
     const at = other.#waiting.findIndex(({ request }) => !isPiece(request));
     if (at < 0) return false;

@@ -19,28 +19,22 @@ const IDLE_FOR = 600;
 /** How many axes are looked at together. */
 const mostTogether = () => Math.min(ORIENTATIONS.length, Math.max(1, (navigator.hardwareConcurrency || 2) >> 1));
 
+/** `turned`: once it goes on, or no more; `looked`: how many axes are looked through. */
+type FurtherActs = {
+  turned: () => void;
+  looked: (done: number, all: number) => void;
+  found: (progress: Further) => void;
+  ended: (fault: Error | null) => void;
+};
+
 export class FurtherSearch {
   #finders: Calls[];
-  #acts: {
-    turned: () => void;
-    looked: (done: number, all: number) => void;
-    found: (progress: Further) => void;
-    ended: (fault: Error | null) => void;
-  };
+  #acts: FurtherActs;
   #timer = 0;
   #search: Search | null = null;
 
-  /** @param finders one an axis
-   * @param acts `turned`: once it goes on, or no more; `looked`: how many axes are looked through */
-  constructor(
-    finders: Calls[],
-    acts: {
-      turned: () => void;
-      looked: (done: number, all: number) => void;
-      found: (progress: Further) => void;
-      ended: (fault: Error | null) => void;
-    },
-  ) {
+  /** @param finders one an axis */
+  constructor(finders: Calls[], acts: FurtherActs) {
     this.#finders = finders;
     this.#acts = acts;
     document.addEventListener("visibilitychange", () => (document.hidden ? this.#pause() : this.#wait()));

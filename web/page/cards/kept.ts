@@ -53,7 +53,8 @@ const orientationOf = ({ needs }: StepOnAxis) => present(needs);
 function stagesOfReduced(walk: KeptWalk): Stage[] {
   const { parts, facts } = walk;
   const reductions = REDUCTIONS.filter(({ name }) => lastOf(walk.reached).includes(name));
-  const ways = reductions.map((step) => ({ step, from: heldFrom(walk, orientationOf(step)), to: heldFrom(walk, step.name) }));
+  const ways = reductions.map((step) => (
+    { step, from: heldFrom(walk, orientationOf(step)), to: heldFrom(walk, step.name) }));
   const [{ from, to }] = ways.sort((one, other) => one.to - other.to || one.from - other.from);
   const first = ways.filter((way) => way.from === from && way.to === to).map(({ step }) => step);
   // one that is reached together with its orientation has no case
@@ -96,9 +97,11 @@ function stepOf(parts: Part[], walk: KeptWalk | null) {
 /** A candidate with its walk, if that is known, and its place. */
 type Shown = { candidate: Candidate; walk: KeptWalk | null; at: number };
 
+type KeptActs = { goOn: (parts: Part[], list: List | null) => void; change: (kept: Candidate[]) => void };
+
 export class KeptCandidates {
   #calls: Calls;
-  #acts: { goOn: (parts: Part[], list: List | null) => void; change: (kept: Candidate[]) => void };
+  #acts: KeptActs;
   #candidates: Candidate[] = [];
   #walks: KeptWalk[] = [];
   /** What was kept before some were taken away, as long as nothing else changed. */
@@ -110,9 +113,7 @@ export class KeptCandidates {
   #way = new WayTo(part("bar-kept"), part("kept"), part("kept-heading"));
 
   /** @param calls of its own */
-  constructor(
-    calls: Calls, acts: { goOn: (parts: Part[], list: List | null) => void; change: (kept: Candidate[]) => void },
-  ) {
+  constructor(calls: Calls, acts: KeptActs) {
     this.#calls = calls;
     this.#acts = acts;
     part("copy-kept").addEventListener("click", (event) => copy(this.#text(), event.currentTarget));

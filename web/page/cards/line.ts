@@ -4,7 +4,9 @@ import { Stopped } from "../../module/shared/faults.js";
 import { thrownError, lastOf } from "../shared/certain.js";
 import { copy, fmcOf, setUps } from "../shared/copying.js";
 import { announce, button, counted, element, inner, part, spoken, tell, type PageElement } from "../shared/element.js";
-import { bracketed, isReduced, lastSideOf, movesOn, newlyReached, otherSide, statesOf, turnsOfStep } from "../shared/offered-steps.js";
+import {
+  bracketed, isReduced, lastSideOf, movesOn, newlyReached, otherSide, statesOf, turnsOfStep,
+} from "../shared/offered-steps.js";
 import { showFault, wordsOfLeftOut } from "../shared/words.js";
 import type { Calls } from "../shared/questions.js";
 import type { Moves as Part, Side } from "../../module/shared/sides.js";
@@ -63,10 +65,13 @@ function takeLines(field: PageElement, reader: Reader) {
   });
 }
 
+/** `change` says whether it leads back to a row. */
+type LineActs = { change: (change: { parts?: Part[]; side?: Side }) => boolean; star: () => void };
+
 export class LineSoFar {
   #calls: Calls;
   #reader: Reader;
-  #acts: { change: (change: { parts?: Part[]; side?: Side }) => boolean; star: () => void };
+  #acts: LineActs;
   #parts: Part[] = [];
   /** what each step reached as long as nothing took it away */
   #reached: string[][] = [];
@@ -76,11 +81,7 @@ export class LineSoFar {
   #words: Record<"moves" | "reaches" | "lost" | "count", PageElement>[] = [];
   #side: Side = "normal";
 
-  /** @param acts `change` says whether it leads back to a row */
-  constructor(
-    calls: Calls, reader: Reader,
-    acts: { change: (change: { parts?: Part[]; side?: Side }) => boolean; star: () => void },
-  ) {
+  constructor(calls: Calls, reader: Reader, acts: LineActs) {
     this.#calls = calls;
     this.#reader = reader;
     this.#acts = acts;
@@ -173,13 +174,8 @@ export class LineSoFar {
 
   /** @param texts `note`: on what is joined */
   #showWhole(
-    { line, joined, total, note = "", fmc = "" }: {
-      line: string;
-      joined: string;
-      total: string;
-      note?: string;
-      fmc?: string;
-    },
+    { line, joined, total, note = "", fmc = "" }:
+      { line: string; joined: string; total: string; note?: string; fmc?: string },
   ) {
     const texts = { bracketed: line, joined, total, fmc, "bar-line": line || NO_MOVES, "bar-total": total };
     for (const [name, text] of Object.entries(texts)) part(name).textContent = text;

@@ -8,7 +8,9 @@ import {
 } from "./filters.js";
 import { GREATEST_SLACK } from "../state/limits.js";
 import { addRows, named, roveWithin, showRows, starButton, takeButton, takeNamed } from "../shared/rows.js";
-import { axisName, bracketed, reductionsAfter, sizeOfCase, stateOf, stepNamed, titleOf } from "../shared/offered-steps.js";
+import {
+  axisName, bracketed, reductionsAfter, sizeOfCase, stateOf, stepNamed, titleOf,
+} from "../shared/offered-steps.js";
 import { sidesOfTwins, withTwins } from "../shared/twins.js";
 import { isNarrow } from "../shared/view.js";
 import type { Calls } from "../shared/questions.js";
@@ -43,16 +45,19 @@ function noteOfList({ entries, all, left, whole }: Rows, matching: number, shown
   return sentences.join(" ");
 }
 
+/** What is done from a list. */
+type ListActs = {
+  take: (parts: Part[], key: string) => void;
+  change: (change: Partial<List> | null) => void;
+  star: (button: HTMLElement, parts: Part[]) => void;
+  isStarred: (parts: Part[]) => boolean;
+  isSeen: (parts: Part[]) => boolean;
+  copy: (text: string, button: HTMLElement) => void;
+};
+
 export class SolutionList {
   #calls: Calls;
-  #acts: {
-    take: (parts: Part[], key: string) => void;
-    change: (change: Partial<List> | null) => void;
-    star: (button: HTMLElement, parts: Part[]) => void;
-    isStarred: (parts: Part[]) => boolean;
-    isSeen: (parts: Part[]) => boolean;
-    copy: (text: string, button: HTMLElement) => void;
-  };
+  #acts: ListActs;
   #name = "";
   #list: List | null = null;
   #rows: Rows | null = null;
@@ -68,17 +73,7 @@ export class SolutionList {
   #groups = part("solutions-groups");
 
   /** @param calls of its own */
-  constructor(
-    calls: Calls,
-    acts: {
-      take: (parts: Part[], key: string) => void;
-      change: (change: Partial<List> | null) => void;
-      star: (button: HTMLElement, parts: Part[]) => void;
-      isStarred: (parts: Part[]) => boolean;
-      isSeen: (parts: Part[]) => boolean;
-      copy: (text: string, button: HTMLElement) => void;
-    },
-  ) {
+  constructor(calls: Calls, acts: ListActs) {
     this.#calls = calls;
     this.#acts = acts;
     offerMoves("slack", GREATEST_SLACK);

@@ -2,7 +2,9 @@
 // the least length, all moves, and how many solutions there are; what is reached; and the looks, in a table of theirs.
 import { lastOf } from "../shared/certain.js";
 import { counted, element, part } from "../shared/element.js";
-import { SIDES, caseOfStep, inGroups, isReduced, openSteps, stateOf, statesOf, titleOf } from "../shared/offered-steps.js";
+import {
+  SIDES, caseOfStep, inGroups, isReduced, openSteps, stateOf, statesOf, titleOf,
+} from "../shared/offered-steps.js";
 import type { Calls } from "../shared/questions.js";
 import type { Counted, Examined, Offer, Unexamined } from "../answers/examine.js";
 import type { Facts } from "../../module/shared/facts.js";

@@ -37,10 +37,8 @@ export const isOnAxis = (name: string): name is Step => STEPS_ON_AXES.some((step
 /** @returns the step of a name that one of these has */
 export const stepNamed = (name: string): StepOnAxis => present(STEPS_ON_AXES.find((step) => step.name === name));
 
-/**
- * The reductions that may follow an orientation.
- * @param orientation its name
- */
+/** The reductions that may follow an orientation.
+ * @param orientation its name */
 export const reductionsAfter = (orientation: string) => REDUCTIONS.filter(({ needs }) => needs === orientation);
 
 /** The axis whose quarter turns end a step's solutions. */

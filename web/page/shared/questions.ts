@@ -115,11 +115,13 @@ export class Calls {
 /** How long nothing is asked before it begins. */
 const REST = 150;
 
+type Workers = { calls: Calls; byHand: Calls; list: Calls; finders: Calls[] };
+
 export class Readiness {
-  #workers: { calls: Calls; byHand: Calls; list: Calls; finders: Calls[] };
+  #workers: Workers;
   #timer = 0;
 
-  constructor(workers: { calls: Calls; byHand: Calls; list: Calls; finders: Calls[] }) {
+  constructor(workers: Workers) {
     this.#workers = workers;
   }
 

@@ -8,10 +8,8 @@ import type { Solution } from "../../module/calls/replies.js";
 /** A solution, with the last moves of its twins. */
 export type Twins = Solution & { others: string[] };
 
-/**
- * Where the last moves of a line begin that turn one axis alone.
- * @param faces the axis's
- */
+/** Where the last moves of a line begin that turn one axis alone.
+ * @param faces the axis's */
 function startOfLast(moves: string, faces: string) {
   let start = moves.length;
   while (start > 0) {
@@ -25,42 +23,32 @@ function startOfLast(moves: string, faces: string) {
 /** @param step its name */
 const startOfTwin = (moves: string, step: string) => startOfLast(moves, FACES_OF[lastAxisOf(stepNamed(step))]);
 
-/**
- * What twins have in common: the moves, without the direction of their last quarter turns.
- * @param step its name
- */
+/** What twins have in common: the moves, without the direction of their last quarter turns.
+ * @param step its name */
 function twinKey(moves: string, step: string) {
   const start = startOfTwin(moves, step);
   return moves.slice(0, start) + moves.slice(start).replaceAll("'", "");
 }
 
-/**
- * The last turns of some moves, in whose direction twins differ.
- * @param step its name
- */
+/** The last turns of some moves, in whose direction twins differ.
+ * @param step its name */
 const lastTurnsOf = (moves: string, step: string) => moves.slice(startOfTwin(moves, step));
 
-/**
- * Some moves, and those of their twins.
- * @param others the last turns of the twins
- */
+/** Some moves, and those of their twins.
+ * @param others the last turns of the twins */
 export function withTwins(moves: string, others: readonly string[]) {
   const own = moves.split(" ");
   return [moves, ...others.map((end) => [...own.slice(0, own.length - end.split(" ").length), end].join(" "))];
 }
 
-/**
- * The moves on each side of a step, and of its twins.
- * @param twins their last turns on both sides
- */
+/** The moves on each side of a step, and of its twins.
+ * @param twins their last turns on both sides */
 export const sidesOfTwins = (part: Moves, twins: readonly string[]) =>
   SIDES.flatMap((side, at) => (part[side] === "" ? []
   : withTwins(part[side], [...new Set(twins.flatMap((twin) => endsOnSides(twin)[at] || []))])));
 
-/**
- * Puts twins together, each under the first of them.
- * @param step its name
- */
+/** Puts twins together, each under the first of them.
+ * @param step its name */
 export function mergeTwins<Each extends Solution>(solutions: readonly Each[], step: string): (Each & Twins)[] {
   const merged = new Map<string, Each & Twins>();
   for (const each of solutions) {
@@ -96,10 +84,8 @@ export function mergeTwinsOfBoth(solutions: readonly Entry[]): Entry[] {
 /** Whether two turns are of one axis, so that they may change places. */
 const areOfOneAxis = (one: string, other: string) => facesOnAxisOf(one).includes(other);
 
-/**
- * The beginnings of a line that have fewer moves, but at least so many; of two turns of opposite faces, which may
- * change places, each may come first.
- */
+/** The beginnings of a line that have fewer moves, but at least so many; of two turns of opposite faces, which may
+ * change places, each may come first. */
 function* beginningsOf(moves: string, length: number, least: number) {
   let end = moves.length;
   for (let count = length; count > least; count -= 1) {
@@ -112,19 +98,15 @@ function* beginningsOf(moves: string, length: number, least: number) {
   }
 }
 
-/**
- * The moves of all solutions if some are longer than others: else none begins with another one.
- * @param solutions all, from the shortest on
- */
+/** The moves of all solutions if some are longer than others: else none begins with another one.
+ * @param solutions all, from the shortest on */
 function mayBegin(solutions: readonly Solution[]): ReadonlySet<string> {
   const isEven = solutions[0]?.length === solutions[solutions.length - 1]?.length;
   return new Set(isEven ? [] : solutions.map(({ moves }) => moves));
 }
 
-/**
- * What tells of each of some solutions with which shorter ones it begins, the longest first.
- * @param solutions all, from the shortest on
- */
+/** What tells of each of some solutions with which shorter ones it begins, the longest first.
+ * @param solutions all, from the shortest on */
 function shorterAmong(solutions: readonly Solution[]): (solution: Solution) => readonly string[] {
   const known = mayBegin(solutions);
   const least = solutions[0]?.length ?? 0;
@@ -132,10 +114,8 @@ function shorterAmong(solutions: readonly Solution[]): (solution: Solution) => r
   return ({ moves, length }) => [...beginningsOf(moves, length, least)].filter((each) => known.has(each));
 }
 
-/**
- * The solutions in which the step isn't reached before the last move.
- * @param solutions all, from the shortest on
- */
+/** The solutions in which the step isn't reached before the last move.
+ * @param solutions all, from the shortest on */
 export function withoutEarlier<Each extends Solution>(solutions: Each[]) {
   const shorterOf = shorterAmong(solutions);
   return solutions.filter((each) => shorterOf(each).length === 0);
