@@ -5,7 +5,7 @@ from tally import Tally
 # as the browser does it, over all that the field has
 PASTE = """const field = part('scramble'); field.focus(); field.select(); field.dispatchEvent(new ClipboardEvent('paste'));
     field.value = arguments[0]; field.dispatchEvent(new InputEvent('input', { inputType: 'insertFromPaste' }))"""
-NAMES, PRESSED, KEPT = "#attempts button", "#attempts [aria-pressed=true]", "#kept-list .step .moves"
+CHIPS, SHOWN, KEPT = "#desk-chips a", "#desk-chips [aria-current]", "#kept-list .step .moves"
 NOTES = "return all('#kept-list .note-field').map((each) => each.value)"
 # texts of one attempt: the scramble, the line so far, what is kept, and what is said to be left out
 ONE: tuple[tuple[str, str, str, list[str], str], ...] = (("R U F\n\nD L\n", "R U F", "D L", ["D L"], ""),
@@ -21,74 +21,83 @@ DOUBTS: tuple[tuple[str, str, str, str, str, int], ...] = (
     ("R U F\n\nEO: D\n\nDR: L\n\nD L B", "R U F", "", "of several solutions none is said to be the one that counts", "D", 11),
     ("R' U' F D R' U' F R U", "R' U' F D R' U' F R U", "", "a whole scramble begins here, and more follows it", "R", 0))
 SHEET = "Hello!\nScramble 1 of 3\nR U F\nD // EO\n\nL2\n// a note\n\nScramble 2 of 3\nF' L2, U\nScramble 3 of 3\nB2 R q\n"
-SHEET_NAMES = [f"Scramble {number} of 3" for number in (1, 2, 3)]
-LEFT = "Left out: 2 other scrambles{}."
 
 
-def nth(number: int) -> str:
-    """The button of an attempt, from 1 on."""
-    return f"{NAMES}:nth-child({number})"
+def chip(number: int) -> str:
+    """The link to a scramble, from 1 on."""
+    return f"{CHIPS}:nth-child({number})"
+
+
+def clear(browser: Browser) -> None:
+    """Opens the page as one who was never here."""
+    browser.open()
+    browser.script("localStorage.clear()")
+    browser.open()
 
 
 def reads_one(tally: Tally, browser: Browser) -> None:
     """A scramble with a solution below it, one with a name, a solution beside the steps, a label before it."""
     for text, scramble, line, kept, said in ONE:
-        browser.walk(tally, f"{text!r}", ("open", {}), ("script", PASTE, text, {}), ("comes", "bracketed", line, {}),
-            ("comes", KEPT, kept, {"scramble=": scramble, "scramble-read": said, "scramble-fault": "", "attempts?": False}))
+        clear(browser)
+        browser.walk(tally, f"{text!r}", ("script", PASTE, text, {}), ("comes", "bracketed", line, {}),
+            ("comes", KEPT, kept, {"scramble=": scramble, "scramble-read": said, "scramble-fault": ""}))
 
 
 def doubts(tally: Tally, browser: Browser) -> None:
     """A text that may be meant otherwise than it is read: why is said, with the place marked, until anything is changed, and not beside a fault."""
     for text, scramble, line, said, sign, before in DOUBTS:
-        browser.walk(tally, f"{text!r}", ("open", {"scramble-doubt?": False}), ("script", PASTE, text, {}),
+        clear(browser)
+        browser.walk(tally, f"{text!r}", ("script", PASTE, text, {}),
             ("comes", "#scramble-doubt p", [f"In doubt: {said}."], {"#scramble-doubt mark": [sign], "scramble=": scramble, "bracketed": line}))
         shown = browser.texts("#scramble-doubt pre")[0].split("\n")
         tally.equal(f"the place of the doubt of {text!r}", (shown[1].index("^"), shown[0][before]), (before, sign))
         browser.walk(tally, "it goes away", ("fill", "scramble", "R U", {"scramble-doubt?": False}), ("fill", "scramble", "r q", {"scramble-doubt?": False}))
     small = ["In doubt: “r” is read as a wide turn."]
-    browser.walk(tally, "a scramble in small letters", ("open", {}), ("fill", "scramble", "r u f", {"#scramble-doubt p": small}),
+    clear(browser)
+    browser.walk(tally, "a scramble in small letters",  ("fill", "scramble", "r u f", {"#scramble-doubt p": small}),
         ("submit", "own", "F", {}), ("comes", "steps", 1, {"scramble-doubt?": False}))
-    browser.walk(tally, "a solution that solves", ("open", {}), ("script", PASTE, "r u f\n\nf' u' r'", {}),
+    clear(browser)
+    browser.walk(tally, "a solution that solves", ("script", PASTE, "r u f\n\nf' u' r'", {}),
         ("comes", "steps", 1, {"scramble-doubt?": False}))
 
 
 def chooses(tally: Tally, browser: Browser) -> None:
-    """Of several attempts the first is read, and a button leads to each as if it alone had been pasted, until another text is read; so does Back."""
-    first = {"scramble=": "R U F", "bracketed": "D", KEPT: ["L2"], NAMES: SHEET_NAMES, PRESSED: SHEET_NAMES[:1]}
-    second = {"scramble=": "F' L2 U", "bracketed": "", "kept": 0, NAMES: SHEET_NAMES, PRESSED: SHEET_NAMES[1:2]}
+    """Of several attempts the first is read, and the others go onto the desk: each is read there as if it alone had been pasted; so does Back."""
+    first = {"scramble=": "R U F", "bracketed": "D", KEPT: ["L2"], SHOWN: ["1 \u26051"]}
+    second = {"scramble=": "F' L2 U", "bracketed": "", "kept": 0, SHOWN: ["2"]}
     for width in (1280, 360):
         browser.resize(width, 900, width < 400)
-        browser.walk(tally, f"{width}: a sheet", ("open", {"attempts?": False}), ("script", PASTE, SHEET, {}),
-            ("comes", "kept", 1, first | {"scramble-read": "Left out: 1 line before the scramble, 2 other scrambles."}),
-            ("act", nth(2), second | {"scramble-read": LEFT.format(", commas"), "left-words": "1 kept line was left.", "scramble?": True}),
-            ("act", nth(3), {"#scramble-fault p": ["“q” is no move."], "#scramble-marks mark": ["q"], PRESSED: SHEET_NAMES[2:]}))
+        clear(browser)
+        browser.walk(tally, f"{width}: a sheet", ("script", PASTE, SHEET, {"desk?": True}),
+            ("comes", "kept", 1, first | {"scramble-read": "Left out: 1 line before the scramble."}),
+            ("act", chip(2), second | {"scramble?": width > 400}),
+            ("act", chip(3), {"#scramble-fault p": ["\u201cq\u201d is no move."], "#scramble-marks mark": ["q"], SHOWN: ["3"]}))
         # what is mended stays beside the others
-        browser.walk(tally, f"{width}: mended", ("fill", "scramble", "B2 R D", {"scramble-read": LEFT.format(""), PRESSED: SHEET_NAMES[2:]}),
-            ("script", "history.back()", {}), ("comes", "scramble=", "F' L2 U", second | {"scramble-read": LEFT.format("")}),
-            ("act", nth(3), {"scramble=": "B2 R D"}),
-            ("act", nth(1), {}), ("comes", "kept", 1, first))
-        browser.walk(tally, f"{width}: another scramble, and back", ("act", "#random", {NAMES: SHEET_NAMES, PRESSED: [], "scramble-read": ""}),
-            ("script", "history.back()", {}), ("comes", "bracketed", "D", first), ("fill", "scramble", "", {PRESSED: SHEET_NAMES[:1]}),
-            ("fill", "scramble", " ", {}), ("act", nth(1), {}), ("comes", "scramble=", "R U F", first),
-            ("script", PASTE, "U2 F", {"attempts?": False, "scramble-read": "", "scramble-fault": ""}))
-    fits = "return document.documentElement.scrollWidth"
-    browser.walk(tally, "names", ("open", {}), ("script", PASTE, f"Scramble {'1' * 300}: R\nScramble: U\nScramble 3: F\n", {}),
-        ("comes", "scramble=", "R", {NAMES: [f"Scramble {'1' * 300}:", "2", "Scramble 3:"], fits: 360}))
+        browser.walk(tally, f"{width}: mended", ("fill", "scramble", "B2 R D", {"scramble-read": "", SHOWN: ["3"]}),
+            ("script", "history.back()", {}), ("comes", "scramble=", "F' L2 U", second), ("act", chip(3), {"scramble=": "B2 R D"}),
+            ("act", chip(1), {}), ("comes", "kept", 1, first))
+        browser.walk(tally, f"{width}: another scramble, and back", ("script", "part('random').click()", {}),
+            ("comes", SHOWN, ["4"], {"scramble-read": ""}),
+            ("script", "history.back()", {}), ("comes", "bracketed", "D", first), ("fill", "scramble", "", {CHIPS: ["1 \u26051", "2", "3"]}),
+            ("fill", "scramble", " ", {}), ("act", chip(1), {}), ("comes", "scramble=", "R U F", first),
+            ("script", PASTE, "U2 F", {"scramble-read": "", "scramble-fault": ""}))
 
 
 def joins(tally: Tally, browser: Browser) -> None:
     """A text of the same scramble keeps the lines that are kept: its candidates join them, none twice, and its steps become the line."""
     browser.resize()
     first = {"bracketed": "D", KEPT: ["L2", "B"], NOTES: ["one", ""]}
-    joined = {"bracketed": "F2", KEPT: ["L2", "B", "U"], NOTES: ["one", "", ""], "left?": False}
+    joined = {"bracketed": "F2", KEPT: ["L2", "B", "U"], NOTES: ["one", "", ""], "kept": 3}
     full = "#scramble=R_U_F&kept=" + ",".join(f"normal.{'_'.join(['R', 'U'] * at)}" for at in range(1, 24))
     most = "24 lines are kept, and there can be no more: remove one of them first."
-    browser.walk(tally, "a solution of the same scramble", ("open", {}), ("choose", "kept-sort", "kept", {}),
+    clear(browser)
+    browser.walk(tally, "a solution of the same scramble", ("choose", "kept-sort", "kept", {}),
         ("script", PASTE, "R U F\nD // EO\n\nL2\n// one\n\nB\n", {}), ("comes", "kept", 2, first),
         ("script", PASTE, "R,  U F\nF2 // EO\n\nL2\n// other\n\nU\n", {}), ("comes", "kept", 3, joined),
-        ("script", "history.back()", {}), ("comes", "kept", 2, first), ("script", "history.forward()", {}), ("comes", "kept", 3, joined))
+        ("script", "history.back()", {}), ("comes", "bracketed", "D", {"kept": 3}), ("script", "history.forward()", {}),
+        ("comes", "bracketed", "F2", joined))
     browser.walk(tally, "candidates alone leave the line", ("script", PASTE, "R U F\n\nD2\n\nR2\n", {}),
         ("comes", KEPT, ["L2", "B", "U", "D2", "R2"], {"bracketed": "F2"}))
     browser.walk(tally, "another scramble", ("script", PASTE, "R U\n\nD2\n\nR2\n", {}),
-        ("comes", "left-words", "5 kept lines were left.", {}), ("comes", KEPT, ["D2", "R2"], {"bracketed": ""}))
+        ("comes", KEPT, ["D2", "R2"], {"bracketed": "", CHIPS: ["1 \u26055", "2 \u26052"]}))
     browser.walk(tally, "no room", ("go", full, {}), ("script", PASTE, "R U F\n\nL\n\nB2\n", {}), ("comes", "alert", most, {"kept": 24}))

@@ -28,14 +28,14 @@ def welcomes(tally: Tally, browser: Browser) -> None:
 
 
 def types_another(tally: Tally, browser: Browser) -> None:
-    """Another scramble that is typed in an emptied field leaves the old lines, beside a way back to them; the same one again doesn't."""
+    """Another scramble that is typed in an emptied field leaves the old lines, which stay on the desk; the same one again doesn't."""
     browser.walk(tally, "an emptied field", ("go", LINES, {}), ("script", SELECT, {}), ("press", Keys.DELETE, {}))
     browser.settle("return !location.hash.includes('scramble=')")
     browser.walk(tally, "an emptied field leaves nothing yet", ("wait", WITH), ("press", LONGER[:14], {}))
     browser.settle("return location.hash.includes('scramble=R-_U-_F_D2_L2')")
     browser.walk(tally, "nor does the same scramble, typed again", ("wait", WITH), ("press", "B B B", {}))
-    browser.walk(tally, "another one does", ("comes", "kept", 0, WITHOUT | {"left-words": "2 kept lines were left."}),
-        ("click", "#left-back", {}), ("comes", "hash", LINES, {}))
+    browser.walk(tally, "another one does", ("comes", "kept", 0, WITHOUT | {"n #desk a[aria-current]": 1}),
+        ("script", "history.back()", {}), ("comes", "hash", LINES, {}))
 
 
 def types_over(tally: Tally, browser: Browser) -> None:

@@ -2,6 +2,7 @@
 import re
 from itertools import combinations
 
+from attempts import PASTE
 from best import ROWS
 from browser import Browser
 from program import program_answers
@@ -227,26 +228,13 @@ def keeps_a_note(tally: Tally, browser: Browser) -> None:
 
 
 def leaves_kept(tally: Tally, browser: Browser) -> None:
-    """A scramble that is pasted in place of the whole leaves what is kept and taken, with a way back; the same one again doesn't."""
-    paste = """const field = document.getElementById('scramble'); field.select(); field.dispatchEvent(new ClipboardEvent('paste'));
-        field.value = arguments[0]; field.dispatchEvent(new InputEvent('input', { inputType: 'insertFromPaste' }))"""
-    said = "return document.getElementById('left').hidden ? '' : document.getElementById('left-words').textContent"
+    """A scramble that is pasted in place of the whole leaves what is kept and taken, which Back leads to; the same one again doesn't."""
+    two = {"#kept-list .moves": ["R", "U"]}
     browser.open(f"{ADDRESS}&kept=normal.R,normal.U")
-    browser.until(KEPT_SAID)
-    browser.script(paste, f"{SCRAMBLE} // again")
-    browser.wait()
-    tally.equal("the same scramble keeps them", (browser.texts("#kept-list .moves"), browser.script(said)), (["R", "U"], ""))
-    browser.script(paste, EXAMPLE)
-    browser.wait()
-    tally.equal("another one leaves them", (browser.texts("#kept-list .moves"), browser.script(said)), ([], "2 kept lines were left."))
-    browser.click("#left-back")
-    tally.holds("they come back", browser.until("return document.querySelectorAll('#kept-list li').length === 2"))
-    browser.wait()
-    for typed in ("", "B", "B U", "B U F"):
-        browser.fill("scramble", typed)
-    tally.equal("one that is typed keeps the way back", browser.script(said), "2 kept lines were left.")
-    browser.click("#left-back")
-    tally.holds("which leads to them", browser.until("return document.querySelectorAll('#kept-list li').length === 2"))
+    browser.walk(tally, "the same scramble keeps them", ("until", KEPT_SAID, {}), ("script", PASTE, f"{SCRAMBLE} // again", {}), ("wait", two),
+        ("script", PASTE, EXAMPLE, {}), ("comes", "kept", 0, {}), ("script", "history.back()", {}), ("comes", "kept", 2, two),
+        *(("fill", "scramble", typed, {}) for typed in ("", "B", "B U", "B U F")), ("comes", "kept", 0, {}),
+        ("script", "history.back()", {}), ("comes", "kept", 2, two))
 
 
 def keeps_lengths(tally: Tally, browser: Browser) -> None:

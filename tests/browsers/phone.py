@@ -65,22 +65,14 @@ def reaches_rows(tally: Tally, browser: Browser) -> None:
 
 
 def leads_back(tally: Tally, browser: Browser) -> None:
-    """Where another scramble leaves lines that are kept the page says so, until the next change, beside a button that leads back to them."""
-    nothing, back = {"left?": False}, {"scramble=": SCRAMBLE, "kept": 2, "left?": False, "focus": "scramble-edit"}
+    """If another scramble takes the place of one with lines that are kept, its chip leads back to them; what is typed keeps them."""
+    back = {"scramble=": SCRAMBLE, "kept": 2}
     for way, act in WAYS.items():
-        browser.walk(tally, way, ("go", ADDRESS + TWO_KEPT, nothing))
+        browser.walk(tally, way, ("go", ADDRESS + TWO_KEPT, {}))
         before = browser.hash()
-        browser.walk(tally, way, ("script", act, TEXT, {}), ("comes", "left-words", "2 kept lines were left.", {}),
-            ("comes", "steps", int("pasted" in way), {}), ("script", "part('left-back').focus()", {}),
-            ("click", "#left-back", {}), ("comes", "hash", before, back))
-    browser.walk(tally, "once more", ("script", WAYS["an example"], {"left?": True}),
-        ("script", "document.querySelector('#steps-body .least').click()", nothing))
-    for way, act in WAYS.items():
-        browser.go(ADDRESS)
-        browser.script(act, TEXT)
-        browser.settle("return part('scramble').value !== arguments[0]", SCRAMBLE)
-        tally.equal(f"{way}: nothing is said where nothing was kept", browser.look("left?"), False)
-    browser.walk(tally, "what is typed keeps them", ("go", ADDRESS + TWO_KEPT, {}), ("fill", "scramble", "R U F", nothing | {"kept": 2}))
+        browser.walk(tally, way, ("script", act, TEXT, {}), ("comes", "steps", int("pasted" in way), {"desk?": True}),
+            ("act", f"#desk a[href='{before}']", back | {"hash": before}))
+    browser.walk(tally, "what is typed keeps them", ("go", ADDRESS + TWO_KEPT, {}), ("fill", "scramble", "R U F", {"kept": 2}))
 
 
 def undoes(tally: Tally, browser: Browser) -> None:

@@ -108,33 +108,6 @@ def returns(tally: Tally, browser: Browser) -> None:
         tally.holds(f"{rows}: it stands where it stood: {before}, {after}", abs(before[1] - after[1]) < 3)
 
 
-def offers_last(tally: Tally, browser: Browser) -> None:
-    """Whoever opens the page anew, without an address, is offered what was done last: the scramble, the line and what is kept."""
-    nothing, steps = {"last-back?": False}, f"{ADDRESS}&steps=inverse.R"
-    browser.script("localStorage.removeItem('nissy-last')")
-    browser.walk(tally, "an address alone was done by another", ("open", nothing), ("open", steps, {}), ("open", nothing), ("open", steps, {}),
-        ("submit", "own", "U F", {}), ("comes", "steps", 2, {}), ("act", "#keep-line", {}))
-    address = browser.hash()
-    offered = {"last-back?": True, "last-line": f"{SCRAMBLE} \u00b7 (R) U F", "last-kept": "1 line kept"}
-    busy = "part('results').setAttribute('aria-busy', 'true'); part('last-back').click()"
-    browser.walk(tally, "a step is offered", ("open", offered), ("script", busy, {"hash": address, "bracketed": "(R) U F"}))
-
-
-def offers_what_is_read(tally: Tally, browser: Browser) -> None:
-    """What can't be gone on with isn't offered, and takes the place of nothing; the way back to the beginning offers it too."""
-    store = "localStorage.setItem('nissy-last', arguments[0])"
-    for broken in ("#scramble=%", "#steps=normal.R", "<b>", "#scramble=R&x=1"):
-        browser.walk(tally, "broken", ("script", store, broken, {}), ("open", {"last-back?": False}))
-    browser.walk(tally, "a side alone doesn't take its place", ("script", store, "#scramble=B_D", {}), ("open", {}), ("press", "i", {}),
-        ("comes", "hash", "#side=inverse", {}), ("open", {"last-line": "B D"}), ("act", "[data-example]", {}))
-    browser.settle("return all('#steps-body .cell').length > 0")
-    back(browser)
-    # whoever goes on by keys is in the table
-    browser.walk(tally, "the browser's Back to the beginning offers what was done since", ("comes", "welcome?", True, {"last-line": EXAMPLE}),
-        ("script", "part('last-back').focus()", {}), ("press", Keys.ENTER, {}),
-        ("until", "return document.activeElement.matches('#steps-body .least')", {}))
-
-
 def leaves_list(tally: Tally, browser: Browser) -> None:
     """An open list doesn't outlast its cube, is closed by its cell, its button and a key, and is looked for once."""
     for act in ("#undo-step", "#undo-move", "#clear", "#bar-undo", "#best-body .take"):

@@ -44,6 +44,33 @@ def copies(tally: Tally, browser: Browser) -> None:
     browser.no_longer(script)
 
 
+def sets_up(tally: Tally, browser: Browser) -> None:
+    """The line and what is kept say how the cube in one's hands is set up on each side, on a sheet too."""
+    both = {"#set-ups output": ["L' U F D", "D' F' U' L"], "#kept-list dl output": ["L' U F D", "D' F' U' L"]}
+    browser.walk(tally, "both sides", ("go", "#scramble=U_F&steps=normal.D.inverse.L&kept=normal.D.inverse.L", {}), ("comes", "n #kept-list dl", 1, both),
+        ("script", "dispatchEvent(new Event('beforeprint'))", {"n #kept-list details[open]": 1}),
+        ("script", "dispatchEvent(new Event('afterprint'))", {"n #kept-list details[open]": 0}), ("act", "#undo-step", {"set-ups?": False}))
+
+
+def marks_what_is_pointed_at(tally: Tally, browser: Browser) -> None:
+    """What comes under a mouse that stays where it is isn't marked: the open list is, until the mouse moves."""
+    browser.walk(tally, "a row is pressed", ("go", SCRAMBLE, {}), ("wait_best", {}), ("click", "#best-body .take", {}), ("wait_best", {}))
+    tally.holds(f"the list is marked: {browser.text('marked-normal')}", browser.text("marked-normal").startswith("\u00b7 DR"))
+    x, y = browser.script("const { left, top } = document.querySelector('#steps-body tr').getBoundingClientRect(); return [left + 9, top + 9]")
+    browser.command("Input.dispatchMouseEvent", type="mouseMoved", x=x, y=y)
+    browser.command("Input.dispatchMouseEvent", type="mouseMoved", x=x + 3, y=y + 3)
+    marks = browser.script("return document.querySelector('#steps-body tr').dataset.marks")
+    tally.holds(f"then what has the mouse: {marks}", browser.until("return part('marked-normal').textContent.includes(arguments[0])", marks))
+
+
+def takes_an_empty_line(tally: Tally, browser: Browser) -> None:
+    """An empty line at the end of a scramble is nothing new: nothing is searched anew for it."""
+    browser.walk(tally, "an empty line", ("go", SCRAMBLE, {}), ("wait_best", {}),
+        ("script", "const it = part('scramble'); it.focus(); it.setSelectionRange(it.value.length, it.value.length)", {}),
+        ("script", "window.row = document.querySelector('#best-body tr')", {}), ("press", Keys.ENTER, {}),
+        ("script", "return new Promise((done) => setTimeout(done, 400))", {"return window.row.isConnected": True}))
+
+
 def closes_from_fields(tally: Tally, browser: Browser) -> None:
     """Escape closes the list also from its fields."""
     for name in ("filter", "last-turn", "slack"):

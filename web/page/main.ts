@@ -4,7 +4,6 @@ import { compiled } from "../module/engine/source.js";
 import { Calls, workersOf } from "./shared/questions.js";
 import { copyLink } from "./shared/copying.js";
 import { part } from "./shared/element.js";
-import { offerLast } from "./state/last-state.js";
 import { Page } from "./page.js";
 import { Reader } from "./shared/reader.js";
 import { offerCover } from "./shared/rows.js";
@@ -38,7 +37,6 @@ part("unstarted").remove();
 offerThemes();
 offerCover();
 placeHelp();
-offerLast();
 part("copy-link").addEventListener("click", ({ currentTarget }) => copyLink(currentTarget));
 // if it can't be compiled each worker says why, once it is asked
 const module = unpacked("engine-module").then((bytes) => compiled(bytes).catch(() => bytes));

@@ -8,9 +8,11 @@ import { copy } from "./shared/copying.js";
 import { Nets } from "./cards/cube.js";
 import { announce, announceLater, part, setBusy, spoken, tell } from "./shared/element.js";
 import { NextFocus, type Where } from "./state/next-focus.js";
-import { KeptCandidates, withOthers } from "./cards/kept.js";
+import { DeskStrip, type Keeping } from "./cards/desk-strip.js";
+import { KeptCandidates } from "./cards/kept.js";
 import { LineSoFar } from "./cards/line.js";
-import { Seen, WayBack, dropAddress, keepPlace, placeIn, writeState } from "./state/history.js";
+import { withOthers } from "./state/candidates.js";
+import { Seen, WayBack, dropAddress, keepPlace, placeIn } from "./state/history.js";
 import { refreshRows } from "./shared/rows.js";
 import { ScrambleField, type ScrambleChange } from "./cards/scramble.js";
 import { SolutionList } from "./cards/solutions.js";
@@ -30,6 +32,7 @@ import type { Reader } from "./shared/reader.js";
 import type { Row } from "./cards/finder.js";
 import type { RowActs } from "./cards/best-row.js";
 
+type ChangeOptions = Partial<Keeping> & { focusNext?: Where };
 /** The cube that is shown, with its scramble by its face turns, and as it is copied. */
 type CubeOfLine = Cube & { scramble: string; written: string; parts: Part[] };
 
@@ -45,6 +48,7 @@ export class Page {
   #byHand: Calls;
   #readiness: Readiness;
   #seen = new Seen();
+  #desk: DeskStrip;
   #nets = new Nets();
   #scramble: ScrambleField;
   #line: LineSoFar;
@@ -59,7 +63,10 @@ export class Page {
     this.#keptCalls = newCalls();
     // what is asked for by hand is never given up for another cube
     this.#byHand = newCalls();
-    this.#scramble = new ScrambleField(this.#byHand, reader, (...typed) => this.#setScramble(...typed));
+    this.#scramble = new ScrambleField(this.#byHand, reader, {
+      change: (...typed) => this.#setScramble(...typed), take: (sheets) => this.#desk.take(sheets),
+    });
+    this.#desk = new DeskStrip(() => this.#scramble.focus());
     this.#line = new LineSoFar(this.#byHand, reader, {
       change: (change) => this.#changeLine(change), star: () => this.#starLine(),
     });
@@ -75,10 +82,7 @@ export class Page {
     });
     const list = newCalls();
     this.#list = new SolutionList(list, {
-      ...stars,
-      take: (taken, key) => this.#take(taken, key),
-      change: (change) => this.#changeList(change),
-      copy,
+      ...stars, copy, take: (taken, key) => this.#take(taken, key), change: (change) => this.#changeList(change),
     });
     const finders = ORIENTATIONS.map(newCalls);
     this.#readiness = new Readiness({ calls: this.#calls, byHand: this.#byHand, list, finders });
@@ -113,10 +117,13 @@ export class Page {
   /** @param hash of the address, with which the page begins */
   async begin(hash: string) {
     const turn = ++this.#turn;
-    const { state, fault } = readAddress(hash);
+    const { state: read, fault } = readAddress(hash);
+    const { state, place, written } = this.#desk.arrive(read);
     this.#isReading = true;
-    this.#nextFocus.set(document.activeElement?.matches("#last-back, #again") ? "table" : undefined);
+    this.#nextFocus.set(document.activeElement?.matches("#again") ? "table" : undefined);
     dropAddress();
+    if (written && this.#scramble.open(written)) return;
+    if (place) this.#wayBack.set(place);
     setBusy("results", true);
     tell(part("alert"), fault);
     tellFailed("");
@@ -133,6 +140,7 @@ export class Page {
     if (turn !== this.#turn) return;
     this.#state = state;
     this.#scramble.show(state.scramble);
+    this.#desk.settle(read, state);
     await this.#refresh();
     if (this.#cube === null && this.#turn === turn + 1 && !hasLines(state)) setUsable(false);
   }
@@ -148,13 +156,11 @@ export class Page {
 
   /** Takes another state, or parts of it. While an address is still read, what is done on the page that is seen
    * overtakes it. A list doesn't outlast a change of the steps, since it belongs to the cube before it.
-   * @param how where the focus is to go with the answers, whether the browser's Back leads to what was before, and how
-   * many kept lines it leads back to */
+   * @param how where the focus is to go with the answers, and how the state is kept */
   #change(
     change: Partial<State>,
-    { focusNext, isStep = "parts" in change, left = 0 }: { focusNext?: Where; isStep?: boolean; left?: number } = {},
+    { focusNext, isStep = "parts" in change, ...ofScramble }: ChangeOptions = {},
   ) {
-    this.#scramble.tellLeft(left);
     this.#nextFocus.set(focusNext);
     this.#wayBack.set(null);
     if ("parts" in change) keepPlace();
@@ -163,7 +169,7 @@ export class Page {
     if (isOther) tell(part("alert"), "");
     // the engine is asked first, and answers meanwhile
     if (isOther) this.#refresh();
-    writeState(this.#state, isStep);
+    this.#desk.keep(this.#state, { isStep, ...ofScramble });
     if (isOther) return;
     this.#line.turnTo(this.#state.side);
     this.#table.mark(this.#state.list);
@@ -172,19 +178,17 @@ export class Page {
     else this.#line.markKept(this.#kept.has(this.#state.parts, reductionOf(this.#state.list)));
   }
 
-  async #setScramble(scramble: string, { isNew, fmc, isStep }: ScrambleChange) {
-    // what is typed further leads back to the same
-    const before = isStep ? 0 : this.#scramble.left;
-    const left = isNew ? this.#state.kept.length : before;
-    this.#change(isNew ? { ...emptyState(), scramble } : { scramble }, { isStep, left });
+  async #setScramble(scramble: string, { isNew, fmc, others, ...how }: ScrambleChange) {
+    this.#change(isNew ? this.#desk.begin(scramble) : { scramble }, how);
+    this.#desk.add(others);
     if (!fmc) return;
     const turn = this.#turn;
     try {
-      const { unread, parts, kept: others, doubt } = await this.#byHand.ask("readWritten", fmc);
+      const { unread, parts, kept, doubt } = await this.#byHand.ask("readWritten", fmc);
       if (turn !== this.#turn) return;
-      const { kept, why } = withOthers(this.#state.kept, others);
-      this.#change({ ...(parts.length > 0 && { parts }), kept }, { isStep: !isNew, left });
-      tell(part("alert"), whyUnread(unread) || why);
+      const joined = withOthers(this.#state.kept, kept);
+      this.#change({ ...(parts.length > 0 && { parts }), kept: joined.kept }, { isStep: !isNew });
+      tell(part("alert"), whyUnread(unread) || joined.why);
       this.#scramble.tellDoubt(doubt);
     } catch (fault) {
       if (turn === this.#turn && !(fault instanceof Stopped)) tell(part("alert"), unanswered(fault));
@@ -264,7 +268,7 @@ export class Page {
     if (why === "") return;
     tell(part("alert"), why);
     this.#state = { ...this.#state, list: null };
-    writeState(this.#state, false);
+    this.#desk.keep(this.#state, { isStep: false });
   }
 
   /** Shows the steps that may follow as soon as they are known, and has the best looked for. */
@@ -293,18 +297,10 @@ export class Page {
     part("choices").inert = false;
     if (isOfList) return;
     const isFinished = isReduced(reached) && this.#state.parts.length > 0;
-    if (this.#nextFocus.take("table")) this.#showTaken(isFinished);
+    if (this.#nextFocus.take("table")) showStart(isFinished, this.#table);
     else if (!isBare(this.#state)) announceLater(this.#table.summary());
     this.#table.giveBack();
     this.#goBack();
-  }
-
-  /** @param isFinished whether no step follows: what does comes into view and has the focus */
-  #showTaken(isFinished: boolean) {
-    // first, since the page is laid out for it, and the focus changes the marks
-    showStart(isFinished);
-    if (isFinished) part("copy-fmc").focus({ preventScroll: true });
-    else this.#table.focus();
   }
 
   /** Goes back to where one was, once what had the focus there is shown. */

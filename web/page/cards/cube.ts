@@ -52,9 +52,11 @@ export class Nets {
     this.#choice.append(...kinds.map((kind) => element("option", { value: kind }, kind)));
     this.#choice.addEventListener("change", () => this.#draw());
     const choices = part("choices");
-    for (const kind of ["pointerover", "focusin"] as const) {
-      choices.addEventListener(kind, ({ target }) => this.#point(target));
-    }
+    choices.addEventListener("focusin", ({ target }) => this.#point(target));
+    // what comes under a mouse that stays where it is isn't pointed at
+    choices.addEventListener("pointermove", ({ target, movementX, movementY }) => {
+      if (movementX !== 0 || movementY !== 0) this.#point(target instanceof Element ? target : null);
+    });
     for (const kind of ["pointerleave", "focusout"]) choices.addEventListener(kind, () => this.#point(null));
     for (const turn of ["x", "y"] as const) part(`view-${turn}`).addEventListener("click", () => this.#turn(turn));
     this.#play.addEventListener("click", () => (this.#timer === 0 ? this.#begin() : this.stop()));
@@ -72,6 +74,7 @@ export class Nets {
    * @param ask for the cube after each of them */
   show(views: Record<Side, View>, count: number, ask: () => Promise<Frame[]>) {
     this.stop();
+    this.#pointed = "";
     this.#views = views;
     [this.#count, this.#frame] = [count, count];
     [this.#ask, this.#frames] = [ask, null];

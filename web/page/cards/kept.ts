@@ -1,8 +1,9 @@
 // The card of the candidates that are kept: each with its moves, what it reaches, its case and a note.
 import { Stopped } from "../../module/shared/faults.js";
+import { nameOf, withStar } from "../state/candidates.js";
 import { fitsAddress, type Candidate, type List, type State } from "../state/address.js";
 import { lastOf, present } from "../shared/certain.js";
-import { copy, fmcOfAll } from "../shared/copying.js";
+import { copy, fmcOfAll, setUps } from "../shared/copying.js";
 import { announce, button, counted, element, part, spoken, tell, type PageElement } from "../shared/element.js";
 import { LONGEST_NOTE, MOST_CANDIDATES } from "../state/limits.js";
 import { WayTo } from "../state/history.js";
@@ -16,25 +17,9 @@ import type { KeptWalk } from "../answers/examine.js";
 import type { Moves as Part } from "../../module/shared/sides.js";
 import type { StepOnAxis } from "../shared/axes.js";
 
-/** @returns what it is known by */
-const nameOf = ({ parts, next }: Pick<Candidate, "parts" | "next">) => [bracketed(parts), next].join(" ").trim();
-
 /** @returns what a candidate is called where it is said */
 const saidOf = ({ parts, next }: Candidate) =>
   spoken(bracketed(parts)) + (next === "" ? "" : `, ${stateOf(stepNamed(next))}`);
-
-/** What is kept once a line is starred, or no longer if it was. */
-function withStar(candidates: Candidate[], parts: Part[], next: string): Candidate[] {
-  const others = candidates.filter((each) => nameOf(each) !== nameOf({ parts, next }));
-  return others.length === candidates.length ? [...others, { parts, note: "", next }] : others;
-}
-
-/** What is kept once others join, and why not all of them do, or "". */
-export function withOthers(candidates: Candidate[], others: Candidate[]) {
-  // of a line that is there twice the first place counts, and the last note
-  const all = new Map([...candidates, ...others, ...candidates].map((each) => [nameOf(each), each]));
-  return { kept: [...all.values()].slice(0, MOST_CANDIDATES), why: all.size > MOST_CANDIDATES ? MOST_ARE_KEPT : "" };
-}
 
 /** How far a candidate has come: 2 with a reduction, also one that is still to be made, 1 with an orientation. */
 function stageOf({ reached, next }: KeptWalk) {
@@ -143,6 +128,12 @@ export class KeptCandidates {
       announce(`${counted(length, "line")} ${length === 1 ? "is" : "are"} kept again.`);
     });
     part("kept-sort").addEventListener("change", () => this.#draw());
+    // a sheet has the set-ups
+    for (const kind of ["beforeprint", "afterprint"]) {
+      addEventListener(kind, () => {
+        for (const each of this.#list.querySelectorAll<PageElement>("details")) each.open = kind === "beforeprint";
+      });
+    }
   }
 
   /** Shows candidates; what the engine says of them comes by `describe`. */
@@ -268,12 +259,15 @@ export class KeptCandidates {
       },
     });
     this.#notes[at] = field;
+    const cubes = walk === null ? [] : [element("details", {},
+      element("summary", {}, "Set-ups"), element("dl", {}, ...setUps(walk.now.lines)))];
     return element("li", {},
       stepOf(parts, walk),
       element("span", { class: "row" },
         field,
         act("Go on", "on", () => this.#acts.goOn(parts, list)),
-        act("Remove", "away", () => this.#remove(at))));
+        act("Remove", "away", () => this.#remove(at))),
+      ...cubes);
   }
 
   /** Takes a candidate away; the focus, if it was in its row, goes to the next one.

@@ -2,7 +2,7 @@
 // hand, the switch of sides, and the whole to copy.
 import { Stopped } from "../../module/shared/faults.js";
 import { thrownError, lastOf } from "../shared/certain.js";
-import { copy, fmcOf } from "../shared/copying.js";
+import { copy, fmcOf, setUps } from "../shared/copying.js";
 import { announce, button, counted, element, inner, part, spoken, tell, type PageElement } from "../shared/element.js";
 import {
   bracketed, isReduced, lastSideOf, movesOn, newlyReached, otherSide, statesOf, turnsOfStep,
@@ -17,7 +17,7 @@ const LONGEST_PASTED = 65536;
 const UNKNOWN = "…";
 const NO_MOVES = "No moves yet";
 /** What is there only if there are moves. */
-const OF_MOVES = ["line-list", "whole", "undo", "bar-total", "bar-undo", "keep-line"];
+const OF_MOVES = ["line-list", "whole", "set-ups", "undo", "bar-total", "bar-undo", "keep-line"];
 
 /** @returns the parts without their last move */
 function withoutLastMove(parts: Part[]): Part[] {
@@ -141,7 +141,10 @@ export class LineSoFar {
     part("line-empty").hidden = parts.length > 0;
     // where the engine can't read them, no line of other parts stays to be copied
     const line = bracketed(parts);
-    if (line !== part("bracketed").textContent) this.#showWhole({ line, joined: "", total: UNKNOWN });
+    if (line !== part("bracketed").textContent) {
+      this.#showWhole({ line, joined: "", total: UNKNOWN });
+      part("set-ups").replaceChildren();
+    }
     for (const name of OF_MOVES) part(name).hidden = parts.length === 0;
   }
 
@@ -159,6 +162,7 @@ export class LineSoFar {
       tell(lost, missed.length === 0 ? "" : `no longer ${listed(missed)}`);
       if (missed.length === 0 || fresh.length > 0) this.#reached[index] = fresh;
     });
+    part("set-ups").replaceChildren(...setUps(walk.now.lines));
     tell(part("finished"), endOf(walk));
   }
 

@@ -1,19 +1,25 @@
-// The card of the scramble: its field, with what was left out of a text and what is at fault, the other scrambles of
-// the text, examples, random scrambles from a seed, and the fold of it if the page is narrow.
+// The card of the scramble: its field, with what was left out of a text and what is at fault, examples, random
+// scrambles from a seed, and the fold of it if the page is narrow.
 import { Stopped } from "../../module/shared/faults.js";
 import { thrownError } from "../shared/certain.js";
-import { announce, announceLater, button, counted, element, part, tell } from "../shared/element.js";
+import { announce, announceLater, counted, element, part, tell } from "../shared/element.js";
+import { emptyState } from "../state/address.js";
+import { sheetsIn, type NewSheet } from "../state/desk.js";
 import { LONGEST_SCRAMBLE } from "../state/limits.js";
 import { areBeside, withoutMoving } from "../shared/view.js";
 import { showDoubt, showFault, wordsOfLeftOut } from "../shared/words.js";
 import type { Attempt, AttemptDoubt } from "../../module/text/attempts.js";
+import type { Keeping } from "./desk-strip.js";
 import type { Calls } from "../shared/questions.js";
 import type { ReadScramble, Written } from "../answers/read-lines.js";
 import type { Reader } from "../shared/reader.js";
 
-/** A new scramble begins a new line, one that is mended keeps it; `fmc`: where its steps stand, if it has any;
- * `isStep`: whether Back leads to what was before. */
-export type ScrambleChange = { isNew: boolean; fmc: Written | null; isStep: boolean };
+/** A new scramble begins a new line, one that is mended keeps it; a draft is nothing, or a beginning of the one that
+ * was deleted; `fmc`: where its steps stand, if it has any; `others`: scrambles that came with it. */
+export type ScrambleChange = Keeping & { isNew: boolean; fmc: Written | null; others: NewSheet[] };
+
+/** What is done with a scramble that is read, and with scrambles of another page. */
+type ScrambleActs = { change: (scramble: string, change: ScrambleChange) => void; take: (sheets: NewSheet[]) => void };
 
 const PAUSE = 150;
 const SEEDS = "A seed is a whole number from 0 to 18,446,744,073,709,551,615.";
@@ -28,21 +34,22 @@ const asTyped = ({ line }: { line: string }): string => line.replace(/\u2019/g, 
 /** @returns it with single blanks, by which two scrambles are compared */
 const spaced = (plain: { line: string }) => asTyped(plain).trim().replace(/ +/g, " ");
 
+/** @param written where it stands */
+const newSheet = ({ scramble, steps, candidates }: Attempt, written: Written): NewSheet => ({
+  state: { ...emptyState(), scramble: spaced(scramble) },
+  written: steps.length + candidates.length > 0 ? written : null,
+});
+
 export class ScrambleField {
   #calls: Calls;
   #reader: Reader;
-  #changed: (scramble: string, change: ScrambleChange) => void;
+  #acts: ScrambleActs;
   #field = part("scramble");
   #backdrop = part("scramble-marks");
   #seed = part("seed");
   #timer = 0;
   #draws = 0;
   #leftOut: string[] = [];
-  /** the last text and its attempts; which of these is shown, or -1; and what is said of the others then */
-  #text = "";
-  #attempts: Attempt[] = [];
-  #at = -1;
-  #others: string[] = [];
   #isRead = false;
   /** the scramble that was read last, and whether what is pasted, or typed, takes the place of all of it */
   #last = "";
@@ -54,22 +61,27 @@ export class ScrambleField {
   #isCut = false;
   /** the text that was read last, and what makes one doubt how it was read */
   #lastText = "";
+  /** what the field has of it */
+  #shown = "";
   #doubt: AttemptDoubt | null = null;
-  /** how many kept lines a way leads back to */
-  left = 0;
 
-  constructor(calls: Calls, reader: Reader, changed: (scramble: string, change: ScrambleChange) => void) {
+  constructor(calls: Calls, reader: Reader, acts: ScrambleActs) {
     this.#calls = calls;
     this.#reader = reader;
-    this.#changed = changed;
+    this.#acts = acts;
     this.#field.maxLength = LONGEST_SCRAMBLE;
     this.#field.addEventListener("input", (event) => this.#typed(event instanceof InputEvent ? event.inputType : ""));
-    this.#field.addEventListener("paste", ({ clipboardData }) => {
+    this.#field.addEventListener("paste", (event) => {
       const { value, selectionStart, selectionEnd } = this.#field;
+      const pasted = event.clipboardData?.getData("text").replace(/\r\n?/g, "\n") ?? "";
+      const sheets = sheetsIn(pasted);
+      if (sheets.length > 0) {
+        event.preventDefault();
+        return this.#acts.take(sheets);
+      }
       this.#isReplaced = selectionStart === 0 && selectionEnd === value.length;
       // the browser takes as much of it as the field has room for, without a word
-      const pasted = clipboardData?.getData("text").replace(/\r\n/g, "\n").length ?? 0;
-      this.#isCut = value.length - (selectionEnd - selectionStart) + pasted > LONGEST_SCRAMBLE;
+      this.#isCut = value.length - (selectionEnd - selectionStart) + pasted.length > LONGEST_SCRAMBLE;
     });
     this.#field.addEventListener("beforeinput", ({ inputType }) => {
       const { value, selectionStart, selectionEnd } = this.#field;
@@ -88,7 +100,6 @@ export class ScrambleField {
       example.addEventListener("click", () => this.#put(example.dataset.example ?? ""));
     }
     part("scramble-edit").addEventListener("click", () => this.focus());
-    part("left-back").addEventListener("click", () => history.back());
     // not as soon as the focus goes: what is pressed would move away under the finger
     addEventListener("click", ({ target }) => this.#leave(target));
     addEventListener("keyup", () => this.#leave(document.activeElement));
@@ -103,13 +114,12 @@ export class ScrambleField {
   /** Shows a scramble that did not come from the field. */
   show(scramble: string) {
     clearTimeout(this.#timer);
-    this.tellLeft(0);
-    this.#mark(this.#attempts.findIndex((each) => spaced(each.scramble) === spaced({ line: scramble })));
     if (asTyped(this.#reader.plainLine(this.#field.value)) !== scramble) {
       this.#field.value = scramble;
-      this.#leftOut = this.#others;
+      this.#leftOut = [];
     }
     this.#last = scramble || this.#last;
+    this.#shown = this.#field.value;
     this.#isEmptied = false;
     this.#isDraft = false;
   }
@@ -131,8 +141,7 @@ export class ScrambleField {
     part("scramble-folded").textContent = text;
     this.#isRead = read !== null && read.line !== "";
     const { activeElement } = document;
-    const isUsed = [this.#field, ...part("attempts").children].some((each) => each === activeElement);
-    if (!isUsed || !this.#isRead) this.#fold(this.#isRead);
+    if (this.#field !== activeElement || !this.#isRead) this.#fold(this.#isRead);
   }
 
   /** Says why the last text may be read otherwise than it was meant, until anything is changed.
@@ -140,19 +149,6 @@ export class ScrambleField {
   tellDoubt(doubt: AttemptDoubt | null) {
     this.#doubt = doubt;
     showDoubt(part("scramble-doubt"), doubt, this.#lastText);
-  }
-
-  /** Says how many kept lines a new scramble leaves, beside a way back to them; nothing of none. */
-  tellLeft(count: number) {
-    if (count === this.left) return;
-    this.left = count;
-    const isFocused = document.activeElement === part("left-back");
-    part("left").hidden = count === 0;
-    const words = `${counted(count, "kept line")} ${count === 1 ? "was" : "were"} left.`;
-    part("left-words").textContent = count === 0 ? "" : words;
-    // what is hidden can't keep the focus
-    const places = ["random", "scramble-edit"].map(part);
-    if (isFocused && count === 0) places.find((each) => each.checkVisibility())?.focus();
   }
 
   /** Folds the card once something was done elsewhere, if the page is scrolled far enough for nothing to move by it. */
@@ -189,75 +185,59 @@ export class ScrambleField {
     const isReplaced = this.#isReplaced;
     this.#isReplaced = false;
     // what is pasted is whole
-    if (how === "insertFromPaste") return this.#read(isReplaced);
+    if (how === "insertFromPaste") return this.#read(isReplaced, true);
     this.#isCut = false;
-    this.#timer = setTimeout(() => this.#read(false), PAUSE);
+    this.#timer = setTimeout(() => this.#read(false, false), PAUSE);
   }
 
   /** @param isReplaced by a text that was pasted: by another scramble, if it isn't the same again */
-  #read(isReplaced: boolean) {
+  #read(isReplaced: boolean, isPasted: boolean) {
     const text = this.#field.value;
+    // an empty line more is nothing new
+    if (!isPasted && this.#isRead && text.trim() === this.#shown.trim()) return;
     const attempts = this.#reader.attempts(text);
     const plain = this.#reader.plainLine(text);
     const whole = spaced(attempts[0].scramble) === spaced(plain) ? asTyped(plain) : null;
-    this.#take({ text, attempts }, 0, { isReplaced, whole });
+    const others = attempts.slice(1).map((each, at) => newSheet(each, { text, at: at + 1 }));
+    this.#take({ text, at: 0 }, attempts, { isReplaced, whole, others: isPasted ? others : [] });
   }
 
-  /** Reads an attempt of the text, as if it alone had been pasted. @param at its place */
-  #choose(at: number) {
-    clearTimeout(this.#timer);
-    // not every browser puts the focus on what is pressed
-    part("attempts").children[at].focus({ preventScroll: true });
-    withoutMoving(part("attempts"), () => this.#take({ text: this.#text, attempts: this.#attempts }, at,
-      { isReplaced: true, whole: null }));
+  /** Reads a scramble of a text that was pasted with others, as if it alone had been pasted.
+   * @returns whether it is there: the page that kept the text may have had another reader */
+  open(written: Written) {
+    const attempts = this.#reader.attempts(written.text);
+    const isThere = Object.hasOwn(attempts, written.at);
+    if (isThere) this.#take(written, attempts, { isReplaced: true, whole: null, others: [] });
+    return isThere;
   }
 
-  /** @param at which of the attempts is taken
-   * @param how `whole`: what the field has, if all is its scramble */
+  /** @param written which of the attempts of a text is taken
+   * @param how `whole`: what the field has, if all is its scramble; `others`: what goes onto the desk beside it */
   #take(
-    { text, attempts }: { text: string; attempts: Attempt[] }, at: number,
-    { isReplaced, whole }: { isReplaced: boolean; whole: string | null },
+    written: Written, attempts: Attempt[],
+    { isReplaced, whole, others }: { isReplaced: boolean; whole: string | null; others: NewSheet[] },
   ) {
-    const { name, scramble, steps, candidates, before, doubt } = attempts[at];
+    const { name, scramble, steps, candidates, before, doubt } = attempts[written.at];
     const line = whole ?? spaced(scramble);
     if (whole === null) this.#field.value = line;
-    const fmc = steps.length + candidates.length > 0 ? { text, at } : null;
-    this.#lastText = text;
+    const fmc = steps.length + candidates.length > 0 ? written : null;
+    this.#lastText = written.text;
+    this.#shown = this.#field.value;
     const isNew = this.#isOther(spaced(scramble), isReplaced, fmc !== null);
-    // one that is mended stays beside the others of its text
-    if (attempts.length > 1 || isNew || this.#at < 0) this.#offer({ text, attempts }, at);
-    else if (line.trim() !== "") this.#attempts[this.#at].scramble = scramble;
+    const left = attempts.length - 1 - others.length;
     this.#leftOut = [
       ...(before > 0 ? [`${counted(before, "line")} before the scramble`] : []),
-      ...(name !== "" && this.#attempts.length === 1 ? [`“${name}”`] : this.#others),
+      ...(attempts.length === 1 && name !== "" ? [`“${name}”`] : []),
+      ...(whole === null && left > 0 && written.at === 0 ? [counted(left, "other scramble")] : []),
       ...scramble.leftOut,
       ...(this.#isCut ? [`what is beyond ${LONGEST_SCRAMBLE.toLocaleString("en")} signs`] : []),
     ];
     // Back leads to the scramble that was deleted and its lines, also once another one is typed
     const isStep = (isNew || this.#isEmptied) && !this.#isDraft;
     this.#isDraft = this.#isEmptied;
-    this.#changed(line, { isNew, fmc, isStep });
+    this.#acts.change(line, { isNew, isDrawn: false, isDraft: this.#isDraft, fmc, isStep, others });
     // one that has steps is in doubt with these
     if (fmc === null) this.#doubt = doubt;
-  }
-
-  /** Offers the attempts of a text, if there are several. @param at which of the attempts is taken */
-  #offer({ text, attempts }: { text: string; attempts: Attempt[] }, at: number) {
-    const row = part("attempts");
-    const buttonOf = ({ name }: Attempt, place: number) =>
-      button(/\d/.test(name) ? name : String(place + 1), { class: "quiet", click: () => this.#choose(place) });
-    if (attempts !== this.#attempts) row.replaceChildren(...attempts.map(buttonOf));
-    row.hidden = attempts.length === 1;
-    this.#text = text;
-    this.#attempts = attempts;
-    this.#mark(at);
-  }
-
-  /** @param at which of the attempts is shown, -1 for none */
-  #mark(at: number) {
-    this.#at = at;
-    this.#others = at >= 0 && this.#attempts.length > 1 ? [counted(this.#attempts.length - 1, "other scramble")] : [];
-    [...part("attempts").children].forEach((each, place) => each.setAttribute("aria-pressed", String(place === at)));
   }
 
   /** Whether a scramble is another one than the last: it was pasted in its place, or typed after it was deleted, or it
@@ -280,7 +260,7 @@ export class ScrambleField {
   #put(scramble: string) {
     const isStep = !this.#isDraft;
     this.show(scramble);
-    this.#changed(scramble, { isNew: true, fmc: null, isStep });
+    this.#acts.change(scramble, { isNew: true, isDrawn: true, isDraft: false, fmc: null, isStep, others: [] });
   }
 
   async #draw(seed: string) {

@@ -1,9 +1,10 @@
 // Copies: a line as solvers write it on a scoresheet, the scramble on top and then a step a line with what it reaches
 // and how long it is; and how a text comes to the clipboard.
-import { announce, part } from "./element.js";
-import { bracketed, newlyReached, turnsOfStep } from "./offered-steps.js";
+import { announce, button, element, part } from "./element.js";
+import { SIDES, bracketed, newlyReached, turnsOfStep } from "./offered-steps.js";
 import { tellAt } from "./view.js";
 import type { KeptWalk, Walk } from "../answers/examine.js";
+import type { Moves as Part } from "../../module/shared/sides.js";
 
 /** A step with its comment, such as `D R B2 // DR R/L (3/10)`: its moves, and those up to its end. */
 function stepLine(walk: Walk, index: number) {
@@ -90,6 +91,19 @@ export async function copy(text: string, button: HTMLElement, shownIn: HTMLEleme
   }
   return isDone;
 }
+
+/** How the cube in one's hands is set up on each side, from solved: premoves, scramble and moves, each to be copied.
+ * @param lines that lead there */
+export const setUps = (lines: Part) => SIDES.flatMap((side) => {
+  const shown = element("output", { class: "moves" }, lines[side]);
+  return [
+    element("dt", {}, `Set-up of the ${side} side, from solved`),
+    element("dd", {}, shown, button("Copy", {
+      class: "quiet", "aria-label": `Copy the set-up of the ${side} side`,
+      click: ({ currentTarget }) => copy(lines[side], currentTarget, shown),
+    })),
+  ];
+});
 
 const LINK_OF_FILE = "This page is a file, so the link leads to it on this computer alone. Whoever else has the file "
   + "can put what stands after the # behind its address.";

@@ -1,6 +1,6 @@
 // How the page is seen and used as a whole: what stays in view, what is dimmed, light and dark, help, and single keys.
 import { announce, part } from "./element.js";
-import { offerLast, store, stored } from "../state/last-state.js";
+import { store, stored } from "../state/storage.js";
 import type { State } from "../state/address.js";
 
 const EDGE = 16;
@@ -13,11 +13,9 @@ export const isNarrow = () => matchMedia("(max-width: 37.5rem)").matches;
 /** @returns whether nothing was done yet */
 export const isBare = ({ scramble, parts }: State) => scramble.trim() === "" && parts.length === 0;
 
-/** Shows the beginning, and what was done last, where nothing was done yet. */
+/** Shows the beginning, where nothing was done yet. */
 export function showBeginning(state: State) {
   const isShown = isBare(state);
-  // it may have been done since the page was opened
-  if (isShown && part("welcome").hidden) offerLast();
   part("welcome").hidden = !isShown;
   document.body.classList.toggle("bare", isShown);
   part("kept").hidden = isShown && state.kept.length === 0;
@@ -70,11 +68,21 @@ export function setUsable(usable: boolean) {
 
 /** Scrolls to what follows a step; on a narrow page to the results, after the last step to the line, below or
  * beside. */
-export function showStart(isFinished: boolean) {
+function scrollToNext(isFinished: boolean) {
   if (!areBeside()) return part(isFinished ? "line" : "results").scrollIntoView({ block: "start" });
   scrollTo({ top: 0, behavior: "instant" });
   // no further than to its end, so that what is beside it stays in view
   if (isFinished) part("whole").scrollIntoView({ block: "nearest" });
+}
+
+/** Has what follows a step come into view and have the focus.
+ * @param isFinished whether no step follows
+ * @param table of the steps that do */
+export function showStart(isFinished: boolean, table: { focus: () => void }) {
+  // first, since the page is laid out for it, and the focus changes the marks
+  scrollToNext(isFinished);
+  if (isFinished) part("copy-fmc").focus({ preventScroll: true });
+  else table.focus();
 }
 
 const KEY = "nissy-theme";

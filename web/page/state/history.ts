@@ -3,7 +3,6 @@
 // in this session, which lists and the best mark.
 import { addressOf, fitsAddress, type List, type State } from "./address.js";
 import { part, tell } from "../shared/element.js";
-import { keepLast } from "./last-state.js";
 import { bracketed } from "../shared/offered-steps.js";
 import { NOT_IN_ADDRESS } from "../shared/words.js";
 import type { Moves as Part } from "../../module/shared/sides.js";
@@ -17,15 +16,32 @@ export function placeIn(state: unknown): Place | null {
   return typeof key === "string" && typeof scroll === "number" ? { key, scroll } : null;
 }
 
-/** Keeps in the entry that is shown where one is. */
-export function keepPlace() {
+/** Where one is. */
+export function placeNow(): Place {
   const key = document.activeElement?.dataset.key ?? document.activeElement?.dataset.cell ?? "";
+  return { key, scroll: scrollY };
+}
+
+/** @returns the sheet that an entry of the history is of, or 0 */
+export function sheetOfEntry(): number {
+  const { sheet } = (history.state ?? {}) as Record<string, unknown>;
+  return typeof sheet === "number" ? sheet : 0;
+}
+
+/** Keeps something more in the entry that is shown. */
+function keepInEntry(more: Partial<Place & { sheet: number }>) {
   try {
-    history.replaceState({ key, scroll: scrollY }, "", location.href);
+    history.replaceState({ ...history.state, ...more }, "", location.href);
   } catch {
     // some browsers refuse it where it is done too often; then Back leads to the top
   }
 }
+
+/** Keeps in the entry that is shown where one is. */
+export const keepPlace = () => keepInEntry(placeNow());
+
+/** Keeps in the entry that is shown of which sheet it is. */
+export const keepSheet = (sheet: number) => keepInEntry({ sheet });
 
 const AGAIN_AFTER = 1000;
 let writing = 0;
@@ -34,26 +50,26 @@ let writing = 0;
 export const dropAddress = () => clearTimeout(writing);
 
 /** Puts an address into the history, a step as an entry of its own, a moment later if the browser refuses it. */
-function writeAddress(address: string, isStep: boolean) {
+function writeAddress(address: string, isStep: boolean, sheet: number) {
   dropAddress();
-  keepLast(address);
   const isWritten = () => address === (location.hash || "#");
   try {
     // what may be missed later can be had back by the browser
-    if (isStep && !isWritten()) history.pushState(null, "", address);
-    else history.replaceState(null, "", address);
+    if (isStep && !isWritten()) history.pushState({ sheet }, "", address);
+    else history.replaceState({ sheet }, "", address);
   } catch {
     // some browsers throw where it is done too often, others do nothing
   }
-  if (!isWritten()) writing = setTimeout(writeAddress, AGAIN_AFTER, address, isStep);
+  if (!isWritten()) writing = setTimeout(writeAddress, AGAIN_AFTER, address, isStep, sheet);
 }
 
 /** Puts a state into the address if that has room for it, since a longer one isn't read.
- * @param isStep whether Back leads to what was before */
-export function writeState(state: State, isStep: boolean) {
+ * @param isStep whether Back leads to what was before
+ * @param sheet of the desk that it is of */
+export function writeState(state: State, isStep: boolean, sheet: number) {
   const isLong = !fitsAddress(state);
   if (isLong || part("alert").textContent === NOT_IN_ADDRESS) tell(part("alert"), isLong ? NOT_IN_ADDRESS : "");
-  if (!isLong) writeAddress(addressOf(state), isStep);
+  if (!isLong) writeAddress(addressOf(state), isStep, sheet);
 }
 
 /** The way back to where one was, as soon as that is shown. */

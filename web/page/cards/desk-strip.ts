@@ -1,0 +1,147 @@
+// The desk as the page has it: a strip with a link to each scramble on it and to a new one, what takes one away and
+// brings it back, all of them as a text; and how what is shown comes to the desk, and from there to the page.
+import { copy } from "../shared/copying.js";
+import { announce, counted, element, part, tell } from "../shared/element.js";
+import { addressOf, emptyState, type State } from "../state/address.js";
+import { Desk, stateOfBoth, stateOfSheet, textOfDesk, type NewSheet, type Sheet } from "../state/desk.js";
+import { keepPlace, keepSheet, placeNow, sheetOfEntry, writeState, type Place } from "../state/history.js";
+
+const NOT_KEPT = "This browser keeps nothing of what is done here: take it along by Copy all.";
+
+/** What an address leads to. `place`: where one was, if the address says nothing of it; `written`: where the scramble
+ * stands in a text that wasn't opened yet. */
+type Arrived = { state: State; place: Place | null; written: Sheet["written"] };
+
+/** How a state is kept: whether Back leads to what was before, whether a new scramble came by chance, and whether it is
+ * a draft, which gets no sheet. */
+export type Keeping = { isStep: boolean; isDrawn?: boolean; isDraft?: boolean };
+
+/** @returns a link to what was done with a scramble */
+function chipOf(sheet: Sheet, at: number, isShown: boolean) {
+  const { scramble, kept } = stateOfSheet(sheet);
+  const about = kept.length === 0 ? "" : `, ${counted(kept.length, "line")} kept`;
+  return element("a", {
+    href: sheet.address, class: "chip", title: scramble, "aria-label": `Scramble ${at + 1}: ${scramble}${about}`,
+    ...(isShown && { "aria-current": "page" }),
+  }, String(at + 1), ...(kept.length === 0 ? [] : [element("small", {}, ` ★${kept.length}`)]));
+}
+
+export class DeskStrip {
+  #desk = new Desk();
+  #bringBack = () => {};
+  #chips = part("desk-chips");
+
+  /** @param begin what is done for a new scramble */
+  constructor(begin: () => void) {
+    part("desk").addEventListener("click", ({ target }) => {
+      if (target instanceof Element && target.closest("a")) this.leave();
+    });
+    part("desk-new").addEventListener("click", begin);
+    part("copy-desk").addEventListener("click", ({ currentTarget }) =>
+      copy(textOfDesk(this.#desk.sheets), currentTarget));
+    part("desk-remove").addEventListener("click", () => this.#remove());
+    part("desk-back").addEventListener("click", () => this.#restore());
+    // another page changed it
+    addEventListener("storage", () => {
+      this.#desk.readAgain();
+      this.show();
+    });
+  }
+
+  /** Turns to what an address says, and to what was done with its scramble. */
+  arrive(read: State): Arrived {
+    const [before, sheet] = [sheetOfEntry(), this.#desk.turnTo(read.scramble, sheetOfEntry())];
+    this.show();
+    if (sheet === null) return { state: read, place: null, written: null };
+    const isBack = sheet.id === before;
+    const state = stateOfBoth(sheet, read, isBack);
+    return { state, place: isBack ? null : sheet.place, written: sheet.written };
+  }
+
+  /** Has the desk hold what an address led to, and the address too if more than that is shown. */
+  settle(read: State, state: State) {
+    this.#hold(state, false);
+    if (addressOf(state) !== addressOf(read)) this.#write(state, false);
+    else keepSheet(this.#desk.shown?.id ?? 0);
+  }
+
+  /** Has the desk and the address hold a state. */
+  keep(state: State, { isStep, isDrawn = false, isDraft = false }: Keeping) {
+    if (!isDraft) this.#hold(state, isDrawn);
+    this.#write(state, isStep);
+  }
+
+  #hold(state: State, isDrawn: boolean) {
+    this.#desk.keep(state, isDrawn);
+    this.show();
+  }
+
+  #write(state: State, isStep: boolean) {
+    writeState(state, isStep, this.#desk.shown?.id ?? 0);
+  }
+
+  /** Keeps where one is, since another scramble is about to be shown. */
+  leave() {
+    keepPlace();
+    this.#desk.leave(placeNow());
+  }
+
+  /** @returns what the desk has of a scramble, which takes the place of the one that is shown */
+  begin(scramble: string): State {
+    this.leave();
+    const sheet = this.#desk.turnTo(scramble);
+    return { ...(sheet ? stateOfSheet(sheet) : emptyState()), scramble };
+  }
+
+  /** Lays scrambles beside the others. */
+  add(sheets: NewSheet[]) {
+    if (sheets.length === 0) return;
+    const [before, left] = [this.#desk.sheets.length, this.#desk.add(sheets)];
+    const count = this.#desk.sheets.length - before;
+    this.show();
+    if (left > 0) tell(part("desk-note"), `The desk is full: ${counted(left, "scramble")} had no room.`);
+    else announce(`${counted(count, "more scramble")} ${count === 1 ? "is" : "are"} on the desk.`);
+  }
+
+  /** Takes the scrambles of another page, and shows the first one. */
+  take(sheets: NewSheet[]) {
+    this.leave();
+    this.add(sheets);
+    location.hash = addressOf(sheets[0].state);
+  }
+
+  /** Shows what is on the desk, if that is more than what the page shows. */
+  show() {
+    const { sheets, shown, isKept } = this.#desk;
+    const focused = [...this.#chips.children].findIndex((each) => each === document.activeElement);
+    this.#chips.replaceChildren(...sheets.map((each, at) => chipOf(each, at, each === shown)));
+    const chip = this.#chips.children[focused];
+    if (chip instanceof HTMLElement) chip.focus({ preventScroll: true });
+    part("desk").hidden = sheets.length < (shown === null ? 1 : 2) && part("desk-removed").hidden && isKept;
+    part("desk-remove").hidden = shown === null;
+    tell(part("desk-note"), isKept || sheets.length === 0 ? "" : NOT_KEPT);
+  }
+
+  /** Takes the scramble that is shown away, and shows the next one. */
+  #remove() {
+    const at = this.#desk.sheets.findIndex((each) => each === this.#desk.shown);
+    this.#bringBack = this.#desk.remove();
+    const { sheets } = this.#desk;
+    this.#tellRemoved(at + 1);
+    location.hash = (sheets[at] ?? sheets[at - 1])?.address ?? "#";
+  }
+
+  #restore() {
+    const before = new Set(this.#desk.sheets.map(({ id }) => id));
+    this.#bringBack();
+    this.#tellRemoved(0);
+    location.hash = this.#desk.sheets.find(({ id }) => !before.has(id))?.address ?? "#";
+  }
+
+  /** @param number of the scramble that was taken away, or 0 */
+  #tellRemoved(number: number) {
+    part("desk-removed").hidden = number === 0;
+    part("desk-removed-words").textContent = number === 0 ? "" : `Scramble ${number} was removed.`;
+    this.show();
+  }
+}

@@ -1,0 +1,31 @@
+// The lines that are kept of a scramble, each known by its moves and by the reduction that it was kept with.
+import { bracketed } from "../shared/offered-steps.js";
+import { MOST_ARE_KEPT } from "../shared/words.js";
+import { MOST_CANDIDATES } from "./limits.js";
+import type { Candidate, State } from "./address.js";
+import type { Moves as Part } from "../../module/shared/sides.js";
+
+/** @returns what it is known by */
+export const nameOf = ({ parts, next }: Pick<Candidate, "parts" | "next">) => [bracketed(parts), next].join(" ").trim();
+
+/** What is kept once a line is starred, or no longer if it was. */
+export function withStar(candidates: Candidate[], parts: Part[], next: string): Candidate[] {
+  const others = candidates.filter((each) => nameOf(each) !== nameOf({ parts, next }));
+  return others.length === candidates.length ? [...others, { parts, note: "", next }] : others;
+}
+
+/** What is kept once others join, and why not all of them do, or "". */
+export function withOthers(candidates: Candidate[], others: Candidate[]) {
+  // of a line that is there twice the first place counts, and the last note
+  const all = new Map([...candidates, ...others, ...candidates].map((each) => [nameOf(each), each]));
+  return { kept: [...all.values()].slice(0, MOST_CANDIDATES), why: all.size > MOST_CANDIDATES ? MOST_ARE_KEPT : "" };
+}
+
+/** One state of two of a scramble, in which nothing is lost: the line of the second one if it has any, the line of the
+ * first one is kept then, and so is what is kept in either. */
+export function joinedStates(own: State, other: State): State {
+  const shown = other.parts.length > 0 ? other : own;
+  const isLeft = own.parts.length > 0 && bracketed(own.parts) !== bracketed(shown.parts);
+  const line = isLeft ? [{ parts: own.parts, note: "", next: "" }] : [];
+  return { ...shown, list: shown.list ?? other.list, kept: withOthers(own.kept, [...other.kept, ...line]).kept };
+}

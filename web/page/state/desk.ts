@@ -1,0 +1,158 @@
+// The desk: the scrambles that are worked on, each with all that was done with it, in the order in which they came. The
+// browser keeps it, for all pages that it has open; what it refuses lasts as long as the page.
+import { addressOf, fitsAddress, hasLines, readAddress, type State } from "./address.js";
+import { joinedStates } from "./candidates.js";
+import { placeIn, type Place } from "./history.js";
+import { store, stored } from "./storage.js";
+import type { Written } from "../answers/read-lines.js";
+
+/** A scramble on the desk: the address that has its state, and where one was. `written`: where it stands among others
+ * that were pasted with it, until it is opened; `isDrawn`: it came by chance, and is given up if nothing was done. */
+export type Sheet = { id: number; address: string; place: Place | null; written: Written | null; isDrawn: boolean };
+
+/** A scramble that is new on the desk. */
+export type NewSheet = { state: State; written: Written | null };
+
+const DESK = "nissy-desk";
+const MOST_SHEETS = 100;
+
+/** Where a scramble stands in a text that the browser kept, or null. */
+function writtenIn(value: unknown): Written | null {
+  if (value === null || typeof value !== "object") return null;
+  const { text, at } = value as Record<string, unknown>;
+  return typeof text === "string" && typeof at === "number" ? { text, at } : null;
+}
+
+/** A sheet that the browser kept, or null: its address is read as any other one. */
+function sheetIn(value: unknown): Sheet | null {
+  if (value === null || typeof value !== "object") return null;
+  const { id, address, place, written, isDrawn } = value as Record<string, unknown>;
+  if (typeof id !== "number" || typeof address !== "string") return null;
+  const { state, fault } = readAddress(address);
+  if (fault !== "" || state.scramble.trim() === "") return null;
+  return { id, address, place: placeIn(place), written: writtenIn(written), isDrawn: isDrawn === true };
+}
+
+function keptSheets(): Sheet[] {
+  try {
+    const values: unknown = JSON.parse(stored(DESK) || "[]");
+    return Array.isArray(values) ? values.flatMap((value) => sheetIn(value) ?? []) : [];
+  } catch {
+    return [];
+  }
+}
+
+const freshId = () => crypto.getRandomValues(new Uint32Array(1))[0];
+
+export const stateOfSheet = ({ address }: Sheet) => readAddress(address).state;
+
+/** By which two scrambles are compared. */
+const plainly = (scramble: string) => scramble.trim().replace(/ +/g, " ");
+
+export class Desk {
+  #sheets = keptSheets();
+  /** the sheet that is shown, or 0 */
+  #at = 0;
+  /** whether the browser keeps what is done */
+  isKept = true;
+
+  get sheets(): readonly Sheet[] {
+    return this.#sheets;
+  }
+
+  /** The sheet that is shown, or null. */
+  get shown(): Sheet | null {
+    return this.#sheets.find(({ id }) => id === this.#at) ?? null;
+  }
+
+  /** Takes over what other pages changed. */
+  readAgain() {
+    if (this.isKept) this.#sheets = keptSheets();
+  }
+
+  #change(change: (sheets: Sheet[]) => Sheet[]) {
+    // what other pages did meanwhile stays
+    this.readAgain();
+    this.#sheets = change(this.#sheets);
+    this.isKept = store(DESK, JSON.stringify(this.#sheets));
+  }
+
+  #withScramble(scramble: string) {
+    return this.#sheets.find((each) => plainly(stateOfSheet(each).scramble) === plainly(scramble)) ?? null;
+  }
+
+  /** Turns to the sheet of a scramble, if it has one. @param id of the sheet that is meant, or 0 */
+  turnTo(scramble: string, id = 0): Sheet | null {
+    const sheet = this.#sheets.find((each) => each.id === id) ?? this.#withScramble(scramble);
+    const before = this.shown;
+    this.#at = sheet?.id ?? 0;
+    const isBare = before?.isDrawn && before !== sheet && !hasLines(stateOfSheet(before));
+    if (isBare && scramble.trim() !== "") this.#change((sheets) => sheets.filter((each) => each.id !== before.id));
+    return sheet;
+  }
+
+  /** Has the sheet that is shown, or a new one, hold a state. @param isDrawn of a new one, whether it came by chance */
+  keep(state: State, isDrawn: boolean) {
+    if (state.scramble.trim() === "" || !fitsAddress(state)) return;
+    const address = addressOf(state);
+    const { shown } = this;
+    if (shown?.address === address && shown.written === null) return;
+    this.#change((sheets) => {
+      const own = sheets.find(({ id }) => id === this.#at);
+      if (own) return sheets.map((each) => (each === own ? { ...own, address, written: null } : each));
+      if (sheets.length >= MOST_SHEETS) return sheets;
+      this.#at = freshId();
+      return [...sheets, { id: this.#at, address, place: null, written: null, isDrawn }];
+    });
+  }
+
+  /** Keeps where one is on the sheet that is shown. */
+  leave(place: Place) {
+    this.#change((sheets) => sheets.map((each) => (each.id === this.#at ? { ...each, place } : each)));
+  }
+
+  /** Lays scrambles beside the others; what was done with one joins what is there of it. Says how many had no room. */
+  add(added: NewSheet[]) {
+    let left = 0;
+    this.#change((sheets) => added.reduce((all, { state, written }) => {
+      const own = all.find((each) => plainly(stateOfSheet(each).scramble) === plainly(state.scramble));
+      const joined = own ? joinedStates(stateOfSheet(own), state) : state;
+      const address = addressOf(joined);
+      if (own) return all.map((each) => (each === own && fitsAddress(joined) ? { ...own, address } : each));
+      if (all.length < MOST_SHEETS) return [...all, { id: freshId(), address, place: null, written, isDrawn: false }];
+      left++;
+      return all;
+    }, sheets));
+    return left;
+  }
+
+  /** Takes the sheet that is shown away. @returns what brings it back to its place */
+  remove() {
+    const { shown } = this;
+    const at = this.#sheets.findIndex((each) => each === shown);
+    this.#change((sheets) => sheets.filter(({ id }) => id !== shown?.id));
+    this.#at = 0;
+    return () => shown && this.#change((sheets) => sheets.toSpliced(at, 0, shown));
+  }
+}
+
+/** The state of what was done with a scramble by an address of it that was opened, and by its sheet.
+ * @param isBack whether the address is one that the history had for the sheet: then what is kept stays */
+export function stateOfBoth(sheet: Sheet, address: State, isBack: boolean): State {
+  const own = stateOfSheet(sheet);
+  return isBack ? { ...address, kept: own.kept } : joinedStates(own, address);
+}
+
+const ADDRESS = /^#scramble=\S+$/gm;
+
+/** All scrambles of a desk as a text, which another page takes when it is pasted. */
+export const textOfDesk = (sheets: readonly Sheet[]) => [
+  "Scrambles of nissy: paste all of this where its page has a scramble.",
+  ...sheets.map((each, at) => `\n${at + 1}. ${stateOfSheet(each).scramble}\n${each.address}`),
+].join("\n");
+
+/** The scrambles of such a text; none of any other one. */
+export const sheetsIn = (text: string): NewSheet[] => [...text.matchAll(ADDRESS)].flatMap(([address]) => {
+  const { state, fault } = readAddress(address);
+  return fault === "" && state.scramble.trim() !== "" ? [{ state, written: null }] : [];
+});
