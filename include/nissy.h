@@ -17,7 +17,7 @@
  * as those of 64 bits do, and begins with `status`. If a line may have a fault, `fault` is the second byte and `column` the second four
  * bytes. A field that says yes or no is 1 or 0. What isn't named for a status is 0 after it.
  *
- * Link with -lnissy (pkg-config: nissy). EMBEDDING.md, which comes with it, has examples. nissy.hpp is for C++17 and later. */
+ * Link with -lnissy (pkg-config: nissy). C.md, which comes with it, has examples. nissy.hpp is for C++17 and later. */
 #ifndef NISSY_H
 #define NISSY_H
 
@@ -311,7 +311,7 @@ typedef struct nissy_ways_answer {
 
 /* Puts the best ways on from a scramble and the moves so far into the room, the best first: each edge orientation over both sides, and after
  * it the reduction on each of two axes with the fewest moves in all, over both sides too; of a cube that is oriented the reductions; of one
- * that is reduced nothing. EMBEDDING.md says which ways there are, and in what order. Moves of both lines in brackets are made on the inverse
+ * that is reduced nothing. MANUAL.md says which ways there are, and in what order. Moves of both lines in brackets are made on the inverse
  * scramble; those so far, and the ways, name the faces as the moves outside brackets leave the cube.
  *
  * `tables` are nine, in the order of nissy_steps: eofb, eorl, eoud, drud-eofb, drrl-eofb, drud-eorl, drfb-eorl, drrl-eoud, drfb-eoud. `wanted`

@@ -269,7 +269,7 @@ if [ -e build/nissy.html ]; then
     without_library() { sed '/^The library needs/,$d' docs/archive.txt; }
     holds "its README says nothing of the library" cmp "$room/unpacked/$archive-program/README" <(without_library)
     holds "it has nothing of the library" test "$(stands_in "$room/unpacked/$archive-program")" = \
-        "$(stands_in "$room/installed/usr" | grep -vE '(include|lib|examples)/|/EMBEDDING')"
+        "$(stands_in "$room/installed/usr" | grep -vE '(include|lib|examples)/|/(C|PYTHON)[.]md')"
     stops_at() {
         fails_to_pack 1 && ! said=$(tools/dist "$room/less" program 2>&1) && grep -qx 'there is no npm here' <<< "$said" &&
             grep -qx "the package for npm can't be made" <<< "$said" && [ ! -e "$room/less/SHA256SUMS" ]

@@ -39,7 +39,6 @@ NOT_THERE = {
     "tests/wrong-bodies/other": "tests/bodies.sh makes it",
     "docs/elsewhere": "tests/install.sh makes it",
     "proofs/path/Limit/new/Answers.antt": "a check with open goals writes it",
-    "share/doc/nissy/EMBEDDING.md": "a package lays it there",
     "moves.c": "it is a program of the reader's",
     "self.rt": "it is the runtime of an example",
 }

@@ -55,8 +55,8 @@ class Page:
         return torn
 
     def longer_lines(self, columns: int) -> list[int]:
-        """Returns the numbers of its lines that have more columns, rows of tables apart."""
-        return [number for number, line in enumerate(self.lines, 1) if len(line) > columns and not line.startswith("|")]
+        """Returns the numbers of its lines that have more columns."""
+        return [number for number, line in enumerate(self.lines, 1) if len(line) > columns]
 
     def quoted(self, pattern: str) -> list[str]:
         """Returns the names in backquotes where the pattern is found; `A::b` gives both A and b."""
