@@ -7,8 +7,8 @@ A block ```sh is run, and where the next block is ```text, that is what it print
 with `$ ` is run, and the lines after it are what it prints. The blocks of a page run one after another in one shell, so that variables and
 files stay; the whole page is run by each of sh, bash and zsh that is there. A block ```bash, ```zsh or ```fish runs by that shell alone.
 They find the repository's folder `examples` beside them.
-A block of a kind of SCRIPTS is a script or a program of its own, which is run in a folder that has what the top of the repository has, if the
-module or the library that it asks is built. A block that takes a tool of TOOLS, or the library, is skipped if that isn't here, and named. So are
+A block of a kind of SCRIPTS is a script or a program of its own, which is run in an empty folder, if the module, as a package for npm, or the
+library that it asks is built. A block that takes a tool of TOOLS, or the library, is skipped if that isn't here, and named. So are
 the examples of a manual page.
 """
 import difflib
@@ -128,18 +128,27 @@ def run_by(shell: str, examples: list[Example], environment: dict[str, str]) -> 
                 it.wrong[shell] = got
 
 
+def lay_package(room: Path) -> None:
+    """Lays the package for npm into a folder, as it would be installed there."""
+    package = room / "node_modules/nissy"
+    shutil.copytree(TOP / "web/module", package)
+    shutil.copy(TOP / "build/nissy.wasm", package)
+
+
 def run_alone(it: Example, environment: dict[str, str]) -> None:
-    """Runs an example that is a script or a program of its own, in a folder that has what the top of the repository has."""
+    """Runs an example that is a script or a program of its own, in an empty folder, in which the package for npm is installed."""
     words = SCRIPTS[it.kind][0].split()
     with tempfile.TemporaryDirectory() as room:
-        for folder in ("web", "build"):
-            os.symlink(TOP / folder, Path(room, folder))
+        if it.kind == "js":
+            lay_package(Path(room))
         next(Path(room, word) for word in words if word.startswith("example.")).write_text(it.command)
         got = b""
         for command in [words, ["./made"]] if "made" in words else [words]:
             ran = subprocess.run(command, cwd=room, env=environment | {"GOCACHE": f"{room}/cache"}, stdout=subprocess.PIPE, stderr=subprocess.STDOUT,
                                  check=False, timeout=SECONDS)
             got += ran.stdout
+            if ran.returncode != 0:
+                break
         if got.decode(errors="replace") != it.wanted:
             it.wrong[words[0]] = got.decode(errors="replace")
 
