@@ -20,6 +20,9 @@ NEEDS_KIT = @command -v rt > /dev/null || { echo "no rt on the PATH: nissy is bu
 SOURCES := HANDLES crates.txt $(shell find crates \( -name out -o -name niss_tests -o -name niss_call_tests -o -name eo_axes \) -prune \
 	-o -type f \( -name '*.rt' -o -name '*.antt' \) -print)
 
+# the page, if the tools are here that it needs besides the kit
+THE_PAGE := $(and $(shell command -v wasm-opt),$(shell command -v tsc),build/nissy.html)
+
 # Where a distribution looks for each file: below PREFIX, or, behind `@lib` and `@python`, below LIBDIR and PYTHONDIR. A package is built with
 # `make install DESTDIR=FOLDER PREFIX=/usr`: the files go below FOLDER, and PREFIX says where they will stand. `make uninstall` takes the
 # same words.
@@ -103,10 +106,11 @@ build/nissy.c: build/niss_page.a include/nissy.h include/nissy_text.h tools/c-fi
 	tools/c-file build/niss_page.a build/nissy.c
 
 # one file, with the engine's module in it
-build/nissy.html: build/nissy.wasm tools/page $(wildcard web/page/* web/module/*.js)
-	tools/page web/page build/nissy.wasm build/nissy.html
+build/nissy.html: build/nissy.wasm tools/page tools/web-scripts $(shell find web -type f)
+	tools/web-scripts
+	tools/page build/web/page build/nissy.wasm build/nissy.html
 
-check: build/nissy $(if $(shell command -v wasm-opt),build/nissy.html build/nissy.c) $(if $(filter no,$(LIBRARY)),,$(if $(shell command -v cc),build/libnissy.a))
+check: build/nissy $(if $(shell command -v wasm-opt),$(THE_PAGE) build/nissy.c) $(if $(filter no,$(LIBRARY)),,$(if $(shell command -v cc),build/libnissy.a))
 	tests/run built
 
 test:
@@ -152,7 +156,7 @@ sdist: build/nissy.c
 windows: build/nissy.c
 	tools/windows build
 
-dist: build/nissy build/nissy.c $(if $(LIBRARY_INSTALLED),build/libnissy.a) $(if $(shell command -v wasm-opt),build/nissy.html) \
+dist: build/nissy build/nissy.c $(if $(LIBRARY_INSTALLED),build/libnissy.a) $(THE_PAGE) \
 		$(if $(shell command -v aarch64-linux-gnu-gcc),arm)
 	tools/dist build/dist $(if $(LIBRARY_INSTALLED),,program)
 

@@ -4,7 +4,7 @@
 //     node bench/module.mjs MODULE
 import { readFileSync } from "node:fs";
 import { performance } from "node:perf_hooks";
-import { Nissy } from "../web/module/nissy.js";
+import { Nissy } from "../build/web/module/nissy.js";
 
 const ROUNDS = 200;
 

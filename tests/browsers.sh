@@ -19,11 +19,10 @@ export SE_OFFLINE=true SE_AVOID_STATS=true
 if [ ! -e "$page" ] || missing python3; then skips_all "the page, since make page built none or there is no python3"; fi
 typed tests/tally.py tests/browsers/*.py
 
-fit() { # the types in the comments of the page's scripts, and a call that fits beside one that doesn't, which tsc has to tell
+fit() { # the types of the page's scripts, and a call that fits beside one that doesn't, which tsc has to tell
     printf 'import { counted } from "%s";\ncounted(3, "move");\n// @ts-expect-error a text is no number\ncounted("3", "move");\n' \
-        "$PWD/web/page/element.js" > "$room/call.js"
-    tsc --allowJs --checkJs --noEmit --skipLibCheck --target es2022 --module es2022 --moduleResolution node --lib es2022,dom,dom.iterable \
-        tests/browsers/page.d.ts web/page/main.js web/page/worker.js "$room/call.js"
+        "$PWD/build/web/page/element.js" > "$room/call.ts"
+    tools/web-scripts && tsc --strict --noEmit --skipLibCheck --target es2022 --module es2022 --moduleResolution node --lib es2022,dom,dom.iterable "$room/call.ts"
 }
 if missing tsc; then skips "the types of the page's JavaScript, since there is no tsc"; else
     holds "the page's JavaScript has the types that its comments say, and a call by these is judged" fit

@@ -1,8 +1,8 @@
 #!/usr/bin/env bash
-# Holds the pages against the repository: links, tables, columns, README's size; each file and name of code, lemma, clause, law and wrong body
-# that a page gives, and each file that a comment does; the maps of docs/ARCHITECTURE.md; the examples of the crates' first pages; the places
-# that name the version; that tsc reads each type of the page's and the module's scripts; and that no file is too long. mypy reads what does so,
-# the tools and the model. If there is no python3 nothing is tried.
+# Holds the pages against the repository: links, tables, columns, README's size; each file and name of code, lemma, clause, law and wrong body that
+# a page gives, and each file that a comment does; the maps of docs/ARCHITECTURE.md; the examples of the crates' first pages; the places that name
+# the version; that no type stands in a comment of the page's and the module's scripts; and that no file is too long. mypy reads what does so, the
+# tools and the model. If there is no python3 nothing is tried.
 set -u
 cd "$(dirname "$0")/.." || exit 2
 # shellcheck source=tests/shared

@@ -31,7 +31,10 @@ if missing cc; then skips "C, since there is no cc"; else
     holds "caller.c compiles" eval 'compiled_in_c "${sanitized[@]}" || compiled_in_c'
     in_c=("c=$room/in_c")
 fi
-if missing node || [ ! -e "$folder/nissy.wasm" ]; then skips "JavaScript, since there is no node, or no module that make page built"; else
+if missing node || missing tsc || [ ! -e "$folder/nissy.wasm" ]; then
+    skips "JavaScript, since there is no node, no tsc, or no module that make page built"
+else
+    holds "tsc compiles the scripts" tools/web-scripts
     others+=("js=$folder/nissy.wasm")
 fi
 part python3 tests/hosts/drawn.py "$program" 1 0.12 python "${others[@]}"

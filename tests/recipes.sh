@@ -20,7 +20,10 @@ if missing python3; then skips_all "there is no python3 here, so no example is r
 pages=("${@:2}")
 if [ ${#pages[@]} -eq 0 ]; then
     pages=("$top/README.md" "$top/docs/COOKBOOK.md" "$top/docs/MANUAL.md" "$top/docs/MANY.md" "$top/docs/nissy.1")
-    if [ -e "$top/build/nissy.wasm" ] && ! missing node; then pages+=("$top/web/module/README.md"); else skips "web/module/README.md, no module or no node here"; fi
+    if [ ! -e "$top/build/nissy.wasm" ] || missing node || missing tsc; then skips "web/module/README.md, no module, no node or no tsc here"; else
+        holds "tsc compiles the module's scripts" "$top/tools/web-scripts"
+        pages+=("$top/web/module/README.md")
+    fi
     if [ -e "$top/build/libnissy.so" ]; then pages+=("$top/docs/PYTHON.md" "$top/docs/C.md"); else skips "docs/PYTHON.md and docs/C.md, no library here"; fi
 fi
 export CPATH=$top/include LIBRARY_PATH=$top/build LD_LIBRARY_PATH=$top/build PYTHONPATH=$top/python

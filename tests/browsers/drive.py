@@ -32,7 +32,7 @@ NO_ENGINE = "globalThis.WebAssembly = undefined;\n"
 
 def page_without_engine(room: Path) -> str:
     """The page as a browser has it that runs no WebAssembly."""
-    shutil.copytree(TOP / "web", room / "web")
+    shutil.copytree(TOP / "build/web", room / "web")
     engine = room / "web/module/source.js"
     engine.write_text(NO_ENGINE + engine.read_text())
     (room / "module").write_bytes(b"none")

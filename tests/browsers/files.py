@@ -98,7 +98,7 @@ def is_whole(tally: Tally, page: str) -> None:
 
 def is_indented(tally: Tally) -> None:
     """All JavaScript has one indent: of two blanks."""
-    scripts = sorted(each for kind in ("*.js", "*.cjs") for each in (TOP / "web").rglob(kind))
+    scripts = sorted(each for kind in ("*.ts", "*.cjs") for each in (TOP / "web").rglob(kind))
     tally.holds("there are scripts", len(scripts) > 60)
     for script in scripts:
         code = [line for line in script.read_text().splitlines() if not line.lstrip().startswith("*")]
@@ -111,7 +111,7 @@ def refuses(tally: Tally) -> None:
     for name, text, what in (("style.css", "", ""),) + REFUSED:
         with tempfile.TemporaryDirectory() as room:
             web, made = Path(room, "web/page"), Path(room, "page.html")
-            shutil.copytree(TOP / "web", web.parent)
+            shutil.copytree(TOP / "build/web", web.parent)
             Path(room, "module").write_bytes(b"\0asm")
             with (web / name).open("a") as file:
                 file.write("\n" + text)

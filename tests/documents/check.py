@@ -99,7 +99,7 @@ def names_of_code(tally: Tally, code: Code) -> None:
         each(tally, name, "a file or a word of the repository", Page(TOP, name).quoted(CODE_NAME), code.has)
     for name in WITH_PATHS:
         paths = {it.rstrip(".") for it in PATH.findall(Page(TOP, name).text) if "NAME" not in it}
-        each(tally, name, "a file or folder", sorted(paths), lambda path: (TOP / path).exists() or code.has(path))
+        each(tally, name, "a file or folder", sorted(paths), lambda path: (TOP / path).exists() or (TOP / re.sub(r"\.js$", ".ts", path)).exists() or code.has(path))
 
 
 def names_in_proofs(tally: Tally, code: Code) -> None:
@@ -113,7 +113,7 @@ def gone(code: Code, path: str, text: str) -> set[str]:
     """What a file names that isn't there: paths from the top anywhere in it, other files in what people read of it."""
     read = text if path == CHANGE else prose(path, text)
     tops = {folder for folder in code.folders if "/" not in folder}
-    found = {it for it in below(text, tops) if it not in code.files and it not in code.folders}
+    found = {it for it in below(text, tops) if not {it, re.sub(r"\.js$", ".ts", it)} & {*code.files, *code.folders}}
     return found | {it for it in names_of_files(read) if not code.is_there(it, path)}
 
 
@@ -171,8 +171,8 @@ def heads_of_files(tally: Tally, code: Code) -> None:
 def map_of_scripts() -> list[str]:
     """Returns what the table of the page's scripts and their folder don't have in common."""
     listed = rows(Page(TOP, "docs/ARCHITECTURE.md").section("The page"))
-    on_map = {name for row in listed for name in re.findall(r"[\w-]+\.js", row[0])}
-    there = {path.name for path in (TOP / "web/page").glob("*.js")}
+    on_map = {name for row in listed for name in re.findall(r"[\w-]+\.ts", row[0])}
+    there = {path.name for path in (TOP / "web/page").glob("*.ts")}
     return [f"gone: web/page: {it}" for it in sorted(on_map - there)] + [f"missing: web/page: {it}" for it in sorted(there - on_map)]
 
 
@@ -182,28 +182,23 @@ def says_its_task(script: Path) -> bool:
     return re.match(r"// \S|/\*\*$", lines[0]) is not None
 
 
+def scripts() -> list[Path]:
+    """Returns the scripts for the page and the module."""
+    return sorted(path for kind in ("*.ts", "*.cjs") for path in (TOP / "web").rglob(kind))
+
+
 def heads_of_scripts(tally: Tally) -> None:
     """The first line of each script for the page and the module says its task, as docs/ARCHITECTURE.md has it."""
-    scripts = sorted(path for folder in ("page", "module") for path in (TOP / "web" / folder).glob("*.*js"))
-    tally.holds("there are scripts", scripts)
-    for script in scripts:
+    tally.holds("there are scripts", len(scripts()) > 60)
+    for script in scripts():
         tally.holds(f"the first line of {script.relative_to(TOP)} says its task", says_its_task(script))
 
 
-def unread_types(script: Path) -> list[str]:
-    """Returns the comments of a script whose first type stands behind other words of its line: tsc reads none there, so it may be wrong."""
-    found = []
-    for comment in re.findall(r"/\*\*[\s\S]*?\*/", script.read_text(encoding="utf-8")):
-        before = re.split(r"@(?:param|returns|type|template|typedef)\b", comment, maxsplit=1)
-        if len(before) > 1 and not re.fullmatch(r"\s*(/\*)?\*\s*", before[0].split("\n")[-1]):
-            found.append(comment)
-    return found
-
-
-def types_in_scripts(tally: Tally) -> None:
-    """Each type in a comment of a script for the page and the module is one that tsc reads."""
-    for script in sorted(path for folder in ("page", "module") for path in (TOP / "web" / folder).glob("*.*js")):
-        tally.equal(f"types of {script.relative_to(TOP)} that tsc doesn't read", unread_types(script), [])
+def types_in_comments(tally: Tally) -> None:
+    """No type stands in a comment of a script, since tsc reads none there: it may be wrong."""
+    for script in scripts():
+        comments = re.findall(r"/\*[\s\S]*?\*/", script.read_text(encoding="utf-8"))
+        tally.equal(f"types in comments of {script.relative_to(TOP)}", [it for it in comments if re.search(r"@\w+ \{|@(?:type|typedef|template)\b", it)], [])
 
 
 def clauses_of_functions(texts: list[str]) -> list[str]:
@@ -295,7 +290,7 @@ def main() -> None:
         tally.holds(f"docs/ARCHITECTURE.md maps each file: {what}", not what)
     heads_of_files(tally, code)
     heads_of_scripts(tally)
-    types_in_scripts(tally)
+    types_in_comments(tally)
     promises(tally, code)
     wrong_bodies(tally, code)
     examples(tally)

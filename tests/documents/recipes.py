@@ -131,7 +131,7 @@ def run_by(shell: str, examples: list[Example], environment: dict[str, str]) -> 
 def lay_package(room: Path) -> None:
     """Lays the package for npm into a folder, as it would be installed there."""
     package = room / "node_modules/nissy"
-    shutil.copytree(TOP / "web/module", package)
+    shutil.copytree(TOP / "build/web/module", package)
     shutil.copy(TOP / "build/nissy.wasm", package)
 
 

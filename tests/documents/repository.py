@@ -96,6 +96,9 @@ class Code:
         path = posixpath.normpath(name)
         if f"build/{posixpath.basename(path)}" in self.texts["Makefile"]:
             return True
+        # tsc makes a script of it
+        if path.endswith(".js") and self.is_there(path[:-3] + ".ts", by):
+            return True
         return path in self.files or beside in self.files or any(it.endswith(f"/{path}") for it in self.files)
 
     @cached_property

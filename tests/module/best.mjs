@@ -5,8 +5,8 @@
 //
 // The last line is `N passed, M failed`, and the status is 1 where M isn't 0.
 import { readFileSync } from "node:fs";
-import { NissyPool, NissyWorker } from "../../web/module/node.js";
-import { Nissy, NissyFault, SearchCut } from "../../web/module/nissy.js";
+import { NissyPool, NissyWorker } from "../../build/web/module/node.js";
+import { Nissy, NissyFault, SearchCut } from "../../build/web/module/nissy.js";
 import { ended, moduleBytes, same, thrown } from "./tally.mjs";
 
 const nissy = await Nissy.load(moduleBytes);

@@ -1,7 +1,7 @@
 // Calls by their names with what is wanted, and values of other types at each place of each call: for `Nissy`, and for what has the same
 // calls as promises.
 import { readFileSync } from "node:fs";
-import { NissyFault, startOf } from "../../web/module/nissy.js";
+import { NissyFault, startOf } from "../../build/web/module/nissy.js";
 import { fingerprint, same, thrown } from "./tally.mjs";
 import { DETACHED, WRONG } from "./values.mjs";
 

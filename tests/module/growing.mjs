@@ -16,7 +16,7 @@ Object.defineProperty(ofTypedArrays, "length", {
     return length;
   },
 });
-const { Nissy } = await import("../../web/module/nissy.js");
+const { Nissy } = await import("../../build/web/module/nissy.js");
 const nissy = await Nissy.load(moduleBytes);
 
 /** Bytes that may grow, to the end of their buffer or of a part of it. */

@@ -1,8 +1,8 @@
 // The engine in a worker, in node: its calls, and calls that are given up.
 import { getEventListeners } from "node:events";
 import { performance } from "node:perf_hooks";
-import { Nissy, NissyWorker, loadNissy } from "../../web/module/node.js";
-import { WorkerCalls } from "../../web/module/worker-calls.js";
+import { Nissy, NissyWorker, loadNissy } from "../../build/web/module/node.js";
+import { WorkerCalls } from "../../build/web/module/worker-calls.js";
 import { tryEach, tryMany as tryManyLines, tryOptions, tryReadOptions, tryRows, tryWrongValues } from "./called.mjs";
 import { tryAttempts, tryBounds, tryChecks, tryMixed, tryPairs } from "./judged.mjs";
 import { ended, moduleBytes, same, text, thrown } from "./tally.mjs";

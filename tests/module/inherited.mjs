@@ -1,5 +1,5 @@
 // What some script gave to all objects is no option of a call without any, and no part of a fault.
-import { Nissy } from "../../web/module/nissy.js";
+import { Nissy } from "../../build/web/module/nissy.js";
 import { ended, moduleBytes, same, text } from "./tally.mjs";
 
 const BYTES = new TextEncoder().encode("D (F)");

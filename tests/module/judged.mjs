@@ -1,5 +1,5 @@
 // What is told of lines without a search, and searches with a bound on nodes: by `Nissy`, and by what has the same calls as promises.
-import { NissyFault, SearchCut } from "../../web/module/nissy.js";
+import { NissyFault, SearchCut } from "../../build/web/module/nissy.js";
 import { TURNS, same, thrown } from "./tally.mjs";
 
 // a call, and the fault that it throws: which line has it, its column and its message

@@ -1,10 +1,10 @@
 // Tries what the page makes of a step's solutions: all moves with each, beside a count of the merged lines; twins, which have the same case; and
 // what is left out, since it was reached before its last move.
-import { Nissy } from "../../web/module/nissy.js";
-import { ORIENTATIONS, REDUCTIONS, reductionsAfter } from "../../web/page/axes.js";
-import { positionAfter, totalsWith } from "../../web/page/cubes.js";
-import { partOn } from "../../web/page/steps.js";
-import { mergeTwins, withoutEarlier } from "../../web/page/twins.js";
+import { Nissy } from "../../build/web/module/nissy.js";
+import { ORIENTATIONS, REDUCTIONS, reductionsAfter } from "../../build/web/page/axes.js";
+import { positionAfter, totalsWith } from "../../build/web/page/cubes.js";
+import { partOn } from "../../build/web/page/steps.js";
+import { mergeTwins, withoutEarlier } from "../../build/web/page/twins.js";
 import { ended, moduleBytes, same } from "./tally.mjs";
 
 const OPPOSITE = { U: "D", D: "U", R: "L", L: "R", F: "B", B: "F" };

@@ -1,6 +1,6 @@
 // Tries what those need who draw a cube. The net is folded here: so each letter has a cell of the cube and a direction in which it looks, and
 // moves by geometry alone have to show there what `facelets` says. And where the stickers of a piece are.
-import { AXES, CORNER_PLACES, EDGE_PLACES, NET, Nissy, STEPS, stickersOf } from "../../web/module/nissy.js";
+import { AXES, CORNER_PLACES, EDGE_PLACES, NET, Nissy, STEPS, stickersOf } from "../../build/web/module/nissy.js";
 import { TURNS, drawn, ended, moduleBytes, same, thrown } from "./tally.mjs";
 
 const nissy = await Nissy.load(moduleBytes);

@@ -1,6 +1,6 @@
 // Calls of the module in node, with the answers that are wanted.
 import { runInContext } from "node:vm";
-import { NoWebAssembly, NoWideMemory, Nissy } from "../../web/module/nissy.js";
+import { NoWebAssembly, NoWideMemory, Nissy } from "../../build/web/module/nissy.js";
 import { ended, loaded, moduleBytes as module, same, text, thrown } from "./tally.mjs";
 import { elsewhere } from "./values.mjs";
 

@@ -2,8 +2,8 @@
 // that side; cut, in pieces, in workers, of many lines; and what no call takes.
 //
 //     node tests/module/sides.mjs MODULE
-import { NissyPool, NissyWorker } from "../../web/module/node.js";
-import { Nissy, SearchCut } from "../../web/module/nissy.js";
+import { NissyPool, NissyWorker } from "../../build/web/module/node.js";
+import { Nissy, SearchCut } from "../../build/web/module/nissy.js";
 import { TURNS, ended, moduleBytes, same, thrown } from "./tally.mjs";
 
 const nissy = await Nissy.load(moduleBytes);

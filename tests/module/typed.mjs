@@ -1,7 +1,7 @@
 // The calls of `Nissy` by their names, with what is wanted, and with values and sizes that no call takes.
 import { runInContext } from "node:vm";
 import { readFileSync } from "node:fs";
-import { Nissy, VERSION } from "../../web/module/nissy.js";
+import { Nissy, VERSION } from "../../build/web/module/nissy.js";
 import { tryTraps } from "./broken_off.mjs";
 import { F_OR_ITS_INVERSE, tryEach, tryMany, tryOptions, tryReadOptions, tryRows, tryTooLong, tryWrongValues } from "./called.mjs";
 import { tryAttempts, tryBounds, tryChecks, tryMixed, tryPairs } from "./judged.mjs";
@@ -121,7 +121,7 @@ for (const judge of [tryChecks, tryAttempts, tryPairs, tryBounds, tryMixed]) awa
 await tryRanges(nissy);
 await tryScrambles(nissy);
 await tryBeyond(nissy, memory);
-same("the version is the package's", VERSION, JSON.parse(readFileSync(new URL("../../web/module/package.json", import.meta.url), "utf8")).version);
+same("the version is the package's", VERSION, JSON.parse(readFileSync(new URL("../../build/web/module/package.json", import.meta.url), "utf8")).version);
 tryManySolutions(nissy);
 await tryTraps(nissy);
 await trySources();

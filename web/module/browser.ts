@@ -1,0 +1,67 @@
+// The engine in a worker of a browser, and in several.
+import { WorkerPool } from "./pool.js";
+import { WorkerCalls } from "./worker-calls.js";
+import { listenedTo } from "./worker-queue.js";
+import type { ModuleSource } from "./source.js";
+
+export type { ModuleSource } from "./source.js";
+
+export * from "./nissy.js";
+
+const SCRIPT = "worker.js";
+const place = () => new URL(SCRIPT, import.meta.url).href;
+
+let importing: string | null = null;
+
+/**
+ * Where a script of the page's own stands that imports one of another origin, from which browsers start no worker. It
+ * serves each start.
+ */
+function importedFrom(href: string) {
+  importing ??= URL.createObjectURL(new Blob([`import ${JSON.stringify(href)};`], { type: "text/javascript" }));
+  return importing;
+}
+
+/** A worker whose script stands beside this file, on the page's server or on another one. */
+function besideThis() {
+  const { origin } = new URL(import.meta.url);
+  const isOfPage = origin === "null" || origin === globalThis.location?.origin;
+  if (!isOfPage) return new Worker(importedFrom(place()), { type: "module" });
+  // bundlers know these words, and put the script where they lead
+  return new Worker(new URL("./worker.js", import.meta.url), { type: "module" });
+}
+
+/** What starts workers. */
+function workersBy(made: () => Worker) {
+  if (typeof made !== "function") throw new TypeError("what makes the worker is no function");
+  return listenedTo(made, made === besideThis ? place : undefined);
+}
+
+/** The engine in a worker. */
+export class NissyWorker extends WorkerCalls {
+  /**
+   * Starts the engine. Rejects with `NoWebAssembly` if the host runs none, and with `EngineMissing` if the worker can't
+   * be started.
+   * @param made makes a worker that runs `nissy/worker-script`, of which a bundle has a copy; without it the script
+   * that stands beside this file is run
+   */
+  static async start(
+    source: ModuleSource | Promise<ModuleSource>, made: () => Worker = besideThis,
+  ): Promise<NissyWorker> {
+    return super.startBy(source, workersBy(made));
+  }
+}
+
+/** Engines in several workers, which share many lines. */
+export class NissyPool extends WorkerPool {
+  /**
+   * Starts engines, as `NissyWorker.start` starts one.
+   * @param workers how many
+   * @param made makes a worker
+   */
+  static async start(
+    workers: number, source: ModuleSource | Promise<ModuleSource>, made: () => Worker = besideThis,
+  ): Promise<NissyPool> {
+    return super.startBy(workers, source, workersBy(made));
+  }
+}

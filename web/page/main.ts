@@ -1,0 +1,45 @@
+// Starts the page: the worker's script and the engine's module stand in the page itself, packed by gzip. The module is
+// compiled once for all workers.
+import { compiled } from "../module/source.js";
+import { Calls, workersOf } from "./calls.js";
+import { copyLink } from "./copying.js";
+import { part } from "./element.js";
+import { offerLast } from "./last.js";
+import { Page } from "./page.js";
+import { Reader } from "./reader.js";
+import { offerCover } from "./rows.js";
+import { offerThemes, placeHelp } from "./view.js";
+import type { SentModule } from "../module/worker-queue.js";
+
+/** The bytes of something that is packed. @param name the name of its element */
+async function unpacked(name: string) {
+  const base64 = part(name).textContent.trim();
+  const text = Uint8Array.fromBase64 ? "" : atob(base64);
+  const packed = Uint8Array.fromBase64?.(base64) ?? new Uint8Array(text.length);
+  // a call for each byte would take as long as all the rest here
+  for (let at = 0; at < text.length; at += 1) packed[at] = text.charCodeAt(at);
+  const { readable, writable } = new DecompressionStream("gzip");
+  const writer = writable.getWriter();
+  writer.write(packed);
+  writer.close();
+  return new Uint8Array(await new Response(readable).arrayBuffer());
+}
+
+/** @param _ the module, and the worker's script */
+async function start([module, script]: [SentModule, Uint8Array]) {
+  const newWorker = workersOf(new TextDecoder().decode(script));
+  const page = new Page(() => new Calls(newWorker, module), await Reader.start(module));
+  addEventListener("popstate", ({ state }) => page.returnTo(state));
+  addEventListener("hashchange", () => page.begin(location.hash));
+  page.begin(location.hash);
+}
+
+part("unstarted").remove();
+offerThemes();
+offerCover();
+placeHelp();
+offerLast();
+part("copy-link").addEventListener("click", ({ currentTarget }) => copyLink(currentTarget));
+// if it can't be compiled each worker says why, once it is asked
+const module = unpacked("engine-module").then((bytes) => compiled(bytes).catch(() => bytes));
+Promise.all([module, unpacked("worker-script")]).then(start);

@@ -1,0 +1,392 @@
+// The page's state, and what each change of it makes the parts of the page show.
+import { NissyFault, Stopped } from "../module/faults.js";
+import { emptyState, hasLines, readAddress, type List, type State } from "./address.js";
+import { BestContinuations } from "./best.js";
+import { Readiness, type Calls } from "./calls.js";
+import { copy } from "./copying.js";
+import { Cube } from "./cube.js";
+import { announce, announceLater, part, setBusy, spoken, tell } from "./element.js";
+import { NextFocus, type Where } from "./focus.js";
+import { KeptCandidates, withOthers } from "./kept.js";
+import { LineSoFar } from "./line.js";
+import { Seen, WayBack, dropAddress, keepPlace, placeIn, writeState } from "./places.js";
+import { refreshRows } from "./rows.js";
+import { ScrambleField, type ScrambleChange } from "./scramble.js";
+import { SolutionList } from "./solutions.js";
+import {
+  ORIENTATIONS, bracketed, isReduced, lastSideOf, reductionOf, sideToward, stateOf, stepNamed, turnsOfStep,
+} from "./steps.js";
+import { StepTable, cubeWithOffers } from "./table.js";
+import { awaitAnswer, isBare, keepInView, listenToKeys, setUsable, showBeginning, showStart, star } from "./view.js";
+import { tellFailed } from "./watch.js";
+import { titleOfPage, unanswered, whyNotListed, whyUnread } from "./words.js";
+import type { Moves as Part } from "../module/sides.js";
+import type { Reader } from "./reader.js";
+import type { Row } from "./finder.js";
+import type { RowActs } from "./best-row.js";
+
+export class Page {
+  #state: State = emptyState();
+  #turn = 0;
+  #cube = null;
+  #isReading = false;
+  #nextFocus = new NextFocus();
+  #wayBack = new WayBack();
+  #calls: Calls;
+  #keptCalls: Calls;
+  #byHand: Calls;
+  #readiness: Readiness;
+  #seen = new Seen();
+  #nets = new Cube();
+  #scramble: ScrambleField;
+  #line: LineSoFar;
+  #table: StepTable;
+  #list: SolutionList;
+  #best: BestContinuations;
+  #kept: KeptCandidates;
+
+  /** @param newCalls of which each has a worker of its own */
+  constructor(newCalls: () => Calls, reader: Reader) {
+    this.#calls = newCalls();
+    this.#keptCalls = newCalls();
+    // what is asked for by hand is never given up for another cube
+    this.#byHand = newCalls();
+    this.#scramble = new ScrambleField(this.#byHand, reader, (...typed) => this.#setScramble(...typed));
+    this.#line = new LineSoFar(this.#byHand, reader, {
+      change: (change) => this.#changeLine(change), star: () => this.#starLine(),
+    });
+    this.#table = new StepTable((step, side) => this.#open(step, side));
+    const stars: Omit<RowActs, "goOn"> = {
+      star: (button, added, next) => this.#kept.star(this.#state, button, [...this.#state.parts, ...added], next),
+      isStarred: (added, next) => this.#kept.has([...this.#state.parts, ...added], next),
+      isSeen: (added, next) => this.#seen.has(this.#state.scramble, [...this.#state.parts, ...added], next),
+    };
+    this.#kept = new KeptCandidates(this.#keptCalls, {
+      goOn: (parts, list) => this.#change({ parts, list }, { focusNext: list ? "list" : "table" }),
+      change: (kept) => this.#change({ kept }),
+    });
+    const list = newCalls();
+    this.#list = new SolutionList(list, {
+      ...stars,
+      take: (taken, key) => this.#take(taken, key),
+      change: (change) => this.#changeList(change),
+      copy,
+    });
+    const finders = ORIENTATIONS.map(newCalls);
+    this.#readiness = new Readiness({ calls: this.#calls, byHand: this.#byHand, list, finders });
+    this.#best = new BestContinuations(finders, this.#keptCalls, {
+      ...stars, goOn: (row) => this.#goOn(row), shown: () => this.#goBack(),
+    });
+    keepInView(part("side-column"));
+    part("skip").addEventListener("click", () => this.#table.focus());
+    part("again").addEventListener("click", () => this.#tryAgain());
+    this.#listenToKeys();
+  }
+
+  #listenToKeys() {
+    // what is dimmed is no more used by keys than by the mouse
+    const onLine = (act) => () => part("line").inert || act();
+    listenToKeys({
+      ...Object.fromEntries([1, 2, 3, 4, 5, 6].map((number) => [String(number), () => this.#table.press(number - 1)])),
+      n: onLine(() => this.#line.turn("normal")),
+      i: onLine(() => this.#line.turn("inverse")),
+      u: onLine(() => this.#line.undoStep()),
+      s: onLine(() => star(() => this.#starLine())),
+      "/": () => (this.#state.list && !part("results").inert ? this.#list.focusFilter() : this.#scramble.focus()),
+      Escape: () => this.#state.list && this.#changeList(null),
+    });
+  }
+
+  /** @param state of the history, to which the browser's Back or Forward leads */
+  returnTo(state: unknown) {
+    this.#wayBack.set(placeIn(state));
+  }
+
+  /** @param hash of the address, with which the page begins */
+  async begin(hash: string) {
+    const turn = ++this.#turn;
+    const { state, fault } = readAddress(hash);
+    this.#isReading = true;
+    this.#nextFocus.set(document.activeElement?.matches("#last-back, #again") ? "table" : undefined);
+    dropAddress();
+    setBusy("results", true);
+    tell(part("alert"), fault);
+    tellFailed("");
+    showBeginning(state);
+    awaitAnswer(state);
+    try {
+      if (hasLines(state)) Object.assign(state, await this.#calls.ask("readAddressed", state));
+    } catch (stop) {
+      if (turn !== this.#turn) return;
+      if (!(stop instanceof NissyFault)) return this.#showUnread(state, stop);
+      tell(part("alert"), `The steps of this address can't be read: ${stop.text}.`);
+      Object.assign(state, { parts: [], list: null });
+    }
+    if (turn !== this.#turn) return;
+    this.#state = state;
+    this.#scramble.show(state.scramble);
+    await this.#refresh();
+    if (this.#cube === null && this.#turn === turn + 1 && !hasLines(state)) setUsable(false);
+  }
+
+  /** Shows what an address says as it stands there, where no engine reads it. */
+  #showUnread({ scramble, parts }: State, fault: Error) {
+    this.#scramble.show(scramble);
+    this.#line.show(parts);
+    awaitAnswer(null);
+    setUsable(false);
+    this.#refuse(fault);
+  }
+
+  /** Takes another state, or parts of it. While an address is still read, what is done on the page that is seen
+   * overtakes it. A list doesn't outlast a change of the steps, since it belongs to the cube before it.
+   * @param how where the focus is to go with the answers, whether the browser's Back leads to what was before, and how
+   * many kept lines it leads back to */
+  #change(
+    change: Partial<State>,
+    { focusNext, isStep = "parts" in change, left = 0 }: { focusNext?: Where; isStep?: boolean; left?: number } = {},
+  ) {
+    this.#scramble.tellLeft(left);
+    this.#nextFocus.set(focusNext);
+    this.#wayBack.set(null);
+    if ("parts" in change) keepPlace();
+    this.#state = { ...this.#state, ...("parts" in change ? { list: null } : {}), ...change };
+    const isOther = "scramble" in change || "parts" in change || this.#isReading;
+    if (isOther) tell(part("alert"), "");
+    // the engine is asked first, and answers meanwhile
+    if (isOther) this.#refresh();
+    writeState(this.#state, isStep);
+    if (isOther) return;
+    this.#line.turnTo(this.#state.side);
+    this.#table.mark(this.#state.list);
+    this.#showList();
+    if ("kept" in change) this.#showKept();
+    else this.#line.markKept(this.#kept.has(this.#state.parts, reductionOf(this.#state.list)));
+  }
+
+  async #setScramble(scramble: string, { isNew, fmc, isStep }: ScrambleChange) {
+    // what is typed further leads back to the same
+    const before = isStep ? 0 : this.#scramble.left;
+    const left = isNew ? this.#state.kept.length : before;
+    this.#change(isNew ? { ...emptyState(), scramble } : { scramble }, { isStep, left });
+    if (!fmc) return;
+    const turn = this.#turn;
+    try {
+      const { unread, parts, kept: others, doubt } = await this.#byHand.ask("readWritten", fmc);
+      if (turn !== this.#turn) return;
+      const { kept, why } = withOthers(this.#state.kept, others);
+      this.#change({ ...(parts.length > 0 && { parts }), kept }, { isStep: !isNew, left });
+      tell(part("alert"), whyUnread(unread) || why);
+      this.#scramble.tellDoubt(doubt);
+    } catch (fault) {
+      if (turn === this.#turn && !(fault instanceof Stopped)) tell(part("alert"), unanswered(fault));
+    }
+  }
+
+  /** Shows all of the state anew. A later call overtakes an earlier one. */
+  async #refresh() {
+    const turn = ++this.#turn;
+    const { scramble, parts } = this.#state;
+    this.#isReading = false;
+    this.#cube = null;
+    this.#readiness.stop();
+    this.#calls.drop();
+    const asked = cubeWithOffers(this.#calls, { text: scramble, parts });
+    // what is wrong is said where it is waited for
+    asked.catch(() => {});
+    document.title = titleOfPage(this.#state);
+    this.#nets.stop();
+    this.#scramble.tellDoubt(null);
+    this.#line.show(parts);
+    this.#line.turnTo(this.#state.side);
+    this.#kept.show(this.#state.kept);
+    this.#table.hold();
+    if (!this.#state.list) this.#list.show("", null, null);
+    this.#best.reset(null);
+    announceLater("");
+    tellFailed("");
+    setBusy("results", true);
+    try {
+      await this.#answer(turn, asked);
+    } catch (fault) {
+      if (turn === this.#turn) this.#refuse(fault);
+    }
+    if (turn !== this.#turn) return;
+    awaitAnswer(null);
+    setBusy("results", false);
+  }
+
+  /** @param turn of which the engine's answers are shown as they come
+   * @param asked the first of them */
+  async #answer(turn: number, asked: ReturnType<typeof cubeWithOffers>) {
+    const { cube, portions } = await asked;
+    if (turn !== this.#turn) return;
+    const fault = "unread" in cube ? new NissyFault(cube.unread.text, cube.unread) : null;
+    this.#scramble.judge(fault, "read" in cube ? cube.read : null);
+    showBeginning(this.#state);
+    if ("unread" in cube) return setUsable(false);
+    this.#showCube(cube);
+    await this.#showOffers(turn, portions);
+    if (turn !== this.#turn) return;
+    this.#readiness.begin(this.#cube.reached, part("choices").hidden);
+    await this.#showAnswered(turn);
+  }
+
+  #showCube({ read: { line: scramble, written }, walk, views, whole }) {
+    const { parts } = this.#state;
+    const reached = walk.reached.at(-1);
+    const [{ facts }, made] = [views.normal, walk.totals.at(-1)];
+    this.#cube = { scramble, written, parts, reached, facts, made };
+    const count = parts.reduce((sum, each) => sum + turnsOfStep(each).length, 0);
+    this.#nets.show(views, count, () => this.#byHand.ask("framesOf", { scramble, parts }));
+    this.#line.describe(walk, whole, written);
+    setUsable(true);
+    part("choices").hidden = isBare(this.#state);
+    this.#best.expect(reached, isBare(this.#state));
+    this.#checkList(reached);
+    this.#table.begin(this.#cube);
+    this.#showKept();
+  }
+
+  /** Closes a list whose step may not start, and says why. */
+  #checkList(reached: string[]) {
+    const { list } = this.#state;
+    const why = list ? whyNotListed(list.step, reached) : "";
+    if (why === "") return;
+    tell(part("alert"), why);
+    this.#state = { ...this.#state, list: null };
+    writeState(this.#state, false);
+  }
+
+  /** Shows the steps that may follow as soon as they are known, and has the best looked for. */
+  async #showOffers(turn: number, portions) {
+    const { scramble, parts, reached } = this.#cube;
+    // nothing is pressed before the page went on to a list that is to come, or back to a row
+    const isHeld = this.#state.list !== null && (this.#nextFocus.waitsFor("list") || this.#wayBack.isOn());
+    // no row moves once it can be pressed, so all are there before they are counted
+    if (portions.length > 1) this.#table.add([], this.#cube, null);
+    for (const [at, portion] of portions.entries()) {
+      const groups = await portion;
+      if (turn !== this.#turn) return;
+      this.#table.add(groups, this.#cube, this.#state.list);
+      part("choices").inert = isHeld;
+      awaitAnswer(null);
+      if (at === 0) this.#best.reset(part("choices").hidden ? null : { scramble, parts, reached });
+    }
+  }
+
+  async #showAnswered(turn: number) {
+    // a list that is looked for takes the focus itself, and says what it has
+    const isOfList = this.#nextFocus.waitsFor("list");
+    const shown = this.#showList();
+    if (part("choices").inert) await this.#nextFocus.isSoon(shown);
+    if (turn !== this.#turn) return;
+    part("choices").inert = false;
+    if (isOfList) return;
+    const isFinished = isReduced(this.#cube.reached) && this.#state.parts.length > 0;
+    if (this.#nextFocus.take("table")) this.#showTaken(isFinished);
+    else if (!isBare(this.#state)) announceLater(this.#table.summary());
+    this.#table.giveBack();
+    this.#goBack();
+  }
+
+  /** @param isFinished whether no step follows: what does comes into view and has the focus */
+  #showTaken(isFinished: boolean) {
+    // first, since the page is laid out for it, and the focus changes the marks
+    showStart(isFinished);
+    if (isFinished) part("copy-fmc").focus({ preventScroll: true });
+    else this.#table.focus();
+  }
+
+  /** Goes back to where one was, once what had the focus there is shown. */
+  #goBack() {
+    this.#wayBack.go((key) => this.#best.reveal(key) ?? this.#list.reveal(key) ?? this.#table.cell(key));
+  }
+
+  /** Shows the open list, if it isn't shown yet; once the cube is known. */
+  async #showList() {
+    const { list } = this.#state;
+    if (list && !this.#cube) return;
+    if (!list) this.#nets.follow("");
+    const name = list ? [this.#turn, list.step, list.side, list.slack, list.isAll].join(" ") : "";
+    const isShown = await this.#list.show(name, list, this.#cube);
+    if (!isShown || !name.startsWith(`${this.#turn} `)) return;
+    part("choices").inert = false;
+    if (this.#nextFocus.take("list")) this.#list.focus();
+    // the rows come first, since marks lay a style on each sticker
+    this.#nets.follow(stateOf(stepNamed(list.step)));
+    this.#goBack();
+  }
+
+  /** Shows what the engine says of the lines that are kept. */
+  #showKept() {
+    const { kept, parts } = this.#state;
+    this.#kept.show(kept);
+    refreshRows(part("choices"));
+    this.#line.markKept(this.#kept.has(parts, reductionOf(this.#state.list)));
+    if (kept.length > 0 && this.#cube) this.#kept.describe(this.#cube.scramble, this.#cube.written);
+  }
+
+  /** Keeps the line so far, with the reduction that is gone on to, or takes it away. */
+  #starLine() {
+    const { parts } = this.#state;
+    if (parts.length > 0) this.#kept.star(this.#state, part("keep-line"), parts, reductionOf(this.#state.list));
+  }
+
+  /** @param side of the list, which is opened, or closed if it is open */
+  #open(step: string, side: State["side"]) {
+    const { list } = this.#state;
+    if (list?.step === step && list.side === side) return this.#changeList(null);
+    this.#change({ list: { step, side, slack: list?.slack ?? 0, isAll: list?.isAll ?? false } }, { focusNext: "list" });
+  }
+
+  /** @param change of what the open list shows; null closes it */
+  #changeList(change: Partial<List> | null) {
+    const { list } = this.#state;
+    if (!list) return;
+    const isWithin = part("solutions").contains(document.activeElement);
+    this.#change({ list: change === null ? null : { ...list, ...change } });
+    if (change === null && isWithin) (this.#table.cell(`${list.step}.${list.side}`) ?? part("steps-heading")).focus();
+  }
+
+  /** Changes the line, and says whether a step is undone that was taken from a row, which then comes back into view. */
+  #changeLine(change: Partial<State>) {
+    const from = this.#seen.rowBefore(this.#state, change.parts);
+    this.#change({ ...change, ...(from && { list: from.list }) });
+    this.#wayBack.set(from && { key: from.key, scroll: null });
+    return from !== null;
+  }
+
+  /** @param key of its row */
+  #take(taken: Part[], key: string) {
+    this.#seen.add(this.#state, taken, key);
+    this.#change({ parts: [...this.#state.parts, ...taken], side: lastSideOf(taken.at(-1)) }, { focusNext: "table" });
+    announce(`${spoken(bracketed(taken))} is taken.`);
+  }
+
+  /** @param row of the best, which is taken; the list of its reduction opens */
+  #goOn({ part: taken, next, key }: Row) {
+    if (!next) return this.#take([taken], key);
+    this.#seen.add(this.#state, [taken], key, next.step);
+    const list = { step: next.step, side: sideToward(next.part), slack: 0, isAll: false };
+    this.#change({ parts: [...this.#state.parts, taken], side: lastSideOf(next.part), list }, { focusNext: "list" });
+  }
+
+  /** @param fault why there is no answer */
+  #refuse(fault: Error) {
+    if (fault instanceof Stopped) return;
+    setBusy("results", false);
+    part("results").inert = true;
+    if (fault instanceof NissyFault) tell(part("alert"), unanswered(fault));
+    else tellFailed(unanswered(fault));
+  }
+
+  /** Asks again for all that is seen, by other workers. */
+  #tryAgain() {
+    for (const calls of [this.#calls, this.#keptCalls, this.#byHand, this.#list, this.#best]) calls.end();
+    // what the address says may not have been read yet
+    if (this.#isReading) return void this.begin(location.hash);
+    this.#nextFocus.set(this.#state.list ? "list" : "table");
+    this.#refresh();
+  }
+}
