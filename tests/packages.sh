@@ -20,6 +20,7 @@ done
 # what a user's own make would do, in a copy in which nothing is proved
 copied() {
     mkdir -p "$room/source/build" && cp -R Makefile CHANGELOG.md README.md completions docs examples include packaging portable python tools web "$room/source" &&
+        mkdir -p "$room/source/tests/browsers" && cp tests/browsers/page.d.ts "$room/source/tests/browsers" &&
         cp "$program" "$room/source/build/nissy" && cp build/libnissy.* "$room/source/build" &&
         if [ -e build/aarch64/nissy ]; then cp -R build/aarch64 "$room/source/build"; fi &&
         if [ -e build/nissy.html ]; then cp build/nissy.html build/nissy.wasm "$room/source/build"; fi &&
