@@ -21,11 +21,11 @@ typed tests/tally.py tests/browsers/*.py
 
 fit() { # the types of the page's scripts, and a call that fits beside one that doesn't, which tsc has to tell
     printf 'import { counted } from "%s";\ncounted(3, "move");\n// @ts-expect-error a text is no number\ncounted("3", "move");\n' \
-        "$PWD/build/web/page/element.js" > "$room/call.ts"
+        "$PWD/build/web/page/shared/element.js" > "$room/call.ts"
     tools/web-scripts && tsc --strict --noEmit --skipLibCheck --target es2022 --module es2022 --moduleResolution node --lib es2022,dom,dom.iterable "$room/call.ts"
 }
-if missing tsc; then skips "the types of the page's JavaScript, since there is no tsc"; else
-    holds "the page's JavaScript has the types that its comments say, and a call by these is judged" fit
+if missing tsc; then skips "the types of the page's scripts, since there is no tsc"; else
+    holds "the page's scripts have sound types, and a call by these is judged" fit
 fi
 
 add python3 tests/browsers/files.py "$page"

@@ -15,9 +15,9 @@ if [ ! -e "$module" ] || missing node || missing tsc; then
     skips_all "there is no module that make build/nissy.wasm built, no node, or no tsc"
 fi
 holds "tsc compiles the scripts" tools/web-scripts
-for trial in typed in_worker inherited growing rows plain text net lists best sides pool address; do part node "tests/module/$trial.mjs" "$module"; done
+for trial in layout typed in_worker inherited growing rows plain text net lists best sides pool address; do part node "tests/module/$trial.mjs" "$module"; done
 
-mkdir "$room/types" && cp build/web/module/*.d.ts tests/module/types.ts "$room/types"
+cp -R build/web/module "$room/types" && cp tests/module/types.ts "$room/types"
 # tsc says so too if a call that the caller marks as wrong is none
 holds "a caller in TypeScript has these types, and is told of what is wrong" \
     tsc --strict --exactOptionalPropertyTypes --noEmit --target es2022 --module es2022 --moduleResolution node --lib "es2022,dom" "$room/types/types.ts"

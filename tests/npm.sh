@@ -60,7 +60,7 @@ EngineMissing: Worker is not defined
 TypeError: what makes the worker is no function
 ERR_PACKAGE_PATH_NOT_EXPORTED
 ERR_PACKAGE_PATH_NOT_EXPORTED\n" '' in_folder node user.mjs
-sed -e 's|"./node.js"|"nissy/node"|' -e 's|"./browser.js"|"nissy/worker"|' -e 's|"./replies.js"|"./node_modules/nissy/replies.js"|' \
+sed -e 's|"./node.js"|"nissy/node"|' -e 's|"./browser.js"|"nissy/worker"|' -e 's|"./calls/replies.js"|"./node_modules/nissy/calls/replies.js"|' \
     tests/module/types.ts > "$user/user.mts"
 {
     echo 'import { NissyWorker } from "nissy/worker";'
@@ -88,7 +88,7 @@ fi
 # its command, of which drawn.py below tries more
 nissy=$user/node_modules/.bin/nissy
 # what reads lines is found by the engine, so that a new command needs no line there
-holds "the command names none that rewrites lines" refuses grep -qE '"(invert|unniss|cleanup|print)"' "$package/command.js"
+holds "the command names none that rewrites lines" refuses grep -qE '"(invert|unniss|cleanup|print)"' "$package/command/command.js"
 for words in "scramble 1 2 3 0" "invert R"; do
     # shellcheck disable=SC2086 # words
     answers "$words leaves the input alone" 0 "$("$program" $words | sed 's/$/\\n/')left\n" '' bash -c '"$@"; cat' - "$nissy" $words <<< left

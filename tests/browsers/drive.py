@@ -33,7 +33,7 @@ NO_ENGINE = "globalThis.WebAssembly = undefined;\n"
 def page_without_engine(room: Path) -> str:
     """The page as a browser has it that runs no WebAssembly."""
     shutil.copytree(TOP / "build/web", room / "web")
-    engine = room / "web/module/source.js"
+    engine = room / "web/module/engine/source.js"
     engine.write_text(NO_ENGINE + engine.read_text())
     (room / "module").write_bytes(b"none")
     subprocess.run([TOP / "tools/page", room / "web/page", room / "module", room / "page.html"], check=True)

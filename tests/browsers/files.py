@@ -24,12 +24,12 @@ MARKUP = r"(?:inner|outer|set)HTML|insertAdjacent|document\.write|ContextualFrag
 # what would ask a network
 ASKING = r"\bfetch\b|XMLHttpRequest|WebSocket|EventSource|sendBeacon|importScripts|RTCPeer|serviceWorker"
 # a script of the page that is put in place of one, and what it would do
-REFUSED = (("main.js", 'import { part } from "./element.js";\nconst part = 1;\n', "a name that is declared twice"),
-    ("main.js", 'import * as element from "./element.js";\n', "an import of another form"),
+REFUSED = (("main.js", 'import { part } from "./shared/element.js";\nconst part = 1;\n', "a name that is declared twice"),
+    ("main.js", 'import * as element from "./shared/element.js";\n', "an import of another form"),
     ("main.js", "export default 1;\n", "an export of another form"), ("main.js", 'const text = "</script>";\n', "an end of its element"),
     ("main.js", 'const text = "<!--";\n', "a comment of the page"), ("main.js", "const text = `R\n  U`;\n", "a text of several lines"),
-    ("style.css", "</style>", "an end of the style"), ("print.css", "</style>", "an end of the style in a part of it"),
-    ("style.css", '@import url("./print.css");', "an import of another form in the style"),
+    ("style/style.css", "</style>", "an end of the style"), ("style/print.css", "</style>", "an end of the style in a part of it"),
+    ("style/style.css", '@import url("./print.css");', "an import of another form in the style"),
     ("main.js", 'const text = "\U0001f9e9";\n', "a sign that an escape hasn't"), ("main.js", f"const text = '{'x' * MOST_BYTES}';\n", "a page that is too large"))
 
 
@@ -96,19 +96,21 @@ def is_whole(tally: Tally, page: str) -> None:
     tally.equal("marks that are left", re.findall(r">@\w+@<|\"@\w+@\"", page), [])
 
 
-def is_indented(tally: Tally) -> None:
-    """All JavaScript has one indent: of two blanks."""
+def is_laid_out(tally: Tally) -> None:
+    """All scripts have one layout: indents of two blanks, 120 columns, a comment that begins on its first line, and no blank at a line's end."""
     scripts = sorted(each for kind in ("*.ts", "*.cjs") for each in (TOP / "web").rglob(kind))
     tally.holds("there are scripts", len(scripts) > 60)
     for script in scripts:
         code = [line for line in script.read_text().splitlines() if not line.lstrip().startswith("*")]
         least = min((len(line) - len(line.lstrip()) for line in code if line.startswith(" ")), default=2)
         tally.equal(f"{script.relative_to(TOP)}: its indent", least, 2)
+        odd = [line for line in script.read_text().splitlines() if len(line) > 120 or line != line.rstrip() or line.strip() == "/**" or "\t" in line]
+        tally.equal(f"{script.relative_to(TOP)}: lines of another layout", odd, [])
 
 
 def refuses(tally: Tally) -> None:
     """The tool joins the parts of this folder, and refuses what it can't join."""
-    for name, text, what in (("style.css", "", ""),) + REFUSED:
+    for name, text, what in (("style/style.css", "", ""),) + REFUSED:
         with tempfile.TemporaryDirectory() as room:
             web, made = Path(room, "web/page"), Path(room, "page.html")
             shutil.copytree(TOP / "build/web", web.parent)
@@ -135,7 +137,7 @@ def main() -> None:
     is_as_large_as_said(tally, text.encode())
     for part in (is_closed, is_plain, is_whole):
         part(tally, text)
-    is_indented(tally)
+    is_laid_out(tally)
     refuses(tally)
     tally.end()
 

@@ -8,6 +8,7 @@ interface ParentNode {
 }
 
 interface Element extends HTMLOrSVGElement {
+  textContent: string;
   checkVisibility(): boolean;
   scrollIntoView(how: { block: ScrollLogicalPosition; behavior: "instant" }): void;
 }

@@ -149,14 +149,14 @@ def map_of_crates(code: Code) -> list[str]:
 
 
 def head_of(text: str) -> str:
-    """What the first line of a file of a crate says that it is for, or nothing."""
-    said = re.match(r"(?://!|--) (\S.*)", text)
+    """What the first line of a file says that it is for, or nothing."""
+    said = re.match(r"(?://!|--|//|/\*\*) (\S.*)", text)
     return said[1] if said else ""
 
 
-def map_of_files(code: Code, crate: str) -> list[str]:
-    """Returns the files of a crate's code and definitions, each with what its first line says that it is for."""
-    own = re.compile(rf"crates/{crate}/(?:src/(?!lib\.rt).*\.rt|specs/(?!Lib\.antt).*\.antt)")
+def map_of_files(code: Code, part: str) -> list[str]:
+    """Returns the files of a crate's code and definitions, or of a folder of scripts, each with what its first line says that it is for."""
+    own = re.compile(rf"crates/{part}/(?:src/(?!lib\.rt).*\.rt|specs/(?!Lib\.antt).*\.antt)|{part}/(?!.*\.d\.ts).*\.ts")
     return [f"{path}: {head_of(text)}" for path, text in code.files.items() if own.fullmatch(path)]
 
 
@@ -168,18 +168,23 @@ def heads_of_files(tally: Tally, code: Code) -> None:
             tally.holds(f"the first line of {line.split(':')[0]} says what it is for", not line.endswith(": "))
 
 
-def map_of_scripts() -> list[str]:
-    """Returns what the table of the page's scripts and their folder don't have in common."""
-    listed = rows(Page(TOP, "docs/ARCHITECTURE.md").section("The page"))
-    on_map = {name for row in listed for name in re.findall(r"[\w-]+\.ts", row[0])}
-    there = {path.name for path in (TOP / "web/page").glob("*.ts")}
-    return [f"gone: web/page: {it}" for it in sorted(on_map - there)] + [f"missing: web/page: {it}" for it in sorted(there - on_map)]
+def map_of_scripts(section: str, top: str) -> list[str]:
+    """Returns what a table of folders with scripts and the folders don't have in common."""
+    on_map = {name for row in rows(Page(TOP, "docs/ARCHITECTURE.md").section(section)) for name in NAME.findall(row[0])}
+    there = {str(path.parent.relative_to(TOP / top.split("/")[0])) for path in (TOP / top).rglob("*.ts") if ".d." not in path.name}
+    return [f"gone: web/{it}" for it in sorted(on_map - there)] + [f"missing: web/{it}" for it in sorted(there - on_map)]
+
+
+def names_of_scripts(tally: Tally) -> None:
+    """No two scripts for the page and the module have one name, so that it says which is meant."""
+    names = [script.name for script in scripts()]
+    tally.equal("names that several scripts have", sorted({name for name in names if names.count(name) > 1}), [])
 
 
 def says_its_task(script: Path) -> bool:
     """Whether the first line of a script, but the one that names its interpreter, is a comment."""
     lines = [line for line in script.read_text(encoding="utf-8").splitlines() if not line.startswith("#!")]
-    return re.match(r"// \S|/\*\*$", lines[0]) is not None
+    return re.match(r"// \S|/\*\* \S", lines[0]) is not None
 
 
 def scripts() -> list[Path]:
@@ -272,9 +277,9 @@ def examples(tally: Tally) -> None:
 def main() -> None:
     """All checks, or the maps alone."""
     code = Code(TOP)
-    unlike = map_of_crates(code) + map_of_scripts()
+    unlike = map_of_crates(code) + map_of_scripts("The module in JavaScript", "web/module") + map_of_scripts("The page", "web/page")
     if sys.argv[1:2] == ["map"]:
-        print("".join(f"{line}\n" for line in unlike + [line for crate in sys.argv[2:] for line in map_of_files(code, crate)]), end="")
+        print("".join(f"{line}\n" for line in unlike + [line for name in sys.argv[2:] for line in map_of_files(code, name)]), end="")
         sys.exit(1 if unlike else 0)
     tally = Tally()
     pages = [Page(TOP, str(path.relative_to(TOP))) for pattern in PAGES for path in sorted(TOP.glob(pattern))]
@@ -290,6 +295,7 @@ def main() -> None:
         tally.holds(f"docs/ARCHITECTURE.md maps each file: {what}", not what)
     heads_of_files(tally, code)
     heads_of_scripts(tally)
+    names_of_scripts(tally)
     types_in_comments(tally)
     promises(tally, code)
     wrong_bodies(tally, code)

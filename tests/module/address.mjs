@@ -1,8 +1,8 @@
 // The state of the page in its address: what is drawn is written and read the same, and of any other text what is read of it.
 //
 //     node tests/module/address.mjs MODULE
-import { addressOf, emptyState, readAddress } from "../../build/web/page/address.js";
-import { ORIENTATIONS, REDUCTIONS } from "../../build/web/page/steps.js";
+import { addressOf, emptyState, readAddress } from "../../build/web/page/state/address.js";
+import { ORIENTATIONS, REDUCTIONS } from "../../build/web/page/shared/offered-steps.js";
 import { TURNS, drawn, ended, same } from "./tally.mjs";
 
 const STATES = 4_000;

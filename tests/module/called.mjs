@@ -191,6 +191,19 @@ const OWN_OR_NOT = [
   ["what a list inherits", Object.setPrototypeOf([], { most: 1, limit: 0 }), 2],
 ];
 
+/** What a list says beside its solutions: whether there are others, and how many positions were looked at, as the count of them says. */
+export async function tryLists(nissy) {
+  for (const most of [0, 1, 2, 3, Infinity]) {
+    const [list, { nodes }] = [await nissy.solve("eofb", "F", { most }), await nissy.count("eofb", "F", { most })];
+    same(`a list of at most ${most}: whether there are more, and its nodes`, [list.more, list.nodes], [most < F_OR_ITS_INVERSE.length, nodes]);
+  }
+}
+
+const WITH_OPTIONS = [
+  ["solve", "eofb", "F"], ["solveAll", "eofb", ["F"]], ["count", "eofb", "F"], ["countAll", "eofb", []], ["factsAll", ["F"]], ["checkAll", [["F", "F"]]],
+  ["checkAttempts", "F"], ["best", "F"], ["bestAll", ["F"]], ["solutions", "eofb", "F"],
+];
+
 /** Options are an object's own properties: by `Nissy`, or by what has the same calls as promises. */
 export async function tryOptions(nissy) {
   for (const [what, options, count] of OWN_OR_NOT) {
@@ -198,6 +211,10 @@ export async function tryOptions(nissy) {
     same(`options of many lines: ${what}`, (await nissy.solveAll("eofb", ["F"], options))[0].length, count);
   }
   same("a count by what an object inherits", (await nissy.count("eofb", "F", new OfItsClass())).solutions, 2);
+  for (const [call, ...given] of WITH_OPTIONS) {
+    const refused = await thrown(() => nissy[call](...given, { mots: undefined }));
+    same(`${call}: an option that it doesn't have`, refused, ["TypeError", "there is no option mots"]);
+  }
 }
 
 /** Options that are functions' values, each of whose names is noted as it is read. */

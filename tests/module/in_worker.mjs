@@ -2,8 +2,8 @@
 import { getEventListeners } from "node:events";
 import { performance } from "node:perf_hooks";
 import { Nissy, NissyWorker, loadNissy } from "../../build/web/module/node.js";
-import { WorkerCalls } from "../../build/web/module/worker-calls.js";
-import { tryEach, tryMany as tryManyLines, tryOptions, tryReadOptions, tryRows, tryWrongValues } from "./called.mjs";
+import { WorkerCalls } from "../../build/web/module/workers/worker-calls.js";
+import { tryEach, tryLists, tryMany as tryManyLines, tryOptions, tryReadOptions, tryRows, tryWrongValues } from "./called.mjs";
 import { tryAttempts, tryBounds, tryChecks, tryMixed, tryPairs } from "./judged.mjs";
 import { ended, moduleBytes, same, text, thrown } from "./tally.mjs";
 
@@ -300,6 +300,7 @@ await tryWrongValues(worker);
 await tryManyLines(worker);
 await tryEach(worker);
 await tryOptions(worker);
+await tryLists(worker);
 await tryReadOptions(worker);
 await tryOwnOptions(worker);
 await tryNoOptions(worker);

@@ -1,10 +1,10 @@
 // Tries what the page makes of a step's solutions: all moves with each, beside a count of the merged lines; twins, which have the same case; and
 // what is left out, since it was reached before its last move.
 import { Nissy } from "../../build/web/module/nissy.js";
-import { ORIENTATIONS, REDUCTIONS, reductionsAfter } from "../../build/web/page/axes.js";
-import { positionAfter, totalsWith } from "../../build/web/page/cubes.js";
-import { partOn } from "../../build/web/page/steps.js";
-import { mergeTwins, withoutEarlier } from "../../build/web/page/twins.js";
+import { ORIENTATIONS, REDUCTIONS, reductionsAfter } from "../../build/web/page/shared/axes.js";
+import { positionAfter, totalsWith } from "../../build/web/page/answers/position-after.js";
+import { partOn } from "../../build/web/page/shared/offered-steps.js";
+import { mergeTwins, withoutEarlier } from "../../build/web/page/shared/twins.js";
 import { ended, moduleBytes, same } from "./tally.mjs";
 
 const OPPOSITE = { U: "D", D: "U", R: "L", L: "R", F: "B", B: "F" };

@@ -12,9 +12,9 @@ import { join } from "node:path";
 import { performance } from "node:perf_hooks";
 import { NissyPool, NissyWorker } from "../../build/web/module/node.js";
 import { Nissy } from "../../build/web/module/nissy.js";
-import { WorkerPool } from "../../build/web/module/pool.js";
-import { WorkerCalls } from "../../build/web/module/worker-calls.js";
-import { tryEach, tryOptions, tryReadOptions, tryRows, tryTooLong, tryWrongValues } from "./called.mjs";
+import { WorkerPool } from "../../build/web/module/workers/pool.js";
+import { WorkerCalls } from "../../build/web/module/workers/worker-calls.js";
+import { tryEach, tryLists, tryOptions, tryReadOptions, tryRows, tryTooLong, tryWrongValues } from "./called.mjs";
 import { tryAttempts, tryBounds, tryChecks, tryMixed, tryPairs } from "./judged.mjs";
 import { TURNS, drawn, ended, moduleBytes, same, thrown } from "./tally.mjs";
 
@@ -98,7 +98,7 @@ async function tryWrong(pool) {
 
 /** Calls on one line have what `Nissy` has, and are given up by a signal. */
 async function trySingle(pool) {
-  const parts = [tryRows, tryEach, tryTooLong, tryWrongValues, tryOptions, tryReadOptions, tryChecks, tryAttempts, tryPairs, tryBounds, tryMixed];
+  const parts = [tryRows, tryEach, tryTooLong, tryWrongValues, tryLists, tryOptions, tryReadOptions, tryChecks, tryAttempts, tryPairs, tryBounds, tryMixed];
   for (const part of parts) await part(pool);
   const line = "R U2 R'";
   same("facts of a line", await pool.facts(line), nissy.facts(line));

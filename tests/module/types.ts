@@ -5,7 +5,7 @@ import {
   type FormInText, type FormPlace, type NetPlace, type PlainLine, type SideSolutions, type Solution, type Solutions, type Step, type TextPlace, type Token,
 } from "./node.js";
 import { NissyPool as NissyPoolOfBrowsers, NissyWorker as NissyWorkerOfBrowsers } from "./browser.js";
-import type { CountReply, LineFault, LineReply, StartFault } from "./replies.js";
+import type { LineFault, LineReply, Seen, StartFault } from "./calls/replies.js";
 
 export async function calls(bytes: Uint8Array, compiled: WebAssembly.Module, request: Promise<Response>): Promise<string> {
   const nissy: Nissy = await Nissy.load(request);
@@ -91,7 +91,8 @@ export async function bounded(nissy: Nissy, worker: NissyWorker, step: string): 
   const solutions: Solutions = nissy.solve(isStep(step) ? step : "eofb", "R", { nodes: 1_000, cut: "value" });
   // a string that isn't known is judged by the call
   nissy.solve(step, "R");
-  return [counts, told, all, chosen, limited, unset].flat().length + (solutions.cut === true ? 1 : 0);
+  const [others, nodes]: [boolean, number] = [solutions.more, solutions.nodes];
+  return [counts, told, all, chosen, limited, unset].flat().length + (solutions.cut === true || others ? nodes : 0);
 }
 
 export async function followed(nissy: Nissy, worker: NissyWorker, bytes: Uint8Array, signal: AbortSignal): Promise<string> {
@@ -150,8 +151,9 @@ export function place(fault: unknown): number | null {
 }
 
 // what a worker sends for a line: a value, a fault of the line, or of its cube, which alone has a step that must hold before
-export function said(reply: LineReply | CountReply): string | number {
-  if (reply.status === 0) return "out" in reply ? reply.out : reply.nodes;
+export function said(reply: LineReply | Seen): string | number {
+  if ("answer" in reply) return reply.answer.length;
+  if (reply.status === 0) return reply.out;
   if (reply.status !== 1) return reply.status;
   return reply.fault === 6 ? `${reply.start} ${reply.text}` : reply.column;
 }

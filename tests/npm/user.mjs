@@ -13,4 +13,4 @@ console.log(await worker.solve("drud-eofb", "R U"));
 worker.end();
 console.log(Object.getPrototypeOf(NissyWorkerOfBrowsers) === Object.getPrototypeOf(NissyWorker));
 for (const made of [[], [null]]) console.log(await NissyWorkerOfBrowsers.start(readFileSync(moduleFile), ...made).catch(String));
-for (const inner of ["nissy/engine.js", "nissy/command.js"]) console.log(await import(inner).catch(({ code }) => code));
+for (const inner of ["nissy/engine/engine.js", "nissy/command/command.js"]) console.log(await import(inner).catch(({ code }) => code));

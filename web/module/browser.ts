@@ -1,10 +1,10 @@
 // The engine in a worker of a browser, and in several.
-import { WorkerPool } from "./pool.js";
-import { WorkerCalls } from "./worker-calls.js";
-import { listenedTo } from "./worker-queue.js";
-import type { ModuleSource } from "./source.js";
+import { WorkerPool } from "./workers/pool.js";
+import { WorkerCalls } from "./workers/worker-calls.js";
+import { listenedTo } from "./workers/worker-queue.js";
+import type { ModuleSource } from "./engine/source.js";
 
-export type { ModuleSource } from "./source.js";
+export type { ModuleSource } from "./engine/source.js";
 
 export * from "./nissy.js";
 
@@ -13,10 +13,8 @@ const place = () => new URL(SCRIPT, import.meta.url).href;
 
 let importing: string | null = null;
 
-/**
- * Where a script of the page's own stands that imports one of another origin, from which browsers start no worker. It
- * serves each start.
- */
+/** Where a script of the page's own stands that imports one of another origin, from which browsers start no worker. It
+ * serves each start. */
 function importedFrom(href: string) {
   importing ??= URL.createObjectURL(new Blob([`import ${JSON.stringify(href)};`], { type: "text/javascript" }));
   return importing;
@@ -39,12 +37,10 @@ function workersBy(made: () => Worker) {
 
 /** The engine in a worker. */
 export class NissyWorker extends WorkerCalls {
-  /**
-   * Starts the engine. Rejects with `NoWebAssembly` if the host runs none, and with `EngineMissing` if the worker can't
-   * be started.
+  /** Starts the engine. Rejects with `NoWebAssembly` if the host runs none, and with `EngineMissing` if the worker
+   * can't be started.
    * @param made makes a worker that runs `nissy/worker-script`, of which a bundle has a copy; without it the script
-   * that stands beside this file is run
-   */
+   * that stands beside this file is run */
   static async start(
     source: ModuleSource | Promise<ModuleSource>, made: () => Worker = besideThis,
   ): Promise<NissyWorker> {
@@ -54,11 +50,9 @@ export class NissyWorker extends WorkerCalls {
 
 /** Engines in several workers, which share many lines. */
 export class NissyPool extends WorkerPool {
-  /**
-   * Starts engines, as `NissyWorker.start` starts one.
+  /** Starts engines, as `NissyWorker.start` starts one.
    * @param workers how many
-   * @param made makes a worker
-   */
+   * @param made makes a worker */
   static async start(
     workers: number, source: ModuleSource | Promise<ModuleSource>, made: () => Worker = besideThis,
   ): Promise<NissyPool> {

@@ -1,4 +1,4 @@
 // Loads the command, by words that an old node can't parse.
 "use strict";
 
-import("./command.js");
+import("./command/command.js");

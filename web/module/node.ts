@@ -2,12 +2,12 @@
 import { readFile } from "node:fs/promises";
 import { Worker } from "node:worker_threads";
 import { Nissy } from "./nissy.js";
-import { WorkerPool } from "./pool.js";
-import { WorkerCalls } from "./worker-calls.js";
-import type { ModuleSource } from "./source.js";
-import type { NewWorker } from "./worker-queue.js";
+import { WorkerPool } from "./workers/pool.js";
+import { WorkerCalls } from "./workers/worker-calls.js";
+import type { ModuleSource } from "./engine/source.js";
+import type { NewWorker } from "./workers/worker-queue.js";
 
-export type { ModuleSource } from "./source.js";
+export type { ModuleSource } from "./engine/source.js";
 
 export * from "./nissy.js";
 
@@ -42,10 +42,8 @@ export const loadNissy = async (source: ModuleSource | Promise<ModuleSource> = b
 
 /** The engine in a thread. */
 export class NissyWorker extends WorkerCalls {
-  /**
-   * Starts the engine, by the module beside this file if no other is given. Rejects with `EngineMissing` if the thread
-   * can't be started.
-   */
+  /** Starts the engine, by the module beside this file if no other is given. Rejects with `EngineMissing` if the thread
+   * can't be started. */
   static async start(source: ModuleSource | Promise<ModuleSource> = besideThis()): Promise<NissyWorker> {
     return super.startBy(source, newThread);
   }
@@ -53,11 +51,9 @@ export class NissyWorker extends WorkerCalls {
 
 /** Engines in several threads, which share many lines. */
 export class NissyPool extends WorkerPool {
-  /**
-   * Starts engines, by the module beside this file if no other is given. Rejects with `EngineMissing` if the threads
+  /** Starts engines, by the module beside this file if no other is given. Rejects with `EngineMissing` if the threads
    * can't be started.
-   * @param workers how many
-   */
+   * @param workers how many */
   static async start(workers: number, source: ModuleSource | Promise<ModuleSource> = besideThis()): Promise<NissyPool> {
     return super.startBy(workers, source, newThread);
   }

@@ -1,5 +1,5 @@
 // The script of a worker in node.
 import { parentPort } from "node:worker_threads";
-import { serve } from "./serve.js";
+import { serve } from "./workers/serve.js";
 
 serve(parentPort as any);

@@ -1,4 +1,4 @@
 // The script of a worker in browsers.
-import { serve } from "./serve.js";
+import { serve } from "./workers/serve.js";
 
 serve(self as any);

@@ -1,15 +1,15 @@
 // Starts the page: the worker's script and the engine's module stand in the page itself, packed by gzip. The module is
 // compiled once for all workers.
-import { compiled } from "../module/source.js";
-import { Calls, workersOf } from "./calls.js";
-import { copyLink } from "./copying.js";
-import { part } from "./element.js";
-import { offerLast } from "./last.js";
+import { compiled } from "../module/engine/source.js";
+import { Calls, workersOf } from "./shared/questions.js";
+import { copyLink } from "./shared/copying.js";
+import { part } from "./shared/element.js";
+import { offerLast } from "./state/last-state.js";
 import { Page } from "./page.js";
-import { Reader } from "./reader.js";
-import { offerCover } from "./rows.js";
-import { offerThemes, placeHelp } from "./view.js";
-import type { SentModule } from "../module/worker-queue.js";
+import { Reader } from "./shared/reader.js";
+import { offerCover } from "./shared/rows.js";
+import { offerThemes, placeHelp } from "./shared/view.js";
+import type { SentModule } from "../module/workers/worker-queue.js";
 
 /** The bytes of something that is packed. @param name the name of its element */
 async function unpacked(name: string) {

@@ -1,34 +1,42 @@
 // The page's state, and what each change of it makes the parts of the page show.
-import { NissyFault, Stopped } from "../module/faults.js";
-import { emptyState, hasLines, readAddress, type List, type State } from "./address.js";
-import { BestContinuations } from "./best.js";
-import { Readiness, type Calls } from "./calls.js";
-import { copy } from "./copying.js";
-import { Cube } from "./cube.js";
-import { announce, announceLater, part, setBusy, spoken, tell } from "./element.js";
-import { NextFocus, type Where } from "./focus.js";
-import { KeptCandidates, withOthers } from "./kept.js";
-import { LineSoFar } from "./line.js";
-import { Seen, WayBack, dropAddress, keepPlace, placeIn, writeState } from "./places.js";
-import { refreshRows } from "./rows.js";
-import { ScrambleField, type ScrambleChange } from "./scramble.js";
-import { SolutionList } from "./solutions.js";
+import { NissyFault, Stopped } from "../module/shared/faults.js";
+import { emptyState, hasLines, readAddress, type List, type State } from "./state/address.js";
+import { BestContinuations } from "./cards/best.js";
+import { Readiness, type Calls } from "./shared/questions.js";
+import { lastOf } from "./shared/certain.js";
+import { copy } from "./shared/copying.js";
+import { Nets } from "./cards/cube.js";
+import { announce, announceLater, part, setBusy, spoken, tell } from "./shared/element.js";
+import { NextFocus, type Where } from "./state/next-focus.js";
+import { KeptCandidates, withOthers } from "./cards/kept.js";
+import { LineSoFar } from "./cards/line.js";
+import { Seen, WayBack, dropAddress, keepPlace, placeIn, writeState } from "./state/history.js";
+import { refreshRows } from "./shared/rows.js";
+import { ScrambleField, type ScrambleChange } from "./cards/scramble.js";
+import { SolutionList } from "./cards/solutions.js";
 import {
   ORIENTATIONS, bracketed, isReduced, lastSideOf, reductionOf, sideToward, stateOf, stepNamed, turnsOfStep,
-} from "./steps.js";
-import { StepTable, cubeWithOffers } from "./table.js";
-import { awaitAnswer, isBare, keepInView, listenToKeys, setUsable, showBeginning, showStart, star } from "./view.js";
-import { tellFailed } from "./watch.js";
-import { titleOfPage, unanswered, whyNotListed, whyUnread } from "./words.js";
-import type { Moves as Part } from "../module/sides.js";
-import type { Reader } from "./reader.js";
-import type { Row } from "./finder.js";
-import type { RowActs } from "./best-row.js";
+} from "./shared/offered-steps.js";
+import { StepTable, cubeWithOffers, type Cube } from "./cards/step-table.js";
+import {
+  awaitAnswer, isBare, keepInView, listenToKeys, setUsable, showBeginning, showStart, star,
+} from "./shared/view.js";
+import { tellFailed } from "./shared/watch.js";
+import { titleOfPage, unanswered, whyNotListed, whyUnread } from "./shared/words.js";
+import type { Examined, Offer } from "./answers/examine.js";
+import type { Moves as Part, Side } from "../module/shared/sides.js";
+import type { Step } from "../module/shared/steps.js";
+import type { Reader } from "./shared/reader.js";
+import type { Row } from "./cards/finder.js";
+import type { RowActs } from "./cards/best-row.js";
+
+/** The cube that is shown, with its scramble by its face turns, and as it is copied. */
+type CubeOfLine = Cube & { scramble: string; written: string; parts: Part[] };
 
 export class Page {
   #state: State = emptyState();
   #turn = 0;
-  #cube = null;
+  #cube: CubeOfLine | null = null;
   #isReading = false;
   #nextFocus = new NextFocus();
   #wayBack = new WayBack();
@@ -37,7 +45,7 @@ export class Page {
   #byHand: Calls;
   #readiness: Readiness;
   #seen = new Seen();
-  #nets = new Cube();
+  #nets = new Nets();
   #scramble: ScrambleField;
   #line: LineSoFar;
   #table: StepTable;
@@ -85,7 +93,7 @@ export class Page {
 
   #listenToKeys() {
     // what is dimmed is no more used by keys than by the mouse
-    const onLine = (act) => () => part("line").inert || act();
+    const onLine = (act: () => unknown) => () => part("line").inert || act();
     listenToKeys({
       ...Object.fromEntries([1, 2, 3, 4, 5, 6].map((number) => [String(number), () => this.#table.press(number - 1)])),
       n: onLine(() => this.#line.turn("normal")),
@@ -130,7 +138,7 @@ export class Page {
   }
 
   /** Shows what an address says as it stands there, where no engine reads it. */
-  #showUnread({ scramble, parts }: State, fault: Error) {
+  #showUnread({ scramble, parts }: State, fault: unknown) {
     this.#scramble.show(scramble);
     this.#line.show(parts);
     awaitAnswer(null);
@@ -225,18 +233,18 @@ export class Page {
     this.#scramble.judge(fault, "read" in cube ? cube.read : null);
     showBeginning(this.#state);
     if ("unread" in cube) return setUsable(false);
-    this.#showCube(cube);
-    await this.#showOffers(turn, portions);
+    const shown = this.#showCube(cube);
+    await this.#showOffers(turn, shown, portions);
     if (turn !== this.#turn) return;
-    this.#readiness.begin(this.#cube.reached, part("choices").hidden);
-    await this.#showAnswered(turn);
+    this.#readiness.begin(shown.reached, part("choices").hidden);
+    await this.#showAnswered(turn, shown);
   }
 
-  #showCube({ read: { line: scramble, written }, walk, views, whole }) {
+  #showCube({ read: { line: scramble, written }, walk, views, whole }: Examined): CubeOfLine {
     const { parts } = this.#state;
-    const reached = walk.reached.at(-1);
-    const [{ facts }, made] = [views.normal, walk.totals.at(-1)];
-    this.#cube = { scramble, written, parts, reached, facts, made };
+    const reached = lastOf(walk.reached);
+    const cube = { scramble, written, parts, reached, facts: views.normal.facts, made: lastOf(walk.totals) };
+    this.#cube = cube;
     const count = parts.reduce((sum, each) => sum + turnsOfStep(each).length, 0);
     this.#nets.show(views, count, () => this.#byHand.ask("framesOf", { scramble, parts }));
     this.#line.describe(walk, whole, written);
@@ -244,8 +252,9 @@ export class Page {
     part("choices").hidden = isBare(this.#state);
     this.#best.expect(reached, isBare(this.#state));
     this.#checkList(reached);
-    this.#table.begin(this.#cube);
+    this.#table.begin(cube);
     this.#showKept();
+    return cube;
   }
 
   /** Closes a list whose step may not start, and says why. */
@@ -259,23 +268,23 @@ export class Page {
   }
 
   /** Shows the steps that may follow as soon as they are known, and has the best looked for. */
-  async #showOffers(turn: number, portions) {
-    const { scramble, parts, reached } = this.#cube;
+  async #showOffers(turn: number, cube: CubeOfLine, portions: Promise<Offer[][]>[]) {
+    const { scramble, parts, reached } = cube;
     // nothing is pressed before the page went on to a list that is to come, or back to a row
     const isHeld = this.#state.list !== null && (this.#nextFocus.waitsFor("list") || this.#wayBack.isOn());
     // no row moves once it can be pressed, so all are there before they are counted
-    if (portions.length > 1) this.#table.add([], this.#cube, null);
+    if (portions.length > 1) this.#table.add([], cube, null);
     for (const [at, portion] of portions.entries()) {
       const groups = await portion;
       if (turn !== this.#turn) return;
-      this.#table.add(groups, this.#cube, this.#state.list);
+      this.#table.add(groups, cube, this.#state.list);
       part("choices").inert = isHeld;
       awaitAnswer(null);
       if (at === 0) this.#best.reset(part("choices").hidden ? null : { scramble, parts, reached });
     }
   }
 
-  async #showAnswered(turn: number) {
+  async #showAnswered(turn: number, { reached }: CubeOfLine) {
     // a list that is looked for takes the focus itself, and says what it has
     const isOfList = this.#nextFocus.waitsFor("list");
     const shown = this.#showList();
@@ -283,7 +292,7 @@ export class Page {
     if (turn !== this.#turn) return;
     part("choices").inert = false;
     if (isOfList) return;
-    const isFinished = isReduced(this.#cube.reached) && this.#state.parts.length > 0;
+    const isFinished = isReduced(reached) && this.#state.parts.length > 0;
     if (this.#nextFocus.take("table")) this.#showTaken(isFinished);
     else if (!isBare(this.#state)) announceLater(this.#table.summary());
     this.#table.giveBack();
@@ -310,7 +319,7 @@ export class Page {
     if (!list) this.#nets.follow("");
     const name = list ? [this.#turn, list.step, list.side, list.slack, list.isAll].join(" ") : "";
     const isShown = await this.#list.show(name, list, this.#cube);
-    if (!isShown || !name.startsWith(`${this.#turn} `)) return;
+    if (!list || !isShown || !name.startsWith(`${this.#turn} `)) return;
     part("choices").inert = false;
     if (this.#nextFocus.take("list")) this.#list.focus();
     // the rows come first, since marks lay a style on each sticker
@@ -318,7 +327,6 @@ export class Page {
     this.#goBack();
   }
 
-  /** Shows what the engine says of the lines that are kept. */
   #showKept() {
     const { kept, parts } = this.#state;
     this.#kept.show(kept);
@@ -334,7 +342,7 @@ export class Page {
   }
 
   /** @param side of the list, which is opened, or closed if it is open */
-  #open(step: string, side: State["side"]) {
+  #open(step: Step, side: Side) {
     const { list } = this.#state;
     if (list?.step === step && list.side === side) return this.#changeList(null);
     this.#change({ list: { step, side, slack: list?.slack ?? 0, isAll: list?.isAll ?? false } }, { focusNext: "list" });
@@ -360,7 +368,7 @@ export class Page {
   /** @param key of its row */
   #take(taken: Part[], key: string) {
     this.#seen.add(this.#state, taken, key);
-    this.#change({ parts: [...this.#state.parts, ...taken], side: lastSideOf(taken.at(-1)) }, { focusNext: "table" });
+    this.#change({ parts: [...this.#state.parts, ...taken], side: lastSideOf(lastOf(taken)) }, { focusNext: "table" });
     announce(`${spoken(bracketed(taken))} is taken.`);
   }
 
@@ -373,7 +381,7 @@ export class Page {
   }
 
   /** @param fault why there is no answer */
-  #refuse(fault: Error) {
+  #refuse(fault: unknown) {
     if (fault instanceof Stopped) return;
     setBusy("results", false);
     part("results").inert = true;

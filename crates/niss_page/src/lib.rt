@@ -1,4 +1,4 @@
-//! The module for web pages and other hosts of WebAssembly. `Instance` in `web/module/instance.js` makes its calls.
+//! The module for web pages and other hosts of WebAssembly. `Instance` of `web/module` makes its calls.
 #![tactic(auto)]
 
 mod arena;

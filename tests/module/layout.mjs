@@ -1,0 +1,45 @@
+// Holds the layout that the scripts have of the module's structs beside include/nissy.h and nissy_text.h: which structs there are, the names of
+// their fields, and where C puts each of them; and what is read of a struct beside what was written.
+import { readFileSync } from "node:fs";
+import * as layout from "../../build/web/module/shared/layout.js";
+import { structOf } from "../../build/web/module/shared/structs.js";
+import * as textLayout from "../../build/web/module/text/text-layout.js";
+import { ended, same } from "./tally.mjs";
+
+/** The structs that a caller in JavaScript has otherwise: tables stay in the module's memory. */
+const OTHERWISE = ["nissy_tables"];
+
+const headers = ["nissy.h", "nissy_text.h"].map((name) => readFileSync(new URL(`../../include/${name}`, import.meta.url), "utf8")).join("\n");
+const inCamelCase = (name) => name.replace(/_([a-z])/g, (_, letter) => letter.toUpperCase());
+
+/** By its name what each struct of the headers has: its bytes, its alignment, and each field with its place and its bytes. */
+const structs = new Map();
+for (const [, name, body] of headers.replace(/\/\*[\s\S]*?\*\//g, "").matchAll(/typedef struct (\w+) \{([^}]*)\}/g)) {
+  const [fields, made] = [{}, { bytes: 0, alignment: 1 }];
+  for (const [, type, field, count = 1] of body.matchAll(/(\w+) \*?(\w+)(?:\[(\d+)\])?;/g)) {
+    const bits = /^uint(\d+)_t$/.exec(type)?.[1];
+    const { bytes, alignment } = bits ? { bytes: bits / 8, alignment: bits / 8 } : structs.get(type) ?? { bytes: 8, alignment: 8 };
+    const at = Math.ceil(made.bytes / alignment) * alignment;
+    fields[inCamelCase(field)] = [at, bytes];
+    Object.assign(made, { bytes: at + bytes * count, alignment: Math.max(made.alignment, alignment) });
+  }
+  made.bytes = Math.ceil(made.bytes / made.alignment) * made.alignment;
+  structs.set(name, { ...made, fields });
+}
+
+/** By the names of the headers what the scripts say of each: a struct of the scripts has its name in capitals. */
+const OF_SCRIPTS = Object.fromEntries(Object.entries({ ...layout, ...textLayout }).filter(([, made]) => typeof made === "object")
+  .map(([name, made]) => [`nissy_${name.toLowerCase()}`, made]));
+
+same("the structs", Object.keys(OF_SCRIPTS).sort(), [...structs.keys()].filter((name) => !OTHERWISE.includes(name)).sort());
+for (const [name, { bytes, alignment, at, width, read }] of Object.entries(OF_SCRIPTS)) {
+  const wanted = structs.get(name);
+  const fields = Object.fromEntries(Object.keys(at).map((field) => [field, [at[field], width[field]]]));
+  same(`${name}: its bytes and its alignment`, [bytes, alignment], [wanted.bytes, wanted.alignment]);
+  same(`${name}: its fields`, fields, wanted.fields);
+  // what is read of a struct is what was written there, of each field another number
+  const numbers = Object.fromEntries(Object.keys(read).map((field, nth) => [field, 2 ** (8 * width[field] - 8 * Math.floor(width[field] / 8) - 1) - 1 - nth]));
+  const made = structOf(OF_SCRIPTS[name], numbers);
+  same(`${name}: what is read of it`, Object.fromEntries(Object.keys(read).map((field) => [field, read[field](made, 0)])), numbers);
+}
+ended();

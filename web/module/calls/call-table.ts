@@ -1,0 +1,87 @@
+// The table of the calls: of each how many arguments come before its options, what is asked for them, and how the reply
+// is read. All that have these calls take them from here: a row more is a call more.
+import { allOf, allRequest, pairsRequest, type AllRequest, type ReadOne } from "./many.js";
+import { optionOf } from "./options.js";
+import {
+  attemptChecksIn, bestIn, checkIn, countIn, factsIn, formPlacesIn, lineAfterIn, lineIn, linesIn, outputLinesIn,
+  solutionsIn, tokensIn,
+} from "./replies.js";
+import {
+  bestRequest, checkRequest, checksRequest, countRequest, factsRequest, lineAfterRequest, lineRequest, listRequest,
+  runRequest, scrambleRequest, scramblesRequest, stepsRequest, textRequest, type OfEach, type Request, type Rewriting,
+} from "./requests.js";
+import type { Calls } from "./calls.js";
+
+/** `options`: the names of its own; of many lines each reply is read by `one`; `isFollowed`: one reply may take so long
+ * that its progress is told. */
+export type Row = {
+  takes: number;
+  options?: readonly string[];
+  request: (...given: any[]) => Request;
+  read: (reply: any, request: any) => unknown;
+  one?: ReadOne;
+  isFollowed?: boolean;
+};
+
+/** A call on a line that is rewritten. */
+const rewriting = (call: Rewriting, read: Row["read"] = lineIn): Row =>
+  ({ takes: 1, request: (line) => lineRequest(call, line), read });
+
+const OF_COUNTS = ["limit", "slack", "most", "nodes", "cut"];
+const OF_LISTS = [...OF_COUNTS, "sides"];
+const OF_BEST = ["soFar", "slack", "most", "nodes", "cut"];
+
+/** A call on many lines. @param ask for all */
+const many = (takes: number, options: readonly string[], ask: (...given: any[]) => AllRequest, one: ReadOne): Row =>
+  ({ takes, options: [...options, "faults"], request: ask, read: (reply, request) => allOf(reply, request, one), one });
+
+/** The same, each of which is asked what one line may be asked, for which the empty line stands. */
+const manyLines = (
+  takes: number, options: readonly string[], each: (...given: unknown[]) => OfEach, one: ReadOne,
+) => many(takes, options, (...given) => allRequest(() => each(...given), given[takes - 1], given[takes]), one);
+
+export const TABLE: Record<Exclude<keyof Calls<"now">, "solutions">, Row> = {
+  invert: rewriting("invert"),
+  unniss: rewriting("unniss"),
+  cleanup: rewriting("cleanup"),
+  facelets: rewriting("facelets"),
+  // a line that is no line of moves is refused
+  tokens: rewriting("unniss", (reply, request) => (lineIn(reply), tokensIn(request))),
+  formPlaces: rewriting("unniss", (reply, request) => (lineIn(reply), formPlacesIn(request))),
+  solve: { takes: 2, options: OF_LISTS, request: listRequest, read: solutionsIn },
+  solveAll: manyLines(2, OF_LISTS, (step, _, options) => listRequest(step, "", options), solutionsIn),
+  count: { takes: 2, options: OF_COUNTS, request: countRequest, read: countIn },
+  countAll: manyLines(2, OF_COUNTS, (step, _, options) => countRequest(step, "", options), countIn),
+  facts: { takes: 1, request: factsRequest, read: factsIn },
+  factsAll: manyLines(1, [], () => factsRequest(""), factsIn),
+  check: { takes: 2, request: checkRequest, read: checkIn },
+  checkAll: many(1, [], (pairs, options) => pairsRequest(checkRequest("", ""), pairs, options), checkIn),
+  plainLine: { takes: 1, request: (text) => textRequest("plainLine", text), read: (reply) => reply },
+  readAttempts: { takes: 1, request: (text) => textRequest("readAttempts", text), read: (reply) => reply },
+  checkAttempts: { takes: 1, options: ["scrambles"], request: checksRequest, read: attemptChecksIn },
+  lineAfter: { takes: 2, request: lineAfterRequest, read: lineAfterIn },
+  best: { takes: 1, options: OF_BEST, request: bestRequest, read: bestIn, isFollowed: true },
+  bestAll: manyLines(1, OF_BEST, (_, options) => bestRequest("", options), bestIn),
+  steps: { takes: 0, request: stepsRequest, read: linesIn },
+  scramble: { takes: 3, request: scrambleRequest, read: lineIn },
+  scrambles: { takes: 4, request: scramblesRequest, read: outputLinesIn },
+  run: {
+    takes: 2,
+    options: ["room"],
+    request: (words, input, options = {}) => runRequest(words, input, optionOf(options, "room")),
+    read: (reply) => reply,
+  },
+};
+
+/** Gives a class the calls of the table, each made by what it does with a row and what the call is given, and others of
+ * its own. */
+export function takeCalls<Caller extends object>(
+  prototype: Caller, make: (caller: Caller, row: Row, given: unknown[]) => unknown,
+  others: Partial<Caller> & ThisType<Caller>,
+) {
+  const calls = Object.entries(TABLE).map(([name, row]) =>
+    [name, { [name](this: Caller, ...given: unknown[]) { return make(this, row, given); } }[name]] as const);
+  for (const [name, value] of [...calls, ...Object.entries(others)]) {
+    Object.defineProperty(prototype, name, { configurable: true, writable: true, value });
+  }
+}

@@ -1,0 +1,107 @@
+// What is asked of many lines, and what is told of them: a value of each, a fault in its place, or the first fault
+// thrown.
+import { eachOf, readableLine, takenLine, type Text } from "../shared/bytes.js";
+import { NissyFault, SearchCut } from "../shared/faults.js";
+import { STATUS } from "../engine/status.js";
+import { inLine, type OneReply, type Seen } from "./replies.js";
+import { toldBy, type OfEach, type Pair, type Telling } from "./requests.js";
+
+/** What is asked of each line, or pair, whose own line is none, or null for one of too many bytes; `isPiece`: the
+ * lines are some of a call's, so a worker tells how long it took. */
+export type AllRequest<Each extends OfEach = OfEach> = {
+  call: "all";
+  each: Each;
+  lines: (Text | Pair | null)[];
+  faults: Telling;
+  isPiece?: boolean;
+};
+
+/** The replies to as many lines as there is a reply to: the structs of the answers with a value, one after another, if
+ * they are no more than that, since many objects take longer from thread to thread than their lines take the engine;
+ * and beside them the other replies, each with its place. */
+export type AllReply = { count: number; size: number; values: Uint8Array; others: [at: number, reply: OneReply][] };
+
+/** Reads a reply to a line of many. */
+export type ReadOne = (reply: any, each: any) => unknown;
+
+/** What becomes of the faults of many lines: undefined has the first thrown. */
+export type OnFaults = Telling | undefined;
+
+/** What is asked of many lines; `faults` says whether the first fault is thrown, as it is if it isn't given, or each in
+ * the place of the line's answer. */
+export type Many<Faults extends OnFaults = OnFaults> = { faults?: Faults };
+
+/** What is told of a line of many: a value, or in its place what is wrong with the line, if the option `faults` says
+ * so. */
+export type Told<Value, Faults> = Faults extends "value" ? Value | NissyFault | RangeError : Value;
+
+/** One of many pairs. @param number from 1 */
+function pairOf(pair: unknown, number: number, take: typeof readableLine): Pair {
+  if (!Array.isArray(pair) || pair.length !== 2) throw new TypeError(`pair ${number} is no array of two lines`);
+  const [scramble, solution] = pair;
+  return {
+    scramble: take(scramble, `the scramble of pair ${number}`),
+    solution: take(solution, `the solution of pair ${number}`),
+  };
+}
+
+/** @param each what is asked of each line */
+export function allRequest(each: () => OfEach, lines: unknown, options: unknown = {}): AllRequest {
+  if (!Array.isArray(lines)) throw new TypeError("the lines are no array");
+  const asked = each();
+  const faults = toldBy(options, "faults");
+  const take = faults === "value" ? readableLine : takenLine;
+  return { call: "all", each: asked, faults, lines: eachOf(lines, (line, index) => take(line, `line ${index + 1}`)) };
+}
+
+/** The same of pairs. @param each what is asked of each */
+export function pairsRequest(each: OfEach, pairs: unknown, options: unknown = {}): AllRequest {
+  if (!Array.isArray(pairs)) throw new TypeError("the pairs are no array");
+  const faults = toldBy(options, "faults");
+  const take = faults === "value" ? readableLine : takenLine;
+  return { call: "all", each, faults, lines: eachOf(pairs, (pair, index) => pairOf(pair, index + 1, take)) };
+}
+
+/** Whether the reply for a line of many ends the call, so that no line behind it is answered. */
+export function endsAll({ each, faults }: AllRequest, { status }: OneReply) {
+  if (status === STATUS.cut) return "cut" in each && each.cut === "throw";
+  return status !== STATUS.done && faults === "throw";
+}
+
+/** What is told of a line of many. What is thrown of one has its number, and so has what is told in its place.
+ * @returns a value, or a fault if they are told so */
+export function toldOf(reply: OneReply, index: number, { each, faults }: AllRequest, one: ReadOne): unknown {
+  try {
+    return one(reply, each);
+  } catch (thrown) {
+    const isOfPair = each.call === "check" && thrown instanceof NissyFault;
+    const error = isOfPair ? thrown.inPair(index + 1) : inLine(thrown, index + 1);
+    if (faults === "throw" || error instanceof SearchCut) throw error;
+    return error;
+  }
+}
+
+/** Puts what is told in its places.
+ * @param begin the place of the first line
+ * @param other reads one of the other replies, by the place of its line */
+export function putTold(
+  told: unknown[], begin: number, { count, size, values, others }: AllReply, one: (reply: Seen) => unknown,
+  other: (reply: OneReply, index: number) => unknown,
+) {
+  // the first that is thrown is that of the first line
+  for (const [at, reply] of others) told[begin + at] = other(reply, begin + at);
+  const isOther = new Set(others.map(([at]) => at));
+  for (let at = 0; size > 0 && at < count; at += 1) {
+    const place = at * size;
+    const status = values[place] === STATUS.cut ? STATUS.cut : STATUS.done;
+    if (!isOther.has(at)) told[begin + at] = one({ status, answer: values, at: place });
+  }
+}
+
+/** @returns what is told of each line */
+export function allOf(reply: AllReply, request: AllRequest, one: ReadOne): unknown[] {
+  const told: unknown[] = new Array(reply.count);
+  putTold(told, 0, reply, (seen) => one(seen, request.each), (each, index) => toldOf(each, index, request, one));
+  return told;
+}
+

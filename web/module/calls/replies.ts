@@ -1,0 +1,251 @@
+// Reads what the engine writes as values, or throws what is wrong.
+import { NissyFault, SearchCut, cutOfAll, withoutTraces } from "../shared/faults.js";
+import { SEARCH_ANSWER } from "../shared/layout.js";
+import { textIn } from "../shared/utf8.js";
+import { checkFrom, factsFrom } from "./facts-read.js";
+import { bothSidesIn, waysIn, type BestRow, type BestStep } from "../shared/ways.js";
+import { START_FAULT, STATUS, hasValue } from "../engine/status.js";
+import { formPlacesOf, tokensOf, type FormPlace, type Token } from "../text/tokens.js";
+import type { Check, Facts } from "../shared/facts.js";
+import type { Attempt, AttemptDoubt } from "../text/attempts.js";
+import type { FormInText, SeenAttempt } from "../text/attempt-checks.js";
+import type { Sides, Telling } from "./requests.js";
+import type { Text } from "../shared/bytes.js";
+import type { TextPlace } from "../text/written.js";
+
+/** What a run returns. */
+export type Answer = {
+  /** The exit status of the program, 0 to 3. */
+  status: number;
+  /** The output. */
+  out: Uint8Array;
+  /** The error text. */
+  err: Uint8Array;
+  /** Whether the output was longer than the greatest room for it; `out` is then a beginning of it. */
+  full: boolean;
+};
+
+/** A solution: its moves, and how many turns they are. */
+export type Solution = { moves: string; length: number };
+
+/** Solutions; `more`: whether there are others beyond `most`, and `nodes`: at how many positions the search looked.
+ * Those of a search that was cut begin its list, and `cut` is there. */
+export type Solutions = Solution[] & { readonly more: boolean; readonly nodes: number; cut?: true };
+
+/** Those over both sides. */
+export type SideSolutions = BestStep[] & { cut?: true };
+
+/** What `solve` tells, whether sides are asked for or not. */
+export type SolutionsOn<On extends Sides | undefined> = On extends string ? SideSolutions : Solutions;
+
+/** How many solutions there are: the least length, null if there are none, and at how many positions the search looked.
+ * If the search was cut, `cut` is there, and the numbers are those of what it found until then. */
+export type Count = { length: number | null; solutions: number; nodes: number; cut?: true };
+
+/** A line that can't be read: the number of its fault, where that is, in bytes and in characters, and the program's
+ * words for it. */
+export type LineFault = { status: 1; fault: 1 | 2 | 3 | 4 | 5; column: number; character: number; text: string };
+
+/** A cube at which a step can't begin: the step, the one that must hold before, and what the program says of that one.
+ */
+export type StartFault = { status: 1; fault: 6; step: string; start: string; text: string };
+
+/** A call that the module refused: a number out of its range, a line that is too long, or too little room. */
+export type Refused = { status: 2 | 3 | 4 };
+
+/** How a call on a line ended that has no value. */
+export type NoValue = LineFault | StartFault | Refused;
+/** Of a call on two lines, of which `line` is at fault: 1, the first, or 2. */
+export type OfTwo = NoValue & { line: number };
+/** The struct of an answer with a value, which stands at a place of some bytes. */
+export type Seen = { status: 0 | 5; answer: Uint8Array; at: number };
+/** Of a call that writes. */
+export type LineReply = { status: 0; out: string } | NoValue;
+export type SolveReply = Seen & { out: string } | NoValue;
+export type SolveBytesReply = Seen & { out: Uint8Array } | NoValue;
+/** The rows that were found, as the module has them, and at how many positions it looked. */
+export type FoundParts = { status: 0 | 5; parts: Uint8Array; nodes: number };
+/** The same of ways on; `tried`: how many were. */
+export type FoundWays = { ways: Uint8Array; tried: number; nodes: number };
+export type BestReply = FoundWays & { status: 0 | 5 } | OfTwo;
+
+/** The best, in their order, and at how many positions the search looked. If it ended at its bound, `cut` is there:
+ * then these are the best of what was tried until then. */
+export type Best = BestRow[] & { nodes: number; cut?: true };
+
+/** An attempt of a text. `check` is null if it has no solution, or if a part is at fault: `fault` says so, its `part`
+ * says which, and `place` where in the text; both are null of an attempt without a fault. `forms` are those of a
+ * solution that was checked. `doubt` tells why an attempt may be read otherwise than it was meant, and is null if it is
+ * solved, has a fault, or is in none. */
+export type AttemptCheck = {
+  attempt: Attempt;
+  check: Check | null;
+  fault: NissyFault | null;
+  place: TextPlace | null;
+  forms: FormInText[];
+  doubt: AttemptDoubt | null;
+};
+
+/** To one line or more of a call, but for runs. */
+export type OneReply = Answer | LineReply | Seen | SolveReply | FoundParts | BestReply | OfTwo;
+
+/** What the lines are called of calls that take two. */
+const NAMES_OF_CHECK = ["scramble", "solution"];
+const NAMES_OF_BEST = ["scramble", "moves so far"];
+
+const BRACKET = "(".charCodeAt(0);
+const ZERO = "0".charCodeAt(0);
+
+function faultIn(reply: LineFault | StartFault): NissyFault {
+  if (reply.fault !== START_FAULT) return new NissyFault(reply.text, reply);
+  const { step, start, text } = reply;
+  return new NissyFault(`${start} ${text}`, { step, start });
+}
+
+/** @param what the line is called
+ * @returns what is wrong */
+function errorIn(reply: NoValue, what = "line"): Error {
+  switch (reply.status) {
+    case STATUS.fault:
+      return faultIn(reply);
+    case STATUS.stopped:
+      return new RangeError(`the ${what} has more bytes than the engine reads`);
+    case STATUS.room:
+      return new RangeError("there are more solutions than there is room for: ask for fewer");
+    default:
+      return new Error(`the engine refused the call with status ${reply.status}`);
+  }
+}
+
+/** What is thrown of one of two lines, which have names. */
+function errorOfTwo(reply: OfTwo, names: readonly string[]): Error {
+  const part = names[reply.line - 1];
+  const error = errorIn(reply, part);
+  return error instanceof NissyFault ? error.inLine(reply.line, part) : error;
+}
+
+/** @returns the same, which has a value */
+function withValue<Reply extends { status: number }>(reply: Reply): Exclude<Reply, NoValue> {
+  if (!hasValue(reply.status)) throw errorIn(reply as unknown as NoValue);
+  return reply as Exclude<Reply, NoValue>;
+}
+
+export const lineIn = (reply: LineReply): string => withValue(reply).out;
+
+/** @param request of a line that was read */
+export const tokensIn = ({ line }: { line: Text }): Token[] => tokensOf(typeof line === "string" ? line : textIn(line));
+
+/** @param request of a line that was read */
+export const formPlacesIn = ({ line }: { line: Text }): FormPlace[] =>
+  formPlacesOf(typeof line === "string" ? line : textIn(line));
+
+/** @returns its lines, each of which a line feed ends */
+const endedLines = (text: string): string[] => text.split("\n").slice(0, -1);
+
+export const linesIn = (reply: LineReply): string[] => endedLines(lineIn(reply));
+
+/** @param answer of a run that has no fault, but may have been refused memory */
+export function outputLinesIn({ status, out, err }: Answer): string[] {
+  if (status !== STATUS.done) throw new RangeError(textIn(err).trim());
+  return endedLines(textIn(out));
+}
+
+/** The solutions, of which each has a line such as `F B' (2)`, or `(0)` if no move is needed. There may be millions, so
+ * no string is made of a line. */
+function solutionsFrom(out: string): Solution[] {
+  const digit = (at: number) => out.charCodeAt(at) - ZERO;
+  const solutions = [];
+  for (let begin = 0, end = out.indexOf("\n"); end >= 0; begin = end + 1, end = out.indexOf("\n", begin)) {
+    // a line ends with `(n)` or `(nn)`
+    const isShort = out.charCodeAt(end - 3) === BRACKET;
+    const length = isShort ? digit(end - 2) : 10 * digit(end - 3) + digit(end - 2);
+    // a blank stands before the bracket, if a move does
+    const movesEnd = end - (isShort ? 4 : 5);
+    solutions.push({ moves: movesEnd > begin ? out.slice(begin, movesEnd) : "", length });
+  }
+  return solutions;
+}
+
+/** The same number: one of 32 bits stands in the object that has it, and takes no memory of its own there. */
+const kept = (number: number) => ((number | 0) === number ? number | 0 : number);
+
+const READ = SEARCH_ANSWER.read;
+
+function countSeen({ answer, at }: Seen): Count {
+  const count = kept(READ.solutions(answer, at));
+  return { length: count === 0 ? null : READ.least(answer, at), solutions: count, nodes: kept(READ.nodes(answer, at)) };
+}
+
+/** What is told of a search that was cut, unless that is thrown. */
+function cutOr<Value>(status: number, cut: Telling, value: Value & { cut?: true }, error: () => SearchCut): Value {
+  if (status !== STATUS.cut) return value;
+  if (cut === "throw") throw error();
+  value.cut = true;
+  return value;
+}
+
+/** @returns the solutions of a step, on the sides that are asked for */
+export function solutionsIn(reply: SolveReply | FoundParts | NoValue, { cut }: { cut: Telling }): any {
+  const seen = withValue(reply);
+  if ("out" in seen) {
+    const [more, nodes] = [READ.more(seen.answer, seen.at) === 1, kept(READ.nodes(seen.answer, seen.at))];
+    // beside its list, as its length is
+    const told = { more: { value: more }, nodes: { value: nodes } };
+    const solutions = Object.defineProperties(solutionsFrom(seen.out), told) as Solutions;
+    return cutOr(seen.status, cut, solutions, () => new SearchCut(countSeen(seen), solutions));
+  }
+  const solutions: SideSolutions = bothSidesIn(seen.parts);
+  const count = { length: solutions[0]?.length ?? null, solutions: solutions.length, nodes: seen.nodes };
+  return cutOr(seen.status, cut, solutions, () => new SearchCut(count, solutions));
+}
+
+export function countIn(reply: Seen | NoValue, { cut }: { cut: Telling }): Count {
+  const seen = withValue(reply);
+  const count = countSeen(seen);
+  return cutOr(seen.status, cut, count, () => new SearchCut(count, null));
+}
+
+export const factsIn = (reply: Seen | NoValue): Facts => {
+  const { answer, at } = withValue(reply);
+  return factsFrom(answer, at);
+};
+
+export function checkIn(reply: Seen | OfTwo): Check {
+  if (!("answer" in reply)) throw errorOfTwo(reply, NAMES_OF_CHECK);
+  return checkFrom(reply.answer, reply.at);
+}
+
+function attemptCheckIn({ attempt, seen, place, forms, doubt }: SeenAttempt): AttemptCheck {
+  const told = { attempt, place, forms, doubt };
+  if (seen === null) return { ...told, check: null, fault: null };
+  if ("answer" in seen) {
+    return { ...told, check: attempt.solution === null ? null : checkFrom(seen.answer, seen.at), fault: null };
+  }
+  if (seen.status !== STATUS.fault) throw errorOfTwo(seen, NAMES_OF_CHECK);
+  return { ...told, check: null, fault: new NissyFault(seen.text, seen, NAMES_OF_CHECK[seen.line - 1]) };
+}
+
+export const attemptChecksIn = (replies: SeenAttempt[]): AttemptCheck[] =>
+  withoutTraces(() => replies.map(attemptCheckIn));
+
+export function lineAfterIn(reply: LineReply | OfTwo): string {
+  if ("out" in reply) return reply.out;
+  throw errorOfBest(reply as OfTwo);
+}
+
+export function bestIn(reply: BestReply, { cut }: { cut: Telling }): Best {
+  if (!("ways" in reply)) throw errorOfBest(reply);
+  const best: Best = Object.assign(waysIn(reply.ways), { nodes: reply.nodes });
+  return cutOr(reply.status, cut, best, () => cutOfAll(reply.nodes));
+}
+
+/** What is thrown of a scramble or of the moves so far: also one of too many bytes has the number of its line. */
+const errorOfBest = (reply: OfTwo) => inLine(errorIn(reply), reply.line, NAMES_OF_BEST[reply.line - 1]);
+
+/** What is wrong, with the number of the line in which it is.
+ * @param part what a fault calls the line, if not by its number */
+export function inLine(error: unknown, line: number, part?: string) {
+  if (error instanceof NissyFault) return error.inLine(line, part);
+  if (error instanceof SearchCut) return error.inLine(line);
+  return error instanceof RangeError ? new RangeError(`line ${line}: ${error.message}`) : error;
+}

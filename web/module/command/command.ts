@@ -1,0 +1,210 @@
+// The command `nissy` in node: what the program does with its words, its streams and its status, by the module.
+import { hasValue, STATUS } from "../engine/status.js";
+import { textIn } from "../shared/utf8.js";
+import { readFileSync } from "node:fs";
+import process from "node:process";
+import { MOST_INPUT } from "../shared/bytes.js";
+import { Engine } from "../engine/engine.js";
+import { NoWebAssembly } from "../shared/faults.js";
+import { InputLines, split } from "./input-lines.js";
+import { SEARCH_ANSWER, SOLUTION } from "../shared/layout.js";
+import {
+  linesIn, type Answer, type LineFault, type LineReply, type NoValue, type Seen, type StartFault,
+} from "../calls/replies.js";
+import { countRequest, runRequest, solveRequest, stepsRequest } from "../calls/requests.js";
+import { Stop } from "./stop.js";
+import { readSome, writeAll } from "./streams.js";
+
+/** Some solutions of a list. */
+export type Piece = Seen & { out: Uint8Array };
+
+/** A search, and the words of the line that it is asked for: if there are none, it is asked for each line of the input.
+ */
+export type Search = {
+  command: "solve" | "count" | "near";
+  step: string;
+  limit: number;
+  slack: number;
+  words: string[];
+};
+
+const INPUT = 0;
+const OUTPUT = 1;
+const ERRORS = 2;
+
+const NOTHING = new Uint8Array(0);
+
+/** How many numbers follow the step. */
+const SEARCHES = { solve: 1, count: 1, near: 2 };
+const MOST_TURNS = 20;
+
+/** The room for the output of a run: none without a search is longer than 10,000 scrambles of 256 turns. */
+const RUN_ROOM = 8 * 1_048_576;
+
+/** So many solutions are asked for at once. */
+const MOST_OF_PIECE = 4_000;
+
+const LINE_FEED = "\n".charCodeAt(0);
+const BRACKET = "(".charCodeAt(0);
+
+/** A piece of a list, and a line feed. */
+const pieceRoom = new Uint8Array(MOST_OF_PIECE * SOLUTION + 1);
+
+const encoder = new TextEncoder();
+
+function write(bytes: Uint8Array) {
+  try {
+    writeAll(OUTPUT, bytes);
+  } catch {
+    throw Stop.cannotWrite();
+  }
+}
+
+const writeText = (text: string) => write(encoder.encode(text));
+
+function read(buffer: Uint8Array) {
+  try {
+    return readSome(INPUT, buffer);
+  } catch {
+    throw Stop.cannotRead();
+  }
+}
+
+/** Makes a run without a search, and writes its output.
+ * @param first the number of the input's first line
+ * @returns how many bytes it wrote */
+function run(engine: Engine, words: string[], input: Uint8Array, first = 1): number {
+  const { status, out, err } = engine.answer(runRequest(words, input, RUN_ROOM)) as Answer;
+  write(out);
+  if (status !== STATUS.done) throw new Stop(status, textIn(err)).after(first - 1);
+  return out.length;
+}
+
+/** What was found of a line, unless it is at fault.
+ * @param number the line's */
+function found<Found extends Seen>(reply: Found | NoValue, number: number): Found {
+  if (reply.status === STATUS.fault) throw Stop.ofLine(number, reply as LineFault | StartFault);
+  if (!hasValue(reply.status)) throw Stop.outOfMemory();
+  return reply as Found;
+}
+
+/** Writes how many solutions a line has. */
+function writeCount(engine: Engine, { step, limit }: Search, line: Uint8Array, number: number) {
+  const reply = engine.answer(countRequest(step, line, { limit })) as Seen | NoValue;
+  const seen = found(reply, number);
+  const [least, solutions, nodes] = [READ.least, READ.solutions, READ.nodes].map((read) => read(seen.answer, seen.at));
+  writeText(`length ${solutions === 0 ? "none" : least} solutions ${solutions} nodes ${nodes}\n`);
+}
+
+const READ = SEARCH_ANSWER.read;
+const hasMore = ({ answer, at }: Piece) => READ.more(answer, at) === 1;
+
+/** Writes a piece of a list, and an empty line behind the last one. */
+function writePiece(piece: Piece) {
+  const { out } = piece;
+  pieceRoom.set(out);
+  pieceRoom[out.length] = LINE_FEED;
+  write(pieceRoom.subarray(0, hasMore(piece) ? out.length : out.length + 1));
+}
+
+/** The moves of the last of some solutions, of which each has a line such as `F B' (2)`, or `(0)` if no move is needed.
+ */
+const lastMoves = (out: Uint8Array) =>
+  textIn(out.subarray(out.lastIndexOf(LINE_FEED, out.length - 2) + 1, out.lastIndexOf(BRACKET))).trimEnd();
+
+/** Writes the solutions of a line in pieces, each of which goes on after the last solution of the one before. */
+function writeSolutions(engine: Engine, { step, limit, slack }: Search, line: Uint8Array, number: number) {
+  const request = solveRequest(step, line, { limit, slack, most: MOST_OF_PIECE });
+  let piece = found(engine.solutionBytes(request), number);
+  if (READ.solutions(piece.answer, piece.at) === 0) {
+    writeText(`no solution within ${limit} moves\n\n`);
+    return;
+  }
+  writePiece(piece);
+  while (hasMore(piece)) {
+    piece = found(engine.solutionBytes({ ...request, after: lastMoves(piece.out) }), number);
+    writePiece(piece);
+  }
+}
+
+/** The search that these words ask for, if they ask for one. */
+function searchOf(engine: Engine, [command, step, ...rest]: string[]): Search | undefined {
+  if (command !== "solve" && command !== "count" && command !== "near") return undefined;
+  const steps = linesIn(engine.answer(stepsRequest()) as LineReply);
+  const numbers = rest.slice(0, SEARCHES[command]);
+  const areNumbers = numbers.every((word) => /^[0-9]+$/.test(word) && Number(word) <= MOST_TURNS);
+  if (numbers.length !== SEARCHES[command] || !areNumbers || !steps.includes(step)) return undefined;
+  const [limit, slack = 0] = numbers.map(Number);
+  return { command, step, limit, slack, words: rest.slice(numbers.length) };
+}
+
+/** Answers lines of a search by the tables that stay. */
+function searchLines(engine: Engine, search: Search, lines: Uint8Array, first: number) {
+  const writeFound = search.command === "count" ? writeCount : writeSolutions;
+  let number = first;
+  for (const line of split(lines)) {
+    writeFound(engine, search, line, number);
+    number += 1;
+  }
+}
+
+/** The words of a line as an input that has it. */
+function inputOf(words: string[]) {
+  const input = encoder.encode(`${words.join(" ")}\n`);
+  if (input.length > MOST_INPUT) throw Stop.tooLong();
+  return input;
+}
+
+/** Makes a search. Its tables are built before anything is read. */
+function makeSearch(engine: Engine, search: Search) {
+  engine.answer(countRequest(search.step, "", { limit: 0 }));
+  if (search.words.length > 0) searchLines(engine, search, inputOf(search.words), 1);
+  else new InputLines(read).answer((lines, first) => searchLines(engine, search, lines, first));
+}
+
+/** Does what the words say. If they read lines, they write nothing for an input without any; of the others only no
+ * scrambles write nothing. */
+function obey(engine: Engine, words: string[]) {
+  const search = searchOf(engine, words);
+  if (search !== undefined) makeSearch(engine, search);
+  else if (run(engine, words, NOTHING) === 0 && words[0] !== "scramble") {
+    new InputLines(read).answer((lines, first) => run(engine, words, lines, first));
+  }
+}
+
+async function started(): Promise<Engine> {
+  try {
+    return await Engine.start(readFileSync(new URL("../nissy.wasm", import.meta.url)));
+  } catch (error) {
+    const { message } = error as Error;
+    const isOfNode = error instanceof NoWebAssembly;
+    const why = isOfNode ? "this node runs no WebAssembly" : `nissy.wasm can't be loaded: ${message}`;
+    throw new Stop(STATUS.stopped, `nissy: ${why}\n`);
+  }
+}
+
+/** @returns what the command says of it */
+function stopOf(error: unknown): Stop {
+  if (error instanceof Stop) return error;
+  // what the host has no memory for
+  if (error instanceof RangeError) return Stop.outOfMemory();
+  return new Stop(STATUS.stopped, `nissy: the engine broke off: ${(error as Error).message}\n`);
+}
+
+/** @returns the status */
+async function main(): Promise<number> {
+  try {
+    obey(await started(), process.argv.slice(2));
+    return STATUS.done;
+  } catch (error) {
+    const stop = stopOf(error);
+    try {
+      writeAll(ERRORS, encoder.encode(stop.text));
+    } catch {
+      // nobody reads it
+    }
+    return stop.status;
+  }
+}
+
+process.exitCode = await main();

@@ -1,0 +1,46 @@
+// What ends the command before its time: a status, and what is said of it.
+import { MOST_INPUT } from "../shared/bytes.js";
+import { START_FAULT, STATUS } from "../engine/status.js";
+import type { LineFault, StartFault } from "../calls/replies.js";
+
+export class Stop extends Error {
+  status: number;
+  text: string;
+
+  /** @param text the line on standard error */
+  constructor(status: number, text: string) {
+    super(text);
+    this.status = status;
+    this.text = text;
+  }
+
+  static cannotRead() {
+    return new Stop(STATUS.stopped, "nissy: cannot read\n");
+  }
+
+  static cannotWrite() {
+    return new Stop(STATUS.stopped, "nissy: cannot write\n");
+  }
+
+  static outOfMemory() {
+    return new Stop(STATUS.stopped, "nissy: out of memory\n");
+  }
+
+  static tooLong() {
+    return new Stop(STATUS.stopped, `nissy: input longer than ${MOST_INPUT} bytes\n`);
+  }
+
+  /** A fault of a line.
+   * @param number the line's */
+  static ofLine(number: number, fault: LineFault | StartFault) {
+    const said = fault.fault === START_FAULT
+      ? `: ${fault.start} ${fault.text}` : `, column ${fault.column}: ${fault.text}`;
+    return new Stop(STATUS.fault, `nissy: line ${number}${said}\n`);
+  }
+
+  /** The same after so many lines of which the engine wasn't told. */
+  after(lines: number) {
+    const moved = (_: string, number: string) => `nissy: line ${Number(number) + lines}`;
+    return new Stop(this.status, this.text.replace(/^nissy: line (\d+)/, moved));
+  }
+}

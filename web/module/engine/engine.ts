@@ -1,0 +1,96 @@
+// The engine: requests are answered by an instance of the module, and by another one after a call that broke off.
+import { seenAttempts, seenSolutions, type SeenAttempt } from "../text/attempt-checks.js";
+import { attemptsIn, type Attempt } from "../text/attempts.js";
+import { TextInMemory } from "../text/text-calls.js";
+import { WrittenText, type PlainLine } from "../text/written.js";
+import { EngineMissing } from "../shared/faults.js";
+import { bestOf } from "./best-search.js";
+import { Instance } from "./instance.js";
+import { checked, counted, factsOf, lineAfterOf, rewritten, solved, solvedBytes, written } from "./line-calls.js";
+import { answerAll } from "./many-lines.js";
+import { solvedOverSides } from "./over-sides.js";
+import { runIn } from "./runs.js";
+import { compiled, type ModuleSource } from "./source.js";
+import type { AllReply } from "../calls/many.js";
+import type { OneReply, SolveBytesReply } from "../calls/replies.js";
+import type { OneRequest, Request, SolveRequest, TextRequest } from "../calls/requests.js";
+import type { Progress } from "../calls/signals.js";
+
+export type Reply = OneReply | AllReply | PlainLine | Attempt[] | SeenAttempt[];
+/** Is told how far the search for the best is; what it throws ends that. */
+export type TellProgress = (progress: Progress) => unknown;
+/** An engine, or what asks one. */
+export type Answering = { answer: (request: Request, tell?: TellProgress) => any };
+
+type AnswersOf<Asked extends Request> = {
+  [Call in Asked["call"]]:
+    (instance: Instance, request: Extract<Asked, { call: Call }>, tell: TellProgress) => Reply;
+};
+
+const inMemory = (instance: Instance, { text }: TextRequest) => new TextInMemory(instance, new WrittenText(text));
+
+/** How each request is answered. */
+const REPLIES: AnswersOf<Exclude<Request, { call: "all" }>> = {
+  invert: (instance, { line }) => rewritten(instance, "nissy_invert", line),
+  unniss: (instance, { line }) => rewritten(instance, "nissy_unniss", line),
+  cleanup: (instance, { line }) => rewritten(instance, "nissy_cleanup", line),
+  facelets: (instance, { line }) => rewritten(instance, "nissy_facelets", line),
+  solve: solved,
+  solveSides: solvedOverSides,
+  count: counted,
+  facts: factsOf,
+  check: checked,
+  lineAfter: lineAfterOf,
+  best: bestOf,
+  scramble: (instance, { state, stream, length }) => written(instance, "nissy_scramble", [state, stream, length]),
+  steps: (instance) => written(instance, "nissy_steps", []),
+  run: runIn,
+  plainLine: (instance, request) => inMemory(instance, request).plain(),
+  readAttempts: (instance, request) => attemptsIn(inMemory(instance, request)),
+  checkAttempts: (instance, request) => seenAttempts(instance, inMemory(instance, request)),
+  checkSolutions: (instance, request) => seenSolutions(instance, inMemory(instance, request), request.scrambles),
+};
+
+type Answer = (instance: Instance, request: Request, tell: TellProgress) => Reply;
+const answerOf = (call: Exclude<Request["call"], "all">) => REPLIES[call] as Answer;
+
+export class Engine {
+  #module: WebAssembly.Module;
+  #instance: Instance;
+
+  constructor(module: WebAssembly.Module, instance: WebAssembly.Instance) {
+    this.#module = module;
+    this.#instance = new Instance(instance);
+  }
+
+  static async start(source: ModuleSource | Promise<ModuleSource>): Promise<Engine> {
+    const module = await compiled(source);
+    return new Engine(module, await WebAssembly.instantiate(module, {}));
+  }
+
+  /** What the engine returns. */
+  answer(request: Request, tell: TellProgress = () => {}): Reply {
+    const instance = this.#ready();
+    if (request.call !== "all") return answerOf(request.call)(instance, request, tell);
+    const answer = answerOf(request.each.call);
+    return answerAll(instance, request, (asked) => answer(instance, asked, () => {}) as OneReply);
+  }
+
+  /** A few solutions as bytes, which stand in the engine's memory until its next call: so a list that is gone
+   * through in pieces leaves nothing to be collected. */
+  solutionBytes(request: SolveRequest): SolveBytesReply {
+    return solvedBytes(this.#ready(), request);
+  }
+
+  /** The instance, or another one of the module in place of one that broke off. */
+  #ready(): Instance {
+    if (!this.#instance.isBroken) return this.#instance;
+    try {
+      this.#instance = new Instance(new WebAssembly.Instance(this.#module, {}));
+      return this.#instance;
+    } catch (cause) {
+      const { message } = cause as Error;
+      throw new EngineMissing(`the engine broke off, and can't be started again: ${message}`, cause);
+    }
+  }
+}

@@ -1,0 +1,143 @@
+// An instance of the module: how it is called, its memory, where the free part of that begins, and the tables that stay
+// there.
+import { bytesOf, type Text } from "../shared/bytes.js";
+import { HEAD, struct, structOf, type Reading } from "../shared/structs.js";
+import { InstanceMemory, aligned, roomFor } from "./memory.js";
+import { STATUS } from "./status.js";
+
+/** What the module exports: addresses, lengths and numbers of 64 bits are wide there. */
+export type Exports = { [name: string]: any };
+
+/** What a call is given after the place of its answer, as the headers have it: a text, by its place and its length;
+ * room for so many bytes, or for rows of a struct, the first of which may stand there; bytes, such as a struct, by
+ * their place alone; memory that is lent, by the place of a room; and numbers. */
+export type Given = { text: Text } | { room: number } | { rows: number; of: { bytes: number }; first?: Uint8Array }
+  | { struct: Uint8Array } | { lent: number } | number | bigint;
+
+/** Memory that is lent, which C takes otherwise. */
+export const ROOM = struct({ block: 8, size: 8 });
+
+/** What the tables of a step take, which stay. */
+export const TABLES = 16;
+const SMALL_ROOM = 256;
+const LARGE_ROOM = 2_621_440;
+
+/** The room for the module's answer of a call. */
+const ANSWER = 48;
+
+const NEEDED = ["memory", "__heap_base", "nissy_run"];
+
+/** @returns how many bytes it takes */
+function bytesFor(given: Exclude<Given, number | bigint>) {
+  if ("text" in given) return roomFor(given.text);
+  if ("room" in given) return given.room;
+  if ("rows" in given) return given.rows * given.of.bytes;
+  return "struct" in given ? given.struct.length : ROOM.bytes + given.lent;
+}
+
+export class Instance {
+  #exports: Exports;
+  /** Where the tables of each step are: no step has what some script gave to all objects. */
+  #tables: { [step: string]: number };
+  /** Whether a call began that didn't return: what the module has in its memory is then in no order. */
+  #isBroken = false;
+  /** What the module calls faults, by their numbers. */
+  faultTexts = new Map<number, string>();
+  memory: InstanceMemory;
+  /** Where answers are written. */
+  answer: number;
+  /** Where memory begins in which nothing stays after a call. */
+  free: number;
+
+  constructor({ exports }: WebAssembly.Instance) {
+    if (!NEEDED.every((name) => name in exports)) throw new TypeError("this is another module than nissy.wasm");
+    this.#exports = exports;
+    this.#tables = { __proto__: null } as any;
+    this.memory = new InstanceMemory(this.#exports.memory);
+    this.answer = aligned(Number(this.#exports.__heap_base.value));
+    this.free = aligned(this.answer + ANSWER);
+  }
+
+  get isBroken() {
+    return this.#isBroken;
+  }
+
+  /** Says that what the module has in its memory is in no order. */
+  break() {
+    this.#isBroken = true;
+  }
+
+  /** Calls the module. */
+  call(call: (exports: Exports) => number | undefined): number | undefined {
+    // no handler of this one runs if the host cuts a call off
+    this.#isBroken = true;
+    const result = call(this.#exports);
+    this.#isBroken = false;
+    return result;
+  }
+
+  /** Calls the module by what it is given, which is written into its memory.
+   * @returns where each of these stands */
+  ask(name: string, given: readonly Given[]): number[] {
+    const places: number[] = [];
+    let end = this.free;
+    for (const each of given) {
+      places.push(end);
+      if (typeof each === "object") end = aligned(end + bytesFor(each));
+    }
+    this.memory.reach(end);
+    const words: (number | bigint)[] = [BigInt(this.answer)];
+    given.forEach((each, nth) => this.#hand(words, each, places[nth]));
+    this.call((exports) => Reflect.apply(exports[name], undefined, words));
+    return places;
+  }
+
+  /** Writes what a call is given, and hands over its words. */
+  #hand(words: (number | bigint)[], given: Given, place: number) {
+    if (typeof given !== "object") words.push(given);
+    else if ("text" in given) words.push(BigInt(place), BigInt(this.memory.put(place, given.text)));
+    else if ("room" in given) words.push(BigInt(place), BigInt(given.room));
+    else if ("rows" in given) {
+      if (given.first) this.memory.put(place, given.first);
+      words.push(BigInt(place), BigInt(given.rows));
+    } else {
+      const lent = "lent" in given ? { block: place + ROOM.bytes, size: given.lent } : null;
+      this.memory.put(place, lent === null ? (given as { struct: Uint8Array }).struct : structOf(ROOM, lent));
+      words.push(BigInt(place));
+    }
+  }
+
+  /** A number of the module's answer. */
+  answered(read: Reading) {
+    return read(this.memory.all, this.answer);
+  }
+
+  get status() {
+    return this.answered(HEAD.read.status);
+  }
+
+  /** Where the tables of a step are, which are built when they are asked for the first time, and stay. */
+  tablesOf(step: string): number {
+    const built = this.#tables[step];
+    if (built !== undefined) return built;
+    const name = bytesOf(step, "the step");
+    const { memory, free: tables } = this;
+    const small = aligned(tables + TABLES);
+    const large = aligned(small + SMALL_ROOM);
+    const rooms = aligned(large + LARGE_ROOM);
+    const nameAt = aligned(rooms + 2 * ROOM.bytes);
+    memory.reach(nameAt + name.length);
+    memory.all.fill(0, tables, tables + TABLES);
+    memory.put(rooms, structOf(ROOM, { block: small, size: SMALL_ROOM }));
+    memory.put(rooms + ROOM.bytes, structOf(ROOM, { block: large, size: LARGE_ROOM }));
+    const length = memory.put(nameAt, name);
+    const status = this.call(({ nissy_build: build }) =>
+      build(BigInt(rooms), BigInt(rooms + ROOM.bytes), BigInt(tables), BigInt(nameAt), BigInt(length)));
+    if (status === STATUS.usage) throw new RangeError(`there is no step of the name ${JSON.stringify(step)}`);
+    // the module keeps both rooms
+    this.free = aligned(large + LARGE_ROOM);
+    if (status !== STATUS.done) throw new Error("the tables of a step have no room");
+    this.#tables[step] = tables;
+    return tables;
+  }
+}

@@ -1,0 +1,139 @@
+// The calls of the module on one line each, or two, and those that read none: what they are given, and what their
+// answer is read as.
+import { MOST_WIDE, characterAt, type Text } from "../shared/bytes.js";
+import {
+  CHECK_ANSWER, FACTS_ANSWER, LINE_ANSWER, LINE_ROOM, SEARCH_ANSWER, SOLUTION,
+} from "../shared/layout.js";
+import { HEAD, type Struct } from "../shared/structs.js";
+import { PART_ANSWER } from "../text/text-layout.js";
+import { START_FAULT, STATUS, hasValue } from "./status.js";
+import type {
+  CheckRequest, CountRequest, FactsRequest, LineAfterRequest, Search, SolveRequest,
+} from "../calls/requests.js";
+import type { LineReply, NoValue, OfTwo, Seen, SolveBytesReply, SolveReply } from "../calls/replies.js";
+import type { Given, Instance } from "./instance.js";
+
+/** The rooms for solutions, of which the next one is taken if one was too small: they are searched for again then. */
+const SOLUTION_ROOMS = [65_536, 4 * 1_048_576, 256 * 1_048_576];
+
+
+/** @returns the same for the module */
+const bound = (most: number): bigint => (most === Infinity ? MOST_WIDE : BigInt(most));
+
+/** @returns the bounds of a search, as the module takes them */
+export const boundsOf = ({ limit, slack, most, nodes }: Search): Given[] => [limit, slack, bound(most), bound(nodes)];
+
+/** @returns what was written, nothing if the call has no value */
+const outOf = (reply: LineReply): string => (reply.status === STATUS.done ? reply.out : "");
+
+/** What the module calls a fault, which it is asked for once. */
+function faultText(instance: Instance, fault: number) {
+  const known = instance.faultTexts.get(fault);
+  if (known !== undefined) return known;
+  const text = outOf(written(instance, "nissy_fault_text", [fault]));
+  instance.faultTexts.set(fault, text);
+  return text;
+}
+
+/** Why a call on a line has no value. The module is asked for the words, so its answer is read before.
+ * @param line which was read
+ * @param step which is searched
+ * @param at where its answer stands in these bytes */
+export function refusal(
+  instance: Instance, line: Text = "", step = "", bytes = instance.memory.all, at = instance.answer,
+): NoValue {
+  const [status, fault, column] = [HEAD.read.status, HEAD.read.fault, HEAD.read.column].map((read) => read(bytes, at));
+  if (status !== STATUS.fault) return { status } as NoValue;
+  const text = faultText(instance, fault);
+  if (fault === START_FAULT) {
+    return { status, fault, step, start: outOf(rewritten(instance, "nissy_start", step)), text };
+  }
+  return { status, fault, column, character: characterAt(line, column), text } as NoValue;
+}
+
+/** The same of a call on two lines, of which one has the fault, or both together, at no column. */
+export function refusalOfTwo(instance: Instance, first: Text, second: Text): OfTwo {
+  const [line, column] = [instance.answered(HEAD.read.line), instance.answered(HEAD.read.column)];
+  const refused = refusal(instance, line === 1 ? first : second);
+  if (column > 0 || refused.status !== STATUS.fault) return { ...refused, line };
+  return { ...refused, column: null, character: null, line } as unknown as OfTwo;
+}
+
+/** A call that writes a line. @param line which it reads, if it does */
+export function written(instance: Instance, name: string, given: Given[], line?: Text): LineReply {
+  const places = instance.ask(name, [...given, { room: LINE_ROOM }]);
+  if (instance.status !== STATUS.done) return refusal(instance, line);
+  const length = instance.answered(LINE_ANSWER.read.length);
+  return { status: STATUS.done, out: instance.memory.text(places[given.length], length) };
+}
+
+/** A call that reads a line and writes another. */
+export const rewritten = (instance: Instance, name: string, line: Text): LineReply =>
+  written(instance, name, [{ text: line }], line);
+
+/** @returns what an answer has, whose struct is copied */
+const seen = (instance: Instance, { bytes }: Struct, status: number): Seen =>
+  ({ status: status as Seen["status"], answer: instance.memory.copy(instance.answer, bytes), at: 0 });
+
+/** The line of the cube after a scramble and the moves so far. */
+export function lineAfterOf(instance: Instance, { scramble, soFar }: LineAfterRequest): LineReply | OfTwo {
+  const places = instance.ask("nissy_line_after", [{ text: scramble }, { text: soFar }, { room: LINE_ROOM }]);
+  if (instance.status !== STATUS.done) return refusalOfTwo(instance, scramble, soFar);
+  return { status: STATUS.done, out: instance.memory.text(places[2], instance.answered(LINE_ANSWER.read.length)) };
+}
+
+/** @param read what was written */
+function solvedIn<Out>(
+  instance: Instance, request: SolveRequest, room: number, read: (at: number, length: number) => Out,
+): Seen & { out: Out } | NoValue {
+  const { step, line, after } = request;
+  const tables = BigInt(instance.tablesOf(step));
+  const rest = [...boundsOf(request), { room }];
+  const lines = after === undefined ? [{ text: line }] : [{ text: line }, { text: after }];
+  const given = [tables, ...lines, ...rest];
+  const places = instance.ask(after === undefined ? "nissy_solve" : "nissy_solve_after", given);
+  const { status } = instance;
+  if (!hasValue(status)) return refusal(instance, line, step);
+  const out = read(places[given.length - 1], instance.answered(SEARCH_ANSWER.read.length));
+  return { ...seen(instance, SEARCH_ANSWER, status), out };
+}
+
+export function solved(instance: Instance, request: SolveRequest): SolveReply {
+  const wanted = request.most * SOLUTION;
+  const isLarger = (next: number) => next < SOLUTION_ROOMS.length && SOLUTION_ROOMS[next - 1] < wanted;
+  const inRoom = (room: number) =>
+    solvedIn(instance, request, room, (at, length) => instance.memory.text(at, length));
+  let reply = inRoom(SOLUTION_ROOMS[0]);
+  for (let next = 1; reply.status === STATUS.room && isLarger(next); next += 1) {
+    reply = inRoom(SOLUTION_ROOMS[next]);
+  }
+  return reply;
+}
+
+/** The same for a few solutions, as bytes that stand in the module's memory until its next call. */
+export const solvedBytes = (instance: Instance, request: SolveRequest): SolveBytesReply =>
+  solvedIn(instance, request, request.most * SOLUTION, (at, length) => instance.memory.bytes(at, length));
+
+export function counted(instance: Instance, request: CountRequest): Seen | NoValue {
+  const { step, line } = request;
+  instance.ask("nissy_count", [BigInt(instance.tablesOf(step)), { text: line }, ...boundsOf(request)]);
+  const { status } = instance;
+  return hasValue(status) ? seen(instance, SEARCH_ANSWER, status) : refusal(instance, line, step);
+}
+
+export function factsOf(instance: Instance, { line }: FactsRequest): Seen | NoValue {
+  instance.ask("nissy_facts", [{ text: line }]);
+  return instance.status === STATUS.done ? seen(instance, FACTS_ANSWER, STATUS.done) : refusal(instance, line);
+}
+
+export function checked(instance: Instance, { scramble, solution }: CheckRequest): Seen | OfTwo {
+  instance.ask("nissy_check", [{ text: scramble }, { text: solution }]);
+  if (instance.status !== STATUS.done) return refusalOfTwo(instance, scramble, solution);
+  return seen(instance, CHECK_ANSWER, STATUS.done);
+}
+
+/** The first of the steps of which a part solves a scramble, from 0, or null if none does. */
+export function solvingStep(instance: Instance, scramble: string, steps: string[]): number | null {
+  instance.ask("nissy_solving_part", [{ text: scramble }, { text: steps.join("\n") }]);
+  return instance.answered(PART_ANSWER.read.how) === 0 ? null : instance.answered(PART_ANSWER.read.first);
+}

@@ -1,0 +1,159 @@
+// Searches and facts of many lines. Those that the module takes many of in one call go to it in pieces.
+import { endsAll, type AllReply, type AllRequest } from "../calls/many.js";
+import { CHECK_ANSWER, FACTS_ANSWER, LINES_ANSWER, SEARCH_ANSWER } from "../shared/layout.js";
+import { boundsOf, refusal } from "./line-calls.js";
+import { roomFor } from "./memory.js";
+import { STATUS, hasValue } from "./status.js";
+import { encoded } from "../shared/utf8.js";
+import type { Given, Instance } from "./instance.js";
+import type { OfEach, Pair } from "../calls/requests.js";
+import type { OneReply, Seen } from "../calls/replies.js";
+import type { Struct } from "../shared/structs.js";
+import type { Text } from "../shared/bytes.js";
+
+/** So many lines go to the module at once, of so many bytes unless the first one has more. */
+const MOST_LINES = 256;
+const MOST_OF_TEXT = 262_144;
+
+const LINE_FEED = 10;
+
+/** The struct of an answer that has all that is told. */
+const STRUCTS: Partial<Record<OfEach["call"], Struct>> = {
+  facts: FACTS_ANSWER, count: SEARCH_ANSWER, check: CHECK_ANSWER,
+};
+
+const hasLineFeed = (line: Text) => (typeof line === "string" ? line.includes("\n") : line.includes(LINE_FEED));
+
+/** The reply to a line of too many bytes. */
+const TOO_LONG = { status: STATUS.stopped } as const;
+
+/** The piece that begins with this line: it has none of too many bytes, and none with a line feed, which would be
+ * two to the module. */
+function pieceFrom(lines: (Text | null)[], begin: number) {
+  const most = Math.min(lines.length, begin + MOST_LINES);
+  let end = begin;
+  for (let bytes = 0; end < most; end += 1) {
+    const line = lines[end];
+    if (line === null || hasLineFeed(line)) break;
+    bytes += roomFor(line) + 1;
+    if (end > begin && bytes > MOST_OF_TEXT) break;
+  }
+  return lines.slice(begin, end) as Text[];
+}
+
+/** @returns lines as one text, each with a line feed */
+function joinedLines(lines: Text[]): Text {
+  if (lines.every((line) => typeof line === "string")) return `${lines.join("\n")}\n`;
+  const pieces = lines.map((line) => (typeof line === "string" ? encoded(line) : line));
+  const text = new Uint8Array(pieces.reduce((sum, { length }) => sum + length + 1, 0));
+  let at = 0;
+  for (const piece of pieces) {
+    text.set(piece, at);
+    at += piece.length + 1;
+    text[at - 1] = LINE_FEED;
+  }
+  return text;
+}
+
+/** What is asked of many lines by one call of the module: its name, and what it is given beside lines and answers. */
+type Question = { name: string; first: Given[]; then: Given[] };
+
+/** The replies to lines in turn, up to the first that ends the call. */
+class Replies implements AllReply {
+  count = 0;
+  size: number;
+  values: Uint8Array;
+  others: AllReply["others"] = [];
+  isOver = false;
+  #request: AllRequest;
+
+  constructor(request: AllRequest) {
+    this.#request = request;
+    this.size = STRUCTS[request.each.call]?.bytes ?? 0;
+    this.values = new Uint8Array(this.size * request.lines.length);
+  }
+
+  /** Takes the reply to the next line. */
+  take(reply: OneReply) {
+    this.isOver = Boolean(endsAll(this.#request, reply));
+    const isValue = this.size > 0 && "answer" in reply && !this.isOver;
+    if (isValue) this.values.set((reply as Seen).answer, this.count * this.size);
+    else this.others.push([this.count, reply]);
+    this.count += 1;
+  }
+
+  /** Takes answers that stand one after another, of which each without a value is replied to otherwise. */
+  takeAll(answers: Uint8Array, other: (nth: number) => OneReply) {
+    this.values.set(answers, this.count * this.size);
+    for (let nth = 0; nth * this.size < answers.length && !this.isOver; nth += 1) {
+      if (hasValue(answers[nth * this.size])) this.count += 1;
+      else this.take(other(nth));
+    }
+  }
+
+  /** What is sent and read. */
+  get told(): AllReply {
+    const { count, size, values, others } = this;
+    return { count, size, values: count * size < values.length ? values.slice(0, count * size) : values, others };
+  }
+}
+
+/** Asks the module of a piece. */
+function answerPiece(
+  instance: Instance, { name, first, then }: Question, lines: Text[], step: string, replies: Replies,
+) {
+  const { size } = replies;
+  const given = [...first, { text: joinedLines(lines) }, ...then, { rows: lines.length, of: { bytes: size } }];
+  const places = instance.ask(name, given);
+  const isWhole = instance.answered(LINES_ANSWER.read.lines) === lines.length;
+  if (!isWhole) throw new Error("the module took other lines than it was given");
+  // a copy, since the module is asked for the words of a fault, which it may write over them
+  const answers = instance.memory.copy(places[given.length - 1], lines.length * size);
+  replies.takeAll(answers, (nth) => refusal(instance, lines[nth], step, answers, nth * size));
+}
+
+/** What is asked of many lines at once, or null if each has to be asked by itself: the module has no such call, or the
+ * first fault, or the first search that is cut, ends all, so that what is behind it isn't searched. */
+function questionOf(instance: Instance, { each, faults }: AllRequest): Question | null {
+  if (each.call === "facts") return { name: "nissy_facts_lines", first: [], then: [] };
+  if (each.call === "best" || each.call === "check") return null;
+  // a step that isn't there is told though there may be no line
+  const tables = instance.tablesOf(each.step);
+  const goesOn = faults === "value" && (each.nodes === Infinity || each.cut === "value");
+  if (each.call !== "count" || !goesOn) return null;
+  return { name: "nissy_count_lines", first: [BigInt(tables)], then: boundsOf(each) };
+}
+
+/** What is asked of one of many lines. */
+function askedOfLine(each: OfEach, line: Text | Pair): OfEach {
+  if (each.call === "check") return { ...each, ...line as Pair } as OfEach;
+  const own = line as Text;
+  return each.call === "best" ? { ...each, scramble: own } : { ...each, line: own };
+}
+
+/** The reply to a line of which too many bytes were given, or none if it has no more than are read. */
+function tooLong(line: Text | Pair | null): OneReply | null {
+  if (line === null) return TOO_LONG;
+  if (typeof line === "string" || !("scramble" in line)) return null;
+  if (line.scramble === null) return { ...TOO_LONG, line: 1 };
+  return line.solution === null ? { ...TOO_LONG, line: 2 } : null;
+}
+
+/** Answers lines in turn, up to the first whose answer ends the call.
+ * @param answer to what is asked of a line by itself */
+export function answerAll(
+  instance: Instance, request: AllRequest, answer: (asked: OfEach) => OneReply,
+): AllReply {
+  const { each, lines } = request;
+  const question = questionOf(instance, request);
+  const replies = new Replies(request);
+  while (replies.count < lines.length && !replies.isOver) {
+    const line = lines[replies.count];
+    const piece = question === null ? [] : pieceFrom(lines as (Text | null)[], replies.count);
+    const refused = tooLong(line);
+    if (question !== null && piece.length > 0) {
+      answerPiece(instance, question, piece, "step" in each ? each.step : "", replies);
+    } else replies.take(refused ?? answer(askedOfLine(each, line as Text | Pair)));
+  }
+  return replies.told;
+}

@@ -1,0 +1,77 @@
+// The memory of an instance of the module: where parts of it stand, and what is written and read there.
+import { encodedInto, textIn } from "../shared/utf8.js";
+import type { Text } from "../shared/bytes.js";
+
+const PAGE = 65_536;
+
+/** A memory of 32-bit addresses has no more. The module cuts an address to 32 bits, so a greater one would be another
+ * place. */
+const MOST_BYTES = 65_536 * PAGE;
+
+/** Structs, and the memory for tables, stand at multiples of it. */
+const ALIGNMENT = 16;
+
+/** How many bytes a unit of a string takes at most, and how many a number of the module's has. */
+const UNIT = 3;
+const OF_LONG = 8;
+const OF_UPPER_HALF = 2 ** 32;
+
+/** @returns the first place from this one on at which a part may stand */
+export const aligned = (place: number): number => place + ((ALIGNMENT - (place % ALIGNMENT)) % ALIGNMENT);
+
+/** @returns how many bytes it takes at most */
+export const roomFor = (line: Text): number => (typeof line === "string" ? UNIT : 1) * line.length;
+
+export class InstanceMemory {
+  #memory: WebAssembly.Memory;
+  /** All of it, until it grows: one that grew is another one for JavaScript. */
+  all: Uint8Array;
+
+  constructor(memory: WebAssembly.Memory) {
+    this.#memory = memory;
+    this.all = new Uint8Array(memory.buffer);
+  }
+
+  /** Has the memory reach up to a place. It grows if it doesn't. */
+  reach(end: number) {
+    if (end > MOST_BYTES) throw new RangeError("no memory has so many bytes");
+    const missing = Math.ceil((end - this.all.length) / PAGE);
+    if (missing > 0) this.#memory.grow(missing);
+    if (this.#memory.buffer !== this.all.buffer) this.all = new Uint8Array(this.#memory.buffer);
+  }
+
+  /** @returns so many numbers of eight bytes, one after another */
+  longs(at: number, count: number): number[] {
+    const view = new DataView(this.all.buffer, at, OF_LONG * count);
+    const numbers = new Array(count);
+    for (let nth = 0; nth < count; nth += 1) {
+      numbers[nth] = view.getUint32(OF_LONG * nth, true) + OF_UPPER_HALF * view.getUint32(OF_LONG * nth + 4, true);
+    }
+    return numbers;
+  }
+
+  /** Writes a line, for which there is room.
+   * @returns how many bytes it took */
+  put(at: number, line: Text): number {
+    if (typeof line === "string") return encodedInto(line, this.bytes(at, roomFor(line))).written ?? 0;
+    this.all.set(line, at);
+    return line.length;
+  }
+
+  /** @returns the text that these bytes are in UTF-8 */
+  text(at: number, length: number): string {
+    return textIn(this.bytes(at, length));
+  }
+
+  /** @returns these bytes as they stand here, until something else is written in their place */
+  bytes(at: number, length: number): Uint8Array {
+    return new Uint8Array(this.all.buffer, at, length);
+  }
+
+  /** @returns these bytes, of which nobody else has any */
+  copy(at: number, length: number): Uint8Array {
+    const copied = new Uint8Array(length);
+    copied.set(this.bytes(at, length));
+    return copied;
+  }
+}

@@ -1,0 +1,92 @@
+// The solutions of a step over both sides of a line, by calls of the module on those of one length.
+import { SIDES_ANSWER, SIDES_WANTED, WAY_PART } from "../shared/layout.js";
+import { structOf } from "../shared/structs.js";
+import { refusal } from "./line-calls.js";
+import { STATUS, hasValue } from "./status.js";
+import type { FoundParts, NoValue } from "../calls/replies.js";
+import type { Instance } from "./instance.js";
+import type { SidesRequest } from "../calls/requests.js";
+
+/** The numbers of the sides that moves may be on. */
+const NUMBERS = { normal: 1, inverse: 2, both: 3 };
+
+/** So many solutions are asked for at first, since the search for others begins anew; then for more. */
+const FIRST_PARTS = 4_096;
+const MORE_PARTS = 4;
+
+/** What was found of a list. */
+class PartsFound {
+  #pieces: Uint8Array[] = [];
+  count = 0;
+  nodes = 0;
+
+  add(parts: Uint8Array, nodes: number) {
+    this.#pieces.push(parts);
+    this.count += parts.length / WAY_PART.bytes;
+    this.nodes += nodes;
+  }
+
+  told(status: 0 | 5): FoundParts {
+    const parts = new Uint8Array(this.count * WAY_PART.bytes);
+    let at = 0;
+    for (const piece of this.#pieces) {
+      parts.set(piece, at);
+      at += piece.length;
+    }
+    return { status, parts, nodes: this.nodes };
+  }
+}
+
+/** Asks the module for solutions of one length.
+ * @param piece `passed`: how many are passed over; `rows`: how many have place; `nodes`: at how many positions it may
+ * look */
+function partsIn(
+  instance: Instance, { step, line, sides }: SidesRequest,
+  { length, passed, rows, nodes }: { length: number; passed: number; rows: number; nodes: number },
+): FoundParts & { more: boolean } | NoValue {
+  const mostNodes = Math.min(nodes, Number.MAX_SAFE_INTEGER);
+  const wanted = structOf(SIDES_WANTED, { sides: NUMBERS[sides], length, counts: 0, passed, mostNodes });
+  const places = instance.ask("nissy_solve_sides", [
+    BigInt(instance.tablesOf(step)), { text: line }, { text: "" }, { struct: wanted }, { rows, of: WAY_PART },
+  ]);
+  const { status } = instance;
+  if (!hasValue(status)) return refusal(instance, line, step);
+  return {
+    status: status as 0 | 5,
+    more: instance.answered(SIDES_ANSWER.read.more) === 1,
+    parts: instance.memory.copy(places[4], instance.answered(SIDES_ANSWER.read.rows) * WAY_PART.bytes),
+    nodes: instance.answered(SIDES_ANSWER.read.nodes),
+  };
+}
+
+/** Takes the solutions of a length.
+ * @returns 5 if it was cut */
+function takeLength(
+  instance: Instance, request: SidesRequest, length: number, found: PartsFound,
+): NoValue | { status: 0 | 5 } {
+  const before = found.count;
+  for (let rows = FIRST_PARTS; found.count < request.most; rows *= MORE_PARTS) {
+    const [passed, nodes] = [found.count - before, request.nodes - found.nodes];
+    const place = Math.min(rows, request.most - found.count);
+    const reply = partsIn(instance, request, { length, passed, rows: place, nodes });
+    if (!("parts" in reply)) return reply;
+    found.add(reply.parts, reply.nodes);
+    if (reply.status === STATUS.cut || !reply.more) return reply;
+  }
+  return { status: STATUS.done };
+}
+
+/** The solutions of a step over the sides that are asked for, from the shortest on. */
+export function solvedOverSides(instance: Instance, request: SidesRequest): FoundParts | NoValue {
+  const found = new PartsFound();
+  let longest = request.limit;
+  for (let length = 0; length <= longest; length += 1) {
+    const isFirst = found.count === 0;
+    const reply = takeLength(instance, request, length, found);
+    if (!hasValue(reply.status)) return reply as NoValue;
+    if (reply.status === STATUS.cut) return found.told(STATUS.cut);
+    if (found.count >= request.most) break;
+    if (isFirst && found.count > 0) longest = Math.min(longest, length + request.slack);
+  }
+  return found.told(STATUS.done);
+}

@@ -1,0 +1,149 @@
+// What calls throw beside a `TypeError` for a value of another type and a `RangeError` for one out of its range.
+import type { Count, Solution } from "../calls/replies.js";
+
+/** Where a fault is: `column`, in bytes of UTF-8 from 1, and `character`, the same in characters as JavaScript counts
+ * them, both null if it isn't at one place; `step`, which can't begin at the line's cube, null if the line can't be
+ * read, and `start`, the step that would have to hold before that one; `line`, of many, from 1, null if there was one.
+ */
+export type FaultPlace = {
+  column: number | null;
+  character: number | null;
+  step: string | null;
+  start: string | null;
+  line: number | null;
+};
+
+/** A fault as a plain value. */
+export type FaultParts = FaultPlace & { text: string; part: string };
+
+/** What is said before a fault: of which line it is, by its number unless the line has a name, and at which column. */
+function placeInWords(line: number | null, column: number | null, name: string) {
+  const behind = column === null ? "" : `column ${column}: `;
+  if (name !== "") return `${name}, ${behind}`;
+  return line === null ? behind : `line ${line}${behind === "" ? ": " : ", "}${behind}`;
+}
+
+/** A line at fault, in the program's words, or a cube at which a step can't begin. */
+export class NissyFault extends Error {
+  text: string;
+  column: number | null;
+  character: number | null;
+  step: string | null;
+  start: string | null;
+  line: number | null;
+  part: string;
+
+  /** @param text what is wrong
+   * @param place null is what isn't given
+   * @param part what the line is called, such as `scramble`: the message says that in place of its number */
+  constructor(
+    text: string, { column = null, character = null, step = null, start = null, line = null }: Partial<FaultPlace>,
+    part = "",
+  ) {
+    super(placeInWords(line, column, part) + text);
+    this.name = "NissyFault";
+    this.text = text;
+    this.column = column;
+    this.character = character;
+    this.step = step;
+    this.start = start;
+    this.line = line;
+    this.part = part;
+  }
+
+  /** The same in a line of many.
+   * @param line from 1
+   * @param part what the line is called, if not by its number */
+  inLine(line: number, part?: string) {
+    return new NissyFault(this.text, { ...this.#place(), line }, part);
+  }
+
+  /** The same of one of many pairs of lines, which have names: the message says the number too.
+   * @param line from 1 */
+  inPair(line: number) {
+    const fault = this.inLine(line, this.part);
+    fault.message = `line ${line}, ${this.message}`;
+    return fault;
+  }
+
+  /** The same as a plain value. */
+  parts(): FaultParts {
+    return { text: this.text, part: this.part, ...this.#place() };
+  }
+
+  #place(): FaultPlace {
+    const { column, character, step, start, line } = this;
+    return { column, character, step, start, line };
+  }
+}
+
+/** What is made with errors that are told in it, and not thrown: without their traces, which take ten times as long. */
+export function withoutTraces<Made>(make: () => Made): Made {
+  const { stackTraceLimit } = Error as any;
+  // some scripts have it that nothing of an error can be set
+  Reflect.set(Error, "stackTraceLimit", 0);
+  try {
+    return make();
+  } finally {
+    Reflect.set(Error, "stackTraceLimit", stackTraceLimit);
+  }
+}
+
+/** A search that was cut, since it would have looked at more positions than it might. */
+export class SearchCut extends Error {
+  count: Count;
+  found: Solution[] | null;
+  line: number | null;
+
+  /** @param count what it had counted until then
+   * @param found the solutions that it had found, with which its list begins; null of a count or of the best
+   * @param line of many, from 1; null if there was one */
+  constructor(count: Count, found: Solution[] | null, line: number | null = null) {
+    const text = `the search was cut after ${count.nodes} nodes`;
+    super(line === null ? text : `line ${line}: ${text}`);
+    this.name = "SearchCut";
+    this.count = count;
+    this.found = found;
+    this.line = line;
+  }
+
+  /** The same in a line of many.
+   * @param line from 1 */
+  inLine(line: number) {
+    return new SearchCut(this.count, this.found, line);
+  }
+}
+
+/** The cut of several searches together, which tells of none of them.
+ * @param nodes at how many positions they looked */
+export const cutOfAll = (nodes: number) => new SearchCut({ length: null, solutions: 0, nodes }, null);
+
+/** This host runs no module at all. */
+export class NoWebAssembly extends Error {
+  constructor() {
+    super(
+      "This browser runs no WebAssembly. Each one of the last years does, but not where it was switched off, as in "
+        + "Safari's Lockdown Mode.",
+    );
+    this.name = "NoWebAssembly";
+  }
+}
+
+/** The engine broke off or couldn't be started, and can't be started again. */
+export class EngineMissing extends Error {
+  cause: unknown;
+
+  constructor(message: string, cause?: unknown) {
+    super(message);
+    this.name = "EngineMissing";
+    this.cause = cause;
+  }
+}
+
+/** A call that was given up. */
+export class Stopped extends Error {
+  constructor() {
+    super("stopped");
+    this.name = "AbortError";
+  }
+}

@@ -1,0 +1,95 @@
+// The best ways on, and steps over both sides, as values, read from the rows that the module leaves of them.
+import { SIDE_TURNS, WAY, WAY_PART } from "./layout.js";
+import { SIDES, bracketed, joined, type OnSides } from "./sides.js";
+import { STEPS, type Step } from "./steps.js";
+
+/** The moves of a step on both sides: `normal` and `inverse` those of each, and `moves` both in one line, with those on
+ * the inverse side in brackets. `twins` are the last turns of the other moves with which it is reached too, written so:
+ * they differ in the direction of these alone. */
+export type BestStep = OnSides<string> & { step: Step; moves: string; length: number; twins: string[] };
+
+/** A reduction, and its least length on each side alone, null if there is none of at most 20 turns. It has twins
+ * only if it follows no orientation of its row. */
+export type BestReduction = BestStep & { lengths: OnSides<number | null> };
+
+/** What may follow the moves so far. */
+export type BestRow = {
+  /** The clean turns of both sides in all, those of the moves so far counted too. */
+  total: number;
+  /** The moves that follow, with those on the inverse side in brackets. */
+  line: string;
+  /** None if one holds already. */
+  eo: BestStep | null;
+  dr: BestReduction;
+  /** Of the reduction, such as `4c4e`. */
+  case: string;
+};
+
+const NO_STEP = 255;
+const NO_LENGTH = 21;
+const POWERS = ["", "2", "'"];
+const TURNS = [..."UDRLFB"].flatMap((face) => POWERS.map((power) => face + power));
+
+/** Turns on a side, of which the last ones that are `free` are quarter turns of either direction, or half turns. */
+export type SideTurns = { turns: string[]; free: number };
+
+function sideAt(bytes: Uint8Array, at: number): SideTurns {
+  const begin = at + SIDE_TURNS.at.turns;
+  const numbers = bytes.subarray(begin, begin + SIDE_TURNS.read.count(bytes, at));
+  return { turns: Array.from(numbers, (number) => TURNS[number]), free: SIDE_TURNS.read.free(bytes, at) };
+}
+
+/** @returns a turn, and a quarter turn the other way round too */
+function eitherWay(turn: string): string[] {
+  if (turn.endsWith("2")) return [turn];
+  return [turn, turn.endsWith("'") ? turn[0] : `${turn}'`];
+}
+
+/** The free turns with each direction that they may have, their own first. */
+const endsOf = ({ turns, free }: SideTurns) => turns.slice(turns.length - free).reduce(
+  (begun, turn) => begun.flatMap((each) => eitherWay(turn).map((last) => joined(each, last))), [""],
+);
+
+/** The step whose moves stand at a place, or null if there is none. */
+function stepAt(bytes: Uint8Array, at: number): BestStep | null {
+  const number = WAY_PART.read.step(bytes, at);
+  if (number === NO_STEP) return null;
+  const sides = SIDES.map((side) => sideAt(bytes, at + WAY_PART.at[side]));
+  const [normal, inverse] = sides.map(({ turns }) => turns.join(" "));
+  const [ends, others] = sides.map(endsOf);
+  const twins = ends.flatMap((end) => others.map((other) => bracketed([{ normal: end, inverse: other }]))).slice(1);
+  const length = sides[0].turns.length + sides[1].turns.length;
+  return { step: STEPS[number], moves: bracketed([{ normal, inverse }]), normal, inverse, length, twins };
+}
+
+/** The way on whose row begins at a place. */
+export function wayAt(bytes: Uint8Array, at: number): BestRow {
+  const eo = stepAt(bytes, at + WAY.at.eo);
+  const dr = stepAt(bytes, at + WAY.at.dr) as BestStep;
+  const [normal, inverse] = [WAY.read.onNormal, WAY.read.onInverse].map((read) => read(bytes, at))
+    .map((length) => (length === NO_LENGTH ? null : length));
+  return {
+    total: WAY.read.total(bytes, at),
+    line: bracketed(eo === null ? [dr] : [eo, dr]),
+    eo,
+    dr: { ...dr, twins: eo === null ? dr.twins : [], lengths: { normal, inverse } },
+    case: `${WAY.read.corners(bytes, at)}c${WAY.read.edges(bytes, at)}e`,
+  };
+}
+
+/** All ways on whose rows stand one behind the other. */
+export const waysIn = (bytes: Uint8Array) =>
+  Array.from({ length: bytes.length / WAY.bytes }, (_, row) => wayAt(bytes, row * WAY.bytes));
+
+/** The moves of a step, one way to make it behind the other. */
+export const bothSidesIn = (bytes: Uint8Array) => Array.from({ length: bytes.length / WAY_PART.bytes }, (_, at) =>
+  stepAt(bytes, at * WAY_PART.bytes) as BestStep);
+
+/** The order of ways on of different axes, which no two of these have in common: by all moves, the length of the first
+ * step, the pieces of the case, and the first step. */
+export function byRank(one: BestRow, other: BestRow) {
+  const [first, second] = [one, other].map(({ eo, dr }) => eo ?? dr);
+  const pieces = (row: BestRow) => Number(row.case[0]) + Number(row.case[2]);
+  return one.total - other.total || first.length - second.length || pieces(one) - pieces(other)
+    || STEPS.indexOf(first.step) - STEPS.indexOf(second.step);
+}

@@ -1,0 +1,181 @@
+// Text as solvers write it, in bytes for the module, and in JavaScript's units for who reads of it: where each byte,
+// each line and each character of it stands.
+import { encoded, textIn } from "../shared/utf8.js";
+
+/** A text as one line: `places` has the place in the text of each of its signs, and `leftOut` names what it hasn't. */
+export type PlainLine = { line: string; places: number[]; leftOut: string[] };
+
+/** Where a fault, a form or a doubt stands in a text: `at` from 0, and its line and the character there, both from 1.
+ */
+export type TextPlace = { at: number; line: number; column: number };
+
+/** What the module leaves out, by its bits. */
+const LEFT_OUT = ["labels", "numbers of moves", "comments", "line numbers", "commas", "signs that aren't seen"];
+
+/** The first bits of a byte that goes on a sign in UTF-8, and the least with which a sign of four bytes begins. */
+const FIRST_BITS = 0xc0;
+const GOES_ON = 0x80;
+const OF_FOUR_BYTES = 0xf0;
+
+const FEED = 0x0a;
+const RETURN = 0x0d;
+
+/** The first bits of the second of two units that are one character, and what they are. */
+const FIRST_OF_UNIT = 0xfc00;
+const SECOND_UNIT = 0xdc00;
+
+/** The last character of one unit. */
+const LAST_OF_UNIT = 0xffff;
+
+/** What TextEncoder writes for half of a surrogate pair, which is no character. */
+const NO_CHARACTER = /\ufffd/g;
+
+/** @param byte of UTF-8 */
+const begins = (byte: number) => (byte & FIRST_BITS) !== GOES_ON;
+
+/** @param byte with which a sign begins
+ * @returns how many units the sign has */
+const unitsFrom = (byte: number): number => (byte >= OF_FOUR_BYTES ? 2 : 1);
+
+/** The unit of each byte of a text, and the end. */
+function unitsOf(bytes: Uint8Array) {
+  const units = new Uint32Array(bytes.length + 1);
+  let [unit, next] = [0, 0];
+  for (let at = 0; at < bytes.length; at += 1) {
+    if (begins(bytes[at])) [unit, next] = [next, next + unitsFrom(bytes[at])];
+    units[at] = unit;
+  }
+  units[bytes.length] = next;
+  return units;
+}
+
+/** Where each line of a text begins. */
+function lineBegins(text: string) {
+  const lines = [0];
+  for (let at = 0; at < text.length; at += 1) {
+    const unit = text.charCodeAt(at);
+    const isEnd = unit === FEED || (unit === RETURN && text.charCodeAt(at + 1) !== FEED);
+    if (isEnd) lines.push(at + 1);
+  }
+  return lines;
+}
+
+/** The end of each character of a text that has two units. */
+function pairEnds(text: string) {
+  const pairs: number[] = [];
+  for (let at = 1; at < text.length; at += 1) {
+    const isSecond = (text.charCodeAt(at) & FIRST_OF_UNIT) === SECOND_UNIT;
+    // half of a pair is a character by itself
+    if (isSecond && Number(text.codePointAt(at - 1)) > LAST_OF_UNIT) pairs.push(at + 1);
+  }
+  return pairs;
+}
+
+/** How many of some numbers, the least first, are at most as great as another one. */
+function countUpTo(numbers: number[], most: number) {
+  let [least, end] = [0, numbers.length];
+  while (least < end) {
+    const middle = (least + end) >> 1;
+    if (numbers[middle] <= most) least = middle + 1;
+    else end = middle;
+  }
+  return least;
+}
+
+/** The places of a text: its lines and its characters are looked for once. */
+export class TextPlaces {
+  #text: string;
+  /** Where each line begins. */ #lines: number[];
+  /** Behind each character of two units. */ #pairs: number[];
+
+  constructor(text: string) {
+    this.#text = text;
+    this.#lines = lineBegins(text);
+    this.#pairs = pairEnds(text);
+  }
+
+  /** @param at a unit of the text, or its end */
+  of(at: number): TextPlace {
+    // between the two signs of a line's end the next line begins
+    const isBetween = at > 0 && this.#text.startsWith("\r\n", at - 1);
+    const line = countUpTo(this.#lines, at + Number(isBetween));
+    const begin = this.#lines[line - 1];
+    const pairs = countUpTo(this.#pairs, at) - countUpTo(this.#pairs, begin);
+    return { at, line, column: Math.max(at - begin, 0) - pairs + 1 };
+  }
+}
+
+/** The unit at which a fault or a form of a plain line stands in the text that it is of. What isn't at a sign of the
+ * line is at its end. */
+export const unitOf = (character: number, { places }: PlainLine) =>
+  places[character - 1] ?? (places.length === 0 ? 0 : places[places.length - 1] + 1);
+
+/** Where a fault or a form of a plain line stands in the text that it is of, or null if a fault has no place. */
+export const placeOf = (
+  { character }: { character: number | null }, plain: PlainLine, text: string,
+): TextPlace | null =>
+  (character === null ? null : new TextPlaces(text).of(unitOf(character, plain)));
+
+/** A text in bytes and in units, or a part of one, of which the units are those of the whole. */
+export class WrittenText {
+  bytes: Uint8Array;
+  #text: string;
+  /** Null if each byte is a unit. */ #units: Uint32Array | null;
+  /** Null until one is asked for. */ #places: TextPlaces | null;
+  #shift: number;
+
+  /** @param whole where the part is in the whole */
+  constructor(
+    text: string, { places, shift }: { places: TextPlaces | null; shift: number } = { places: null, shift: 0 },
+  ) {
+    this.#text = text;
+    this.#places = places;
+    this.#shift = shift;
+    this.bytes = encoded(text);
+    this.#units = this.bytes.length === text.length ? null : unitsOf(this.bytes);
+  }
+
+  /** What stands from one byte to another, with another text before it. */
+  behind(before: string, begin: number, end: number) {
+    const from = this.unit(begin);
+    const whole = { places: this.places, shift: from - before.length };
+    return new WrittenText(before + this.#text.slice(from, this.unit(end)), whole);
+  }
+
+  /** The places of its units. */
+  get places() {
+    return (this.#places ??= new TextPlaces(this.#text));
+  }
+
+  /** @param byte of the text, or its end
+   * @returns its unit */
+  unit(byte: number): number {
+    return this.#own(byte) + this.#shift;
+  }
+
+  #own(byte: number) {
+    return this.#units === null ? byte : this.#units[byte];
+  }
+
+  /** What stands from one byte to another, without white space around it. */
+  part(begin: number, end: number) {
+    return this.#text.slice(this.#own(begin), this.#own(end)).trim();
+  }
+
+  /** What the module wrote of the text.
+   * @param places of each in the text's bytes
+   * @param leftOut its bits */
+  plain(bytes: Uint8Array, places: number[], leftOut: number): PlainLine {
+    const units: number[] = [];
+    for (let at = 0; at < bytes.length; at += 1) {
+      if (!begins(bytes[at])) continue;
+      const unit = this.unit(places[at]);
+      units.push(unit);
+      if (unitsFrom(bytes[at]) === 2) units.push(unit + 1);
+    }
+    // half of a pair stays in the line as it stands in the text
+    const asWritten = (_: string, at: number) => this.#text[units[at] - this.#shift];
+    const line = textIn(bytes).replace(NO_CHARACTER, asWritten);
+    return { line, places: units, leftOut: LEFT_OUT.filter((_, bit) => ((leftOut >> bit) & 1) === 1) };
+  }
+}

@@ -1,0 +1,129 @@
+// Many lines in pieces: which of them are asked for next, and what is told of them in the order of the lines.
+import { endsAll, putTold, toldOf, type AllRequest, type ReadOne } from "../calls/many.js";
+import type { OneReply } from "../calls/replies.js";
+import type { Progress } from "../calls/signals.js";
+import type { PieceReply } from "./serve.js";
+
+/** The lines of the first pieces, and the most of any. */
+const FIRST_LINES = 16;
+const MOST_LINES = 4_096;
+
+/** A piece that takes fewer milliseconds has more lines follow, one that takes more half as many: so a worker seldom
+ * waits for the next one, and none long for the last one of another. */
+const SHORT = 10;
+const LONG = 40;
+
+/** So many times as many lines follow at most. */
+const GROWTH = 4;
+
+/** So many quick lines are worth a piece; of those that are left each worker gets so many pieces or more. */
+const QUICK_LINES = 64;
+const PIECES = 2;
+
+/** The pieces of a request. */
+export class Pieces {
+  #request: AllRequest;
+  #one: ReadOne;
+  #workers: number;
+  /** Where each piece begins. */ #begins: number[] = [];
+  /** What is told of each line. */ #told: unknown[];
+  /** Whether each piece is told. */ #isTold: boolean[] = [];
+  /** The first line of which an error is thrown. */ #failed: { index: number; error: unknown } | null = null;
+  /** how many lines are in a piece */ #begun = 0;
+  /** how many pieces are told, and so has been each before them */ #known = 0;
+  /** how many are wanted: none behind a reply that ends the call */ #wanted = Infinity;
+  #size = FIRST_LINES;
+  #least = 1;
+  #done = 0;
+  #isQuick = false;
+
+  /** @param workers how many share the pieces
+   * @param one reads a reply */
+  constructor(request: AllRequest, workers: number, one: ReadOne) {
+    this.#request = request;
+    this.#workers = workers;
+    this.#one = one;
+    this.#told = new Array(request.lines.length);
+  }
+
+  /** How many pieces a worker has: a second one, if they are quick, to go on with while this thread reads the first
+   * one's answer. Behind a slow one it would wait though another worker may be idle. */
+  get ofEach() {
+    return this.#isQuick ? 2 : 1;
+  }
+
+  /** @returns the place of a piece that nobody has, or null if there is none */
+  next(): number | null {
+    const left = this.#request.lines.length - this.#begun;
+    const at = this.#begins.length;
+    // a step that isn't there is told though there may be no line
+    if (at >= this.#wanted || (left === 0 && at > 0)) return null;
+    this.#begins.push(this.#begun);
+    const shared = Math.max(this.#least, Math.ceil(left / (PIECES * this.#workers)));
+    this.#begun += Math.min(left, shared, this.#size);
+    return at;
+  }
+
+  requestOf(at: number): AllRequest {
+    const lines = this.#request.lines.slice(this.#begins[at], this.#endOf(at));
+    return { ...this.#request, lines, isPiece: true };
+  }
+
+  #endOf(at: number) {
+    return this.#begins[at + 1] ?? this.#begun;
+  }
+
+  /** Learns from a worker's reply to a piece how many lines the next ones have, and whether any are wanted. Several
+   * that were as long make the next ones shorter once. */
+  hear(at: number, { others, milliseconds }: PieceReply) {
+    if (others.some(([, reply]) => endsAll(this.#request, reply))) this.#wanted = Math.min(this.#wanted, at + 1);
+    const lines = this.#endOf(at) - this.#begins[at];
+    this.#isQuick = milliseconds <= LONG;
+    if (milliseconds > LONG) this.#size = Math.min(this.#size, Math.max(1, Math.floor(lines / 2)));
+    if (milliseconds >= SHORT) return;
+    const growth = GROWTH * milliseconds < SHORT ? GROWTH : 2;
+    this.#size = Math.max(this.#size, Math.min(MOST_LINES, growth * lines));
+    this.#least = QUICK_LINES;
+  }
+
+  /** Takes what a worker's reply to a piece tells. */
+  take(at: number, reply: PieceReply) {
+    const begin = this.#begins[at];
+    const { each } = this.#request;
+    putTold(this.#told, begin, reply, (seen) => this.#one(seen, each), (other, index) => this.#read(other, index));
+    this.#done += this.#endOf(at) - begin;
+    this.#isTold[at] = true;
+    while (this.#isTold[this.#known]) this.#known += 1;
+  }
+
+  /** @param index of its line */
+  #read(reply: OneReply, index: number) {
+    try {
+      return toldOf(reply, index, this.#request, this.#one);
+    } catch (error) {
+      if (this.#failed === null || index < this.#failed.index) this.#failed = { index, error };
+      return undefined;
+    }
+  }
+
+  /** Whether all is told that is wanted. */
+  areWhole() {
+    return this.#known >= Math.min(this.#wanted, this.#isBegun() ? this.#begins.length : Infinity);
+  }
+
+  /** Whether each line is in a piece. */
+  #isBegun() {
+    return this.#begun === this.#request.lines.length && this.#begins.length > 0;
+  }
+
+  /** @returns what is told of each line, unless that is thrown */
+  told(): unknown[] {
+    if (this.#failed !== null) throw this.#failed.error;
+    return this.#told;
+  }
+
+  /** @returns how many lines have their reply */
+  progress(): Progress {
+    return { done: this.#done, all: this.#request.lines.length };
+  }
+}

@@ -1,0 +1,156 @@
+// What the engine at hand says of a scramble and the moves after it: the cube after each step, what is reached, which
+// steps may follow, and how many reductions follow a row of the best.
+import { NissyFault, type FaultParts } from "../../module/shared/faults.js";
+import { lastOf } from "../shared/certain.js";
+import { positionAfter, totalsWith, type Position } from "./position-after.js";
+import { readScramble, type ReadScramble } from "./read-lines.js";
+import {
+  SIDES, bracketed, inGroups, isReduced, offeredAmong, openSteps, partOn, sideToward, stateOf, stepNamed, turnsOfStep,
+} from "../shared/offered-steps.js";
+import type { Candidate } from "../state/address.js";
+import type { Count } from "../../module/calls/replies.js";
+import type { Facts } from "../../module/shared/facts.js";
+import type { Moves as Part, Side } from "../../module/shared/sides.js";
+import type { Nissy } from "../../module/nissy.js";
+import type { Step } from "../../module/shared/steps.js";
+import type { StepOnAxis } from "../shared/axes.js";
+
+/** What is drawn of a cube, and marked. */
+export type View = { letters: string; facts: Facts };
+/** `total`: the fewest moves in all with a shortest solution, once they are merged, Infinity if there is none;
+ * `best`: how many make that. */
+export type Counted = Count & { total: number; best: number };
+export type Offer = { step: StepOnAxis; normal: Counted; inverse: Counted };
+/** What is known of a line after each beginning, from none of its parts to all; `turns`: of each part; `now`: the
+ * cube then. */
+export type Walk = {
+  parts: Part[];
+  facts: Facts[];
+  reached: string[][];
+  totals: number[];
+  turns: number[];
+  now: Position;
+};
+
+/** The cube after each beginning of some parts of a scramble, from none to all. @param scramble by its face turns */
+function positionsOf(nissy: Nissy, scramble: string, parts: Part[]): Position[] {
+  return [...parts, null].map((_, count) => positionAfter(nissy, scramble, parts.slice(0, count)));
+}
+
+/** @param scramble by its face turns */
+function walkOf(nissy: Nissy, scramble: string, parts: Part[]): Walk {
+  const positions = positionsOf(nissy, scramble, parts);
+  const facts = positions.map(({ lines }) => nissy.facts(lines.normal));
+  return {
+    parts,
+    facts,
+    reached: facts.map(({ holds }) => offeredAmong(holds)),
+    totals: positions.map(({ count }) => count),
+    turns: parts.map((part) => SIDES.reduce((sum, side) => sum + nissy.facts(part[side]).cleanMoves, 0)),
+    now: lastOf(positions),
+  };
+}
+
+function viewsOf(nissy: Nissy, { lines }: Position): Record<Side, View> {
+  const viewOf = (line: string) => ({ letters: nissy.facelets(line), facts: nissy.facts(line) });
+  return { normal: viewOf(lines.normal), inverse: viewOf(lines.inverse) };
+}
+
+/** A scramble as it is read, and the cube on both sides after some parts, which `whole` has without brackets. */
+export type Examined = { read: ReadScramble; walk: Walk; views: Record<Side, View>; whole: string };
+/** What is at fault in the scramble. */
+export type Unexamined = { unread: FaultParts };
+
+function examined(nissy: Nissy, { text, parts }: { text: string; parts: Part[] }): Examined | Unexamined {
+  let read = null;
+  try {
+    read = readScramble(nissy, text);
+  } catch (fault) {
+    if (!(fault instanceof NissyFault)) throw fault;
+    return { unread: fault.parts() };
+  }
+  const walk = walkOf(nissy, read.line, parts);
+  return { read, walk, views: viewsOf(nissy, walk.now), whole: nissy.unniss(bracketed(parts)) };
+}
+
+/** The cube on both sides after the scramble and after each move of some parts. */
+export function framesOf(
+  nissy: Nissy, { scramble, parts }: { scramble: string; parts: Part[] },
+): { move: string; views: Record<Side, View> }[] {
+  const moves = parts.flatMap((part) => SIDES.flatMap((side) => turnsOfStep(partOn(side, part[side])).map((turn) =>
+    partOn(side, turn))));
+  return positionsOf(nissy, scramble, moves).map((position, at) => (
+    { move: at === 0 ? "" : bracketed([moves[at - 1]]), views: viewsOf(nissy, position) }));
+}
+
+/** A step with its counts on both sides. */
+function offerOf(nissy: Nissy, step: StepOnAxis, position: Position): Offer {
+  const [normal, inverse] = SIDES.map((side) => {
+    const count = nissy.count(step.name, position.lines[side]);
+    if (position.count === 0) return { ...count, total: count.length ?? Infinity, best: count.solutions };
+    const parts = nissy.solve(step.name, position.lines[side]).map(({ moves }) => partOn(side, moves));
+    const totals = totalsWith(nissy, position.made, parts);
+    const total = totals.reduce((least, each) => Math.min(least, each), Infinity);
+    return { ...count, total, best: totals.filter((each) => each === total).length };
+  });
+  return { step, normal, inverse };
+}
+
+/** A scramble with some parts, and then each group of steps that may follow: told one after another, since the
+ * tables of a group may still have to be built. */
+export function examine(
+  nissy: Nissy, typed: { text: string; parts: Part[] }, tell: (told: Examined | Unexamined | Offer[]) => void,
+) {
+  const cube = examined(nissy, typed);
+  tell(cube);
+  if ("unread" in cube) return;
+  const { now, reached } = cube.walk;
+  for (const steps of inGroups(openSteps(lastOf(reached)))) tell(steps.map((step) => offerOf(nissy, step, now)));
+}
+
+/** `lengths`: on each side; `total`: the fewest moves in all, over both; `first`: the first with that, if it has
+ * moves; `side`: where these are. */
+export type Next = {
+  state: string;
+  case: string;
+  lengths: (number | null)[];
+  total: number;
+  side: Side | "both";
+  first: Part | null;
+};
+export type KeptWalk = Walk & { next: Next | null };
+
+/** What is said of a reduction that follows a line. @returns null if there is none of at most 20 moves */
+function nextOf(nissy: Nissy, { scramble, parts }: { scramble: string; parts: Part[] }, step: StepOnAxis): Next | null {
+  const rows = nissy.best(scramble, { soFar: bracketed(parts), most: Infinity });
+  // where two orientations hold each may lead to it
+  const row = rows.find(({ dr }) => stepNamed(dr.step).axis === step.axis);
+  if (row === undefined) return null;
+  const { normal, inverse, lengths, moves } = row.dr;
+  const side = sideToward({ normal, inverse });
+  const first = moves === "" ? null : { normal, inverse };
+  const onSides = SIDES.map((each) => lengths[each]);
+  return { state: stateOf(step), case: row.case, lengths: onSides, total: row.total, side, first };
+}
+
+/** Walks through the candidates of one scramble, each with the reduction that it was kept with, if that may follow
+ * it. */
+export function walkKept(
+  nissy: Nissy, { scramble, candidates }: { scramble: string; candidates: Candidate[] },
+): KeptWalk[] {
+  return candidates.map(({ parts, next }) => {
+    const walk = walkOf(nissy, scramble, parts);
+    const last = lastOf(walk.reached);
+    const step = isReduced(last) ? undefined : openSteps(last).find(({ name }) => name === next);
+    return { ...walk, next: step ? nextOf(nissy, { scramble, parts }, step) : null };
+  });
+}
+
+/** How many of the shortest reductions there are on each side alone after some steps, null for none. */
+export function countsAfter(
+  nissy: Nissy, { scramble, parts, step }: { scramble: string; parts: Part[]; step: Step },
+): Record<Side, number | null> {
+  const { lines } = positionAfter(nissy, scramble, parts);
+  const [normal, inverse] = SIDES.map((side) => nissy.count(step, lines[side]).solutions || null);
+  return { normal, inverse };
+}

@@ -1,0 +1,68 @@
+// The rows of a list, by the engine at hand: a step's solutions on a side, or over both, twins as one, each with the
+// cases after it; after moves the fewest in all first.
+import { stepNamed } from "../shared/axes.js";
+import { positionAfter, totalsWith, type Position } from "./position-after.js";
+import { joined, partOn } from "../shared/offered-steps.js";
+import { mergeTwins, mergeTwinsOfBoth, withoutEarlier, type Twins } from "../shared/twins.js";
+import type { Facts } from "../../module/shared/facts.js";
+import type { List } from "../state/address.js";
+import type { Moves as Part } from "../../module/shared/sides.js";
+import type { Nissy } from "../../module/nissy.js";
+
+/** A solution, with all moves and cases if these are known; `twins`: over both sides the last turns of those that it
+ * has, whether they share its row or not. */
+export type Entry = Twins & { part: Part; twins?: string[]; total?: number; cases?: Facts["cases"] };
+/** `all`: how many there are, and `left`: without those that reach the step before their last move. */
+export type Rows = { entries: Entry[]; all: number; left: number; whole: boolean };
+
+/** How many solutions a list may have, on one side and over both, and of how many the cases are asked for. */
+const MOST_LISTED = 1_000_000;
+const MOST_OF_BOTH = 50_000;
+const MOST_WITH_CASES = 50_000;
+
+/** The solutions of a step on a side, or over both, and whether these are all. @param now the cube */
+function solutionsOf(
+  nissy: Nissy, { step, side, slack }: List, now: Position["lines"],
+): { solutions: Entry[]; whole: boolean } {
+  const most = side === "both" ? MOST_OF_BOTH : MOST_LISTED;
+  if (side === "both") {
+    const found = nissy.solve(step, now.normal, { sides: side, slack, most: most + 1 });
+    const solutions = found.slice(0, most).map(({ moves, length, normal, inverse, twins }) => (
+      { moves, length, part: { normal, inverse }, twins, others: [] }));
+    return { solutions, whole: found.length <= most };
+  }
+  const found = nissy.solve(step, now[side], { slack, most: most + 1 });
+  const solutions = found.slice(0, most).map((each) => ({ ...each, part: partOn(side, each.moves), others: [] }));
+  return { solutions, whole: found.length <= most };
+}
+
+/** Tells of solutions all moves with each, if moves were made before, and puts those with the fewest first. */
+function withTotals(nissy: Nissy, solutions: Entry[], { parts }: Asked, { made }: Position) {
+  if (parts.length === 0 || solutions.length > MOST_WITH_CASES) return solutions;
+  const totals = totalsWith(nissy, made, solutions.map(({ part }) => part));
+  return solutions.map((each, at) => ({ ...each, total: totals[at] }))
+    .sort((one, other) => one.total - other.total || one.length - other.length);
+}
+
+export type Asked = { list: List; scramble: string; parts: Part[] };
+
+export function rowsOfList(nissy: Nissy, asked: Asked): Rows {
+  const { list } = asked;
+  const position = positionAfter(nissy, asked.scramble, asked.parts);
+  const { lines: now } = position;
+  const isBoth = list.side === "both";
+  const { solutions, whole } = solutionsOf(nissy, list, now);
+  const wanted = list.isAll || isBoth ? solutions : withoutEarlier(solutions);
+  const left = withTotals(nissy, wanted, asked, position);
+  const merged = isBoth ? mergeTwinsOfBoth : mergeTwins;
+  const entries = list.isAll ? left : merged(left, list.step);
+  if (stepNamed(list.step).needs === null) {
+    const first = entries.slice(0, MOST_WITH_CASES);
+    const lineAfter = ({ normal, inverse }: Part) => joined(nissy.invert(inverse), now.normal, normal);
+    const facts = nissy.factsAll(first.map(({ part }) => lineAfter(part)));
+    first.forEach((entry, at) => {
+      entry.cases = facts[at].cases;
+    });
+  }
+  return { entries, all: solutions.length, left: left.length, whole };
+}

@@ -1,0 +1,116 @@
+// How lines are read, by the engine at hand: as it writes them, and by face turns alone if they turn the whole cube. It
+// pushes such turns to the end of a line; there they are left out, so that each letter names one face in all that
+// follows.
+import { NissyFault, type FaultParts } from "../../module/shared/faults.js";
+import { LONGEST_NOTE, MOST_MOVES } from "../state/limits.js";
+import { SIDES, bracketed, joined } from "../shared/offered-steps.js";
+import type { AttemptDoubt } from "../../module/text/attempts.js";
+import type { Candidate } from "../state/address.js";
+import type { Moves as Part, Side } from "../../module/shared/sides.js";
+import type { Nissy } from "../../module/nissy.js";
+import type { PlainLine } from "../../module/text/written.js";
+
+const FACE_TURNS = /^[UDRLFB2' ]*$/;
+
+/** @returns a cleaned line without turns of the whole cube */
+function withoutTurns(cleaned: string) {
+  const line = cleaned.replace(/[xyz][2']?/g, "").replace(/ +/g, " ").replace(/\( /g, "(").replace(/ \)/g, ")");
+  const count = line.match(/[UDRLFB]/g)?.length ?? 0;
+  if (count > MOST_MOVES) throw new NissyFault(`more than ${MOST_MOVES} moves, as face turns`, {});
+  return line.replace(/\(\)/g, "").trim();
+}
+
+/** Cuts a line that was read into runs: what is in brackets goes on the inverse side.
+ * @param side where moves without brackets go in a line that has none */
+function runsOf(text: string, side: Side): { side: Side; moves: string }[] {
+  if (!text.includes("(")) return [{ side, moves: text }];
+  return [...text.matchAll(/\(([^()]*)\)|[^()]+/g)].map(([whole, inside]) =>
+    inside === undefined ? { side: "normal", moves: whole } : { side: "inverse", moves: inside },
+  );
+}
+
+/** A scramble by its face turns, whether turns of the whole cube were left out, and as it was typed, if what follows
+ * names the faces so. */
+export type ReadScramble = { line: string; isTurned: boolean; written: string };
+
+/** @param text as solvers write it */
+export function readScramble(nissy: Nissy, text: string): ReadScramble {
+  const plain = nissy.plainLine(text).line;
+  const cleaned = nissy.cleanup(nissy.unniss(plain));
+  const line = withoutTurns(cleaned);
+  const isTurned = line !== cleaned;
+  return { line, isTurned, written: isTurned ? line : plain.trim().replace(/ +/g, " ") };
+}
+
+/** Moves by hand as a step, those in brackets on the inverse side; none without moves.
+ * @param typed `side` of moves without brackets */
+export function readByHand(nissy: Nissy, { text, side }: { text: string; side: Side }): Part[] {
+  const line = FACE_TURNS.test(nissy.unniss(text)) ? text : withoutTurns(nissy.cleanup(text));
+  const runs = runsOf(line, text.includes("(") ? "normal" : side)
+    .map((run) => ({ side: run.side, moves: nissy.unniss(run.moves) }));
+  const [normal, inverse] = SIDES.map((each) =>
+    joined(...runs.filter((run) => run.side === each).map(({ moves }) => moves)));
+  return normal === "" && inverse === "" ? [] : [{ normal, inverse }];
+}
+
+/** A line, and why it isn't read. */
+export type Unread = { line: string; fault: FaultParts };
+
+/** The steps of some lines of text, as solvers write them, up to the first that can't be read. */
+function readAllByHand(nissy: Nissy, steps: PlainLine[]): { parts: Part[]; unread: Unread | null } {
+  const parts = [];
+  for (const each of steps) {
+    const line = each.line.trim();
+    try {
+      parts.push(...readByHand(nissy, { text: line, side: "normal" }));
+    } catch (fault) {
+      if (!(fault instanceof NissyFault)) throw fault;
+      return { parts, unread: { line, fault: fault.parts() } };
+    }
+  }
+  return { parts, unread: null };
+}
+
+/** A text as solvers write it, and which of its attempts is meant. */
+export type Written = { text: string; at: number };
+
+/** The steps and the candidates of an attempt, the first line of it that can't be read, if any, and what makes one
+ * doubt how it was read. */
+export function readWritten(
+  nissy: Nissy, { text, at }: Written,
+): { parts: Part[]; kept: Candidate[]; unread: Unread | null; doubt: AttemptDoubt | null } {
+  const { attempt: { steps, candidates }, doubt } = nissy.checkAttempts(text)[at];
+  const { parts, unread } = readAllByHand(nissy, steps);
+  const read = candidates.map((each) => ({ note: each.note, ...readAllByHand(nissy, each.steps) }));
+  // an address has no candidate without moves
+  const kept = read.filter((each) => each.parts.length > 0);
+  return {
+    parts,
+    kept: kept.map((each) => ({ parts: each.parts, note: each.note.slice(0, LONGEST_NOTE), next: "" })),
+    unread: [unread, ...read.map((each) => each.unread)].find((each) => each !== null) ?? null,
+    doubt,
+  };
+}
+
+/** The steps of an address, each read as moves by hand are. */
+function readSteps(nissy: Nissy, parts: Part[]): Part[] {
+  nissy.unniss(bracketed(parts));
+  return parts.flatMap((part) => readByHand(nissy, { text: bracketed([part]), side: "normal" }));
+}
+
+/** A candidate of an address, read as its steps are; one that can't be read stays, and is said to be so. */
+function readAgain(nissy: Nissy, candidate: Candidate): Candidate {
+  if (candidate.parts.every((part) => SIDES.every((side) => FACE_TURNS.test(part[side])))) return candidate;
+  try {
+    return { ...candidate, parts: readSteps(nissy, candidate.parts) };
+  } catch (fault) {
+    if (fault instanceof NissyFault) return candidate;
+    throw fault;
+  }
+}
+
+/** The steps and the candidates of an address. */
+export const readAddressed = (nissy: Nissy, { parts, kept }: { parts: Part[]; kept: Candidate[] }) => ({
+  parts: readSteps(nissy, parts),
+  kept: kept.map((each) => readAgain(nissy, each)).filter((each) => each.parts.length > 0),
+});

@@ -1,0 +1,90 @@
+// How many of the shortest reductions there are on each side after the rows of the best that are seen. They are asked
+// for once a row is seen: thousands never are.
+import { tellCounts } from "./best-row.js";
+import { present } from "../shared/certain.js";
+import { setBusy } from "../shared/element.js";
+import { takeNamed } from "../shared/rows.js";
+import type { Calls } from "../shared/questions.js";
+import type { OnSides } from "../../module/shared/sides.js";
+import type { Question, Row } from "./finder.js";
+
+export type Counts = OnSides<number | null>;
+
+export class ShownCounts {
+  #calls: Calls;
+  #body: HTMLElement;
+  #question: Question | null = null;
+  /** By the keys of rows; null while it is asked for. */
+  #known = new Map<string, Counts | null>();
+  /** The rows that may come into view, by their elements. */
+  #unseen = new Map<Element, Row>();
+  /** the elements of which was told, or is to be */
+  #told = new WeakSet();
+  #wanted: Row[] = [];
+  #isAsking = false;
+  #observer: IntersectionObserver;
+
+  /** @param body of the table */
+  constructor(calls: Calls, body: HTMLElement) {
+    this.#calls = calls;
+    this.#body = body;
+    this.#observer = new IntersectionObserver((entries) => this.#look(entries));
+  }
+
+  /** Forgets what is known, since another cube is shown. */
+  clear() {
+    this.#known = new Map();
+    this.#wanted = [];
+    this.#observer.disconnect();
+    this.#unseen.clear();
+    setBusy(this.#body.id, false);
+  }
+
+  /** @param shown the rows of the table, in their order */
+  tell(question: Question, shown: Row[]) {
+    this.#question = question;
+    for (const [at, row] of shown.entries()) {
+      const element = this.#body.children[at];
+      if (this.#told.has(element)) continue;
+      this.#told.add(element);
+      const counts = this.#known.get(row.key);
+      if (counts) tellCounts(element, counts);
+      if (row.next === null || this.#known.has(row.key)) continue;
+      this.#unseen.set(element, row);
+      this.#observer.observe(element);
+      setBusy(this.#body.id, true);
+    }
+  }
+
+  /** Asks for the rows that came into view. */
+  #look(entries: IntersectionObserverEntry[]) {
+    const seen = entries.filter(({ isIntersecting, target }) => isIntersecting && this.#unseen.has(target));
+    for (const { target } of seen) {
+      this.#observer.unobserve(target);
+      const row = present(this.#unseen.get(target));
+      this.#unseen.delete(target);
+      this.#known.set(row.key, null);
+      this.#wanted.push(row);
+    }
+    if (!this.#isAsking) this.#askAll();
+  }
+
+  async #askAll() {
+    this.#isAsking = true;
+    for (let row = this.#wanted.shift(); row; row = this.#wanted.shift()) await this.#ask(row);
+    this.#isAsking = false;
+    setBusy(this.#body.id, false);
+  }
+
+  async #ask(row: Row) {
+    const known = this.#known;
+    // what the rows are chosen by is there without it
+    const { scramble, parts } = present(this.#question);
+    const asked = { scramble, parts: [...parts, row.part], step: present(row.next).step };
+    const found = await this.#calls.ask("countsAfter", asked).catch(() => null);
+    if (known !== this.#known || found === null) return;
+    known.set(row.key, found);
+    const shown = takeNamed(this.#body, row.key)?.closest("tr");
+    if (shown) tellCounts(shown, found);
+  }
+}

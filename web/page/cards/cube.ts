@@ -1,0 +1,204 @@
+// The card of the cube: the nets of both sides, the pieces marked on them, how they are held, and moves played on them.
+import { AXES, type Facts } from "../../module/shared/facts.js";
+import { stickersOf } from "../../module/shared/stickers.js";
+import { present } from "../shared/certain.js";
+import { announce, element, part, tell } from "../shared/element.js";
+import { PLACES, emptyNet, showCube, stickerOf, turnedView } from "./net.js";
+import { SIDES, axisName } from "../shared/offered-steps.js";
+import { PIECES, whyOf } from "./why.js";
+import type { Side } from "../../module/shared/sides.js";
+import type { View } from "../answers/examine.js";
+
+const FOLLOW = "follow";
+const PLAIN = "none";
+const BEAT = 700;
+
+/** The places of the pieces that a choice marks, and what they are called; a choice is `EO F/B` or `DR U/D`. */
+function marksOf({ badEdges, badCorners, misplacedEdges, cases }: Facts, choice: string) {
+  const [kind, name] = choice.split(" ");
+  const axis = present(AXES.find((each) => axisName(each) === name));
+  if (kind === "EO") return { pieces: badEdges[axis], words: `${badEdges[axis].length} bad` };
+  return { pieces: [...badCorners[axis], ...misplacedEdges[axis]], words: cases[axis] };
+}
+
+/** A cube on both sides after a move. */
+export type Frame = { move: string; views: Record<Side, View> };
+
+export class Nets {
+  #nets = { normal: emptyNet(), inverse: emptyNet() };
+  #views: Record<Side, View> | null = null;
+  #count = 0;
+  #ask: (() => Promise<Frame[]>) | null = null;
+  #frames: Frame[] | null = null;
+  #frame = 0;
+  #timer = 0;
+  #view = PLACES;
+  #open = "";
+  #pointed = "";
+  #choice = part("marks");
+  #play = part("play");
+
+  constructor() {
+    for (const side of SIDES) {
+      const net = this.#nets[side];
+      part(`net-${side}`).prepend(net);
+      net.addEventListener("click", ({ target }) => this.#press(side, stickerOf(net, target)));
+    }
+    part("piece").append(...PIECES.map((name) => element("option", { value: stickersOf([name])[0] }, name)));
+    part("piece").addEventListener("change", () => this.#tellWhy(SIDES));
+    part("cube-large").addEventListener("click", () => this.#enlarge(!part("cube").matches(".large")));
+    part("cube").addEventListener("keydown", (event) => this.#typed(event));
+    const kinds = ["EO", "DR"].flatMap((kind) => AXES.map((axis) => `${kind} ${axisName(axis)}`));
+    this.#choice.append(...kinds.map((kind) => element("option", { value: kind }, kind)));
+    this.#choice.addEventListener("change", () => this.#draw());
+    const choices = part("choices");
+    for (const kind of ["pointerover", "focusin"] as const) {
+      choices.addEventListener(kind, ({ target }) => this.#point(target));
+    }
+    for (const kind of ["pointerleave", "focusout"]) choices.addEventListener(kind, () => this.#point(null));
+    for (const turn of ["x", "y"] as const) part(`view-${turn}`).addEventListener("click", () => this.#turn(turn));
+    this.#play.addEventListener("click", () => (this.#timer === 0 ? this.#begin() : this.stop()));
+    // a sheet has the whole line
+    addEventListener("beforeprint", () => {
+      this.stop();
+      this.#go(this.#count);
+    });
+    part("play-back").addEventListener("click", () => this.#step(-1));
+    part("play-on").addEventListener("click", () => this.#step(1));
+  }
+
+  /** Shows a cube.
+   * @param count how many moves lead to it from the scramble
+   * @param ask for the cube after each of them */
+  show(views: Record<Side, View>, count: number, ask: () => Promise<Frame[]>) {
+    this.stop();
+    this.#views = views;
+    [this.#count, this.#frame] = [count, count];
+    [this.#ask, this.#frames] = [ask, null];
+    part("cube").hidden = false;
+    part("player").hidden = count === 0;
+    part("piece").value = "";
+    tell(part("why"), "");
+    this.#draw();
+  }
+
+  /** Tells of the piece whose sticker is pressed why it is good or bad. */
+  #press(side: Side, sticker: number) {
+    if (sticker < 0) return;
+    // a centre is no piece of these
+    const at = PIECES.findIndex((name) => stickersOf([name]).includes(this.#view[sticker]));
+    part("piece").selectedIndex = at + 1;
+    this.#tellWhy([side]);
+  }
+
+  /** @param sides on which it is told of the piece that is chosen */
+  #tellWhy(sides: readonly Side[]) {
+    const piece = PIECES[part("piece").selectedIndex - 1];
+    const { views, choice } = this.#shown();
+    const why = (side: Side) => whyOf(views[side].letters, piece, choice === PLAIN ? "" : choice);
+    const sentences = sides.map((side) => `${side === "normal" ? "Normal" : "Inverse"}: ${piece && why(side)}`);
+    tell(part("why"), piece ? sentences.join(" ") : "");
+  }
+
+  /** Shows the nets as large as the window, or as they were. */
+  #enlarge(isLarge: boolean) {
+    part("cube").classList.toggle("large", isLarge);
+    part("cube-large").textContent = isLarge ? "Smaller" : "Larger";
+    part("cube-large").setAttribute("aria-pressed", String(isLarge));
+  }
+
+  #typed(event: KeyboardEvent) {
+    if (event.key !== "Escape" || !part("cube").matches(".large")) return;
+    // what else it closes is behind the nets
+    event.stopPropagation();
+    this.#enlarge(false);
+    part("cube-large").focus();
+  }
+
+  /** @param choice what the cell of the open list would mark, or "" */
+  follow(choice: string) {
+    this.#open = choice;
+    this.#draw();
+  }
+
+  /** Ends what is played. */
+  stop() {
+    clearInterval(this.#timer);
+    this.#timer = 0;
+    this.#play.textContent = "Play";
+  }
+
+  #point(target: Element | null) {
+    const marked = target?.closest("[data-marks]");
+    const pointed = marked instanceof HTMLElement ? marked.dataset.marks ?? "" : "";
+    if (pointed === this.#pointed) return;
+    this.#pointed = pointed;
+    // what moves the focus may lay the page out for it, and needs no marks for that
+    queueMicrotask(() => this.#draw());
+  }
+
+  #turn(turn: "x" | "y") {
+    this.#view = turnedView(this.#view, turn);
+    this.#draw();
+    announce(`The view is turned by ${turn}.`);
+  }
+
+  /** Has the cube after each move, and says whether it is still the same line. */
+  async #load() {
+    const ask = this.#ask;
+    if (this.#frames === null && ask !== null) {
+      const frames = await ask().catch(() => null);
+      if (ask === this.#ask) this.#frames = frames;
+    }
+    return ask === this.#ask && this.#frames !== null;
+  }
+
+  async #begin() {
+    if (!(await this.#load())) return;
+    const isOver = this.#frame >= this.#count;
+    // who wants less motion goes by single moves, one a press
+    if (matchMedia("(prefers-reduced-motion: reduce)").matches) return this.#go(isOver ? 0 : this.#frame + 1);
+    this.#go(isOver ? 0 : this.#frame);
+    if (this.#timer !== 0) return;
+    this.#play.textContent = "Pause";
+    this.#timer = setInterval(() => {
+      this.#go(this.#frame + 1);
+      if (this.#frame >= this.#count) this.stop();
+    }, BEAT);
+  }
+
+  async #step(by: number) {
+    this.stop();
+    if (await this.#load()) this.#go(this.#frame + by);
+  }
+
+  #go(frame: number) {
+    this.#frame = Math.min(this.#count, Math.max(0, frame));
+    this.#draw();
+  }
+
+  #draw() {
+    if (this.#views === null) return;
+    const { views, choice } = this.#shown();
+    for (const side of SIDES) this.#drawSide(side, views[side], choice);
+    const move = this.#frames?.[this.#frame].move;
+    part("played").textContent = `${this.#frame} of ${this.#count}${move ? `: ${move}` : ""}`;
+  }
+
+  /** The cube that is seen, and what is marked on it. */
+  #shown() {
+    const choice = this.#choice.value === FOLLOW ? this.#pointed || this.#open || PLAIN : this.#choice.value;
+    const frame = this.#frame === this.#count ? null : this.#frames?.[this.#frame];
+    return { views: present(frame?.views ?? this.#views), choice };
+  }
+
+  #drawSide(side: Side, { letters, facts }: View, choice: string) {
+    const marks = choice === PLAIN ? null : marksOf(facts, choice);
+    const words = marks === null ? "" : `${choice}: ${marks.words}`;
+    const names = marks === null ? "" : `, ${marks.pieces.join(" ") || "none"}`;
+    const title = `The cube on the ${side} side${words === "" ? "" : `; ${words}${names}`}`;
+    const places = marks === null ? null : new Set(stickersOf(marks.pieces));
+    showCube(this.#nets[side], letters, title, { places, view: this.#view });
+    part(`marked-${side}`).textContent = words === "" ? "" : ` · ${words}`;
+  }
+}

@@ -1,0 +1,180 @@
+// What is left of rows: by what is chosen, by the corners and edges of their cases, by turns that are typed, by the
+// last.
+import { facesOnAxisOf } from "../shared/axes.js";
+import { announce, announceLater, counted, element, part, tell, type PageElement } from "../shared/element.js";
+import { ORIENTATIONS, namesOf, reducedAfter, sidesOf, sizeOfCase, stateOf } from "../shared/offered-steps.js";
+import type { Row } from "./finder.js";
+
+/** Of filter: its fields, and what says by the values of these whether a row is left; null if one of them can't be
+ * read. */
+export type Kind<Row> = { fields: string[]; test: (...values: string[]) => ((row: Row) => boolean) | null };
+
+/** What is said of a text that isn't moves. */
+export const NOT_MOVES = "The text in the filter is not moves: type face turns such as F B'.";
+
+/** How many corners and edges of a case may be asked for, beside any number. */
+const MOST_OF_CASE = { corners: ["7", "6", "5", "4", "3", "2", "0"], edges: ["6", "4", "2", "0"] };
+/** How many moves in all the best may be asked to have at most. */
+const TOTALS = ["7", "8", "9", "10", "11", "12", "13"];
+
+/** Offers choices, of which the first leaves all; the one that is chosen stays, if it is among them.
+ * @param name of the field
+ * @param first what the first is called */
+export function offerChoices(name: string, choices: string[], first = "any") {
+  const field = part(name);
+  const chosen = field.value;
+  const option = (value: string) => element("option", { value }, value || first);
+  field.replaceChildren(...["", ...choices].map(option));
+  field.value = choices.includes(chosen) ? chosen : "";
+}
+
+/** Offers numbers of moves, from 0 on. @param name of the field */
+export function offerMoves(name: string, most: number) {
+  const counts = Array.from({ length: most + 1 }, (_, count) => count);
+  part(name).append(...counts.map((count) => element("option", { value: count }, counted(count, "move"))));
+}
+
+/** What is chosen in a field. */
+export function chosen<Row>(
+  field: string, choices: string[], isLeft: (row: Row, choice: string) => boolean,
+): Kind<Row> {
+  offerChoices(field, choices);
+  return { fields: [field], test: (value) => (row) => value === "" || isLeft(row, value) };
+}
+
+/** The most corners and edges that one of a row's cases may have.
+ * @param name with which the ids of both fields begin */
+export function caseAtMost<Row>(name: string, casesOf: (row: Row) => string[]): Kind<Row> {
+  for (const [kind, counts] of Object.entries(MOST_OF_CASE)) offerChoices(`${name}-${kind}`, counts);
+  const test = (...values: string[]) => {
+    if (values.every((value) => value === "")) return () => true;
+    const [corners, edges] = values.map((value) => (value === "" ? Infinity : Number(value)));
+    return (row: Row) => casesOf(row).map(sizeOfCase).some((size) => size.corners <= corners && size.edges <= edges);
+  };
+  return { fields: [`${name}-corners`, `${name}-edges`], test };
+}
+
+/** Turns as the lists have them: those of opposite faces, which may stand in either order, as their axis names them. */
+function inListOrder(turns: string[]) {
+  const ordered = [...turns];
+  for (let at = 1; at < ordered.length; at++) {
+    const [one, other] = [ordered[at - 1], ordered[at]];
+    if (facesOnAxisOf(one[0]) === other[0] + one[0]) ordered.splice(at - 1, 2, other, one);
+  }
+  return ordered;
+}
+
+/** @returns the face turns that are typed, or null where the text isn't moves */
+function turnsOf(text: string): string[] | null {
+  const plain = text.replace(/[\u2019\u2032\u00B4\u0060]/g, "'").toUpperCase();
+  if (!/^\s*(?:[UDRLFB](?:2'?|')?\s*)*$/.test(plain)) return null;
+  return inListOrder((plain.match(/[UDRLFB][2']*/g) ?? []).map((turn) => turn.replace("2'", "2")));
+}
+
+/** @returns the last turn of some moves, "" where there is none */
+const lastTurn = (moves: string) => moves.slice(moves.lastIndexOf(" ") + 1);
+
+/** Turns that stand one after another on a side, and the last turn, of a row's moves or of one of their twins.
+ * @param typed its field
+ * @param last the other one
+ * @param movesOf the moves of each side and twin */
+export function withTurns<Row>(typed: string, last: string, movesOf: (row: Row) => string[]): Kind<Row> {
+  offerChoices(last, []);
+  const test = (text: string, end: string) => {
+    const wanted = turnsOf(text);
+    part(typed).setAttribute("aria-invalid", String(wanted === null));
+    if (wanted === null) return null;
+    const turns = wanted.length === 0 ? "" : ` ${wanted.join(" ")} `;
+    const isLeft = (each: string) => ` ${each} `.includes(turns) && (end === "" || lastTurn(each) === end);
+    return (row: Row) => movesOf(row).some(isLeft);
+  };
+  return { fields: [typed, last], test };
+}
+
+/** Offers the last turns of some moves. @param all the moves of each row */
+export const offerLastTurns = (field: string, all: string[]) =>
+  offerChoices(field, [...new Set(all.map(lastTurn).filter(Boolean))].sort());
+
+/** On which sides a step may have moves. */
+const WHERE = ["normal", "inverse", "both sides"];
+const isOn = ({ part: step }: Row, where: string) => sidesOf([step]) === where;
+
+/** The filters of the best: of orientations, with their reduction and its case, and of reductions. */
+export const filtersOfBest = () => ({
+  ofOrientations: [
+    caseAtMost<Row>("best", ({ next }) => (next === null ? [] : [next.case])),
+    chosen<Row>("best-axis", ORIENTATIONS.map(stateOf), ({ state }, axis) => state === axis),
+    chosen("best-side", WHERE, isOn),
+    chosen<Row>("best-next", reducedAfter(namesOf(ORIENTATIONS)), ({ next }, marks) => next?.marks === marks),
+    chosen<Row>("best-total", TOTALS, ({ total }, most) => total <= Number(most)),
+  ],
+  ofReductions: [
+    chosen<Row>("best-reduction", [], ({ state }, wanted) => state === wanted),
+    chosen("best-reduction-side", WHERE, isOn),
+    withTurns<Row>("best-filter", "best-last", ({ lines }) => lines),
+  ],
+});
+
+/** The filters of a card, which says how many of them are on, and if they leave nothing; a button clears them. */
+export class Filters<Row> {
+  #kinds: Kind<Row>[];
+  #badge: PageElement;
+  #button: PageElement;
+  #none: PageElement;
+
+  /** @param name with which the ids begin
+   * @param note that says what is left
+   * @param sets of which one is used at a time, first the first
+   * @param changed says whether there are rows that may be left */
+  constructor(name: string, note: HTMLElement, sets: Kind<Row>[][], changed: () => boolean) {
+    [this.#kinds] = sets;
+    this.#badge = part(`${name}-on`);
+    this.#button = part(`${name}-clear`);
+    this.#none = part(`${name}-none`);
+    for (const field of sets.flat().flatMap(({ fields }) => fields).map(part)) {
+      if (!field.matches("input")) field.addEventListener("change", changed);
+      // once nothing more is typed it is said what is left
+      else field.addEventListener("input", () => changed() && announceLater(note.textContent));
+    }
+    this.#button.addEventListener("click", () => {
+      // what is hidden can't keep the focus
+      this.#badge.closest("summary")?.focus({ preventScroll: true });
+      this.clear();
+      if (changed()) announce(note.textContent);
+    });
+  }
+
+  /** Uses other kinds. */
+  use(kinds: Kind<Row>[]) {
+    this.#kinds = kinds;
+  }
+
+  /** Leaves all. */
+  clear() {
+    for (const field of this.#fields()) field.value = "";
+  }
+
+  /** What is left of rows, or null if a field can't be read. */
+  left(rows: Row[]): Row[] | null {
+    const tests = this.#kinds.map(({ fields, test }) => test(...fields.map((name) => part(name).value)));
+    const read = tests.flatMap((test) => test ?? []);
+    return read.length < tests.length ? null : rows.filter((row) => read.every((test) => test(row)));
+  }
+
+  /** How many fields leave not all. */
+  get count() {
+    return this.#fields().filter(({ value }) => value.trim() !== "").length;
+  }
+
+  /** Says how many these are. @param isEmpty whether they leave nothing of something */
+  show(isEmpty: boolean) {
+    const { count } = this;
+    tell(this.#badge, count === 0 ? "" : `${count} on`);
+    this.#button.hidden = count === 0;
+    this.#none.hidden = count === 0 || !isEmpty;
+  }
+
+  #fields() {
+    return this.#kinds.flatMap(({ fields }) => fields).map(part);
+  }
+}

@@ -1,0 +1,115 @@
+// Finds the best ways on, each axis by an engine of its own: what they find is one list, by all moves in all.
+import { lastOf } from "../shared/certain.js";
+import { ORIENTATIONS } from "../shared/offered-steps.js";
+import type { Calls } from "../shared/questions.js";
+import type { OnSides, Moves as Part } from "../../module/shared/sides.js";
+import type { Step } from "../../module/shared/steps.js";
+
+export type Lengths = OnSides<number | null>;
+/** The reduction after an orientation: its moves, what it reaches, its case, and its least length on each side
+ * alone. */
+export type Next = { step: Step; part: Part; length: number; marks: string; case: string; lengths: Lengths };
+/** `twins`: their last turns; `lines`: the moves on each side of all twins; `far`: how many pieces the case has;
+ * `key`: what the row is known by; `rank`: what rows are put in order by. */
+export type Row = {
+  total: number;
+  part: Part;
+  state: string;
+  twins: string[];
+  lines: string[];
+  far: number;
+  next: Next | null;
+  key: string;
+  rank: number;
+};
+/** If it `isWhole` more than the first rows are asked for. */
+export type Question = { scramble: string; parts: Part[]; reached: string[]; slack: number; isWhole?: boolean };
+/** How many ways on were tried, and how many of all axes are done. */
+export type Progress = { tried: number; done: number; all: number };
+/** The best, and how many there are. */
+export type FoundOnAxis = { rows: Row[]; tried: number };
+/** Of all axes; `count`: of all that are kept. */
+export type Found = FoundOnAxis & { count: number; isWhole: boolean };
+
+/** How many rows are kept, which are all but seldom; of longer ones, of which there are thousands, each takes time. */
+const mostKept = (slack: number) => (slack === 0 ? 5000 : 200);
+
+/** How many rows of each axis are asked for: at first little more than are shown, of reductions alone all. */
+const mostOf = ({ slack, reached, isWhole }: Question) => (isWhole || reached.length > 0 ? mostKept(slack) : 12);
+
+/** Of how many searches what was found is kept. */
+const MOST_KEPT_SEARCHES = 8;
+
+/** @returns what a search is known by */
+const nameOfSearch = ({ scramble, parts, slack }: Question) => JSON.stringify([scramble, parts, slack]);
+
+/** What was found of the last questions. */
+export class KnownSearches {
+  #found = new Map<string, Found & { slack: number }>();
+
+  of(question: Question) {
+    return this.#found.get(nameOfSearch(question));
+  }
+
+  /** What was found of fewer moves more, as far as it was wanted; or nothing. */
+  shorter({ slack, ...question }: Question) {
+    const found = Array.from({ length: slack }, (_, more) => this.of({ ...question, slack: slack - 1 - more }));
+    return found.find((each) => each !== undefined);
+  }
+
+  /** Keeps what was found, in place of what was kept longest. */
+  keep(question: Question, found: Found & { slack: number }) {
+    this.#found.set(nameOfSearch(question), found);
+    if (this.#found.size > MOST_KEPT_SEARCHES) this.#found.delete(this.#found.keys().next().value);
+  }
+}
+
+/** What is found on some axes, as one list: up to where an axis may have more rows than were asked for. */
+export function together(each: FoundOnAxis[], question: Question): Found {
+  const [kept, most] = [mostKept(question.slack), mostOf(question)];
+  const end = Math.min(...each.map(({ rows }) => (rows.length < most ? Infinity : lastOf(rows).rank)));
+  const rows = each.flatMap((found) => found.rows.filter(({ rank }) => rank <= end));
+  const tried = each.reduce((sum, found) => sum + found.tried, 0);
+  rows.sort((one, other) => one.rank - other.rank).splice(kept);
+  const isWhole = most === kept || end === Infinity;
+  return { rows, tried, isWhole, count: isWhole ? rows.length : Math.min(tried, kept) };
+}
+
+/** Finds the best of one axis.
+ * @param finders one an axis
+ * @param axis its number
+ * @param tell told how many were tried */
+export function findOnAxis(
+  finders: Calls[], axis: number, question: Question, tell: (tried: number) => void,
+): Promise<FoundOnAxis> {
+  const finder = finders[axis];
+  // it is needed now, and its tables may wait
+  finder.drop();
+  return finder.ask("bestOfAxis", { axis, question, most: mostOf(question) }, tell);
+}
+
+/** The numbers of the axes that are looked at: if some orientations hold, those of these. */
+export function axesOf({ reached }: Question) {
+  const held = ORIENTATIONS.flatMap(({ name }, at) => (reached.includes(name) ? [at] : []));
+  return held.length > 0 ? held : ORIENTATIONS.map((_, at) => at);
+}
+
+/** Finds the best of all axes at once. @param finders one an axis */
+export async function findAll(
+  finders: Calls[], question: Question, tell: (progress: Progress) => void,
+): Promise<Found> {
+  const axes = axesOf(question);
+  const tried = ORIENTATIONS.map(() => 0);
+  let done = 0;
+  const told = () => tell({ tried: tried.reduce((sum, each) => sum + each), done, all: axes.length });
+  const each = await Promise.all(axes.map(async (axis) => {
+    const found = await findOnAxis(finders, axis, question, (count) => {
+      tried[axis] = count;
+      told();
+    });
+    done += 1;
+    told();
+    return found;
+  }));
+  return together(each, question);
+}

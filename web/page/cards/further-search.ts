@@ -1,0 +1,126 @@
+// Longer orientations, which nobody asked for: one move longer, and then two. They are looked for while the page is
+// seen and waits for nothing else, by workers that leave half of the processor to whatever is asked meanwhile.
+import { thrownError } from "../shared/certain.js";
+import { findOnAxis, together, type Found, type FoundOnAxis, type Question } from "./finder.js";
+import { ORIENTATIONS } from "../shared/offered-steps.js";
+import { waitsForAnswers } from "../shared/view.js";
+import type { Calls } from "../shared/questions.js";
+
+/** By how many moves longer. */
+export type Further = Found & { slack: number };
+/** `found`: of the axes that were looked through; `left`: those that are still to be looked at. */
+export type Search = { question: Question; found: Map<number, FoundOnAxis>; left: number[]; running: Set<number> };
+
+/** How many moves longer than the shortest are looked for without being asked for. */
+const FURTHEST = 2;
+/** How long nothing is waited for before it begins, in milliseconds. */
+const IDLE_FOR = 600;
+
+/** How many axes are looked at together. */
+const mostTogether = () => Math.min(ORIENTATIONS.length, Math.max(1, (navigator.hardwareConcurrency || 2) >> 1));
+
+/** `turned`: once it goes on, or no more; `looked`: how many axes are looked through. */
+type FurtherActs = {
+  turned: () => void;
+  looked: (done: number, all: number) => void;
+  found: (progress: Further) => void;
+  ended: (fault: Error | null) => void;
+};
+
+export class FurtherSearch {
+  #finders: Calls[];
+  #acts: FurtherActs;
+  #timer = 0;
+  #search: Search | null = null;
+
+  /** @param finders one an axis */
+  constructor(finders: Calls[], acts: FurtherActs) {
+    this.#finders = finders;
+    this.#acts = acts;
+    document.addEventListener("visibilitychange", () => (document.hidden ? this.#pause() : this.#wait()));
+  }
+
+  /** Whether it goes on, or waits for a moment in which it may. */
+  isOn() {
+    return this.#search !== null && !document.hidden;
+  }
+
+  /** Goes on from what was found. */
+  begin(question: Question) {
+    this.stop();
+    if (question.reached.length > 0 || question.slack >= FURTHEST) return;
+    this.#search = {
+      question: { ...question, slack: question.slack + 1, isWhole: true },
+      found: new Map(),
+      left: ORIENTATIONS.map((_, at) => at),
+      running: new Set(),
+    };
+    this.#wait();
+  }
+
+  /** Gives it up; the workers are ended by whoever has them. */
+  stop() {
+    clearTimeout(this.#timer);
+    this.#search = null;
+  }
+
+  /** Gives up what is looked at until the page is seen again. */
+  #pause() {
+    clearTimeout(this.#timer);
+    for (const at of this.#search?.running ?? []) this.#finders[at].stop();
+    this.#acts.turned();
+  }
+
+  #wait() {
+    clearTimeout(this.#timer);
+    if (this.#search === null) return;
+    this.#timer = setTimeout(() => this.#goOn(), IDLE_FOR);
+    this.#acts.turned();
+  }
+
+  #goOn() {
+    // once it is seen it waits anew
+    if (document.hidden) return;
+    if (waitsForAnswers()) return this.#wait();
+    const search = this.#search;
+    if (search === null) return;
+    const { left, running } = search;
+    for (const at of left.splice(0, Math.max(0, mostTogether() - running.size))) this.#look(search, at);
+  }
+
+  /** @param at the place of its axis */
+  async #look(search: Search, at: number) {
+    search.running.add(at);
+    const isStill = () => search === this.#search;
+    try {
+      search.found.set(at, await findOnAxis(this.#finders, at, search.question, () => {}));
+    } catch (fault) {
+      if (isStill()) this.#broken(search, at, thrownError(fault));
+      return;
+    } finally {
+      search.running.delete(at);
+    }
+    if (isStill()) this.#endOf(search);
+  }
+
+  /** @param at the place of an axis
+   * @param fault why it isn't looked through */
+  #broken(search: Search, at: number, fault: Error) {
+    if (!document.hidden) {
+      this.stop();
+      return this.#acts.ended(fault);
+    }
+    // it was given up until the page is seen again
+    search.left.unshift(at);
+  }
+
+  /** Goes on with the next axis, or with one more move, or ends. @param search one of whose axes is looked through */
+  #endOf(search: Search) {
+    this.#acts.looked(search.found.size, ORIENTATIONS.length);
+    if (search.left.length > 0 || search.running.size > 0) return this.#goOn();
+    const { question, found } = search;
+    this.#acts.found({ ...together([...found.values()], question), slack: question.slack });
+    this.begin(question);
+    if (this.#search === null) this.#acts.ended(null);
+  }
+}

@@ -1,0 +1,288 @@
+// The card of the candidates that are kept: each with its moves, what it reaches, its case and a note.
+import { Stopped } from "../../module/shared/faults.js";
+import { fitsAddress, type Candidate, type List, type State } from "../state/address.js";
+import { lastOf, present } from "../shared/certain.js";
+import { copy, fmcOfAll } from "../shared/copying.js";
+import { announce, button, counted, element, part, spoken, tell, type PageElement } from "../shared/element.js";
+import { LONGEST_NOTE, MOST_CANDIDATES } from "../state/limits.js";
+import { WayTo } from "../state/history.js";
+import {
+  ORIENTATIONS, REDUCTIONS, axisName, bracketed, isReduced, reductionsAfter, sidesOf, stateOf, statesOf, stepNamed,
+} from "../shared/offered-steps.js";
+import { tellAt, withoutMoving } from "../shared/view.js";
+import { MOST_ARE_KEPT, NO_ROOM, wordsOfFault } from "../shared/words.js";
+import type { Calls } from "../shared/questions.js";
+import type { KeptWalk } from "../answers/examine.js";
+import type { Moves as Part } from "../../module/shared/sides.js";
+import type { StepOnAxis } from "../shared/axes.js";
+
+/** @returns what it is known by */
+const nameOf = ({ parts, next }: Pick<Candidate, "parts" | "next">) => [bracketed(parts), next].join(" ").trim();
+
+/** @returns what a candidate is called where it is said */
+const saidOf = ({ parts, next }: Candidate) =>
+  spoken(bracketed(parts)) + (next === "" ? "" : `, ${stateOf(stepNamed(next))}`);
+
+/** What is kept once a line is starred, or no longer if it was. */
+function withStar(candidates: Candidate[], parts: Part[], next: string): Candidate[] {
+  const others = candidates.filter((each) => nameOf(each) !== nameOf({ parts, next }));
+  return others.length === candidates.length ? [...others, { parts, note: "", next }] : others;
+}
+
+/** What is kept once others join, and why not all of them do, or "". */
+export function withOthers(candidates: Candidate[], others: Candidate[]) {
+  // of a line that is there twice the first place counts, and the last note
+  const all = new Map([...candidates, ...others, ...candidates].map((each) => [nameOf(each), each]));
+  return { kept: [...all.values()].slice(0, MOST_CANDIDATES), why: all.size > MOST_CANDIDATES ? MOST_ARE_KEPT : "" };
+}
+
+/** How far a candidate has come: 2 with a reduction, also one that is still to be made, 1 with an orientation. */
+function stageOf({ reached, next }: KeptWalk) {
+  const last = lastOf(reached);
+  return next !== null || isReduced(last) ? 2 : Math.min(1, last.length);
+}
+
+/** @returns how many moves a candidate has, with the reduction that it was kept with */
+const totalOf = ({ totals, next }: KeptWalk) => next?.total ?? lastOf(totals);
+
+/** The reduction that a candidate was kept with, as its row says it: `DR F/B 6c4e: N 4 I 7, 9 in all`, and the first.
+ * @returns none without one */
+function wordsOfNext({ next }: KeptWalk): string[] {
+  if (next === null) return [];
+  const [normal, inverse] = next.lengths.map((length) => length ?? "–");
+  const then = next.first === null ? [] : [`then ${bracketed([next.first])}`];
+  return [`${next.state} ${next.case}: N ${normal} I ${inverse}, ${next.total} in all`, ...then];
+}
+
+/** Some steps, what they reach, and cases after them. */
+export type Stage = { parts: Part[]; states: string[]; cases: string[] };
+
+/** From which beginning on it has held. @param name of a step that is reached in the end */
+const heldFrom = ({ reached }: KeptWalk, name: string) => reached.findLastIndex((each) => !each.includes(name)) + 1;
+
+/** @returns the orientation that a reduction keeps */
+const orientationOf = ({ needs }: StepOnAxis) => present(needs);
+
+/** The stages of a candidate with a reduction: up to the orientation before it, up to itself with the case that was
+ * solved, and what came after it. */
+function stagesOfReduced(walk: KeptWalk): Stage[] {
+  const { parts, facts } = walk;
+  const reductions = REDUCTIONS.filter(({ name }) => lastOf(walk.reached).includes(name));
+  const ways = reductions.map((step) => (
+    { step, from: heldFrom(walk, orientationOf(step)), to: heldFrom(walk, step.name) }));
+  const [{ from, to }] = ways.sort((one, other) => one.to - other.to || one.from - other.from);
+  const first = ways.filter((way) => way.from === from && way.to === to).map(({ step }) => step);
+  // one that is reached together with its orientation has no case
+  const begin = from < to ? from : 0;
+  const before = parts.slice(0, begin);
+  const oriented = statesOf(first.map(orientationOf)).map((state) => `${state}, ${sidesOf(before)}`);
+  const reduced = first.map((step) => (from < to ? `${stateOf(step)} ${facts[from].cases[step.axis]}` : stateOf(step)));
+  const others = reductions.filter((step) => !first.some((other) => stateOf(other) === stateOf(step)));
+  const later = to === 0 ? reductions : others;
+  const stages = [
+    { parts: before, states: oriented, cases: [] },
+    { parts: parts.slice(begin, to), states: [...new Set(reduced)], cases: [] },
+    { parts: parts.slice(to), states: statesOf(later.map(({ name }) => name)), cases: [] },
+  ];
+  return stages.filter((stage) => stage.parts.length > 0);
+}
+
+/** The stages of a candidate; before a reduction one, with the cases that may follow. */
+function stagesOf(walk: KeptWalk): Stage[] {
+  const { parts, facts, next } = walk;
+  const reached = lastOf(walk.reached);
+  if (isReduced(reached)) return stagesOfReduced(walk);
+  const steps = ORIENTATIONS.filter(({ name }) => reached.includes(name)).flatMap(({ name }) => reductionsAfter(name));
+  const cases = [...new Set(steps.map(({ axis }) => `${axisName(axis)} ${lastOf(facts).cases[axis]}`))];
+  return [{ parts, states: statesOf(reached), cases: next === null ? cases : wordsOfNext(walk) }];
+}
+
+/** What is seen of a candidate: its stages, each together, and the moves in all. */
+function stepOf(parts: Part[], walk: KeptWalk | null) {
+  const stages = walk === null ? [{ parts, states: [], cases: [] }] : stagesOf(walk);
+  const total = walk?.totals.at(-1);
+  const count = stages.length > 1 ? `${total} in all` : counted(total ?? 0, "move");
+  return element("span", { class: "step" }, ...stages.map((stage, at) => element("span", { class: "step" },
+    element("span", { class: "moves" }, bracketed(stage.parts)),
+    ...(at === stages.length - 1 ? [element("span", { class: "total" }, walk === null ? "" : count)] : []),
+    ...stage.states.map((state) => element("span", { class: "chip" }, state)),
+    ...stage.cases.map((each) => element("span", { class: "case" }, each)))));
+}
+
+/** A candidate with its walk, if that is known, and its place. */
+type Shown = { candidate: Candidate; walk: KeptWalk | null; at: number };
+
+type KeptActs = { goOn: (parts: Part[], list: List | null) => void; change: (kept: Candidate[]) => void };
+
+export class KeptCandidates {
+  #calls: Calls;
+  #acts: KeptActs;
+  #candidates: Candidate[] = [];
+  #walks: KeptWalk[] = [];
+  /** What was kept before some were taken away, as long as nothing else changed. */
+  #before: Candidate[] | null = null;
+  /** the field of each candidate's note */
+  #notes: PageElement[] = [];
+  #scramble = "";
+  #list = part("kept-list");
+  #way = new WayTo(part("bar-kept"), part("kept"), part("kept-heading"));
+
+  /** @param calls of its own */
+  constructor(calls: Calls, acts: KeptActs) {
+    this.#calls = calls;
+    this.#acts = acts;
+    part("copy-kept").addEventListener("click", (event) => copy(this.#text(), event.currentTarget));
+    part("kept-clear").addEventListener("click", () => {
+      this.leave([]);
+      part("kept-back").focus({ preventScroll: true });
+    });
+    part("kept-back").addEventListener("click", () => {
+      const before = present(this.#before);
+      const { length } = before;
+      acts.change(before);
+      announce(`${counted(length, "line")} ${length === 1 ? "is" : "are"} kept again.`);
+    });
+    part("kept-sort").addEventListener("change", () => this.#draw());
+  }
+
+  /** Shows candidates; what the engine says of them comes by `describe`. */
+  show(candidates: Candidate[]) {
+    if (candidates === this.#candidates) return;
+    const [before, after] = [this.#candidates, candidates].map((all) => all.map(nameOf).join("\n"));
+    this.#candidates = candidates;
+    // rows stay where they are, since the press that ends a note may be on a button of one
+    if (before === after) {
+      for (const [at, { note }] of candidates.entries()) {
+        if (this.#notes[at].value !== note) this.#notes[at].value = note;
+      }
+      return;
+    }
+    this.#walks = [];
+    this.#offerBack(null);
+    const { length } = candidates;
+    this.#way.show(length === 0 ? "" : `★ ${length}`, `Kept: ${counted(length, "line")}`);
+    this.#draw();
+  }
+
+  /** Keeps a line, or takes it away if it is kept.
+   * @param pressed under which is said why it isn't kept
+   * @param next the reduction that it is kept with */
+  star(state: State, pressed: HTMLElement, parts: Part[], next = "") {
+    const kept = withStar(state.kept, parts, next);
+    const isKept = kept.length > state.kept.length;
+    if (kept.length > MOST_CANDIDATES) return tellAt(pressed, MOST_ARE_KEPT);
+    if (!fitsAddress({ ...state, kept })) return tellAt(pressed, NO_ROOM);
+    withoutMoving(part("results"), () => (isKept ? this.#acts.change(kept) : this.leave(kept)));
+    announce(`${spoken(bracketed(parts))}: ${isKept ? "kept" : "no longer kept"}.`);
+  }
+
+  /** Leaves fewer candidates, which can be undone until something else changes. */
+  leave(left: Candidate[]) {
+    const before = this.#candidates;
+    this.#acts.change(left);
+    this.#offerBack(before);
+    announce(`${part("kept-left-words").textContent} A button below the list undoes that.`);
+  }
+
+  /** Offers what was kept before, or nothing. */
+  #offerBack(before: Candidate[] | null) {
+    const isFocused = document.activeElement === part("kept-back");
+    this.#before = before;
+    const count = before === null ? 0 : before.length - this.#candidates.length;
+    part("kept-left").hidden = count === 0;
+    const words = `${counted(count, "line")} ${count === 1 ? "was" : "were"} removed.`;
+    part("kept-left-words").textContent = count === 0 ? "" : words;
+    // not by :has, which would lay a style on all of the page whenever a part of it changes
+    part("kept").parentElement?.classList.toggle("none-kept", this.#candidates.length === 0 && count === 0);
+    // what is hidden can't keep the focus
+    if (isFocused && count === 0) part("kept-heading").focus({ preventScroll: true });
+  }
+
+  /** Shows what the engine says of the candidates after a scramble, unless it is shown already.
+   * @param scramble by its face turns
+   * @param written as it is copied */
+  async describe(scramble: string, written: string) {
+    const candidates = this.#candidates;
+    if (this.#scramble === written && this.#walks.length === candidates.length) return;
+    try {
+      const walks = await this.#calls.ask("walkKept", { scramble, candidates });
+      if (candidates !== this.#candidates) return;
+      this.#walks = walks;
+      this.#scramble = written;
+      this.#draw();
+    } catch (fault) {
+      if (candidates !== this.#candidates || fault instanceof Stopped) return;
+      tell(part("alert"), `The lines that are kept can't be read: ${wordsOfFault(fault)}.`);
+    }
+  }
+
+  /** @returns whether a line is kept, by itself or with a reduction */
+  has(parts: Part[], next = "") {
+    return this.#candidates.some((each) => nameOf(each) === nameOf({ parts, next }));
+  }
+
+  /** The candidates with their walks, in the order that is chosen. */
+  #sorted(): Shown[] {
+    const all = this.#candidates.map((candidate, at) => ({ candidate, walk: this.#walks[at] ?? null, at }));
+    const walked = all.flatMap((each) => (each.walk === null ? [] : [{ ...each, walk: each.walk }]));
+    if (walked.length < all.length || part("kept-sort").value === "kept") return all;
+    return walked
+      .sort((one, other) => stageOf(other.walk) - stageOf(one.walk) || totalOf(one.walk) - totalOf(other.walk));
+  }
+
+  #text() {
+    if (this.#walks.length !== this.#candidates.length) return "";
+    const notesOf = (walk: KeptWalk, { note }: Candidate) =>
+      [...wordsOfNext(walk).slice(0, 1), note].filter((each) => each !== "");
+    return fmcOfAll(this.#scramble, this.#sorted().flatMap(({ candidate, walk }) =>
+      (walk === null ? [] : [{ walk, notes: notesOf(walk, candidate) }])));
+  }
+
+  #draw() {
+    const { activeElement } = document;
+    const focused = this.#list.contains(activeElement) ? activeElement?.dataset.control : null;
+    this.#list.replaceChildren(...this.#sorted().map((each) => this.#item(each)));
+    if (focused) this.#control(focused)?.focus({ preventScroll: true });
+    tell(part("kept-count"), this.#candidates.length === 0 ? "" : counted(this.#candidates.length, "line"));
+  }
+
+  /** @returns what is pressed or typed in, by its name */
+  #control(name: string) {
+    return [...this.#list.querySelectorAll("[data-control]")].find(({ dataset }) => dataset.control === name);
+  }
+
+  #item({ candidate, walk, at }: Shown) {
+    const { parts, note } = candidate;
+    const [name, said] = [nameOf(candidate), saidOf(candidate)];
+    // as long as it isn't known where the best are, over both sides
+    const list: List | null = candidate.next === "" || walk?.next === null ? null
+      : { step: stepNamed(candidate.next).name, side: walk?.next.side ?? "both", slack: 0, isAll: false };
+    const act = (word: string, control: string, click: () => void) =>
+      button(word, { class: "quiet", "data-control": `${control} ${name}`, "aria-label": `${word}: ${said}`, click });
+    const field = element("input", {
+      class: "note-field", value: note, maxlength: LONGEST_NOTE, placeholder: "Note", autocomplete: "off",
+      "data-control": `note ${name}`,
+      "aria-label": `Note: ${said}`,
+      change: (event) => {
+        this.#acts.change(this.#candidates.with(at, { ...this.#candidates[at], note: event.target.value.trim() }));
+      },
+    });
+    this.#notes[at] = field;
+    return element("li", {},
+      stepOf(parts, walk),
+      element("span", { class: "row" },
+        field,
+        act("Go on", "on", () => this.#acts.goOn(parts, list)),
+        act("Remove", "away", () => this.#remove(at))));
+  }
+
+  /** Takes a candidate away; the focus, if it was in its row, goes to the next one.
+   * @param at its place among the candidates */
+  #remove(at: number) {
+    const row = [...this.#list.children].find((each) => each.contains(document.activeElement));
+    const next = row?.nextElementSibling ?? row?.previousElementSibling;
+    const control = next?.querySelector("[data-control^=away]")?.dataset.control ?? "";
+    this.leave(this.#candidates.toSpliced(at, 1));
+    if (row) (this.#control(control) ?? part("kept-back")).focus({ preventScroll: true });
+  }
+}

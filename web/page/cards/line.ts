@@ -1,0 +1,269 @@
+// The card of the line so far: the steps that were taken, each of which may be edited or taken away, undo, moves by
+// hand, the switch of sides, and the whole to copy.
+import { Stopped } from "../../module/shared/faults.js";
+import { thrownError, lastOf } from "../shared/certain.js";
+import { copy, fmcOf } from "../shared/copying.js";
+import { announce, button, counted, element, inner, part, spoken, tell, type PageElement } from "../shared/element.js";
+import {
+  bracketed, isReduced, lastSideOf, movesOn, newlyReached, otherSide, statesOf, turnsOfStep,
+} from "../shared/offered-steps.js";
+import { showFault, wordsOfLeftOut } from "../shared/words.js";
+import type { Calls } from "../shared/questions.js";
+import type { Moves as Part, Side } from "../../module/shared/sides.js";
+import type { Reader } from "../shared/reader.js";
+import type { Walk } from "../answers/examine.js";
+
+const LONGEST_PASTED = 65536;
+const UNKNOWN = "…";
+const NO_MOVES = "No moves yet";
+/** What is there only if there are moves. */
+const OF_MOVES = ["line-list", "whole", "undo", "bar-total", "bar-undo", "keep-line"];
+
+/** @returns the parts without their last move */
+function withoutLastMove(parts: Part[]): Part[] {
+  const last = lastOf(parts);
+  const side = lastSideOf(last);
+  const left: Part = { ...last, [side]: last[side].split(" ").slice(0, -1).join(" ") };
+  return [...parts.slice(0, -1), ...(turnsOfStep(left).length === 0 ? [] : [left])];
+}
+
+/** @returns words in a row: `one`, `one and another`, `one, another and a third` */
+const listed = (words: string[]) => [words.slice(0, -1).join(", "), ...words.slice(-1)].filter(Boolean).join(" and ");
+
+/** @returns what is said of a line that ends, or "" */
+function endOf({ parts, facts, reached, totals }: Walk) {
+  const total = counted(lastOf(totals), "move");
+  if (parts.length === 0) return "";
+  if (lastOf(facts).solved) return `Solved: ${total}.`;
+  if (!isReduced(lastOf(reached))) return "";
+  const states = statesOf(lastOf(reached)).filter((state) => state.startsWith("DR"));
+  const are = states.length === 1 ? "is" : "are";
+  return `${listed(states)} ${are} reached: ${total}. nissy has no step after a DR: go on by hand.`;
+}
+
+/** What is known of the steps that two lines begin with in common. @param known of each of `parts` */
+function keptOf<Known>(known: Known[], parts: Part[], others: Part[]) {
+  const end = parts.findIndex((each, at) => bracketed([each]) !== bracketed(others.slice(at, at + 1)));
+  return end < 0 ? known : known.slice(0, end);
+}
+
+/** @returns what is to be known of a line without brackets before the cube is solved, or "" */
+function noteOfJoined({ parts, facts }: Walk) {
+  if (lastOf(facts).solved || movesOn(parts, "inverse") === "") return "";
+  return "Not finished: the inverse moves stand at the end as premoves, and what follows goes before them.";
+}
+
+/** Has lines that are pasted go into a field of one line without comments, of which the first would hide the rest. */
+function takeLines(field: PageElement, reader: Reader) {
+  field.addEventListener("paste", (event) => {
+    const text = (event.clipboardData?.getData("text/plain") ?? "").trim().replace(/\r\n?/g, "\n");
+    if (!text.includes("\n") || text.length > LONGEST_PASTED) return;
+    event.preventDefault();
+    const { line, leftOut } = reader.plainLine(text);
+    document.execCommand("insertText", false, line);
+    tell(part("own-read"), wordsOfLeftOut(leftOut));
+  });
+}
+
+/** `change` says whether it leads back to a row. */
+type LineActs = { change: (change: { parts?: Part[]; side?: Side }) => boolean; star: () => void };
+
+export class LineSoFar {
+  #calls: Calls;
+  #reader: Reader;
+  #acts: LineActs;
+  #parts: Part[] = [];
+  /** what each step reached as long as nothing took it away */
+  #reached: string[][] = [];
+  /** the same of steps that are about to be shown, one of which was edited or removed */
+  #wanted: string[][] | null = null;
+  /** the elements that say of each step what it reaches and how long it is, also if a field stands in their place */
+  #words: Record<"moves" | "reaches" | "lost" | "count", PageElement>[] = [];
+  #side: Side = "normal";
+
+  constructor(calls: Calls, reader: Reader, acts: LineActs) {
+    this.#calls = calls;
+    this.#reader = reader;
+    this.#acts = acts;
+    part("own-form").addEventListener("submit", (event) => {
+      event.preventDefault();
+      this.#add();
+    });
+    takeLines(part("own"), reader);
+    part("switch").addEventListener("click", () => this.turn(otherSide(this.#side)));
+    for (const name of ["undo-step", "bar-undo"]) part(name).addEventListener("click", () => this.undoStep());
+    part("undo-move").addEventListener("click", () => this.#undo(withoutLastMove(this.#parts)));
+    part("clear").addEventListener("click", () => this.#undo([]));
+    part("keep-line").addEventListener("click", () => acts.star());
+    for (const name of ["bracketed", "joined", "fmc"]) {
+      const text = part(name);
+      part(`copy-${name}`).addEventListener("click", (event) => copy(text.textContent, event.currentTarget, text));
+    }
+  }
+
+  /** Shows on which side moves by hand go. */
+  turnTo(side: Side) {
+    this.#side = side;
+    part("side").textContent = `${side} side`;
+    part("switch").textContent = `Switch to the ${otherSide(side)} side`;
+  }
+
+  /** Shows whether the line is kept. */
+  markKept(isKept: boolean) {
+    part("keep-line").textContent = isKept ? "★ Kept" : "☆ Keep";
+    part("keep-line").setAttribute("aria-pressed", String(isKept));
+  }
+
+  /** Has moves by hand go on another side. */
+  turn(side: Side) {
+    this.#acts.change({ side });
+    announce(`Moves by hand go on the ${side} side.`);
+  }
+
+  /** Takes the last step away, if there is one. */
+  undoStep() {
+    if (this.#parts.length > 0) this.#undo(this.#parts.slice(0, -1));
+  }
+
+  /** Shows the parts at once; what the engine says of them comes by `describe`. */
+  show(parts: Part[]) {
+    this.#reached = this.#wanted ?? keptOf(this.#reached, this.#parts, parts);
+    this.#wanted = null;
+    this.#parts = parts;
+    this.#words = parts.map((each) => ({
+      moves: element("span", { class: "moves" }, bracketed([each])),
+      reaches: element("span", { class: "reaches", hidden: true }),
+      lost: element("span", { class: "lost", "aria-live": "polite", hidden: true }),
+      count: element("span", { class: "count" }),
+    }));
+    for (const name of ["finished", "own-read"]) tell(part(name), "");
+    part("line-list").replaceChildren(...parts.map((each, index) => this.#item(each, index)));
+    part("line-empty").hidden = parts.length > 0;
+    // where the engine can't read them, no line of other parts stays to be copied
+    const line = bracketed(parts);
+    if (line !== part("bracketed").textContent) this.#showWhole({ line, joined: "", total: UNKNOWN });
+    for (const name of OF_MOVES) part(name).hidden = parts.length === 0;
+  }
+
+  /** Shows what each step reaches, how long it is, and the whole. @param whole without brackets */
+  describe(walk: Walk, whole: string, scramble: string) {
+    this.#showWhole({
+      line: bracketed(walk.parts), joined: whole, total: counted(lastOf(walk.totals), "move"), note: noteOfJoined(walk),
+      fmc: fmcOf(scramble, walk),
+    });
+    this.#words.forEach(({ reaches, lost, count }, index) => {
+      const inAll = index === 0 ? "" : `, ${walk.totals[index + 1]} in all`;
+      count.textContent = `${counted(walk.turns[index], "move")}${inAll}`;
+      const [fresh, missed] = [newlyReached(walk, index), this.#lost(walk, index)];
+      tell(reaches, fresh.join(", "));
+      tell(lost, missed.length === 0 ? "" : `no longer ${listed(missed)}`);
+      if (missed.length === 0 || fresh.length > 0) this.#reached[index] = fresh;
+    });
+    tell(part("finished"), endOf(walk));
+  }
+
+  /** What a step reached before it or an earlier one was changed, and what doesn't hold then, nor in the end. */
+  #lost({ reached }: Walk, index: number) {
+    const holds = statesOf([...reached[index + 1], ...lastOf(reached)]);
+    return (this.#reached[index] ?? []).filter((state) => !holds.includes(state));
+  }
+
+  /** @param texts `note`: on what is joined */
+  #showWhole(
+    { line, joined, total, note = "", fmc = "" }:
+      { line: string; joined: string; total: string; note?: string; fmc?: string },
+  ) {
+    const texts = { bracketed: line, joined, total, fmc, "bar-line": line || NO_MOVES, "bar-total": total };
+    for (const [name, text] of Object.entries(texts)) part(name).textContent = text;
+    tell(part("joined-note"), note);
+    // without inverse moves it is the same
+    part("whole").classList.toggle("alike", joined === line);
+  }
+
+  #item(each: Part, index: number) {
+    const text = bracketed([each]);
+    const act = (word: string, click: () => void) =>
+      button(word, { class: "quiet", "aria-label": `${word} ${spoken(text)}`, click });
+    const { moves, reaches, lost, count } = this.#words[index];
+    return element("li", {},
+      element("span", { class: "step" }, moves, reaches, lost, element("span", { class: "note" }, count)),
+      element("span", { class: "acts" },
+        act("Edit", () => this.#edit(index)), act("Remove", () => this.#replace(index, [], 1))));
+  }
+
+  /** Puts a field in place of a step. */
+  #edit(index: number) {
+    const item = part("line-list").children[index];
+    const text = bracketed([this.#parts[index]]);
+    const shown = [...item.childNodes];
+    const field = element("input", {
+      class: "moves wide", value: text, spellcheck: "false", autocapitalize: "off", autocomplete: "off",
+      maxlength: 4096, "aria-label": `Step ${index + 1}`,
+    });
+    takeLines(field, this.#reader);
+    const fault = element("div", { class: "fault", hidden: true });
+    const leave = () => {
+      item.replaceChildren(...shown);
+      inner(item, "button").focus();
+    };
+    const form = element("form", {
+      class: "row",
+      submit: (event) => {
+        event.preventDefault();
+        // the step is seen as it is written down, so what has no brackets goes on the normal side
+        this.#read(field, fault, "normal", (added) => this.#replace(index, added, 0));
+      },
+    }, field, button("Change", { type: "submit" }), button("Leave", { click: leave }));
+    form.addEventListener("keydown", ({ key }) => key === "Escape" && leave());
+    item.replaceChildren(form, fault);
+    field.focus();
+    field.setSelectionRange(text.length, text.length);
+  }
+
+  /** Puts parts in place of a step: the last is to reach what that one reached. The focus, if it was in its row, goes
+   * to the last row then.
+   * @param focused the place of the button that has it then */
+  #replace(index: number, added: Part[], focused: number) {
+    const isWithin = part("line-list").children[index].contains(document.activeElement);
+    const reached = added.map((_, at) => (at === added.length - 1 ? this.#reached[index] : []));
+    this.#wanted = this.#reached.toSpliced(index, 1, ...reached);
+    this.#undo(this.#parts.toSpliced(index, 1, ...added));
+    const place = index + Math.max(added.length, 1) - 1;
+    const row = part("line-list").children[Math.min(place, this.#parts.length - 1)];
+    if (isWithin) row?.querySelectorAll("button")[focused].focus({ preventScroll: true });
+  }
+
+  #undo(parts: Part[]) {
+    const isOneLess = parts.length === this.#parts.length - 1;
+    const isBack = this.#acts.change(isOneLess ? { parts, side: lastSideOf(lastOf(this.#parts)) } : { parts });
+    announce(parts.length === 0 ? "The line is empty." : `The line is ${spoken(bracketed(parts))}.`);
+    // a field that is typed in would bring the keyboard of a phone up, beside the row
+    if (parts.length === 0) part(isBack ? "line-heading" : "own").focus({ preventScroll: true });
+  }
+
+  #add() {
+    const parts = this.#parts;
+    const field = part("own");
+    this.#read(field, part("own-fault"), this.#side, (added) => {
+      field.value = "";
+      if (added.length > 0) this.#acts.change({ parts: [...parts, ...added] });
+    });
+  }
+
+  /** Reads what a field has as steps. @param where for a fault */
+  async #read(field: PageElement, where: HTMLElement, side: Side, use: (added: Part[]) => void) {
+    const [text, parts] = [field.value, this.#parts];
+    // what was sent twice, or changed since, isn't added; nor is it to another line
+    const isStill = () => field.value === text && this.#parts === parts && field.isConnected;
+    const plain = this.#reader.plainLine(text);
+    try {
+      const added = await this.#calls.ask("readByHand", { text: plain.line, side });
+      if (!isStill()) return;
+      showFault(where, field, plain, null, text);
+      use(added);
+      tell(part("own-read"), wordsOfLeftOut(plain.leftOut));
+    } catch (fault) {
+      if (isStill() && !(fault instanceof Stopped)) showFault(where, field, plain, thrownError(fault), text);
+    }
+  }
+}

@@ -1,0 +1,300 @@
+// The list of a step's solutions: grouped by length or by case, filtered by turns and by case, and cut if it is long. A
+// list that is looked for gives way to another one, and can be stopped.
+import { Stopped } from "../../module/shared/faults.js";
+import { thrownError, present } from "../shared/certain.js";
+import { announce, announceLater, button, counted, element, part, setBusy, spoken, tell } from "../shared/element.js";
+import {
+  Filters, NOT_MOVES, caseAtMost, chosen, offerChoices, offerLastTurns, offerMoves, withTurns,
+} from "./filters.js";
+import { GREATEST_SLACK } from "../state/limits.js";
+import { addRows, named, roveWithin, showRows, starButton, takeButton, takeNamed } from "../shared/rows.js";
+import {
+  axisName, bracketed, reductionsAfter, sizeOfCase, stateOf, stepNamed, titleOf,
+} from "../shared/offered-steps.js";
+import { sidesOfTwins, withTwins } from "../shared/twins.js";
+import { isNarrow } from "../shared/view.js";
+import type { Calls } from "../shared/questions.js";
+import type { Entry, Rows } from "../answers/list-rows.js";
+import type { List } from "../state/address.js";
+import type { Moves as Part } from "../../module/shared/sides.js";
+
+/** `longest`: how many signs its longest row has; `list`: of those that are shown. */
+export type Group = { name: string; entries: Entry[]; longest: number; list: HTMLElement | null };
+
+/** From more signs on a line leaves no room for what is pressed beside it on a phone. */
+const LONG_LINE = 18;
+const MOST_SHOWN = 200;
+const LOOKING = "Looking …";
+
+/** What a list is called. */
+const nameOfList = ({ step, side }: List) =>
+  `${titleOf(stepNamed(step))}, ${side === "both" ? "both sides" : `${side} side`}`;
+
+/** What is said of a list. @param matching how many are left */
+function noteOfList({ entries, all, left, whole }: Rows, matching: number, shown: number) {
+  if (all === 0) return "No solution within 20 moves.";
+  const sentences = [`${whole ? "" : "More than "}${counted(all, "solution")}.`];
+  const earlier = all - left;
+  if (earlier === 1) sentences.push("1 that reaches it before its last move is left out.");
+  if (earlier > 1) sentences.push(`${earlier.toLocaleString("en")} that reach it before their last move are left out.`);
+  if (left > entries.length) sentences.push(`${counted(entries.length, "row")}: twins share one.`);
+  if (matching < entries.length) sentences.push(`${counted(matching, "row")} ${matching === 1 ? "matches" : "match"}.`);
+  const first = shown.toLocaleString("en");
+  if (shown < matching) sentences.push(`The first ${first} are shown: type moves to narrow the list.`);
+  if (!whole) sentences.push("There are more than the page has room for.");
+  return sentences.join(" ");
+}
+
+/** What is done from a list. */
+type ListActs = {
+  take: (parts: Part[], key: string) => void;
+  change: (change: Partial<List> | null) => void;
+  star: (button: HTMLElement, parts: Part[]) => void;
+  isStarred: (parts: Part[]) => boolean;
+  isSeen: (parts: Part[]) => boolean;
+  copy: (text: string, button: HTMLElement) => void;
+};
+
+export class SolutionList {
+  #calls: Calls;
+  #acts: ListActs;
+  #name = "";
+  #list: List | null = null;
+  #rows: Rows | null = null;
+  /** What the filters leave, in its order, which is that of its groups. */
+  #matching: Entry[] = [];
+  #ordered: Group[] = [];
+  #shown = MOST_SHOWN;
+  #filters = new Filters<Entry>("list", part("solutions-note"), [[
+    withTurns("filter", "last-turn", ({ moves, others, part: own, twins }) =>
+      (twins === undefined ? withTwins(moves, others) : sidesOfTwins(own, twins))),
+    caseAtMost("most", (entry) => this.#casesOf(entry).map(({ name }) => name)),
+  ]], () => this.#filtered());
+  #groups = part("solutions-groups");
+
+  /** @param calls of its own */
+  constructor(calls: Calls, acts: ListActs) {
+    this.#calls = calls;
+    this.#acts = acts;
+    offerMoves("slack", GREATEST_SLACK);
+    part("slack").addEventListener("change", () => acts.change({ slack: Number(part("slack").value) }));
+    part("list-side").addEventListener("change", () => acts.change({ side: part("list-side").value as List["side"] }));
+    part("twins").addEventListener("change", () => acts.change({ isAll: part("twins").checked }));
+    part("solutions-stop").addEventListener("click", () => calls.stop());
+    part("solutions-close").addEventListener("click", () => acts.change(null));
+    part("list-sort").addEventListener("change", () => this.#filtered());
+    part("solutions-more").addEventListener("click", () => this.#more());
+    roveWithin(this.#groups);
+    // so that rows are seen below them
+    part("list-filters").open = !isNarrow();
+  }
+
+  /** Ends the worker; what was shown is looked for anew. */
+  end() {
+    this.#name = "";
+    this.#calls.end();
+  }
+
+  /** Looks for a list, or shows that none is open; one that is shown already stays. Says whether it is shown in the
+   * end.
+   * @param name what tells it from others */
+  async show(name: string, list: List | null, line: { scramble: string; parts: Part[] } | null) {
+    if (name === this.#name) return false;
+    this.#name = name;
+    this.#calls.stop();
+    // the engine searches while the card is drawn; what is wrong is said where it is waited for
+    const asked = list && line && this.#calls.ask("rowsOfList", { list, scramble: line.scramble, parts: line.parts });
+    asked?.catch(() => {});
+    this.#open(list);
+    if (!asked) return false;
+    const isStill = () => name === this.#name;
+    try {
+      const rows = await asked;
+      if (isStill()) this.#take(rows);
+    } catch (fault) {
+      if (!isStill()) return false;
+      const why = fault instanceof Stopped ? "Stopped." : thrownError(fault).message;
+      this.#setWorking(false);
+      tell(part("solutions-note"), why);
+      announce(why);
+    }
+    return isStill();
+  }
+
+  /** Shows that a list is looked for, or that none is open. */
+  #open(list: List | null) {
+    const isSame = list?.step === this.#list?.step && list?.side === this.#list?.side;
+    // the filters stay for the same list with other rows, and what is typed while it is looked for stays too
+    if (!isSame) {
+      this.#filters.clear();
+      part("list-sort").value = "";
+    }
+    this.#filters.show(false);
+    this.#list = list;
+    this.#rows = null;
+    this.#shown = MOST_SHOWN;
+    part("solutions-more").hidden = true;
+    announceLater("");
+    this.#groups.replaceChildren();
+    part("solutions").hidden = list === null;
+    this.#setWorking(list !== null);
+    if (list !== null) this.#describe(list);
+  }
+
+  #describe(list: List) {
+    const { step, side, slack, isAll } = list;
+    part("solutions-heading").textContent = nameOfList(list);
+    part("solutions").dataset.marks = stateOf(stepNamed(step));
+    part("slack").value = String(slack);
+    part("list-side").value = side;
+    part("twins").checked = isAll;
+    const hasCases = stepNamed(step).needs === null;
+    part("case-filters").hidden = !hasCases;
+    offerChoices("list-sort", hasCases ? ["case"] : [], "length");
+    part("list-order").hidden = !hasCases;
+    tell(part("solutions-note"), LOOKING);
+  }
+
+  /** @param rows of the open list */
+  #take(rows: Rows) {
+    this.#rows = rows;
+    offerLastTurns("last-turn", rows.entries.flatMap(({ part: { normal, inverse } }) => [normal, inverse]));
+    this.#setWorking(false);
+    this.#order();
+    const all = `${rows.whole ? "" : "more than "}${counted(rows.all, "solution")}`;
+    announce(`${nameOfList(present(this.#list))}: ${all}.`);
+  }
+
+  /** Puts the focus on the field of the filter, also where the filters are folded. */
+  focusFilter() {
+    part("list-filters").open = true;
+    part("filter").focus();
+  }
+
+  focus() {
+    (this.#groups.querySelector(".take") ?? part("solutions-heading")).focus({ preventScroll: true });
+    // with its heading, and below the bar
+    part("solutions").scrollIntoView({ block: "nearest" });
+  }
+
+  /** Makes the row of some moves seen, and returns its button, or null. */
+  reveal(key: string) {
+    const at = this.#rows === null ? -1 : this.#matching.findIndex(({ moves }) => moves === key);
+    if (at >= this.#shown) {
+      this.#shown = at + 1;
+      this.#draw();
+    }
+    return takeNamed(this.#groups, key);
+  }
+
+  #setWorking(isWorking: boolean) {
+    const stop = part("solutions-stop");
+    // what can't be pressed can't keep the focus
+    if (!isWorking && document.activeElement === stop) part("solutions-heading").focus();
+    stop.disabled = !isWorking;
+    setBusy("solutions", isWorking, LOOKING);
+  }
+
+  /** Shows what the filters leave, from its beginning, and says whether there is a list. */
+  #filtered() {
+    this.#shown = MOST_SHOWN;
+    if (this.#rows !== null) this.#order();
+    return this.#rows !== null;
+  }
+
+  /** Shows more rows, and goes to the first of them. */
+  #more() {
+    const next = this.#matching[this.#shown];
+    this.#shown += MOST_SHOWN;
+    this.#draw();
+    takeNamed(this.#groups, next.moves)?.focus();
+  }
+
+  /** @returns the names of the cases after a solution, for each reduction that may follow */
+  #casesOf({ cases }: Entry) {
+    if (cases === undefined) return [];
+    return reductionsAfter(present(this.#list).step).map((step) => (
+      { state: stateOf(step), axis: axisName(step.axis), name: cases[step.axis] }));
+  }
+
+  /** @returns the nearest case of an entry, and how far it is */
+  #nearest(entry: Entry) {
+    const cases = this.#casesOf(entry).map(({ name }) => ({ name, far: sizeOfCase(name).far }));
+    return cases.sort((one, other) => one.far - other.far)[0] ?? { name: "unknown case", far: Infinity };
+  }
+
+  /** Puts what the filters leave in its order, and shows its beginning. */
+  #order() {
+    const left = this.#filters.left(present(this.#rows).entries);
+    this.#ordered = this.#grouped(left ?? []);
+    this.#matching = this.#ordered.flatMap(({ entries }) => entries);
+    this.#groups.replaceChildren();
+    this.#draw();
+    if (left === null) tell(part("solutions-note"), NOT_MOVES);
+  }
+
+  /** @returns in the order of their rows */
+  #grouped(matching: Entry[]): Group[] {
+    const byCase = part("list-sort").value === "case";
+    const nearest = new Map(byCase ? matching.map((entry) => [entry, this.#nearest(entry)]) : []);
+    const farOf = (entry: Entry) => nearest.get(entry)?.far ?? 0;
+    if (byCase) matching.sort((one, other) => farOf(one) - farOf(other) || one.length - other.length);
+    const groups = new Map<string, Group>();
+    for (const entry of matching) {
+      const inAll = entry.total === undefined ? "" : `, ${entry.total} in all`;
+      const name = nearest.get(entry)?.name ?? counted(entry.length, "move") + inAll;
+      const group = groups.get(name) ?? { name, entries: [], longest: 0, list: null };
+      groups.set(name, group);
+      group.entries.push(entry);
+      group.longest = Math.max(group.longest, bracketed([entry.part]).length);
+    }
+    return [...groups.values()];
+  }
+
+  /** Shows as many rows as are wanted, below those that are seen. */
+  #draw() {
+    let room = this.#shown;
+    showRows(this.#groups, () => {
+      for (const group of this.#ordered) {
+        const count = Math.min(room, group.entries.length);
+        room -= count;
+        if (count > 0) this.#extend(group, count);
+      }
+    }, part("solutions-heading"));
+    const count = this.#shown - room;
+    const rows = present(this.#rows);
+    this.#filters.show(this.#matching.length === 0 && rows.entries.length > 0);
+    part("solutions-more").hidden = count === this.#matching.length;
+    tell(part("solutions-note"), noteOfList(rows, this.#matching.length, count));
+  }
+
+  /** Shows more of a group. @param count how many of its rows are shown then */
+  #extend(group: Group, count: number) {
+    const { name, entries, longest } = group;
+    if (group.list === null) {
+      group.list = element("ul", longest > LONG_LINE ? { class: "long" } : {});
+      group.list.style.setProperty("--longest", String(longest));
+      const heading = element("h3", {}, `${name}: ${counted(entries.length, "row")}`);
+      this.#groups.append(element("div", { class: "group" }, heading, group.list));
+    }
+    addRows(group.list, entries.slice(group.list.children.length, count).map((entry) => this.#item(entry)));
+  }
+
+  #item(entry: Entry) {
+    const { moves, others, part: own } = entry;
+    if (moves === "") return element("li", { class: "reached" }, "no moves: it is reached");
+    const [added, key, cases] = [[own], moves, this.#casesOf(entry)];
+    const text = bracketed(added);
+    const twins = others.map((other) => `or ${spoken(other)}`);
+    const said = { cases: cases.map(({ axis, name }) => `${axis} ${name}`), twins };
+    const copy = { class: "copy", ...named(`Copy ${spoken(text)}`, "Copy the covered moves") };
+    return element("li", {},
+      takeButton(text, { key, isSeen: this.#acts.isSeen(added), ...said }, () => this.#acts.take(added, key)),
+      ...(others.length === 0 ? [] : [element("small", { class: "twins" }, `/ ${others.join(" / ")}`)]),
+      ...(cases.length === 0 ? [] : [element("span", { class: "cases" }, ...cases.map(({ axis, name, state }) =>
+        element("span", { class: "case", "data-marks": state }, `${axis} ${name}`)))]),
+      element("span", { class: "acts" },
+        starButton(text, () => this.#acts.isStarred(added), (star) => this.#acts.star(star, added)),
+        button("Copy", { ...copy, click: (event) => this.#acts.copy(text, event.currentTarget) })));
+  }
+}

@@ -1,0 +1,221 @@
+// The table of the steps that may follow: a row for each, with what solvers choose by, and a cell for each side with
+// the least length, all moves, and how many solutions there are; what is reached; and the looks, in a table of theirs.
+import { lastOf } from "../shared/certain.js";
+import { counted, element, part } from "../shared/element.js";
+import {
+  SIDES, caseOfStep, inGroups, isReduced, openSteps, stateOf, statesOf, titleOf,
+} from "../shared/offered-steps.js";
+import type { Calls } from "../shared/questions.js";
+import type { Counted, Examined, Offer, Unexamined } from "../answers/examine.js";
+import type { Facts } from "../../module/shared/facts.js";
+import type { List } from "../state/address.js";
+import type { Moves, Side } from "../../module/shared/sides.js";
+import type { Step } from "../../module/shared/steps.js";
+
+export type Told = Examined | Unexamined;
+export type Cube = { facts: Facts; made: number; reached: string[] };
+
+/** The least length, what that makes in all, if moves were made before, and how many solutions there are, or how many
+ * of them make that, with a word that is said and not shown.
+ * @param made moves before it */
+function wordsOfRow({ length, total, solutions, best }: Counted, made: number): string[] {
+  if (length === null) return ["–", "", "none within 20 moves", ""];
+  const [some, all] = [best, solutions].map((each) => each.toLocaleString("en"));
+  const words = best < solutions ? [`${some} of ${all}`, " solutions"] : [counted(solutions, "solution"), ""];
+  return [counted(length, "move"), made > 0 ? `${total} in all, ` : "", ...words];
+}
+
+/** How long the page waits for all offers, to show them together with the cube. */
+const SOON = 50;
+
+/** Asks for a cube, which is told first, and for the groups of steps that may follow: two at most. */
+function askedOf(calls: Calls, typed: { text: string; parts: Moves[] }): [Promise<Told>, ...Promise<Offer[]>[]] {
+  const acts: { settle: (told: Told | Offer[]) => void; refuse: (fault: unknown) => void }[] = [];
+  const told = [0, 1, 2].map(() => new Promise<Told | Offer[]>((settle, refuse) => acts.push({ settle, refuse })));
+  // what is wrong is said where it is waited for
+  for (const each of told) each.catch(() => {});
+  let at = 0;
+  calls.ask("examine", typed, (each) => acts[at++].settle(each))
+    .catch((fault) => acts.forEach(({ refuse }) => refuse(fault)));
+  return told as [Promise<Told>, ...Promise<Offer[]>[]];
+}
+
+/** The cube, and the steps that may follow, each with its counts on both sides, in portions: all groups in one if
+ * they are there soon, since what is shown by itself is laid out and painted by itself, at more than most counts;
+ * else each. They come by one question, so that none waits for the page. */
+export async function cubeWithOffers(
+  ...asked: Parameters<typeof askedOf>
+): Promise<{ cube: Told; portions: Promise<Offer[][]>[] }> {
+  const [first, ...groups] = askedOf(...asked);
+  const cube = await first;
+  const count = "unread" in cube ? 0 : inGroups(openSteps(lastOf(cube.walk.reached))).length;
+  const offers = groups.slice(0, count);
+  const all = Promise.all(offers);
+  const late = new Promise((tell) => setTimeout(tell, SOON, false));
+  const isSoon = await Promise.race([all.then(() => true, () => false), late]);
+  const portions = isSoon ? [all] : offers.map((group) => group.then((each) => [each]));
+  for (const portion of portions) portion.catch(() => {});
+  return { cube, portions };
+}
+
+/** A step that is still to be counted. */
+const UNCOUNTED = { length: null, total: Infinity, solutions: 0, nodes: 0, best: 0 };
+
+/** @returns whether offers are reductions */
+const areReductions = ([{ step }]: Offer[]) => step.needs !== null;
+
+/** Whether some offers keep what is reached: each does where that is nothing, and a reduction keeps its orientation. */
+const keepsReached = (offers: Offer[], reached: string[]) =>
+  reached.length === 0 || (areReductions(offers) && !isReduced(reached));
+
+/** @returns the least length of a group of offers */
+const leastOf = (offers: Offer[]) =>
+  Math.min(...offers.flatMap((offer) => SIDES.map((side) => offer[side].length ?? Infinity)));
+
+export class StepTable {
+  #chosen: (step: Step, side: Side) => void;
+  #focused: HTMLElement | null = null;
+  #groups: Offer[][] = [];
+  #body = part("steps-body");
+  #looks = part("looks-body");
+
+  constructor(chosen: (step: Step, side: Side) => void) {
+    this.#chosen = chosen;
+  }
+
+  /** Dims the offers of the last cube, with all that rests on them, until those of the next one are there. */
+  hold() {
+    const { activeElement } = document;
+    const isWithin = activeElement instanceof HTMLElement && part("choices").contains(activeElement);
+    if (isWithin) this.#focused = activeElement;
+    else if (activeElement !== document.body) this.#focused = null;
+    part("choices").inert = true;
+  }
+
+  /** Begins with another cube, of which no step is known. */
+  begin({ reached }: Cube) {
+    this.#groups = [];
+    const states = statesOf(reached);
+    part("reached").hidden = states.length === 0;
+    part("reached").replaceChildren(...(states.length === 0 ? [] : ["Reached: "]), ...states.flatMap((state) =>
+      [element("span", { class: "chip", "data-marks": state }, state), " "]));
+  }
+
+  /** The groups of offers, a reduction before an orientation; one that is still to be counted stands in its place. */
+  #inOrder({ reached }: Cube): Offer[][] {
+    return inGroups(openSteps(reached)).reverse().map((steps) => {
+      const blank = steps.map((step) => ({ step, normal: UNCOUNTED, inverse: UNCOUNTED }));
+      return this.#groups.find((group) => areReductions(group) === areReductions(blank)) ?? blank;
+    });
+  }
+
+  /** Adds groups of offers; of all that are shown a reduction comes before an orientation. */
+  add(added: Offer[][], cube: Cube, list: List | null) {
+    this.#groups.push(...added);
+    const groups = this.#inOrder(cube);
+    const { activeElement } = document;
+    const focused = this.#body.contains(activeElement) ? activeElement?.dataset.cell : null;
+    const anew = groups.find((group) => !keepsReached(group, cube.reached));
+    this.#body.replaceChildren(...groups.flatMap((group) =>
+      [...(group === anew ? [this.#anew(cube)] : []), ...this.#rows(group, cube, list)]));
+    this.#looks.replaceChildren(...groups.flat().map((offer) => element("tr", {},
+      element("th", { scope: "row" }, titleOf(offer.step)),
+      ...SIDES.map((side) => element("td", { class: "number" }, offer[side].nodes.toLocaleString("en"))))));
+    const all = groups.flat();
+    part("no-reduction").hidden = cube.reached.length > 0;
+    part("steps-table").hidden = all.length === 0;
+    part("looks").hidden = all.length === 0;
+    if (focused) this.cell(focused)?.focus({ preventScroll: true });
+  }
+
+  /** @returns the cell of this name, or null */
+  cell(name: string) {
+    return [...this.#body.querySelectorAll("[data-cell]")].find(({ dataset }) => dataset.cell === name) ?? null;
+  }
+
+  /** The cell of the first of the shortest steps that are left, or null. */
+  #least() {
+    return this.#body.querySelector(".least");
+  }
+
+  /** What is said of the offers: the first of the shortest steps that are left, if there is one. */
+  summary() {
+    const least = this.#least();
+    return least ? `Shortest next step: ${least.getAttribute("aria-label")?.replace(", shortest", "")}.` : "";
+  }
+
+  /** Gives the focus back that `hold` took: to the same cell or control, or to the heading where that is gone. */
+  giveBack() {
+    const held = this.#focused;
+    this.#focused = null;
+    // it stays where it went meanwhile; what is hidden may have it for a moment longer
+    const { activeElement } = document;
+    if (!held || (activeElement !== held && activeElement !== document.body)) return;
+    const same = held.dataset.cell ? this.cell(held.dataset.cell) : held;
+    const places = [same, part("steps-heading"), part("line-heading")];
+    const mayHave = (place: HTMLElement | null) =>
+      place?.isConnected && place.checkVisibility() && !place.matches(":disabled");
+    places.find(mayHave)?.focus({ preventScroll: true });
+  }
+
+  /** Shows which list is open. */
+  mark(list: List | null) {
+    const open = list && `${list.step}.${list.side}`;
+    for (const cell of this.#body.querySelectorAll("[data-cell]")) {
+      cell.setAttribute("aria-pressed", String(cell.dataset.cell === open));
+    }
+  }
+
+  /** Puts the focus on the first of the shortest steps that are left. */
+  focus() {
+    (this.#least() ?? part("steps-heading")).focus({ preventScroll: true });
+  }
+
+  /** Presses a cell, if there is one that isn't dimmed. @param at its place among the cells */
+  press(at: number) {
+    const cell = this.#body.querySelectorAll("[data-cell]")[at];
+    if (!cell?.closest("[inert]")) cell?.click();
+  }
+
+  /** @returns what stands above the offers that begin anew */
+  #anew({ reached }: Cube) {
+    const words = `Going on from here, this ${isReduced(reached) ? "DR" : "EO"} given up`;
+    return element("tr", { class: "anew" }, element("td", { colspan: 3, class: "note" }, words));
+  }
+
+  #rows(group: Offer[], cube: Cube, list: List | null) {
+    const least = keepsReached(group, cube.reached) ? leastOf(group) : null;
+    // where two orientations hold, each has a way of its own to the same reduction
+    const isOneOf = new Set(group.map(({ step }) => step.needs)).size > 1;
+    return group.map((offer) => element("tr", { "data-marks": stateOf(offer.step) },
+      element("th", { scope: "row" },
+        element("span", { class: "axis" }, isOneOf ? titleOf(offer.step) : stateOf(offer.step)),
+        element("small", {}, ` ${caseOfStep(cube.facts, offer.step)}`)),
+      ...SIDES.map((side) => this.#cell(offer, side, { least, made: cube.made, list }))));
+  }
+
+  #cell(
+    { step, ...counts }: Offer, side: Side,
+    { least, made, list }: { least: number | null; made: number; list: List | null },
+  ) {
+    const count = counts[side];
+    const [length, all, solutions, word] = wordsOfRow(count, made);
+    const name = `${step.name}.${side}`;
+    const isLeast = least !== null && count.length === least;
+    const shortest = isLeast ? ", shortest" : "";
+    const about = { "data-side": side === "normal" ? "Normal" : "Inverse" };
+    // as high as one that is counted
+    const inAll = made > 0 ? "10 in all, " : "";
+    const room = element("small", { class: "room" }, inAll, element("span", { class: "together" }, "10 solutions"));
+    const blank = [element("strong", {}, "…"), room];
+    if (count === UNCOUNTED) return element("td", about, element("span", { class: "cell" }, ...blank));
+    return element("td", about, element("button", {
+      type: "button",
+      class: isLeast ? "cell least" : "cell",
+      "data-cell": name,
+      "aria-pressed": String(list !== null && name === `${list.step}.${list.side}`),
+      "aria-label": `${titleOf(step)}, ${side} side: ${length}, ${all}${solutions}${word}${shortest}`,
+      click: () => this.#chosen(step.name, side),
+    }, element("strong", {}, length), element("small", {}, all, element("span", { class: "together" }, solutions))));
+  }
+}

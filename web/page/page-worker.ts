@@ -1,0 +1,94 @@
+// The script of the page's workers: all that the page asks, each by its name, of the engine that is at hand there.
+import { Engine } from "../module/engine/engine.js";
+import { NissyFault, type FaultParts } from "../module/shared/faults.js";
+import { Nissy } from "../module/nissy.js";
+import { bestIn, type BestReply } from "../module/calls/replies.js";
+import { bestRequest } from "../module/calls/requests.js";
+import { serveBy, type Port } from "../module/workers/serve.js";
+import { STEPS, type Step } from "../module/shared/steps.js";
+import { readAddressed, readByHand, readWritten } from "./answers/read-lines.js";
+import { rowsOfList } from "./answers/list-rows.js";
+import { countsAfter, examine, framesOf, walkKept } from "./answers/examine.js";
+import { bracketed, sizeOfCase, stateOf, stepNamed } from "./shared/offered-steps.js";
+import { sidesOfTwins } from "./shared/twins.js";
+import type { BestRow, BestStep } from "../module/shared/ways.js";
+import type { FoundOnAxis, Question, Row } from "./cards/finder.js";
+
+const SCRAMBLE_TURNS = 25;
+const STREAM = 1;
+
+/** @returns the scramble of a seed, or null if it is none */
+const scrambleOf = (nissy: Nissy, { seed }: { seed: string }) => (/^\d+$/.test(seed) && BigInt(seed) < 2n ** 64n
+  ? nissy.scramble(BigInt(seed), STREAM, SCRAMBLE_TURNS) : null);
+
+/** What rows are put in order by, as one number: all moves, those of the first step, the pieces of the case, the
+ * step. */
+const rankOf = (total: number, { length, step }: BestStep, far: number) =>
+  ((total * 64 + length) * 64 + far) * 16 + STEPS.indexOf(step);
+
+/** A row as the page has it, with what it reaches in the page's words. */
+function rowInWords({ total, eo, dr, case: name }: BestRow): Row {
+  const first = eo ?? dr;
+  const { far } = sizeOfCase(name);
+  const partOf = ({ normal, inverse }: BestStep) => ({ normal, inverse });
+  const { step, length, lengths } = dr;
+  const next = eo && { step, part: partOf(dr), length, marks: stateOf(stepNamed(step)), case: name, lengths };
+  return {
+    total, part: partOf(first), state: stateOf(stepNamed(first.step)), twins: first.twins, far, next,
+    lines: eo ? [] : sidesOfTwins(dr, dr.twins), key: [first.step, first.moves, step].join(" "),
+    rank: rankOf(total, first, far),
+  };
+}
+
+/** The best of one axis, of which it is told how many were tried. */
+function bestOfAxis(
+  _: Nissy, { axis, question: { scramble, parts, slack }, most }: { axis: number; question: Question; most: number },
+  tell: (tried: number) => void, engine: Engine,
+): FoundOnAxis {
+  const request = bestRequest(scramble, { soFar: bracketed(parts), slack, most });
+  let tried = 0;
+  const reply = engine.answer({ ...request, axes: [axis] }, ({ done }) => {
+    tried = done;
+    tell(tried);
+  });
+  return { rows: bestIn(reply as BestReply, request).map(rowInWords), tried };
+}
+
+/** Has the tables of a step built. */
+function build(nissy: Nissy, { step }: { step: Step }) {
+  nissy.count(step, "");
+}
+
+const ANSWERS = {
+  bestOfAxis, build, countsAfter, examine, framesOf, readAddressed, readByHand, readWritten, rowsOfList, scrambleOf,
+  walkKept,
+};
+
+export type Answers = typeof ANSWERS;
+
+/** What the page asks: a call by its name, and what it is about. */
+type Asked = { id: number; request: { call: keyof Answers; about: unknown } };
+/** How each is answered, some after they told how far they are. */
+type Answering = (nissy: Nissy, about: unknown, tell: (progress: unknown) => void, engine: Engine) => unknown;
+
+/** What is asked, or what is at fault in the lines of it. */
+function replyOf(ask: () => unknown): { value: unknown } | { fault: FaultParts } {
+  try {
+    return { value: ask() };
+  } catch (fault) {
+    if (fault instanceof NissyFault) return { fault: fault.parts() };
+    throw fault;
+  }
+}
+
+/** A worker, and no window. */
+const worker = self as unknown as Port;
+// what nobody caught becomes a failure of the worker, of which the page is told
+self.addEventListener("unhandledrejection", ({ reason }) => {
+  throw reason;
+});
+serveBy(worker, (module) => Engine.start(module), (engine, { id, request: { call, about } }: Asked) => {
+  const tell = (progress: unknown) => worker.postMessage({ id, progress });
+  const answering = ANSWERS[call] as Answering;
+  worker.postMessage({ id, reply: replyOf(() => answering(new Nissy(engine), about, tell, engine)) });
+});

@@ -1,0 +1,103 @@
+// Copies: a line as solvers write it on a scoresheet, the scramble on top and then a step a line with what it reaches
+// and how long it is; and how a text comes to the clipboard.
+import { announce, part } from "./element.js";
+import { bracketed, newlyReached, turnsOfStep } from "./offered-steps.js";
+import { tellAt } from "./view.js";
+import type { KeptWalk, Walk } from "../answers/examine.js";
+
+/** A step with its comment, such as `D R B2 // DR R/L (3/10)`: its moves, and those up to its end. */
+function stepLine(walk: Walk, index: number) {
+  const [own, total] = [walk.turns[index], walk.totals[index + 1]];
+  const count = index === 0 ? `(${total})` : `(${own}/${total})`;
+  const said = [newlyReached(walk, index).join(", "), count].filter(Boolean).join(" ");
+  return `${bracketed([walk.parts[index]])} // ${said}`;
+}
+
+/** @returns the steps of a line, a text of a line each */
+const stepLines = (walk: Walk) => walk.parts.map((_, index) => stepLine(walk, index));
+
+export const fmcOf = (scramble: string, walk: Walk) => [scramble, ...stepLines(walk)].join("\n");
+
+/** The first of the reductions that a line was kept with, as its last step. @returns none without one */
+const lineOfNext = ({ next }: KeptWalk): string[] => (!next?.first ? []
+  : [`${bracketed([next.first])} // ${next.state} (${turnsOfStep(next.first).length}/${next.total})`]);
+
+/** Some candidates of a scramble, with their notes. */
+export function fmcOfAll(scramble: string, candidates: { walk: KeptWalk; notes: string[] }[]) {
+  const blocks = candidates.map(({ walk, notes }) =>
+    [...stepLines(walk), ...lineOfNext(walk), ...notes.map((note) => `// ${note}`)].join("\n"));
+  return [scramble, ...blocks].join("\n\n");
+}
+
+const MOMENT = 1500;
+
+/** Shows a word on a button for a moment. */
+function sayOn(button: HTMLElement, word: string) {
+  button.dataset.word ??= button.textContent;
+  // no narrower, so that it stays below what presses it
+  button.style.minWidth ||= `${button.getBoundingClientRect().width}px`;
+  button.textContent = word;
+  setTimeout(() => {
+    button.style.minWidth = "";
+    button.textContent = button.dataset.word ?? "";
+  }, MOMENT);
+}
+
+/** Copies by the older way of browsers, which a page that is opened as a file needs in some. */
+function copiedByField(text: string) {
+  const field = document.createElement("textarea");
+  const focused = document.activeElement;
+  field.value = text;
+  field.className = "unseen";
+  document.body.append(field);
+  field.select();
+  const isDone = document.execCommand("copy");
+  field.remove();
+  focused?.focus({ preventScroll: true });
+  return isDone;
+}
+
+/** Shows a text that can't be copied, selected; the focus goes back once that is closed. */
+function showUncopied(text: string) {
+  const field = part("uncopied-text");
+  field.value = text;
+  part("uncopied").showPopover();
+  field.focus();
+  field.setSelectionRange(0, text.length);
+  announce("The browser doesn't let the page copy. The text is selected: copy it with the keys of your system.");
+}
+
+/** @param shownIn what shows the text
+ * @returns whether it is copied */
+export async function copy(text: string, button: HTMLElement, shownIn: HTMLElement | null = null): Promise<boolean> {
+  if (text === "") return false;
+  let isDone = true;
+  try {
+    await navigator.clipboard.writeText(text);
+  } catch {
+    isDone = copiedByField(text);
+  }
+  if (isDone) {
+    announce(`Copied: ${text}`);
+    sayOn(button, "Copied");
+  } else if (shownIn) {
+    getSelection()?.selectAllChildren(shownIn);
+    announce("Selected; copy it with the keys of your system.");
+    sayOn(button, "Selected");
+  } else {
+    showUncopied(text);
+    sayOn(button, "Not copied");
+  }
+  return isDone;
+}
+
+const LINK_OF_FILE = "This page is a file, so the link leads to it on this computer alone. Whoever else has the file "
+  + "can put what stands after the # behind its address.";
+
+/** Copies the address of the page, and says of a file's that it is one. */
+export async function copyLink(button: HTMLElement) {
+  const isCopied = await copy(location.href, button);
+  if (!isCopied || location.protocol !== "file:") return;
+  tellAt(button, `The link is copied. ${LINK_OF_FILE}`);
+  announce(`Copied: ${location.href}. ${LINK_OF_FILE}`);
+}

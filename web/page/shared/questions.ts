@@ -1,0 +1,148 @@
+// Questions to the engine, as promises. It runs in a worker, whose script stands in the page (worker.js has what may be
+// asked), so that the page never waits. Workers start and build tables while nothing else is asked.
+import { NissyFault } from "../../module/shared/faults.js";
+import { WorkerQueue, type SentModule } from "../../module/workers/worker-queue.js";
+import { ORIENTATIONS, REDUCTIONS, namesOf, openSteps, reductionsAfter } from "./offered-steps.js";
+import { waitsForAnswers } from "./view.js";
+import { watched } from "./watch.js";
+import type { Answers } from "../page-worker.js";
+import type { Request } from "../../module/calls/requests.js";
+import type { Step } from "../../module/shared/steps.js";
+
+const UNREADABLE = "An answer of it can't be read.";
+
+/** What starts workers of the page, by the text of their script. One is started early, since that takes a while, and
+ * others once what is known is shown. */
+export function workersOf(script: string): () => Promise<Worker> {
+  const start = () => {
+    const address = URL.createObjectURL(new Blob([script], { type: "text/javascript" }));
+    const worker = new Worker(address);
+    // not before it was read
+    worker.addEventListener("message", () => URL.revokeObjectURL(address), { once: true });
+    // an answer that can't be read would be waited for
+    const unread = () => new ErrorEvent("error", { message: UNREADABLE });
+    worker.addEventListener("messageerror", () => worker.dispatchEvent(unread()));
+    return worker;
+  };
+  let early: Worker | null = null;
+  try {
+    early = start();
+    // nobody is there yet to be told that it failed: another one takes its place
+    early.addEventListener("error", (event) => {
+      if (early !== event.target) return;
+      event.preventDefault();
+      early = null;
+    });
+  } catch {
+    // whoever asks for one is told why it can't be started
+  }
+  return async () => {
+    const ready = early;
+    early = null;
+    if (ready === null) await new Promise((done) => setTimeout(done));
+    return ready ?? start();
+  };
+}
+
+type Followed = ((progress: unknown) => void) | undefined;
+
+/** An engine in a worker of its own, which the first question starts. */
+export class Calls {
+  #queue: WorkerQueue;
+  /** how many answers are waited for, beside tables */
+  #asked = 0;
+  /** The steps whose tables are built. */
+  #ready = new Set<string>();
+  /** The steps whose tables are still to be built. */
+  #unready: Step[] = [];
+
+  constructor(newWorker: () => Promise<Worker>, module: SentModule) {
+    this.#queue = new WorkerQueue(module, watched(newWorker));
+  }
+
+  /** What the engine says. Rejects with a `NissyFault` if lines can't be read. */
+  async ask<Name extends keyof Answers>(
+    call: Name, about: Parameters<Answers[Name]>[1], followed?: Parameters<Answers[Name]>[2],
+  ): Promise<ReturnType<Answers[Name]>> {
+    this.#asked++;
+    try {
+      return await this.#answer(call, about, followed as Followed);
+    } finally {
+      this.#asked--;
+    }
+  }
+
+  async #answer(call: keyof Answers, about: unknown, followed?: Followed) {
+    const { value, fault } = await this.#queue.answer({ call, about } as unknown as Request, {}, followed);
+    if (fault) throw new NissyFault(fault.text, fault);
+    return value;
+  }
+
+  /** Has the tables of some steps built before they are needed, one after another, until questions are given up. */
+  async ready(steps: Step[]) {
+    const unready = steps.filter((name) => !this.#ready.has(name));
+    this.#unready = unready;
+    try {
+      for (let step = unready.shift(); unready === this.#unready && step !== undefined; step = unready.shift()) {
+        await this.#answer("build", { step });
+        this.#ready.add(step);
+      }
+    } catch {
+      // they are built once they are needed
+    }
+  }
+
+  /** Gives up the questions that wait for their turn. */
+  drop() {
+    this.#unready = [];
+    this.#queue.drop();
+  }
+
+  /** Gives up all questions: what runs has its worker ended, tables too, if it has more to do than these. */
+  stop() {
+    if (this.#asked === 0) return this.drop();
+    this.end();
+  }
+
+  /** The same, also of a worker that has nothing to do. */
+  end() {
+    this.#ready.clear();
+    this.#unready = [];
+    this.#queue.end();
+  }
+}
+
+/** How long nothing is asked before it begins. */
+const REST = 150;
+
+type Workers = { calls: Calls; byHand: Calls; list: Calls; finders: Calls[] };
+
+export class Readiness {
+  #workers: Workers;
+  #timer = 0;
+
+  constructor(workers: Workers) {
+    this.#workers = workers;
+  }
+
+  /** Waits for a later moment, or for none. */
+  stop() {
+    clearTimeout(this.#timer);
+  }
+
+  /** Begins in a moment, and not while the page waits for answers. @param isBare whether no scramble is there yet */
+  begin(reached: string[], isBare: boolean) {
+    this.stop();
+    const go = () => (waitsForAnswers() ? this.begin(reached, isBare) : this.#build(reached, isBare));
+    this.#timer = setTimeout(go, REST);
+  }
+
+  #build(reached: string[], isBare: boolean) {
+    const { calls, byHand, list, finders } = this.#workers;
+    byHand.ready(["eofb"]);
+    list.ready(namesOf(openSteps(reached)));
+    // those that have looked for the best have their own
+    if (isBare) ORIENTATIONS.forEach(({ name }, at) => finders[at].ready([name, ...namesOf(reductionsAfter(name))]));
+    calls.ready(namesOf([...ORIENTATIONS, ...REDUCTIONS]));
+  }
+}

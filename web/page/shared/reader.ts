@@ -1,0 +1,38 @@
+// Reads text as solvers write it on the page's own thread, so that what is typed or pasted is read before anything else
+// is done with it: by an instance of the engine's module that has nothing else to do.
+import { attemptOf, attemptsIn, type Attempt } from "../../module/text/attempts.js";
+import { Instance } from "../../module/engine/instance.js";
+import { TextInMemory } from "../../module/text/text-calls.js";
+import { WrittenText, type PlainLine } from "../../module/text/written.js";
+import type { SentModule } from "../../module/workers/worker-queue.js";
+
+/** @returns it as it stands there */
+const asItStands = (text: string): PlainLine => ({ line: text, places: Array.from(text, (_, at) => at), leftOut: [] });
+
+const readBy = (instance: Instance, text: string) => new TextInMemory(instance, new WrittenText(text));
+
+export class Reader {
+  #instance: Instance | null;
+
+  /** @param instance null if the page has no engine: then all stays as it stands */
+  constructor(instance: Instance | null) {
+    this.#instance = instance;
+  }
+
+  static async start(module: SentModule) {
+    try {
+      return new Reader(new Instance(await WebAssembly.instantiate(module as WebAssembly.Module, {})));
+    } catch {
+      // each worker says why there is no engine
+      return new Reader(null);
+    }
+  }
+
+  plainLine(text: string): PlainLine {
+    return this.#instance === null ? asItStands(text) : readBy(this.#instance, text).plain();
+  }
+
+  attempts(text: string): Attempt[] {
+    return this.#instance === null ? [attemptOf(asItStands(text))] : attemptsIn(readBy(this.#instance, text));
+  }
+}

@@ -1,0 +1,152 @@
+// How the page is seen and used as a whole: what stays in view, what is dimmed, light and dark, help, and single keys.
+import { announce, part } from "./element.js";
+import { offerLast, store, stored } from "../state/last-state.js";
+import type { State } from "../state/address.js";
+
+const EDGE = 16;
+/** Whether the columns stand beside each other. */
+export const areBeside = () => matchMedia("(min-width: 60rem)").matches;
+
+/** Whether the page is as narrow as a phone's. */
+export const isNarrow = () => matchMedia("(max-width: 37.5rem)").matches;
+
+/** @returns whether nothing was done yet */
+export const isBare = ({ scramble, parts }: State) => scramble.trim() === "" && parts.length === 0;
+
+/** Shows the beginning, and what was done last, where nothing was done yet. */
+export function showBeginning(state: State) {
+  const isShown = isBare(state);
+  // it may have been done since the page was opened
+  if (isShown && part("welcome").hidden) offerLast();
+  part("welcome").hidden = !isShown;
+  document.body.classList.toggle("bare", isShown);
+  part("kept").hidden = isShown && state.kept.length === 0;
+}
+
+/** Whether a part of the page waits for answers. */
+export const waitsForAnswers = () => document.querySelector('[aria-busy="true"]:not([hidden])') !== null;
+
+/** Hides what an address shows until it is known, so that nothing is seen to move; what takes long is seen before.
+ * @param state that is awaited, or null if it is there */
+export function awaitAnswer(state: State | null) {
+  // what was seen once stays seen, and keeps the focus
+  if (state !== null && !document.body.matches(".awaited, .begun")) return;
+  document.body.classList.toggle("awaited", state !== null && !isBare(state));
+  document.body.classList.toggle("begun", state !== null && isBare(state));
+}
+
+/** Scrolls to where a column that stays shows what has the focus. The browser scrolls, and the column goes along. */
+function showFocused(column: HTMLElement, focused: Element) {
+  // a button that is clicked stays under the mouse
+  if (focused.getBoundingClientRect().top >= 0 || !focused.matches(":focus-visible")) return;
+  const start = (column.parentElement ?? column).getBoundingClientRect().top + scrollY;
+  const within = focused.getBoundingClientRect().top - column.getBoundingClientRect().top;
+  scrollTo({ top: start + within - EDGE });
+}
+
+/** Lets a column stay while the other one is scrolled; of one that is higher than the window the lower end stays. */
+export function keepInView(column: HTMLElement) {
+  const place = () => {
+    // where nothing stays the browser keeps still what is read, but not beside a change of this
+    if (areBeside()) column.style.top = `${Math.min(EDGE, innerHeight - column.offsetHeight - EDGE)}px`;
+  };
+  new ResizeObserver(place).observe(column);
+  addEventListener("resize", place);
+  // the browser scrolls after the event, and would undo what is done in it
+  column.addEventListener("focusin", ({ target }) => requestAnimationFrame(() => showFocused(column, target)));
+}
+
+/** Makes a change that may show or hide what stands above a part, without moving the part under a finger. */
+export function withoutMoving(still: HTMLElement, change: () => void) {
+  const { top } = still.getBoundingClientRect();
+  change();
+  scrollBy({ top: still.getBoundingClientRect().top - top, behavior: "instant" });
+}
+
+/** Makes what rests on a readable scramble usable or not. */
+export function setUsable(usable: boolean) {
+  for (const name of ["line", "results", "kept", "cube"]) part(name).inert = !usable;
+}
+
+/** Scrolls to what follows a step; on a narrow page to the results, after the last step to the line, below or
+ * beside. */
+export function showStart(isFinished: boolean) {
+  if (!areBeside()) return part(isFinished ? "line" : "results").scrollIntoView({ block: "start" });
+  scrollTo({ top: 0, behavior: "instant" });
+  // no further than to its end, so that what is beside it stays in view
+  if (isFinished) part("whole").scrollIntoView({ block: "nearest" });
+}
+
+const KEY = "nissy-theme";
+const THEMES = ["light", "dark"];
+
+/** @param theme "" for the system's */
+function use(theme: string) {
+  if (THEMES.includes(theme)) document.documentElement.dataset.theme = theme;
+  else delete document.documentElement.dataset.theme;
+}
+
+export function offerThemes() {
+  const field = part("theme");
+  const theme = THEMES.includes(stored(KEY)) ? stored(KEY) : "";
+  field.value = theme;
+  use(theme);
+  field.addEventListener("change", () => {
+    use(field.value);
+    store(KEY, field.value);
+  });
+}
+
+const MARGIN = 6;
+
+function placeUnder(text: HTMLElement, button: HTMLElement) {
+  const { left, bottom } = button.getBoundingClientRect();
+  const furthest = document.documentElement.clientWidth - text.offsetWidth - MARGIN;
+  text.style.left = `${Math.max(MARGIN, Math.min(left, furthest)) + scrollX}px`;
+  text.style.top = `${bottom + MARGIN + scrollY}px`;
+}
+
+/** Says something under a button, until something else is pressed. */
+export function tellAt(button: HTMLElement, text: string) {
+  const said = part("said");
+  said.textContent = text;
+  if (!said.matches(":popover-open")) said.showPopover();
+  placeUnder(said, button);
+  announce(text);
+}
+
+/** Makes every help of the page stand under the button that opens it. */
+export function placeHelp() {
+  for (const button of document.querySelectorAll("[popovertarget]")) {
+    const text = part(button.getAttribute("popovertarget") ?? "");
+    text.addEventListener("toggle", (event) => {
+      button.setAttribute("aria-expanded", String(event.newState === "open"));
+      if (event.newState !== "open") return;
+      placeUnder(text, button);
+      announce(text.textContent.replace(/\s+/g, " ").trim());
+    });
+  }
+}
+
+const FIELDS_TO_TYPE = "input, textarea, select, [contenteditable]";
+
+/** @param acts by their keys */
+export function listenToKeys(acts: Record<string, () => void>) {
+  addEventListener("keydown", (event) => {
+    if (event.ctrlKey || event.altKey || event.metaKey || event.defaultPrevented || !part("keys-on").checked) return;
+    const isField = event.target instanceof Element && event.target.closest(FIELDS_TO_TYPE) !== null;
+    // a field has its keys for itself, but for the one that closes its list
+    if (isField && (event.key !== "Escape" || !part("solutions").contains(event.target))) return;
+    // Escape closes help before it closes anything else
+    if (!Object.hasOwn(acts, event.key) || document.querySelector(":popover-open")) return;
+    event.preventDefault();
+    acts[event.key]();
+  });
+}
+
+/** Keeps the row that has the focus, or what is given where none has it. */
+export function star(otherwise: () => void) {
+  const button = document.activeElement?.closest("li, tr")?.querySelector(".star");
+  if (button) button.click();
+  else otherwise();
+}

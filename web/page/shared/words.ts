@@ -1,0 +1,150 @@
+// Sentences: why a line can't be read, with a mark at the place in it, why there is no answer, and the title.
+import { EngineMissing, NissyFault, type FaultParts } from "../../module/shared/faults.js";
+import { placeOf, type PlainLine } from "../../module/text/written.js";
+import { oneLine, type State } from "../state/address.js";
+import { thrownError } from "./certain.js";
+import { element } from "./element.js";
+import { MOST_CANDIDATES, MOST_MOVES } from "../state/limits.js";
+import { bracketed, openSteps, stateOf, stepNamed, titleOf } from "./offered-steps.js";
+import type { AttemptDoubt } from "../../module/text/attempts.js";
+import type { Unread } from "../answers/read-lines.js";
+
+export const MOST_ARE_KEPT = `${MOST_CANDIDATES} lines are kept, and there can be no more: remove one of them first.`;
+export const NO_ROOM = "The address of the page has no room for another line: "
+  + "remove one that is kept, or shorten a note.";
+export const NOT_IN_ADDRESS = "The address of the page has no room for all of this, and stays as it was.";
+const PAGE_NAME = "nissy";
+const TOO_MANY = `more than ${MOST_MOVES} moves`;
+const MOST_SIGNS = 40;
+
+/** @returns what is said of an engine that failed */
+export const engineFails = (message: string) => `The engine doesn't work here. ${message}`;
+
+/** @returns what is wrong, in the engine's words if it says so */
+export const wordsOfFault = (fault: unknown) => (fault instanceof NissyFault ? fault.text : thrownError(fault).message);
+
+/** @returns why there is no answer */
+export function unanswered(fault: unknown) {
+  if (fault instanceof EngineMissing) return engineFails(fault.message);
+  const words = wordsOfFault(fault);
+  if (words !== TOO_MANY) return `There is no answer: ${words}.`;
+  return `The scramble and the moves after it can't be read together: they have ${TOO_MANY}.`;
+}
+
+/** @returns what tells the tabs of pages apart */
+export function titleOfPage({ scramble, parts }: State) {
+  // no sign that turns the direction of a text, or that isn't seen
+  const plain = scramble.replace(/[\p{Cc}\p{Cf}\u2028\u2029]/gu, " ").trim();
+  const words = [bracketed(parts), plain].filter(Boolean).join(" · ");
+  if (words === "") return `${PAGE_NAME}: edge orientation and domino reduction`;
+  return `${words.slice(0, MOST_SIGNS)}${words.length > MOST_SIGNS ? "…" : ""} – ${PAGE_NAME}`;
+}
+
+/** @returns what is said of what was left out of a text, or "" */
+export const wordsOfLeftOut = (leftOut: string[]) => (leftOut.length === 0 ? "" : `Left out: ${leftOut.join(", ")}.`);
+
+/** @param name of the step
+ * @returns why a step can't be listed, or "" */
+export function whyNotListed(name: string, reached: string[]) {
+  if (openSteps(reached).some((step) => step.name === name)) return "";
+  const step = stepNamed(name);
+  const { needs } = step;
+  const why = needs === null || reached.includes(name) ? "it is reached" : `${stateOf(stepNamed(needs))} isn't reached`;
+  return `${titleOf(step)} can't be listed here: ${why}.`;
+}
+
+const AROUND = 24;
+const LONGEST_WORD = 12;
+
+/** A text in which each sign has its place: blanks have one width, and what isn't seen is told by a sign. */
+const visible = (text: string) => text.replace(/\s/g, " ").replace(/[\p{Cc}\p{Cf}]/gu, "\uFFFD");
+
+/** @returns the word that stands at a place, up to a blank or a bracket */
+function wordAt(line: string, place: number) {
+  const word = [...(/^[^\s()]*/.exec(line.slice(place))?.[0] ?? "").replace(/\u2019/g, "'")];
+  return visible(word.slice(0, LONGEST_WORD).join("")) + (word.length > LONGEST_WORD ? "…" : "");
+}
+
+/** A move that ends as no move does, such as `R1` or `F-1`, if it stands at a place: all of it, and its letters.
+ * @param place that can't be read */
+function oddMove(line: string, place: number): { word: string; letters: string } | null {
+  const begin = /([UDRLFB]w?|[MESudrlfbxyz])['\u20192]?$/.exec(line.slice(0, place));
+  const isOdd = /^(?:[-+*^'\u20190-9]|i(?!\p{L}))/u.test(line.slice(place));
+  return begin && isOdd ? { word: begin[0] + wordAt(line, place), letters: begin[1] } : null;
+}
+
+/** @returns why a line is no line of moves from a place on */
+function sentenceOfMove(line: string, place: number) {
+  const odd = oddMove(line, place);
+  if (odd === null) return `“${wordAt(line, place)}” is no move.`;
+  return `“${odd.word}” is no move: write ${odd.letters}, ${odd.letters}2 or ${odd.letters}'.`;
+}
+
+/** The engine's words as a solver reads them. @param line what the engine read */
+function sentenceOf(fault: FaultParts, line: string) {
+  const place = (fault.character ?? 1) - 1;
+  const sentences: Record<string, () => string> = {
+    "not a move": () => sentenceOfMove(line, place),
+    "bracket inside a bracket": () => "A bracket stands inside a bracket.",
+    "bracket closed that was not opened": () => "A bracket is closed that was not opened.",
+    "bracket not closed": () => "A bracket isn't closed.",
+  };
+  const sentence = Object.hasOwn(sentences, fault.text) ? sentences[fault.text] : null;
+  return sentence === null ? `${fault.text[0].toUpperCase()}${fault.text.slice(1)}.` : sentence();
+}
+
+/** What is said of a text with a line that can't be read, or "". */
+export function whyUnread(unread: Unread | null) {
+  if (unread === null) return "";
+  const { line, fault } = unread;
+  const shown = visible(line.slice(0, MOST_SIGNS)) + (line.length > MOST_SIGNS ? "…" : "");
+  return `The steps of this text are read up to the line “${shown}”: ${sentenceOf(fault, line)}`;
+}
+
+/** The text around a place, with a mark at it and a sign under it. */
+function marked(text: string, place: number) {
+  const from = Math.max(0, place - AROUND);
+  const sign = String.fromCodePoint(text.codePointAt(place) ?? 32);
+  const before = (from > 0 ? "…" : "") + text.slice(from, place);
+  const after = text.slice(place + sign.length, place + AROUND);
+  const cut = place + AROUND < text.length ? "…" : "";
+  const line = element("span", {}, visible(before), element("mark", {}, visible(sign)), visible(after + cut));
+  // it may be scrolled, and is no stop of the Tab key for that
+  return element("pre", { "aria-hidden": "true", tabindex: -1 }, line, `\n${" ".repeat([...before].length)}^`);
+}
+
+/** What is said of a doubt that a text is read as it was meant, and of the word that stands there. */
+const WORDS_OF_DOUBTS: Record<string, (word: string) => string> = {
+  "another scramble": () => "a whole scramble begins here, and more follows it",
+  "several solutions": () => "of several solutions none is said to be the one that counts",
+  side: (word) => `“${word}” names a side, and moves on the inverse belong in brackets`,
+  letters: (word) => `“${word}” is read as moves`,
+  "small letters": (word) => `“${word}” is read as a wide turn`,
+  comment: () => "moves stand in a comment, and are left out",
+  "a part": () => "the steps don't solve the scramble, but some of them do",
+};
+
+/** Shows under a field what makes one doubt how its text was read, or takes the last one away. */
+export function showDoubt(where: HTMLElement, doubt: AttemptDoubt | null, text: string) {
+  where.hidden = doubt === null;
+  where.replaceChildren();
+  if (doubt === null) return;
+  const { reason, place: { at } } = doubt;
+  where.append(element("p", {}, `In doubt: ${WORDS_OF_DOUBTS[reason](wordAt(text, at))}.`), marked(oneLine(text), at));
+}
+
+/** Shows a fault under its field, or takes the last one away; returns where it is in the text, or null.
+ * @param plain what the engine read
+ * @param text what was typed */
+export function showFault(
+  where: HTMLElement, field: HTMLElement, plain: PlainLine, fault: Error | null, text: string,
+): number | null {
+  where.hidden = fault === null;
+  where.replaceChildren();
+  field.setAttribute("aria-invalid", String(fault !== null));
+  if (fault === null) return null;
+  where.append(element("p", {}, fault instanceof NissyFault ? sentenceOf(fault, plain.line) : fault.message));
+  const place = fault instanceof NissyFault ? placeOf(fault, plain, text)?.at ?? null : null;
+  if (place !== null) where.append(marked(oneLine(text), place));
+  return place;
+}

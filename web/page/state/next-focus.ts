@@ -1,0 +1,38 @@
+// Where the focus goes with the answers to a change: it stays where it went meanwhile.
+
+/** The first row of the list, or the first cell of the table. */
+export type Where = "list" | "table";
+
+/** How long it is waited for, in milliseconds. */
+const SOON_ENOUGH = 1000;
+
+export class NextFocus {
+  /** Where it goes, and from where. */
+  #next: { to: Where; from: Element | null } | null = null;
+
+  /** @param to undefined where it stays */
+  set(to: Where | undefined) {
+    this.#next = to ? { to, from: document.activeElement } : null;
+  }
+
+  /** Waits for what is to be shown, if that comes soon; later it goes nowhere once something is pressed or scrolled. */
+  async isSoon(shown: Promise<void>) {
+    await Promise.race([shown, new Promise((end) => setTimeout(end, SOON_ENOUGH))]);
+    const next = this.#next;
+    const end = () => next === this.#next && this.set(undefined);
+    for (const use of ["pointerdown", "wheel"]) addEventListener(use, end, { capture: true, once: true });
+  }
+
+  /** @returns whether it is to go there, at some time */
+  waitsFor(to: Where): boolean {
+    return this.#next?.to === to;
+  }
+
+  /** @returns whether it is to go there now */
+  take(to: Where): boolean {
+    if (this.#next?.to !== to) return false;
+    const { from } = this.#next;
+    this.#next = null;
+    return [from, document.body].includes(document.activeElement);
+  }
+}
