@@ -87,7 +87,7 @@ function attemptCounts(found) {
   return [found.length, found.flatMap((it) => it.steps).length, found.flatMap((it) => it.candidates).length].join(" ");
 }
 
-const formNames = (forms) => forms.join().replaceAll("-", "_");
+const formNames = (forms) => forms.join();
 const judged = ({ solved: is, moves, cleanMoves, forms }) => [Number(is), moves, cleanMoves, formNames(forms)].join(" ");
 
 /** What is told of an attempt: its check, its fault, and the forms of its solution. */

@@ -53,8 +53,8 @@ const TEXTS = [
   // M r is R, as M is r' R
   ["forms", "R' D\n\nD\u2032 M r", [{
     ...NOTHING,
-    check: { solved: true, moves: 4, cleanMoves: 2, forms: ["slices", "lower-case", "apostrophe"] },
-    forms: [form("D\u2019", "apostrophe", 6, 3, 1), form("M", "slices", 9, 3, 4), form("r", "lower-case", 11, 3, 6)],
+    check: { solved: true, moves: 4, cleanMoves: 2, forms: ["slices", "lower_case", "apostrophe"] },
+    forms: [form("D\u2019", "apostrophe", 6, 3, 1), form("M", "slices", 9, 3, 4), form("r", "lower_case", 11, 3, 6)],
   }]],
 ];
 

@@ -1,6 +1,6 @@
 // Calls of the module in node, with the answers that are wanted.
 import { runInContext } from "node:vm";
-import { NoWebAssembly, NoWideMemory, Nissy } from "../../build/web/module/nissy.js";
+import { NoWebAssembly, Nissy } from "../../build/web/module/nissy.js";
 import { ended, loaded, moduleBytes as module, same, text, thrown } from "./tally.mjs";
 import { elsewhere } from "./values.mjs";
 
@@ -79,7 +79,6 @@ async function tryRefusals(nissy) {
   same("one that can't be had isn't told too, which would end node", unheard, []);
   same("an engine without WebAssembly", [name, message], ["NoWebAssembly", new NoWebAssembly().message]);
   same("it says so in words", /no WebAssembly/.test(message), true);
-  same("its name of before", NoWideMemory, NoWebAssembly);
 }
 
 /** After many calls the memory is as large as after a few. */

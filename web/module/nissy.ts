@@ -13,7 +13,6 @@ import { OF_SOLUTIONS, runRequest, solutionsRequest } from "./calls/requests.js"
 import { progressOf } from "./calls/signals.js";
 import { solutionsBy } from "./calls/solutions-in-turn.js";
 import { Engine, type Answering } from "./engine/engine.js";
-import { NoWebAssembly } from "./shared/faults.js";
 import type { Calls } from "./calls/calls.js";
 import type { ModuleSource } from "./engine/source.js";
 
@@ -23,7 +22,7 @@ export type {
 export type { Attempt, AttemptCandidate, AttemptDoubt } from "./text/attempts.js";
 export type { Axis, Check, CornerPlace, EdgePlace, Facts, Form } from "./shared/facts.js";
 export type { BestReduction, BestRow, BestStep } from "./shared/ways.js";
-export type { BestWanted, Known, OnSides, Request, Sides, Wanted, Within } from "./calls/requests.js";
+export type { BestWanted, Known, OnSides, Request, Sides, Wanted } from "./calls/requests.js";
 export type { Followed, Progress as BestProgress } from "./calls/signals.js";
 export type { FormInText } from "./text/attempt-checks.js";
 export type { FormPlace, Token } from "./text/tokens.js";
@@ -42,9 +41,6 @@ export { placeOf } from "./text/written.js";
 
 /** The version of the scripts, and of the module that comes with them. */
 export const VERSION = "2.0.0";
-
-/** What it was called while the module needed 64-bit memories. @deprecated */
-export const NoWideMemory = NoWebAssembly;
 
 /** The engine, loaded. The tables of a step are built when it is asked for the first time, and stay in the module's
  * memory. After a call that broke off the next one starts the module anew, or throws `EngineMissing` if that can't be

@@ -63,9 +63,6 @@ export type Wanted = {
  * alone, or on both; each solution then says its moves on both. */
 export type OnSides<On extends Sides | undefined = Sides | undefined> = { sides?: On };
 
-/** What `Wanted` was called for counts while they had fewer options. */
-export type Within = Wanted;
-
 /** Scrambles that are known, of which a text has solutions alone. */
 export type Known = { scrambles?: readonly Text[] | undefined };
 

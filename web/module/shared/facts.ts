@@ -14,7 +14,7 @@ export const CORNER_PLACES = Object.freeze([
 ] as const);
 
 /** What forms of moves there are that the WCA's notation hasn't: form i is bit i of the module's mask. */
-export const FORMS = ["slices", "lower-case", "brackets", "apostrophe", "half-prime"] as const;
+export const FORMS = ["slices", "lower_case", "brackets", "apostrophe", "half_prime"] as const;
 
 export type Axis = typeof AXES[number];
 export type EdgePlace = typeof EDGE_PLACES[number];

@@ -79,10 +79,10 @@ const FURTHER_BYTES = 2;
 /** Whether a move or a bracket has a form. */
 const HAS: Record<Form, (item: string) => boolean> = {
   slices: (item) => "MES".includes(item[0]),
-  "lower-case": (item) => "udrlfb".includes(item[0]),
+  lower_case: (item) => "udrlfb".includes(item[0]),
   brackets: (item) => "()".includes(item),
   apostrophe: (item) => item.endsWith("\u2019"),
-  "half-prime": (item) => item.endsWith("2'") || item.endsWith("2\u2019"),
+  half_prime: (item) => item.endsWith("2'") || item.endsWith("2\u2019"),
 };
 
 /** The forms of each move and bracket that was seen, of which there are few. */
