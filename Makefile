@@ -36,7 +36,8 @@ LIBRARY_FILES := \
 	packaging/cmake/nissy-config-version.cmake:@lib/cmake/nissy/nissy-config-version.cmake \
 	$(foreach file,$(notdir $(wildcard python/nissy/*.py)) py.typed,python/nissy/$(file):@python/nissy/$(file)) \
 	$(foreach file,$(notdir $(wildcard examples/*.py)),examples/$(file):share/doc/nissy/examples/$(file)) \
-	docs/EMBEDDING.md:share/doc/nissy/EMBEDDING.md
+	docs/PYTHON.md:share/doc/nissy/PYTHON.md \
+	docs/C.md:share/doc/nissy/C.md
 LIBRARY_INSTALLED := $(if $(filter no,$(LIBRARY)),,$(LIBRARY_FILES))
 INSTALLED := \
 	$(BUILD)/nissy:bin/nissy \

@@ -1,7 +1,7 @@
 /* nissy for other programs: moves and searches of the 3x3x3 cube, by bytes in memory.
  *
  * Memory. The caller owns every buffer: no call keeps a pointer to one after it returned. A pointer comes with the bytes that it may
- * reach: so many bytes (below 2^63) are there, and if these are 0, it may be null. Bytes need no alignment; `tables` and `answers` need
+ * reach: that many bytes (below 2^63) are there, and if these are 0, it may be null. Bytes need no alignment; `tables` and `answers` need
  * that of their types. Buffers that are written (`out`, `err`, `answers`, `room`) overlap no other buffer of the call; those that are
  * read may overlap each other. No text ends with a zero byte. Bytes may be anything: none makes a call crash, or reach beyond a buffer. A pointer to
  * a nissy_tables isn't null.
@@ -17,7 +17,7 @@
  * as those of 64 bits do, and begins with `status`. If a line may have a fault, `fault` is the second byte and `column` the second four
  * bytes. A field that says yes or no is 1 or 0. What isn't named for a status is 0 after it.
  *
- * Link with -lnissy (pkg-config: nissy). EMBEDDING.md, which comes with it, has examples. nissy.hpp is for C++17 and later. */
+ * Link with -lnissy (pkg-config: nissy). C.md, which comes with it, has examples. nissy.hpp is for C++17 and later. */
 #ifndef NISSY_H
 #define NISSY_H
 
@@ -41,7 +41,7 @@ enum nissy_status {
     NISSY_STOPPED = 3, /* a line or an input has more than NISSY_MOST_INPUT bytes, or memory was refused; nissy_run also: the room was too
                           small */
     NISSY_ROOM = 4,    /* all calls but nissy_run: the room is too small */
-    NISSY_CUT = 5      /* a search alone: it would look at more positions than it may (nissy_solve, `most_nodes`) */
+    NISSY_CUT = 5      /* only a search: it would look at more positions than it may (nissy_solve, `most_nodes`) */
 };
 
 /* What is wrong with a line. */
@@ -52,7 +52,7 @@ enum nissy_fault {
     NISSY_UNOPENED = 3,   /* a bracket closed that was not opened */
     NISSY_UNCLOSED = 4,   /* a bracket not closed; the column is that of the bracket */
     NISSY_TOO_LONG = 5,   /* more than 256 moves; the column is that of the 257th */
-    NISSY_START = 6       /* a search alone: the step may not start on the cube of the line; there is no column */
+    NISSY_START = 6       /* only a search: the step may not start on the cube of the line; there is no column */
 };
 
 /* The most bytes of a line or of an input. */
@@ -64,14 +64,14 @@ enum nissy_fault {
 
 /* What a call returns that writes a short text. */
 typedef struct nissy_line_answer {
-    uint8_t status;  /* NISSY_DONE, NISSY_FAULT, NISSY_STOPPED or NISSY_ROOM; NISSY_USAGE of the calls that take no line alone */
+    uint8_t status;  /* NISSY_DONE, NISSY_FAULT, NISSY_STOPPED or NISSY_ROOM; NISSY_USAGE only of the calls that take no line */
     uint8_t fault;   /* after NISSY_FAULT one of nissy_fault, never NISSY_START */
     uint32_t column; /* after NISSY_FAULT the place of the fault in bytes, from 1 */
     uint64_t length; /* after NISSY_DONE the bytes written, after NISSY_ROOM the bytes that there are to write */
 } nissy_line_answer;
 
 /* The calls on one line write to `out` what the program's command of the same name writes of it (`print` for nissy_facelets), without the
- * line feed. They take no memory. After every status but NISSY_DONE `out` is as it was, and behind what is written it is so too. */
+ * line feed. They take no memory. After every status but NISSY_DONE `out` is as it was, and so is what follows the written bytes. */
 
 /* the inverse of the moves */
 nissy_line_answer nissy_invert(const uint8_t *line, size_t line_length, uint8_t *out, size_t out_room);
@@ -127,7 +127,7 @@ enum nissy_form {
 typedef struct nissy_check_answer {
     uint8_t status;       /* NISSY_DONE, NISSY_FAULT or NISSY_STOPPED */
     uint8_t fault;        /* after NISSY_FAULT one of nissy_fault, never NISSY_START */
-    uint8_t line;         /* after NISSY_FAULT and NISSY_STOPPED which line has it: 1 the scramble, 2 the solution; the first one is told */
+    uint8_t line;         /* after NISSY_FAULT and NISSY_STOPPED which line has it: 1 the scramble, 2 the solution; the first one if both have */
     uint8_t solved;       /* the solution's moves after the scramble's solve the cube, however it is held then */
     uint32_t column;      /* after NISSY_FAULT the place of the fault in bytes, from 1 */
     uint16_t moves;       /* the solution's moves as nissy_facts counts them */
@@ -139,7 +139,7 @@ typedef struct nissy_check_answer {
  * takes no memory. */
 nissy_check_answer nissy_check(const uint8_t *scramble, size_t scramble_length, const uint8_t *solution, size_t solution_length);
 
-/* What nissy_run returns. The bytes of `out` and `err` behind those that are written are as they were. */
+/* What nissy_run returns. The bytes of `out` and `err` after those that are written are as they were. */
 typedef struct nissy_run_answer {
     uint8_t status;        /* the exit status of the program: NISSY_DONE, NISSY_FAULT, NISSY_USAGE or NISSY_STOPPED */
     uint8_t out_too_small; /* the output is longer than `out`, which holds a beginning of it; the status is NISSY_STOPPED */
@@ -160,7 +160,7 @@ typedef struct nissy_run_answer {
 nissy_run_answer nissy_run(const uint8_t *words, size_t words_length, const uint8_t *input, size_t input_length, uint8_t *out,
                            size_t out_room, uint8_t *err, size_t err_room);
 
-/* The tables of a step, or none. Its fields are the library's: begin with NISSY_NO_TABLES (all bytes 0 is the same), let nissy_build alone
+/* The tables of a step, or none. Its fields are the library's: begin with NISSY_NO_TABLES (all bytes 0 is the same), let only nissy_build
  * write to it, and copy it as you like: a copy has the same tables. Any threads may ask it and its copies (nissy_solve, nissy_solve_after,
  * nissy_count, nissy_count_lines) at the same time. While nissy_build runs on a struct, no other call and no copy may read or write that
  * struct; its copies may be asked. What no call can see is undefined: fields that something else wrote, and a struct into which another
@@ -187,13 +187,13 @@ uint8_t nissy_build(nissy_tables *tables, const uint8_t *step, size_t step_lengt
 /* As `most` or `most_nodes`: as many as there are. */
 #define NISSY_ALL UINT64_MAX
 
-/* What a search on a line returns. A number of 2^64 or more is told as 2^64 - 1. */
+/* What a search on a line returns. A number of 2^64 or more is given as 2^64 - 1. */
 typedef struct nissy_search_answer {
     uint8_t status;     /* NISSY_DONE, NISSY_FAULT, NISSY_USAGE, NISSY_STOPPED, NISSY_CUT; of a call that writes solutions also NISSY_ROOM:
                            the next one doesn't fit into `out` */
     uint8_t fault;      /* after NISSY_FAULT one of nissy_fault */
     uint8_t least;      /* after NISSY_DONE, NISSY_ROOM and NISSY_CUT the turns of the shortest solution, 0 if none is known */
-    uint8_t more;       /* after NISSY_DONE and NISSY_ROOM: there are solutions beyond those that are told; 1 after NISSY_CUT, when there
+    uint8_t more;       /* after NISSY_DONE and NISSY_ROOM: there are solutions beyond those that are given; 1 after NISSY_CUT, when there
                            may be more or none */
     uint32_t column;    /* after NISSY_FAULT the place of the fault in bytes, from 1; 0 of NISSY_START */
     uint64_t length;    /* after NISSY_DONE, NISSY_ROOM and NISSY_CUT how many bytes of `out` are written: whole solutions; 0 of a count */
@@ -202,9 +202,9 @@ typedef struct nissy_search_answer {
 } nissy_search_answer;
 
 /* Writes the solutions of a line's cube by the step of the tables: those of at most `limit` turns that are at most `slack` turns longer
- * than the shortest (0: the shortest alone), by length and then in turn order, but no more than `most` of them. Each is a line as the
+ * than the shortest (0: only the shortest), by length and then in turn order, but no more than `most` of them. Each is a line as the
  * program's `near` writes it, such as "F B' (2)" and a line feed, of at most 65 bytes: a room of 65 bytes for each of `most` is never too
- * small. If there are none, nothing is written: then `solutions` is 0 and `more` 0. What is behind those that are written is as it was.
+ * small. If there are none, nothing is written: then `solutions` is 0 and `more` 0. What follows those that are written is as it was.
  * It takes no memory.
  *
  * It looks at no more than `most_nodes` positions, unless this is NISSY_ALL: before it would look at more, it ends with NISSY_CUT, which
@@ -212,18 +212,18 @@ typedef struct nissy_search_answer {
  * written is a beginning of the list. So no line can hold a service for long that asks with 1,000,000.
  *
  * NISSY_USAGE: the struct has no tables, or `limit` or `slack` is above 20. NISSY_STOPPED: the line has more than NISSY_MOST_INPUT
- * bytes. NISSY_FAULT: the line has a fault, or NISSY_START. The first of these that holds is told, in this order. */
+ * bytes. NISSY_FAULT: the line has a fault, or NISSY_START. The first of these that holds is reported, in this order. */
 nissy_search_answer nissy_solve(const nissy_tables *tables, const uint8_t *line, size_t line_length, uint8_t limit, uint8_t slack,
                                 uint64_t most, uint64_t most_nodes, uint8_t *out, size_t out_room);
 
-/* Goes on behind a solution: writes of the list of nissy_solve those alone that come after `after`, by length and then in turn order, and
+/* Goes on after a solution: writes of the list of nissy_solve only those that come after `after`, by length and then in turn order, and
  * no more than `most` of them. `after` is the moves of a solution as they stand in its line before the count: "F B'" of "F B' (2)", nothing
- * of the solution "(0)". So a caller goes through any list in pieces, and keeps the last line of each alone: a first nissy_solve, and then,
+ * of the solution "(0)". So a caller goes through any list in pieces, and keeps only the last line of each: a first nissy_solve, and then,
  * while `more` is 1 and a solution was written, this with the same line, `limit` and `slack`. The pieces make the whole list, each solution
  * once. It takes no memory.
  *
  * `least` is the turns of the shortest solution of the whole list, 0 if there is none or NISSY_CUT came before it was known; `solutions`,
- * `more` and `length` tell of those behind `after`. For `least` it searches anew for a first solution; `nodes` and
+ * `more` and `length` are of those after `after`. For `least` it searches anew for a first solution; `nodes` and
  * `most_nodes` are of both.
  *
  * `after` may be any sequence of turns of one face each, also one that is no solution, or is longer than `limit`. NISSY_USAGE, as from
@@ -233,14 +233,14 @@ nissy_search_answer nissy_solve_after(const nissy_tables *tables, const uint8_t 
                                       size_t out_room);
 
 /* Does what nissy_solve does with room enough, but writes nothing: it counts the solutions, and no more than `most` of them. With `most`
- * 1 it ends at the first one, and so tells the least length soonest. With NISSY_ALL twice and the slack 0 these are the numbers of the
+ * 1 it ends at the first one, and so finds the least length soonest. With NISSY_ALL twice and the slack 0 these are the numbers of the
  * program's `count`. It takes no memory. */
 nissy_search_answer nissy_count(const nissy_tables *tables, const uint8_t *line, size_t line_length, uint8_t limit, uint8_t slack,
                                 uint64_t most, uint64_t most_nodes);
 
 /* What a call on many lines returns. It takes the lines of a text, those that a line feed ends and a last one without it if it has a
  * byte, one after another, as long as there is room for an answer to each. A line's fault is in its answer, and ends nothing. Behind the
- * answers written the room is as it was. To go on, call again with what is behind the bytes that were taken. */
+ * answers written the room is as it was. To go on, call again with what follows the bytes that were taken. */
 typedef struct nissy_lines_answer {
     uint8_t status; /* NISSY_DONE; NISSY_USAGE of nissy_count_lines: the struct has no tables */
     uint64_t lines; /* how many lines were taken, and answers written */
@@ -277,7 +277,7 @@ typedef struct nissy_way {
     uint16_t total;     /* all moves, those so far too: the turns of both sides, once each is cleaned */
     uint8_t corners;    /* the case of the reduction before its moves: 4 and 4 are 4c4e */
     uint8_t edges;
-    uint8_t on_normal;  /* the least length of the reduction there on the scramble alone, and on the inverse alone; 21 if it is more than */
+    uint8_t on_normal;  /* the least length of the reduction there on the scramble, and on the inverse, without the other; 21 if above */
     uint8_t on_inverse; /* 20 */
     nissy_way_part eo;  /* the orientation, none if one holds already */
     nissy_way_part dr;  /* the reduction */
@@ -288,8 +288,8 @@ typedef struct nissy_way {
 
 /* What is asked of nissy_best. */
 typedef struct nissy_ways_wanted {
-    uint8_t slack;       /* by how many turns, 0 to 20, the first step may be longer than the shortest on its axis: on the scramble alone, on
-                            the inverse alone, or over both */
+    uint8_t slack;       /* by how many turns, 0 to 20, the first step may be longer than the shortest on its axis: on the scramble, on the
+                            inverse, or over both */
     uint8_t axes;        /* on which axes the orientation is: 1 F and B, 2 R and L, 4 U and D, added; NISSY_ALL_AXES are all */
     uint8_t from;        /* how many turns the first step has on both sides together, from and to, each 0 to 20: 0 and 20 are all */
     uint8_t to;
@@ -301,7 +301,7 @@ typedef struct nissy_ways_wanted {
 typedef struct nissy_ways_answer {
     uint8_t status;  /* NISSY_DONE, NISSY_FAULT, NISSY_USAGE, NISSY_STOPPED or NISSY_CUT */
     uint8_t fault;   /* after NISSY_FAULT one of nissy_fault, never NISSY_START */
-    uint8_t line;    /* after NISSY_FAULT and NISSY_STOPPED which line has it: 1 the scramble, 2 the moves so far; the first one is told */
+    uint8_t line;    /* after NISSY_FAULT and NISSY_STOPPED which line has it: 1 the scramble, 2 the moves so far; the first one if both have */
     uint8_t next;    /* after NISSY_DONE: the slack lets in first steps on these axes that are longer than `to` */
     uint32_t column; /* after NISSY_FAULT the place of the fault in bytes, from 1; 0 if both lines have too many moves together */
     uint64_t rows;   /* after NISSY_DONE and NISSY_CUT how many ways stand in the room */
@@ -311,11 +311,11 @@ typedef struct nissy_ways_answer {
 
 /* Puts the best ways on from a scramble and the moves so far into the room, the best first: each edge orientation over both sides, and after
  * it the reduction on each of two axes with the fewest moves in all, over both sides too; of a cube that is oriented the reductions; of one
- * that is reduced nothing. EMBEDDING.md says which ways there are, and in what order. Moves of both lines in brackets are made on the inverse
+ * that is reduced nothing. MANUAL.md says which ways there are, and in what order. Moves of both lines in brackets are made on the inverse
  * scramble; those so far, and the ways, name the faces as the moves outside brackets leave the cube.
  *
  * `tables` are nine, in the order of nissy_steps: eofb, eorl, eoud, drud-eofb, drrl-eofb, drud-eorl, drfb-eorl, drrl-eoud, drfb-eoud. `wanted`
- * may name some axes and lengths only: so a search goes in parts, between which a caller tells how far it is, or ends it. The tables of an
+ * may name some axes and lengths only: so a search goes in parts, between which a caller says how far it is, or ends it. The tables of an
  * axis that it doesn't name may be NISSY_NO_TABLES. The ways of all parts come into one room, if each call is told how many are there:
  * the best of them stay, as many as have place, whatever the order of the parts. It looks at no more than `most_nodes` positions: before it
  * would look at more it ends with NISSY_CUT, and each way that is there is a true one.
@@ -351,7 +351,7 @@ typedef struct nissy_sides_answer {
 } nissy_sides_answer;
 
 /* Puts the solutions of the step whose tables these are into the room, from a scramble and the moves so far: pairs of turns on the scramble
- * and on its inverse, together of exactly so many turns, which reach the step, and whose first turns don't. They come by their turns on the
+ * and on its inverse, together of exactly that many turns, which reach the step, and whose first turns don't. They come by their turns on the
  * scramble, fewer ones first, and then in turn order of the shorter side, and of the other. So a caller goes from length to length, the
  * shortest from 0 on, and through a long list in parts, by those that are passed over. Lines and names are those of nissy_best.
  *

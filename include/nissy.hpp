@@ -1,8 +1,8 @@
-// nissy for C++17 and later: the calls of nissy.h by strings and values. Header alone, over the same library.
+// nissy for C++17 and later: the calls of nissy.h by strings and values. Only a header, over the same library.
 //
 // A line with a fault is a nissy::fault, a solve that is cut a nissy::cut; an unknown step is a std::invalid_argument, a number beyond its
 // range a std::out_of_range, a line of more than NISSY_MOST_INPUT bytes a std::length_error, refused memory a std::bad_alloc. Any threads may
-// call at once, also on one object. Nothing is read behind the end of a line, of any bytes; in a text of many a line feed ends each.
+// call at once, also on one object. Nothing is read after the end of a line, of any bytes; in a text of many a line feed ends each.
 #ifndef NISSY_HPP
 #define NISSY_HPP
 
@@ -98,7 +98,7 @@ struct found {
 };
 
 // Which solutions a search is for: those of at most `limit` turns that are at most `slack` turns longer than the shortest, no more than
-// `most` of them, and looking at no more than `nodes` positions. Numbers are wide, here and below, so that one out of its range is told and
+// `most` of them, and looking at no more than `nodes` positions. Numbers are wide, here and below, so that one out of its range is reported and
 // not cut to one that is in it.
 struct search {
     std::int64_t limit = 20;
@@ -145,7 +145,7 @@ namespace detail {
 inline const std::uint8_t *bytes(std::string_view text) { return reinterpret_cast<const std::uint8_t *>(text.data()); }
 inline std::uint8_t *bytes(std::string &text) { return reinterpret_cast<std::uint8_t *>(text.data()); }
 
-// The text of a call that writes one into so much room, and that nothing can be wrong with.
+// The text of a call that writes one into a room of this size, and that nothing can be wrong with.
 template <typename Call> std::string text_of(Call call) {
     std::string out(NISSY_LINE_ROOM, '\0');
     const nissy_line_answer answer = call(bytes(out), out.size());
@@ -161,7 +161,7 @@ inline std::string text_of(std::uint8_t code, std::string_view step) {
 }
 
 inline constexpr char TOO_LONG[] = "line longer than 16777216 bytes";
-// Throws what is wrong with a line, of a search by this step, and of a call on several lines behind this name.
+// Throws what is wrong with a line, of a search by this step, and of a call on several lines after this name.
 inline void end_unless_read(int status, std::uint8_t code, std::size_t column, std::string_view step = {}, const std::string &line = "") {
     if (status == NISSY_STOPPED) throw std::length_error(std::string("nissy: ") + TOO_LONG);
     if (status == NISSY_FAULT) throw fault(static_cast<nissy_fault>(code), column, text_of(code, step), line);
@@ -269,7 +269,7 @@ public:
     std::size_t character(std::string_view line) const noexcept { return nissy::character(line, column_); }
     // what is wrong with the line, without the place; empty if there is a value
     std::string text() const { return *this ? "" : status_ == NISSY_FAULT ? detail::text_of(code_, step_) : detail::TOO_LONG; }
-    // throws what the call on this line alone throws, if there is no value
+    // throws what the call on only this line throws, if there is no value
     const Value &value() const {
         detail::end_unless_read(status_, code_, column_, step_);
         return value_;
@@ -319,7 +319,7 @@ inline std::string scramble(std::uint64_t state, std::uint64_t stream, std::uint
 
 // `count` scrambles of this length, at most 10,000, all of the generator that begins with this state and stream, as the program makes them.
 inline std::vector<std::string> scrambles(std::uint64_t state, std::uint64_t stream, std::uint64_t length, std::uint64_t count) {
-    constexpr std::size_t MOST_OF_TURN = 3; // bytes of a turn, with the blank or the line feed behind it
+    constexpr std::size_t MOST_OF_TURN = 3; // bytes of a turn, with the blank or the line feed after it
     const std::size_t room = detail::at_most(10000, count) * (detail::at_most(256, length) * MOST_OF_TURN + 1);
     std::string words = "scramble";
     for (const std::uint64_t number : {state, stream, length, count}) words += '\0' + std::to_string(number);
@@ -372,7 +372,7 @@ public:
         }
     }
 
-    // What find says of the solutions. A number above 2^64 - 1 is told as that. One that is cut says so, and throws nothing.
+    // What find says of the solutions. A number above 2^64 - 1 is given as that. One that is cut says so, and throws nothing.
     nissy::count count(std::string_view line, const search &which = {}) const {
         const nissy_search_answer answer = nissy_count(&kept_->second, detail::bytes(line), line.size(), detail::turns(which.limit, "limit"),
                                                        detail::turns(which.slack, "slack"), which.most, which.nodes);

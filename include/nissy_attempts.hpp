@@ -1,5 +1,5 @@
 // nissy for C++17 and later: reads what solvers write down of their attempts, by the library: scrambles, each with the steps of a solution and
-// candidates beside it. Nothing of it is called at fault here: what is no line of moves is at fault where it is used. Header alone, over
+// candidates beside it. Nothing of it is called at fault here: what is no line of moves is at fault where it is used. Only a header, over
 // nissy_written.hpp.
 #ifndef NISSY_ATTEMPTS_HPP
 #define NISSY_ATTEMPTS_HPP
@@ -25,8 +25,8 @@ enum class doubt_reason {
     comment = NISSY_COMMENT,
     repetition = NISSY_REPETITION,
     insertion = NISSY_INSERTION,
-    a_part,        // of a check: some of its steps alone solve the scramble, or its solution with other brackets
-    which_scramble // of a check: it isn't told which of the known scrambles this is a solution of
+    a_part,        // of a check: only some of its steps solve the scramble, or its solution with other brackets
+    which_scramble // of a check: it isn't seen which of the known scrambles this is a solution of
 };
 
 // A reason as the library for Python names it, such as "another scramble".
@@ -47,7 +47,7 @@ struct attempt {
     std::string name; // what tells the scramble from others, such as "2.", or empty
     plain scramble;
     std::vector<plain> steps;      // the lines of the solution, each of which a comment or a label may describe
-    std::optional<plain> solution; // the block whose label says that it is the solution, else the steps in one; none if it can't be told
+    std::optional<plain> solution; // the block whose label says that it is the solution, else the steps in one; none if it can't be seen
     std::vector<attempt_candidate> candidates; // the blocks after a blank line
     std::size_t before = 0;                    // how many lines of prose stand before the scramble
     std::optional<attempt_doubt> doubt;        // of the reading, if the solution doesn't solve the scramble
@@ -78,7 +78,7 @@ inline bool is_step(const nissy_text_line &line) { return line.kind == NISSY_STE
 inline bool is_of_solution(const nissy_text_line &line) { return is_step(line) && line.solution; }
 inline bool is_of_scramble(const nissy_text_line &line) { return line.kind == NISSY_SCRAMBLE_LINE; }
 
-// What the library tells of each line of a text.
+// What the library says of each line of a text.
 inline std::vector<nissy_text_line> lines_in(std::string_view text) {
     std::vector<nissy_text_line> lines(line_ends(text) + 1);
     lines.resize(nissy_text_lines(text_bytes(text), text.size(), lines.data(), lines.size()).lines);

@@ -1,5 +1,5 @@
 // nissy for C++17 and later: the best ways on from a scramble and the moves so far to a domino reduction, and the line of the cube at which
-// they begin. Header alone, over nissy.hpp, which says what is thrown; a fault's what() names the line that has it.
+// they begin. Only a header, over nissy.hpp, which says what is thrown; a fault's what() names the line that has it.
 #ifndef NISSY_BEST_HPP
 #define NISSY_BEST_HPP
 
@@ -19,15 +19,15 @@ struct orientation {
     std::string moves;              // all of them as a solver writes them: those on the inverse side stand in brackets, after the others
     std::string normal, inverse;    // those on each side, without brackets
     int length;                     // how many turns they are, on both sides together
-    std::vector<std::string> twins; // the last turns of its twins, written as `moves`: they differ in the direction of these alone
+    std::vector<std::string> twins; // the last turns of its twins, written as `moves`: they differ only in the direction of these
 };
 
-// The least length of a reduction on each side alone, if it has one of at most 20 turns there.
+// The least length of a reduction on each side without the other, if it has one of at most 20 turns there.
 struct lengths {
     std::optional<int> normal, inverse;
 };
 
-// The domino reduction of a continuation; its moves are told as those of an orientation.
+// The domino reduction of a continuation; its moves are given as those of an orientation.
 struct reduction {
     std::string step, moves, normal, inverse;
     int length;
@@ -38,7 +38,7 @@ struct reduction {
 // How a line goes on to a domino reduction.
 struct continuation {
     int total;                     // all moves, those so far too, once they are merged on each side
-    std::string line;              // what a solver writes behind the moves so far: moves on the inverse side stand in brackets
+    std::string line;              // what a solver writes after the moves so far: moves on the inverse side stand in brackets
     std::optional<orientation> eo; // none if one holds already
     reduction dr;
     std::string dr_case;           // that of the reduction before its moves, such as "4c4e"
@@ -208,8 +208,8 @@ inline std::string line_after(std::string_view scramble, std::string_view so_far
 
 // What may follow a scramble and the moves so far, the best first, up to a domino reduction: each orientation on three axes, over both sides, and
 // after it the reduction on each of two axes with the fewest moves in all, over both sides too. An orientation is let in if it is at most `slack`
-// moves longer than the shortest of its kind: on the scramble alone, on its inverse alone, or over both; those that differ in the direction of
-// their last quarter turns alone are one. If an orientation holds, the reductions, let in alike; if a reduction is reached, nothing.
+// moves longer than the shortest of its kind: on the scramble, on its inverse, or over both; those that differ only in the direction of
+// their last quarter turns are one. If an orientation holds, the reductions, let in alike; if a reduction is reached, nothing.
 //
 // Moves of `so_far` in brackets are made on the inverse side. All moves count, those so far too, once they are merged on each side. The order
 // is by these, by the moves of the first step, and by the pieces of the case. `most` is how many are returned. Each unit of slack makes this
@@ -235,7 +235,7 @@ inline std::vector<continuation> best(std::string_view scramble, std::string_vie
     return best(scramble, so_far, which);
 }
 
-// What `find_best` finds of each scramble of a text, or what is wrong with that, by so many threads (with several, compile with -pthread). `nodes`
+// What `find_best` finds of each scramble of a text, or what is wrong with that, by this many threads (with several, compile with -pthread). `nodes`
 // is for each scramble anew, and `progress` and `stop` are called by all threads.
 inline std::vector<answer<best_found>> best_all(std::string_view text, const best_search &which = {}, unsigned threads = 1) {
     std::vector<std::string_view> lines;

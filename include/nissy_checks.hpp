@@ -1,4 +1,4 @@
-// nissy for C++17 and later: checks each attempt of a text as solvers write it, and says where in the text faults and forms stand. Header alone,
+// nissy for C++17 and later: checks each attempt of a text as solvers write it, and says where in the text faults and forms stand. Only a header,
 // over nissy_names.hpp and nissy_known.hpp, with the library.
 #ifndef NISSY_CHECKS_HPP
 #define NISSY_CHECKS_HPP
@@ -69,7 +69,7 @@ inline std::map<std::size_t, const plain *> steps_by_place(const attempt &found)
     return steps;
 }
 
-// Where a part of an attempt begins that alone solves its scramble, of its first eight steps: the library looks at no more.
+// Where a part of an attempt begins that solves its scramble by itself, of its first eight steps: the library looks at no more.
 inline std::optional<std::size_t> solved_part(const attempt &found) {
     std::vector<std::size_t> begins;
     std::string lines;

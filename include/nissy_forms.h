@@ -1,5 +1,5 @@
 /* nissy for other programs: where a line has what the WCA's notation for solutions hasn't, one place after another. It
- * is a header alone, over nissy.h, and isn't proved. */
+ * is only a header, over nissy.h, and isn't proved. */
 #ifndef NISSY_FORMS_H
 #define NISSY_FORMS_H
 
@@ -10,11 +10,11 @@
 /* A move or a bracket of a line. */
 typedef struct nissy_form_place {
     size_t column;  /* of its first byte, from 1 */
-    size_t last;    /* of its last byte: so many bytes of the line are passed with it */
+    size_t last;    /* of its last byte: that many bytes of the line are passed with it */
     unsigned forms; /* its forms of nissy_form, added */
 } nissy_form_place;
 
-/* The move, the bracket or the blank that begins behind so many bytes of a line, which has more. */
+/* The move, the bracket or the blank that begins after this many bytes of a line, which has more. */
 static inline nissy_form_place nissy_form_place_behind(const uint8_t *line, size_t line_length, size_t passed) {
     nissy_form_place it = {passed + 1, passed + 1, 0};
     const uint8_t letter = line[passed];
@@ -33,7 +33,7 @@ static inline nissy_form_place nissy_form_place_behind(const uint8_t *line, size
     return it;
 }
 
-/* The next move or bracket behind so many bytes of a line that has such a form; if there is none, `forms` is 0. The line
+/* The next move or bracket after this many bytes of a line that has such a form; if there is none, `forms` is 0. The line
  * is one that nissy_check or another call has read: of each of its forms this finds all places.
  *
  *     nissy_form_place it = nissy_next_form_place(line, length, 0);

@@ -1,5 +1,5 @@
-// nissy for C++17 and later: reads a text that has solutions alone, of scrambles that are known, by the library: which part of the text is of which
-// scramble, and what of it is the solution. Header alone, over nissy_attempts.hpp; its names are no part of the interface.
+// nissy for C++17 and later: reads a text that has only solutions, of scrambles that are known, by the library: which part of the text is of which
+// scramble, and what of it is the solution. Only a header, over nissy_attempts.hpp; its names are no part of the interface.
 #ifndef NISSY_KNOWN_HPP
 #define NISSY_KNOWN_HPP
 
@@ -12,7 +12,7 @@ namespace nissy::detail {
 // What stands in a text under a head, or in a block if it has no heads.
 struct known_part {
     std::string name;                    // the head, or empty
-    std::optional<std::size_t> scramble; // which of the scrambles it is of, from 0; none if that can't be told
+    std::optional<std::size_t> scramble; // which of the scrambles it is of, from 0; none if that can't be seen
     std::size_t begin;                   // its first byte
     std::vector<attempt> attempts;       // the first has what stands there without a scramble; others have one of their own
 };
@@ -61,7 +61,7 @@ inline std::vector<text_lines> parts_in(std::string_view text, text_lines lines,
     return parts;
 }
 
-// What is told of the lines of a part if they stand behind a scramble, with their places in the text.
+// What is said of the lines of a part if they stand after a scramble, with their places in the text.
 inline std::vector<nissy_text_line> lines_behind_scramble(std::string_view text, text_lines part) {
     static constexpr std::string_view BEFORE = "R' U' F D R' U' F\n";
     const nissy_text_line *head = part.first;
@@ -79,7 +79,7 @@ inline std::vector<nissy_text_line> lines_behind_scramble(std::string_view text,
     return lines;
 }
 
-// What a part has, with those of which the library says that they have another scramble behind that.
+// What a part has, with those of which the library says that they have another scramble after that.
 inline std::vector<attempt> attempts_in(std::string_view text, text_lines part, place_counter &places) {
     const std::vector<nissy_text_line> lines = lines_behind_scramble(text, part);
     text_lines rest = {lines.data(), lines.data() + lines.size()};
@@ -108,7 +108,7 @@ inline void assign(std::vector<known_part> &parts, std::size_t count) {
     }
 }
 
-// The solutions in a text, of so many scrambles.
+// The solutions in a text, of this many scrambles.
 inline std::vector<known_part> solutions_in(std::string_view text, std::size_t count, place_counter &places) {
     const std::vector<nissy_text_line> all = lines_in(text);
     std::vector<known_part> parts;

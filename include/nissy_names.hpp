@@ -1,5 +1,5 @@
 // nissy for C++17 and later: the names of the places and forms that facts and verdicts have as bits, where a line has
-// such forms, and which step has to hold before another. Header alone, over nissy.hpp, which says what is thrown.
+// such forms, and which step has to hold before another. Only a header, over nissy.hpp, which says what is thrown.
 #ifndef NISSY_NAMES_HPP
 #define NISSY_NAMES_HPP
 
@@ -50,8 +50,8 @@ inline std::vector<form_place> form_places(std::string_view line) {
     facts(line);
     std::vector<form_place> places;
     const std::uint8_t *const bytes = detail::bytes(line);
-    const auto behind = [=](std::size_t passed) { return nissy_next_form_place(bytes, line.size(), passed); };
-    for (nissy_form_place it = behind(0); it.forms; it = behind(it.last))
+    const auto next = [=](std::size_t passed) { return nissy_next_form_place(bytes, line.size(), passed); };
+    for (nissy_form_place it = next(0); it.forms; it = next(it.last))
         places.push_back({std::string(line.substr(it.column - 1, it.last - it.column + 1)), it.forms, it.column});
     return places;
 }

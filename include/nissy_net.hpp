@@ -1,5 +1,5 @@
 // nissy for C++17 and later, for those who draw a cube: the names of axes and places, and where the stickers are among the 54 letters of
-// `facelets`, and in a net. Header alone; it needs no library.
+// `facelets`, and in a net. Only a header; it needs no library.
 #ifndef NISSY_NET_HPP
 #define NISSY_NET_HPP
 
@@ -47,7 +47,7 @@ constexpr std::array<net_place, 54> places_in_net() {
 // The faces in the order of the letters.
 inline constexpr std::string_view FACE_LETTERS = "URFDLB";
 
-// The place of a name in a list, or behind its end. With `around` the name may begin with any of its faces.
+// The place of a name in a list, or after its end. With `around` the name may begin with any of its faces.
 template <std::size_t Size> std::size_t place_in(const std::array<const char *, Size> &names, std::string_view name, bool around) {
     const auto is_named = [=](std::string_view known) {
         return known.size() == name.size() && (around ? (std::string(known) + std::string(known)).find(name) != std::string::npos : known == name);

@@ -1,4 +1,4 @@
-// nissy for C++17 and later: the solutions of a step on the inverse of a line, or over both sides of it. Header alone, over nissy.hpp, which says
+// nissy for C++17 and later: the solutions of a step on the inverse of a line, or over both sides of it. Only a header, over nissy.hpp, which says
 // what is thrown.
 #ifndef NISSY_SIDES_HPP
 #define NISSY_SIDES_HPP
@@ -67,7 +67,7 @@ inline found find(const tables &by, std::string_view line, nissy_sides sides, co
         all.count.is_cut = said.status == NISSY_CUT;
         all.count.more = said.more || all.count.is_cut;
         if (all.count.is_cut || (all.count.more && all.solutions.size() == which.most)) break;
-        // behind those that filled the room, or on with those of the next length
+        // after those that filled the room, or on with those of the next length
         wanted.passed = said.more ? wanted.passed + said.rows : 0;
         if (!said.more) wanted.length++;
     }

@@ -1,5 +1,5 @@
-// nissy for C++17 and later: the solutions of a line one after another, asked for in pieces, so that millions of them take no memory. Header
-// alone, over nissy.hpp, which says what is thrown.
+// nissy for C++17 and later: the solutions of a line one after another, asked for in pieces, so that millions of them take no memory. Only a
+// header, over nissy.hpp, which says what is thrown.
 #ifndef NISSY_SOLUTIONS_HPP
 #define NISSY_SOLUTIONS_HPP
 

@@ -32,7 +32,7 @@ nissy_plain_answer nissy_plain(const uint8_t *text, size_t text_length, uint8_t 
 
 /* What a line of such a text is. */
 enum nissy_line_kind {
-    NISSY_BLANK_LINE = 0,    /* blanks, or a head alone */
+    NISSY_BLANK_LINE = 0,    /* blanks, or only a head */
     NISSY_LINE_BEFORE = 1,   /* prose before a scramble */
     NISSY_SCRAMBLE_LINE = 2, /* of a scramble */
     NISSY_STEP_LINE = 3,     /* moves after it */
@@ -43,7 +43,7 @@ enum nissy_line_kind {
 enum nissy_doubt {
     NISSY_NO_DOUBT = 0,
     NISSY_ANOTHER_SCRAMBLE = 1,  /* after all of a scramble the line goes on */
-    NISSY_SEVERAL_SOLUTIONS = 2, /* which of several groups is the solution can't be told */
+    NISSY_SEVERAL_SOLUTIONS = 2, /* which of several groups is the solution can't be seen */
     NISSY_SIDE = 3,              /* a side is named, such as the inverse, and the moves have no brackets */
     NISSY_LETTERS = 4,           /* letters stand together as moves don't elsewhere in the line, such as F2L or xD */
     NISSY_SMALL_LETTERS = 5,     /* a scramble has a move in a small letter */
@@ -79,7 +79,7 @@ typedef struct nissy_text_line {
 typedef struct nissy_text_answer {
     uint8_t status;    /* NISSY_DONE or NISSY_ROOM */
     uint64_t lines;    /* how many lines the text has, also if there is no room for all */
-    uint64_t attempts; /* how many attempts; the last one has no scramble if a head alone ends the text */
+    uint64_t attempts; /* how many attempts; the last one has no scramble if the text ends with a head */
 } nissy_text_answer;
 
 /* Tells of each line of text as solvers write it what it is, as long as there is room. Lines end by a line feed, a return, or both. It takes no
@@ -96,7 +96,7 @@ enum nissy_moves_of {
 /* Writes the moves of those of some lines that are wanted, one of nissy_moves_of, as one line for the other calls, and for each byte of it its
  * place in the text: in the order of the lines, joined by a blank, whose place is the end of the line before. Of each it reads the bytes from
  * `moves` to `comment` as nissy_plain reads moves; those of an `inverse` one stand in brackets, whose places are `moves` and `comment`.
- * `left_out` tells what one of these lines has left out, in its label and its comment too.
+ * `left_out` says what one of these lines has left out, in its label and its comment too.
  *
  * Three bytes and places for each from `moves` to `comment`, and three for each line, are never too few. NISSY_USAGE: no moves have this
  * number. Any lines may be given: of a `comment` beyond the text what is in the text is read, of a `moves` not before that nothing; what isn't 0

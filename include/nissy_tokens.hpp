@@ -1,4 +1,4 @@
-// nissy for C++17 and later: the moves of a line one by one, for those who draw or count them. Header alone, over nissy.hpp, which says what
+// nissy for C++17 and later: the moves of a line one by one, for those who draw or count them. Only a header, over nissy.hpp, which says what
 // is thrown.
 #ifndef NISSY_TOKENS_HPP
 #define NISSY_TOKENS_HPP

@@ -1,5 +1,5 @@
 // nissy for C++17 and later: reads text as solvers write it, by the library. What is no move but is written beside moves becomes a blank or an
-// apostrophe, or is left out; what comes of it is a line for the other calls, or it is at fault there. Header alone, over nissy_text.h.
+// apostrophe, or is left out; what comes of it is a line for the other calls, or it is at fault there. Only a header, over nissy_text.h.
 #ifndef NISSY_WRITTEN_HPP
 #define NISSY_WRITTEN_HPP
 
@@ -45,7 +45,7 @@ inline constexpr std::array<const char *, 6> LEFT_OUT = {"labels",       "number
 
 inline const std::uint8_t *text_bytes(std::string_view text) { return reinterpret_cast<const std::uint8_t *>(text.data()); }
 
-// What a call writes as a line into a room of so many bytes, and of as many places.
+// What a call writes as a line into a room of this many bytes, and of as many places.
 template <typename Call> plain written_by(std::size_t room, Call call) {
     plain made = {std::string(room, '\0'), {}, {}};
     std::vector<std::uint64_t> places(room);
@@ -86,7 +86,7 @@ private:
     text_place place_ = {0, 1, 1};
 };
 
-// The place of a byte of a line in its text; behind the last sign if the line hasn't so many.
+// The place of a byte of a line in its text; after the last sign if the line hasn't that many.
 inline std::size_t place_in(const plain &line, std::size_t at, std::string_view text) {
     if (at < line.places.size()) return line.places[at];
     std::size_t end = line.places.empty() ? 0 : line.places.back() + 1;

@@ -56,7 +56,8 @@ $(find include \( -name '*.h' -o -name '*.hpp' \) -printf '644 %p %p\n')
 644 lib/pkgconfig/nissy.pc include/nissy.pc
 $(cd python && find nissy \( -name '*.py' -o -name py.typed \) -printf '644 lib/python3/dist-packages/%p python/%p\n')
 $(find examples -name '*.py' -printf '644 share/doc/nissy/%p %p\n')
-644 share/doc/nissy/EMBEDDING.md docs/EMBEDDING.md"
+644 share/doc/nissy/C.md docs/C.md
+644 share/doc/nissy/PYTHON.md docs/PYTHON.md"
 fi
 wanted=$(LC_ALL=C sort -k 2,2 <<< "$wanted")
 stands() { (cd "$1" && find . ! -type d -printf '%m %P\n' | LC_ALL=C sort -k 2,2); }

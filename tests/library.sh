@@ -115,7 +115,7 @@ if missing clang++; then skips "clang++ isn't installed"; else part by_compiler 
 printf '#include "nissy.h"\nint main(void) { return nissy_invert("R", 1, 0).status; }\n' > "$room/other.c"
 holds "a call with too few arguments doesn't compile" refuses cc -std=c11 "${strict[@]}" -o "$room/other" "$room/other.c" "$folder/libnissy.a"
 
-# the headers in other languages, as EMBEDDING says
+# the headers in other languages, as docs/C.md says
 callable_forms() { sed 's/^static inline //' include/nissy_forms.h; }
 by_cffi() {
     callable_forms | cc "${strict[@]}" -shared -fPIC -o "$made/libforms.so" -x c - -x none -L"$folder" -Wl,--no-as-needed -lnissy -Wl,-rpath,"$folder"

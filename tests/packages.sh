@@ -20,6 +20,7 @@ done
 # what a user's own make would do, in a copy in which nothing is proved
 copied() {
     mkdir -p "$room/source/build" && cp -R Makefile CHANGELOG.md README.md completions docs examples include packaging portable python tools web "$room/source" &&
+        mkdir -p "$room/source/tests/browsers" && cp tests/browsers/page.d.ts "$room/source/tests/browsers" &&
         cp "$program" "$room/source/build/nissy" && cp build/libnissy.* "$room/source/build" &&
         if [ -e build/aarch64/nissy ]; then cp -R build/aarch64 "$room/source/build"; fi &&
         if [ -e build/nissy.html ]; then cp build/nissy.html build/nissy.wasm "$room/source/build"; fi &&
@@ -121,16 +122,16 @@ if [ ! -e "$release" ]; then skips "the archive in C, which wasn't made"; elif m
             by_system cmake -S . -B built -DCMAKE_BUILD_TYPE=Release -DCMAKE_INSTALL_PREFIX="$room/cmade" -DCMAKE_INSTALL_LIBDIR=lib "$@" &&
                 by_system cmake --build built && by_system cmake --install built
         }
-        uses_it() { # as another project finds it
-            mkdir -p "$room/other" && write_caller "$room/other/one.c" && printf '%s\n' 'cmake_minimum_required(VERSION 3.13)' 'project(other C)' \
-                "find_package(nissy ${version%%.*} REQUIRED)" 'add_executable(one one.c)' 'target_link_libraries(one nissy::nissy)' > "$room/other/CMakeLists.txt" &&
+        block() { sed -n "/^\`\`\`$1\$/,/^\`\`\`\$/p" | sed '1d;/^```$/,$d'; } # KIND: the first block of this kind
+        uses_it() { # as another project finds it, by the files that its page has
+            mkdir -p "$room/other" && block cmake < C.md > "$room/other/CMakeLists.txt" && block cpp < C.md > "$room/other/yours.cpp" &&
                 by_system cmake -S "$room/other" -B "$room/other/built" -DCMAKE_PREFIX_PATH="$room/cmade" && by_system cmake --build "$room/other/built" &&
-                { "$room/other/built/one"; [ $? -eq 4 ]; }
+                diff <(sed -n '/^```cpp$/,$p' C.md | block text) <("$room/other/built/yours")
         }
         holds "CMake builds and installs it" by_cmake -DCMAKE_C_FLAGS=-O1
         holds "each header is there" diff <(ls -- *.h *.hpp) <(ls "$room/cmade/include")
         holds "its program runs from there" test "$("$room/cmade/bin/nissy" invert "R U' F2")" = "F2 U R'"
-        holds "another project finds its library" uses_it
+        holds "another project finds its library, as its page says" uses_it
     fi
     cd "$room/source" || exit 2
     needs_file() { mv build/nissy.c "$room/kept.c" && ! said=$("tools/$1" "$room" 2>&1) && mv "$room/kept.c" build/nissy.c && grep -q 'make c' <<< "$said"; }
@@ -269,7 +270,7 @@ if [ -e build/nissy.html ]; then
     without_library() { sed '/^The library needs/,$d' docs/archive.txt; }
     holds "its README says nothing of the library" cmp "$room/unpacked/$archive-program/README" <(without_library)
     holds "it has nothing of the library" test "$(stands_in "$room/unpacked/$archive-program")" = \
-        "$(stands_in "$room/installed/usr" | grep -vE '(include|lib|examples)/|/EMBEDDING')"
+        "$(stands_in "$room/installed/usr" | grep -vE '(include|lib|examples)/|/(C|PYTHON)[.]md')"
     stops_at() {
         fails_to_pack 1 && ! said=$(tools/dist "$room/less" program 2>&1) && grep -qx 'there is no npm here' <<< "$said" &&
             grep -qx "the package for npm can't be made" <<< "$said" && [ ! -e "$room/less/SHA256SUMS" ]

@@ -3,8 +3,8 @@
 #
 #     tests/recipes.sh [PROGRAM [PAGE..]]
 #
-# The program is build/nissy if none is named, and the pages are README, COOKBOOK, MANUAL, MANY, EMBEDDING, the module's README and the manual
-# page. If `make lib` built the library, the examples find it, its header and its module; else EMBEDDING is skipped, and so is the module's
+# The program is build/nissy if none is named, and the pages are README, COOKBOOK, MANUAL, MANY, PYTHON, C, the module's README and the manual
+# page. If `make lib` built the library, the examples find it, its header and its module; else PYTHON and C are skipped, and so is the module's
 # README if `make build/nissy.wasm` built none. `tests/documents/recipes.py` says how an example is written. If there is no python3 nothing is
 # tried.
 set -u
@@ -24,7 +24,7 @@ if [ ${#pages[@]} -eq 0 ]; then
         holds "tsc compiles the module's scripts" "$top/tools/web-scripts"
         pages+=("$top/web/module/README.md")
     fi
-    if [ -e "$top/build/libnissy.so" ]; then pages+=("$top/docs/EMBEDDING.md"); else skips "docs/EMBEDDING.md, no library here"; fi
+    if [ -e "$top/build/libnissy.so" ]; then pages+=("$top/docs/PYTHON.md" "$top/docs/C.md"); else skips "docs/PYTHON.md and docs/C.md, no library here"; fi
 fi
 export CPATH=$top/include LIBRARY_PATH=$top/build LD_LIBRARY_PATH=$top/build PYTHONPATH=$top/python
 drawn() { mkdir "$room/words" && "$top/tools/pictures" "$program" "$room/words" && diff -r "$room/words" "$top/docs/words"; }

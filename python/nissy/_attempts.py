@@ -88,7 +88,7 @@ class TextLine(NamedTuple):
 
 
 class Reader:
-    """A text that is read by lines, or a part of one: some bytes, with so many of the whole text before them."""
+    """A text that is read by lines, or a part of one: some bytes, with this many of the whole text before them."""
 
     def __init__(self, whole: Written, data: bytes, before: int = 0) -> None:
         self.whole, self._data, self._before = whole, data, before
@@ -100,7 +100,7 @@ class Reader:
         self._steps: Dict[int, PlainLine] = {}
 
     def lines(self) -> List[TextLine]:
-        """Returns the lines that aren't blank, or have a head alone."""
+        """Returns the lines that aren't blank, or have only a head."""
         told = self._room[:TEXT_LINE.size * self._count]
         heads = told[_HEADED::TEXT_LINE.size]
         return [TextLine._make((at, *TEXT_LINE.unpack_from(told, TEXT_LINE.size * at)))

@@ -60,14 +60,14 @@ def best(scramble: Text, so_far: Text = "", *, slack: int = 0, most: Optional[in
     """What may follow a scramble and the moves so far, the best first, up to a domino reduction: each orientation on
     three axes, over both sides, and after it the reduction on each of two axes with the fewest moves in all, over both
     sides too. An orientation is let in if it is at most `slack` moves longer than the shortest of its kind: on the
-    scramble alone, on its inverse alone, or over both; those that differ in the direction of their last quarter turns
-    alone are one. If an orientation holds, the reductions, let in alike; if a reduction is reached, nothing.
+    scramble, on its inverse, or over both; those that differ only in the direction of their last quarter turns are
+    one. If an orientation holds, the reductions, let in alike; if a reduction is reached, nothing.
 
     Moves of `so_far` in brackets are made on the inverse side. All moves count, those so far too, once they are merged
     on each side. The order is by these, then by the moves of the first step, then by the pieces of the case. No more
     than `most` are returned, or all if it is None. Each unit of slack makes this many times as long and as large.
 
-    With `nodes` the search looks at no more than so many positions: if it would look at more, Cut is raised, or with
+    With `nodes` the search looks at no more than that many positions: if it would look at more, Cut is raised, or with
     `partial` the best of what was tried until then is returned, whose `cut` is true.
     The search goes in pieces, of one length of the first step and one axis each. `progress` is called before each, and
     at the end, with how many ways were tried, and of how many, None until that is known. `stop` is asked before each

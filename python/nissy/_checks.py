@@ -48,7 +48,7 @@ class AttemptCheck(NamedTuple):
     """What makes one doubt that the attempt is read as it was meant; None if its solution solves, or has a fault."""
 
     def as_dict(self) -> Dict[str, Any]:
-        """What is told of it, as json.dumps takes it, with the `name` of the attempt."""
+        """What is said of it, as json.dumps takes it, with the `name` of the attempt."""
         checked = self.check and {**self.check._asdict(), "forms": list(self.check.forms)}
         return {"name": self.attempt.name, "check": checked, "fault": self.fault and self.fault.as_dict(),
                 "place": self.place and self.place._asdict(), "forms": [it.as_dict() for it in self.forms],
@@ -73,7 +73,7 @@ def _steps_of(attempt: Attempt) -> List[PlainLine]:
 
 
 def _checked(attempt: Attempt, whole: Written) -> AttemptCheck:
-    """Returns what is told of an attempt of a text."""
+    """Returns what is said of an attempt of a text."""
     scramble, solution = attempt.scramble, attempt.solution
     try:
         # the scramble has its fault without a solution too
@@ -100,7 +100,7 @@ def _is_same(scramble: str, other: str) -> bool:
 
 
 def _checked_part(part: Part, scrambles: List[str], whole: Written) -> AttemptCheck:
-    """Returns what is told of a part of a text of solutions."""
+    """Returns what is said of a part of a text of solutions."""
     first, *others = part.attempts
     if part.scramble is None:
         doubt = AttemptDoubt("which scramble", whole.place(part.begin))
@@ -115,7 +115,7 @@ def _checked_part(part: Part, scrambles: List[str], whole: Written) -> AttemptCh
 
 
 def _checked_solutions(whole: Written, scrambles: List[str]) -> List[AttemptCheck]:
-    """Returns what is told of the solutions of known scrambles, and then of what is no such solution."""
+    """Returns what is said of the solutions of known scrambles, and then of what is no such solution."""
     parts = solutions_of(whole, len(scrambles))
     told = [(part.scramble, _checked_part(part, scrambles, whole)) for part in parts]
     of = {at: it for at, it in told if at is not None}
@@ -124,11 +124,11 @@ def _checked_solutions(whole: Written, scrambles: List[str]) -> List[AttemptChec
 
 
 def check_attempts(text: Text, *, scrambles: Optional[Iterable[Text]] = None) -> List[AttemptCheck]:
-    """The attempts of a text as solvers write it, as `read_attempts` returns them, each with what `check` tells of its
+    """The attempts of a text as solvers write it, as `read_attempts` returns them, each with what `check` says of its
     scramble and solution, or the fault of one of them, and where fault and forms stand in the text; and what makes one
     doubt the reading of one that isn't solved. Raises Fault if one has too many bytes.
 
-    With `scrambles` the text has solutions alone, each under a head with the number of its scramble in this list, such
+    With `scrambles` the text has only solutions, each under a head with the number of its scramble in this list, such
     as `2.` or `Attempt 2 of 3`; or as many without numbers, in its order. There is a check for each scramble in its
     order, without a solution if none is found; then one for each part of the text that may be of another scramble,
     in doubt."""

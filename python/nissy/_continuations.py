@@ -21,12 +21,12 @@ class Orientation:
     length: int
     """How many turns they are, on both sides together."""
     twins: Tuple[str, ...]
-    """The last turns of its twins, written as `moves`: they differ in the direction of these alone."""
+    """The last turns of its twins, written as `moves`: they differ only in the direction of these."""
 
 
 @dataclass(frozen=True)
 class Lengths:
-    """A reduction's least length on each side alone, or None if it has none of at most 20 turns there."""
+    """A reduction's least length on each side without the other, or None if it has none of at most 20 turns there."""
 
     normal: Optional[int]
     inverse: Optional[int]
@@ -34,7 +34,7 @@ class Lengths:
 
 @dataclass(frozen=True)
 class Reduction:
-    """The domino reduction of a continuation; its moves are told as those of an Orientation."""
+    """The domino reduction of a continuation; its moves are given as those of an Orientation."""
 
     step: Step
     moves: str
@@ -53,7 +53,7 @@ class Continuation:
     total: int
     """All moves, those of the line so far too, once they are merged on each side."""
     line: str
-    """What a solver writes behind the line so far: moves on the inverse side stand in brackets."""
+    """What a solver writes after the line so far: moves on the inverse side stand in brackets."""
     eo: Optional[Orientation]
     """The orientation, or None if one holds already."""
     dr: Reduction

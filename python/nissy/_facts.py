@@ -174,7 +174,7 @@ def _corners(mask: int) -> Pieces:
 
 @lru_cache(maxsize=None)
 def _case(corners: int, edges: int) -> Case:
-    """Returns the case of so many corners and edges."""
+    """Returns the case of this many corners and edges."""
     return Case(f"{corners}c{edges}e")
 
 
@@ -212,7 +212,7 @@ def _told(piece: Piece, told: bytes) -> Iterable[Union[Facts, Fault]]:
 
 
 def _fault(piece: Piece, told: bytes, at: int) -> Fault:
-    """Returns what the struct at this byte tells of a line in place of an answer."""
+    """Returns what the struct at this byte says of a line in place of an answer."""
     status, fault, _, column = FACTS_ANSWER.unpack_from(told, at)[:4]
     number, data = piece.line(at // FACTS_ANSWER.size)
     return fault_of(status, fault, column, data, number)
@@ -247,7 +247,7 @@ def check_all(pairs: Iterable[Iterable[Text]],
 
 
 def checked(given: Tuple[bytes, bytes], other: str) -> Check:
-    """Returns what `check` tells of a scramble and another line, which faults call by this name. Raises LineFault."""
+    """Returns what `check` says of a scramble and another line, which faults call by this name. Raises LineFault."""
     answer = _library.nissy_check(given[0], len(given[0]), given[1], len(given[1]))
     if answer.status:
         fault = fault_of(answer.status, answer.fault, answer.column, given[answer.line - 1], answer.line)

@@ -1,4 +1,4 @@
-"""Reads a text that has solutions alone, of scrambles that are known, by the library: which part of the text is of
+"""Reads a text that has only solutions, of scrambles that are known, by the library: which part of the text is of
 which scramble, and what of it is the solution."""
 import re
 from collections import Counter
@@ -8,7 +8,7 @@ from typing import List, NamedTuple, Optional
 from ._attempts import SCRAMBLE, STEP, Attempt, Reader, TextLine, by_attempts
 from ._written import Written
 
-# a whole scramble, behind which the library reads lines as steps
+# a whole scramble, after which the library reads lines as steps
 _BEFORE = b"R' U' F D R' U' F\n"
 # the number of a head; extras, such as E1, have others
 _NUMBER = re.compile("(?![^A-Za-z0-9]*[Ee])[^0-9]*0*([0-9]+)")
@@ -62,8 +62,8 @@ def _parts(reader: Reader, lines: List[TextLine], count: int) -> List[List[TextL
 
 
 def _read(reader: Reader, part: List[TextLine]) -> List[Attempt]:
-    """Returns what a part has, by how the library reads its lines behind a scramble, with those of which it says that
-    they have another scramble behind that."""
+    """Returns what a part has, by how the library reads its lines after a scramble, with those of which it says that
+    they have another scramble after that."""
     head = max((at for at, line in enumerate(part) if line.is_headed), default=0)
     # what stands a blank line below the head is directly under it too
     line = next((line for line in part[head:] if line.kind), part[head])
@@ -85,7 +85,7 @@ def _scrambles_of(names: List[str], count: int) -> List[Optional[int]]:
 
 
 def solutions_of(whole: Written, count: int) -> List[Part]:
-    """Returns the solutions in a text, of so many scrambles."""
+    """Returns the solutions in a text, of this many scrambles."""
     reader = Reader(whole, whole.data)
     parts = _parts(reader, reader.lines(), count)
     of = _scrambles_of([reader.name(part) for part in parts], count)

@@ -15,15 +15,15 @@ Value = TypeVar("Value")
 _MOST_LINES = 16_384
 _MOST_BYTES = 1 << 22
 _MOST_THREADS = 1024
-# A piece takes so many seconds or more, if there are lines enough, and at most twice as many: in between Python hears
+# A piece takes this many seconds or more, if there are lines enough, and at most twice as many: in between Python hears
 # of signals. Threads have longer ones, since each waits for the lock when it has done one.
 _SHORT, _SHORT_OF_THREADS = 0.005, 0.03
-# The first piece has one line, since that may take long, and the next ones at most so many
+# The first piece has one line, since that may take long, and the next ones at most this many
 # times as many as one before it.
 _GROWTH = 16
-# a piece that took so much of those seconds tells well how many lines the next ones are to have
+# a piece that took this much of those seconds shows well how many lines the next ones are to have
 _TELLING = 1 / 64
-# A thread that goes on keeps Python's lock from others for five thousandths of a second. After so many
+# A thread that goes on keeps Python's lock from others for five thousandths of a second. After this many
 # seconds of sleep one of them has it.
 _REST = 0.00001
 # seconds that are worth a piece of their own
@@ -65,14 +65,14 @@ class _Telling:
         self._next = 0.0
 
     def add(self, count: int) -> None:
-        """Tells that so many more are done."""
+        """Reports that this many more are done."""
         self._done += count
         if self._progress is not None:
             self._told = self._done
             self._progress(self._done, self._all)
 
     def add_line(self) -> None:
-        """Adds a line, and tells of those since the last time if that took as long as a piece."""
+        """Adds a line, and reports those since the last time if that took as long as a piece."""
         now = perf_counter()
         if now < self._next:
             self._done += 1
@@ -120,12 +120,12 @@ class _Taking:
 
     def _most(self) -> int:
         """Returns how many lines come next at most. If it is known how many there are, those that are left are shared
-        by the threads, so that none works long at the last piece alone."""
+        by the threads, so that none works long at only the last piece."""
         left = self._count - self._next + 1
         return min(self._size, max(self._least, left // (2 * self._threads))) if self._count else self._size
 
     def _text(self, lines: List[Text]) -> bytes:
-        """Returns lines as one text. Of those that are no lines, the first one and all behind it are taken off."""
+        """Returns lines as one text. Of those that are no lines, the first one and all after it are taken off."""
         try:
             text = "\n".join(lines + [""]).encode()  # type: ignore[arg-type]
         except (TypeError, UnicodeEncodeError):
@@ -308,7 +308,7 @@ class _Asked(Generic[Value]):
 
 
 def _side_by_side(taking: _Taking, asking: Asking[Value], telling: _Telling, threads: int) -> Iterator[Value]:
-    """Yields the answers to lines, of which so many pieces are asked at the same time, in the order of
+    """Yields the answers to lines, of which this many pieces are asked at the same time, in the order of
     the lines. This thread is one of those that ask: with one more than processors, two would share a
     processor while another one rests."""
     # nobody else waits for this module to be read

@@ -9,13 +9,13 @@ ORDINARY = 1 << 20
 """The bytes of an ordinary room."""
 
 _GROWTH = 8
-# so many ordinary rooms are kept at most for the next calls
+# this many ordinary rooms are kept at most for the next calls
 _MOST_KEPT = 16
 _kept: List[Room] = []
 
 
 class Room:
-    """Memory of so many bytes. The system gives a page of it when that is first written to, so a large
+    """Memory of this many bytes. The system gives a page of it when that is first written to, so a large
     one costs what stands in it."""
 
     __slots__ = ("size", "memory", "address")

@@ -15,7 +15,7 @@ _MOST_SCRAMBLES = 10_000
 _MOST_ROOM = 2**63 - 1
 # what writes solutions, of which there can be any number
 _SEARCHES = (b"solve\0", b"near\0")
-# of an input of so many bytes no other command but `scramble` writes more than an ordinary room
+# of an input of this many bytes no other command but `scramble` writes more than an ordinary room
 # holds: 106 bytes for each line
 _SHORT = 8192
 
@@ -65,7 +65,7 @@ def run(words: Iterable[Text], data: Text = b"", room: Optional[int] = None) -> 
     """Does what the program does with these words after its name and `data` as its input.
 
     A word or an input that is a string is read as UTF-8. If the room is too small for the output, the run is made again
-    with eight times as much. With `room` the run is made once, with room for so many bytes, and `full` says whether
+    with eight times as much. With `room` the run is made once, with room for that many bytes, and `full` says whether
     these were too few. Raises MemoryError if there is no room for the output. If there is none for the words or tables,
     the status is STOPPED, as the program's.
     """

@@ -15,10 +15,10 @@ from ._sides import Sides, sides_of, solve_sides
 from ._values import Count, Cut, Fault, Solution, Solutions, StartFault
 
 MOST_TURNS = 20
-# A piece of solutions that are asked for one after another has so many at most, and is found by looks at so many
+# A piece of solutions that are asked for one after another has this many at most, and is found by looks at this many
 # positions or fewer, if it has any: that takes some milliseconds, and in between Python hears of signals.
 _MOST_OF_PIECE, _NODES_OF_PIECE = 4096, 1 << 20
-# what stands behind a solution of each length
+# what stands after a solution of each length
 _ENDS = ("(0)\n", *(f" ({length})\n" for length in range(1, MOST_TURNS + 1)))
 
 
@@ -168,7 +168,7 @@ class Tables:
         return found
 
     def _pieces(self, limit: int, slack: int, data: bytes) -> Iterator[Solutions]:
-        """Yields the solutions of a line in pieces, each of those behind the last one of the piece before."""
+        """Yields the solutions of a line in pieces, each of those after the last one of the piece before."""
         nodes, last = _NODES_OF_PIECE, None
         while True:
             found = self._behind(last, (limit, slack, _MOST_OF_PIECE, nodes), data)
@@ -180,7 +180,7 @@ class Tables:
             last = found[-1] if found else last
 
     def _behind(self, last: Optional[Solution], numbers: _Numbers, data: bytes) -> Solutions:
-        """Returns the solutions of a line behind one of them, or from the first on: no more
+        """Returns the solutions of a line after one of them, or from the first on: no more
         than an ordinary room holds."""
         room = _rooms.take()
         if last is None:
@@ -212,7 +212,7 @@ class Tables:
                 for at, (status, fault, least, _, column, _, found, nodes) in answers]
 
     def _not_counted(self, partial: bool, piece: Piece, at: int, told: Tuple[int, ...]) -> Union[Count, Fault, Cut]:
-        """Returns what is told of a line that wasn't counted to the end."""
+        """Returns what is said of a line that wasn't counted to the end."""
         status, fault, least, column, found, nodes = told
         number, data = piece.line(at)
         if status != CUT:
@@ -269,7 +269,7 @@ def solve(step: Step, line: Text, limit: int = 20, slack: int = 0, most: Optiona
           nodes: Optional[int] = None, partial: bool = False, *, sides: Optional[Sides] = None) -> Solutions:
     """The solutions of a line: those that have at most `limit` turns and at most `slack` more than the shortest, by
     length and then in turn order, as `nissy near` writes them (`nissy solve` with slack 0). With `most` no more
-    than so many of them, and the search ends there. With `nodes` the search looks at no more than so many
+    than that many of them, and the search ends there. With `nodes` the search looks at no more than that many
     positions: if it would look at more, Cut is raised, or with `partial` what was found until then is returned.
 
     With `sides` "inverse" or "both" they are on the inverse of the line, or over both: those on the inverse stand in
@@ -296,7 +296,7 @@ def solutions(step: Step, line: Text, *, limit: int = 20, slack: int = 0) -> Ite
 def count(step: Step, line: Text, limit: int = 20, slack: int = 0, most: Optional[int] = None,
           nodes: Optional[int] = None, partial: bool = False) -> Count:
     """How many solutions `solve` returns of a line, of which length the shortest are, and how many positions the search
-    looks at. With `most=1` it ends at the first one, and so tells the length soonest. Takes `nodes` and `partial` as
+    looks at. With `most=1` it ends at the first one, and so finds the length soonest. Takes `nodes` and `partial` as
     `solve` does. Raises LineFault, StartFault and Cut."""
     return _tables(step).count(line, limit, slack, most, nodes, partial)
 
@@ -318,8 +318,8 @@ def solve_all(step: Step, lines: Iterable[Text], limit: int = 20, slack: int = 0
               progress: Optional[Progress] = None) -> Iterator[Union[Solutions, Fault, Cut]]:
     """The solutions of each line in turn, as `solve` returns them; of a line for which `solve` raises, what it raises,
     with the line's number, from 1, as `line` (`raising` raises it). A line is taken from the iterable when its answer
-    is asked for. With `threads` so many lines are asked side by side, and more are taken ahead; the answers come in the
-    same order. `progress` is called as by `count_all`."""
+    is asked for. With `threads` that many lines are asked side by side, and more are taken ahead; the answers come in
+    the same order. `progress` is called as by `count_all`."""
     return _tables(step).solve_all(lines, limit, slack, most, nodes, partial, threads, progress)
 
 
@@ -341,7 +341,7 @@ def count_all(step: Step, lines: Iterable[Text], limit: int = 20, slack: int = 0
     """How many solutions each line has in turn, as `count` returns it; of a line for which `count` raises, what it
     raises, with the line's number, from 1, as `line` (`raising` raises it). Lines are taken from the iterable in
     pieces, the first of one line and later ones of up to 16,384, which the library counts in one call each. With
-    `threads` so many pieces are counted side by side; the answers come in the same order. `progress` is called between
-    pieces, in the thread that takes the answers, with how many lines are done, and of how many, None until that is
-    known; what it raises ends the call."""
+    `threads` that many pieces are counted side by side; the answers come in the same order. `progress` is called
+    between pieces, in the thread that takes the answers, with how many lines are done, and of how many, None until that
+    is known; what it raises ends the call."""
     return _tables(step).count_all(lines, limit, slack, most, nodes, partial, threads, progress)

@@ -51,7 +51,7 @@ def solve_sides(tables: int, sides: int, numbers: Tuple[int, int, int, int], lin
         found.more, wanted.most_nodes = bool(answer.more) or found.cut, wanted.most_nodes - answer.nodes
         if found.cut or found.more and len(found) == most:
             break
-        # behind those that filled the room, or on with those of the next length
+        # after those that filled the room, or on with those of the next length
         wanted.passed = wanted.passed + answer.rows if answer.more else 0
         wanted.length += not answer.more
         if wanted.length > limit:

@@ -13,7 +13,7 @@ if sys.version_info >= (3, 8):
 else:
     CubeAxis = str
 
-# a bracket, or a move: its letters, and what is behind them; the line was read by the library before
+# a bracket, or a move: its letters, and what follows them; the line was read by the library before
 _ITEM = re.compile("([()])|([UDRLFB]w?|[udrlfbMESxyz])(2?['\u2019]|2)?")
 _QUARTERS = {"": 1, "2": 2, "'": -1, "\u2019": -1, "2'": 2, "2\u2019": 2}
 _SUFFIXES = {1: "", 2: "2", -1: "'"}

@@ -67,7 +67,7 @@ class Fault(ValueError):
 
     part: str = ""
     """What the line is called, if the call has two, such as "scramble": `str` of the fault says that in place of a
-    number, or behind the number of a pair."""
+    number, or after the number of a pair."""
     _is_of_pairs: bool = False
 
     def __init__(self, text: str, line: Optional[int] = None) -> None:

@@ -107,7 +107,7 @@ class _Search:
         return self._room.memory[:self._asked.there * WAY.size]
 
     def _answer(self) -> Any:
-        """Returns what the library tells of what is asked. Raises Fault."""
+        """Returns what the library says of what is asked. Raises Fault."""
         scramble, so_far = self._lines
         answer = _library.nissy_best(
             ctypes.addressof(_tables()), scramble, len(scramble), so_far, len(so_far), ctypes.addressof(self._asked),

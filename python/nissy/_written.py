@@ -97,8 +97,8 @@ class Written:
         return self.text[self.at(begin):self.at(end)]
 
     def plain(self, most: int, call: Callable[..., Any], before: int = 0) -> PlainLine:
-        """Returns what a call writes as a line into a room of so many bytes and places, which have so many fewer bytes
-        before them than in this text."""
+        """Returns what a call writes as a line into a room of this many bytes and places, which have this many
+        fewer bytes before them than in this text."""
         size = (1 + _PLACE) * most
         room = _rooms.take() if size <= _rooms.ORDINARY else _rooms.Room(size)
         answer = call(room.address + _PLACE * most, most, room.address, most)

@@ -123,10 +123,10 @@ def refuses(tally: Tally) -> None:
 
 
 def is_as_large_as_said(tally: Tally, page: bytes) -> None:
-    """docs/MANY.md says how large it is, in tens of KB."""
-    said = re.findall(r"one file of some (\d+) KB \((\d+) by gzip\)", (TOP / "docs/MANY.md").read_text())
+    """docs/PAGE.md says how large it is, in tens of KB."""
+    said = re.findall(r"one file of some (\d+) KB \((\d+) by gzip\)", (TOP / "docs/PAGE.md").read_text())
     sizes = [f"{round(len(each) / 10_000) * 10}" for each in (page, gzip.compress(page))]
-    tally.equal("what docs/MANY.md says of its size", said, [tuple(sizes)])
+    tally.equal("what docs/PAGE.md says of its size", said, [tuple(sizes)])
 
 
 def main() -> None:

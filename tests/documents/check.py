@@ -1,7 +1,8 @@
 #!/usr/bin/env python3
-"""Holds the pages against the repository. With the word `map` it only prints what the maps of docs/ARCHITECTURE.md lack, and what is gone.
+"""Holds the pages against the repository. With the word `map` it prints what the maps of docs/ARCHITECTURE.md lack, and what is gone, and then
+the files of the crates that are named, each with its first line:
 
-    tests/documents/check.py [map]
+    tests/documents/check.py [map [CRATE..]]
 """
 import re
 import shutil
@@ -15,7 +16,7 @@ TOP = Path(__file__).resolve().parents[2]
 sys.path.insert(0, str(TOP / "tests"))
 
 from repository import Code
-from markdown import NAME, Page, cells, rows
+from markdown import NAME, Page, items, rows
 from prose import below, names_of_files, prose
 from tally import Tally
 
@@ -39,7 +40,6 @@ NOT_THERE = {
     "tests/wrong-bodies/other": "tests/bodies.sh makes it",
     "docs/elsewhere": "tests/install.sh makes it",
     "proofs/path/Limit/new/Answers.antt": "a check with open goals writes it",
-    "share/doc/nissy/EMBEDDING.md": "a package lays it there",
     "moves.c": "it is a program of the reader's",
     "self.rt": "it is the runtime of an example",
 }
@@ -142,28 +142,37 @@ def lengths(tally: Tally, code: Code) -> None:
 
 
 def map_of_crates(code: Code) -> list[str]:
-    """Returns what the map of the crates and their files don't have in common."""
-    named: dict[str, set[str]] = {crate: set() for crate in code.libraries()}
-    crate = ""
-    for row in rows(Page(TOP, "docs/ARCHITECTURE.md").section("Where things are")):
-        crate = row[0].strip("`") or crate
-        named.setdefault(crate, set()).update(name.split("/")[-1] for cell in row[1:] for name in NAME.findall(cell) if re.fullmatch(r"[A-Za-z_/]+", name))
-    found = []
-    for crate, names in named.items():
-        for part, ending, of_part in (("src", ".rt", str.islower), ("specs", ".antt", str.istitle)):
-            there = {it for it in code.stems(f"crates/{crate}/{part}", ending) if it not in ("lib", "Lib")}
-            on_map = {name for name in names if of_part(name[0])}
-            found += [f"gone: crates/{crate}/{part}: {it}" for it in sorted(on_map - there)]
-            found += [f"missing: crates/{crate}/{part}: {it}" for it in sorted(there - on_map)]
-    return found
+    """Returns what the map of the crates and their folders don't have in common."""
+    on_map = {name for row in rows(Page(TOP, "docs/ARCHITECTURE.md").section("Where things are")) for name in NAME.findall(row[0])}
+    there = set(code.libraries())
+    return [f"gone: crates/{it}" for it in sorted(on_map - there)] + [f"missing: crates/{it}" for it in sorted(there - on_map)]
+
+
+def head_of(text: str) -> str:
+    """What the first line of a file says that it is for, or nothing."""
+    said = re.match(r"(?://!|--|//|/\*\*) (\S.*)", text)
+    return said[1] if said else ""
+
+
+def map_of_files(code: Code, part: str) -> list[str]:
+    """Returns the files of a crate's code and definitions, or of a folder of scripts, each with what its first line says that it is for."""
+    own = re.compile(rf"crates/{part}/(?:src/(?!lib\.rt).*\.rt|specs/(?!Lib\.antt).*\.antt)|{part}/(?!.*\.d\.ts).*\.ts")
+    return [f"{path}: {head_of(text)}" for path, text in code.files.items() if own.fullmatch(path)]
+
+
+def heads_of_files(tally: Tally, code: Code) -> None:
+    """The first line of each file of a crate says what it is for, as docs/ARCHITECTURE.md has it."""
+    for crate in code.libraries():
+        tally.holds(f"{crate} has files", lines := map_of_files(code, crate))
+        for line in lines:
+            tally.holds(f"the first line of {line.split(':')[0]} says what it is for", not line.endswith(": "))
 
 
 def map_of_scripts(section: str, top: str) -> list[str]:
-    """Returns what a table of scripts, each row of one folder, and the folders don't have in common."""
-    listed = rows(Page(TOP, "docs/ARCHITECTURE.md").section(section))
-    on_map = {f"{row[0]}/{name}" for row in listed for name in re.findall(r"[\w-]+\.ts", row[1])}
-    there = {f"{path.parent.name if path.parent != TOP / top else top}/{path.name}" for path in (TOP / top).rglob("*.ts") if ".d." not in path.name}
-    return [f"gone: {it}" for it in sorted(on_map - there)] + [f"missing: {it}" for it in sorted(there - on_map)]
+    """Returns what a table of folders with scripts and the folders don't have in common."""
+    on_map = {name for row in rows(Page(TOP, "docs/ARCHITECTURE.md").section(section)) for name in NAME.findall(row[0])}
+    there = {str(path.parent.relative_to(TOP / top.split("/")[0])) for path in (TOP / top).rglob("*.ts") if ".d." not in path.name}
+    return [f"gone: web/{it}" for it in sorted(on_map - there)] + [f"missing: web/{it}" for it in sorted(there - on_map)]
 
 
 def names_of_scripts(tally: Tally) -> None:
@@ -210,18 +219,24 @@ def clauses_of_functions(texts: list[str]) -> list[str]:
 
 
 def promises(tally: Tally, code: Code) -> None:
-    """What docs/PROMISES.md names after the word of what it is, clauses of functions there and in README, the table of wrong programs."""
+    """What docs/PROMISES.md names after the word of what it is, clauses of functions there and in README, the list of wrong programs. Each promise
+    says what carries it."""
     page = Page(TOP, "docs/PROMISES.md")
     for kind in ("clause", "law", "record", "field"):
         named = page.quoted(rf"\b{kind}s? (`[a-z_A-Z]+`(, | and )?)+")
         each(tally, page.name, f"a {kind}", named, partial(code.declares, kind))
-    carried = [cells(line)[-1] for line in page.lines if line.startswith("|")]
+    promised = [it for head in page.headings() if head.startswith("`niss_") for it in items(page.section(head))]
+    tally.holds(f"{page.name} has promises", promised)
+    for it in promised:
+        tally.holds(f"{page.name}: after → stands what carries it: {it[:60]}", re.search(r" → \S", it))
+    carried = [it.split("→")[-1] for it in items(page.lines)]
     for name, texts in ((page.name, carried), ("README.md", [Page(TOP, "README.md").text])):
         each(tally, name, "a clause of its function", clauses_of_functions(texts), code.clauses.__contains__)
-    wrong = [row[-1] for row in rows(page.section("Wrong programs, and what refuses them"))]
-    for cell in wrong:
-        tally.holds(f"{page.name}: a row of wrong programs names bodies: {cell[:60]}", NAME.search(cell))
-    named = sorted({name for cell in wrong for name in NAME.findall(cell)})
+    wrong = items(page.section("Wrong programs, and what refuses them"))
+    tally.holds(f"{page.name} names wrong programs", wrong)
+    for it in wrong:
+        tally.holds(f"{page.name}: an item of wrong programs names bodies: {it[:60]}", NAME.search(it))
+    named = sorted({name for it in wrong for name in NAME.findall(it)})
     each(tally, page.name, "a wrong body", named, code.wrong_bodies.__contains__)
 
 
@@ -263,8 +278,8 @@ def main() -> None:
     """All checks, or the maps alone."""
     code = Code(TOP)
     unlike = map_of_crates(code) + map_of_scripts("The module in JavaScript", "web/module") + map_of_scripts("The page", "web/page")
-    if sys.argv[1:] == ["map"]:
-        print("\n".join(unlike), end="\n" if unlike else "")
+    if sys.argv[1:2] == ["map"]:
+        print("".join(f"{line}\n" for line in unlike + [line for name in sys.argv[2:] for line in map_of_files(code, name)]), end="")
         sys.exit(1 if unlike else 0)
     tally = Tally()
     pages = [Page(TOP, str(path.relative_to(TOP))) for pattern in PAGES for path in sorted(TOP.glob(pattern))]
@@ -278,6 +293,7 @@ def main() -> None:
     lengths(tally, code)
     for what in unlike or [""]:
         tally.holds(f"docs/ARCHITECTURE.md maps each file: {what}", not what)
+    heads_of_files(tally, code)
     heads_of_scripts(tally)
     names_of_scripts(tally)
     types_in_comments(tally)

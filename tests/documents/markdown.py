@@ -42,6 +42,10 @@ class Page:
                 found.append(line)
         return found
 
+    def headings(self) -> list[str]:
+        """Returns its headings of the second level."""
+        return [line[3:] for line in self.lines if line.startswith("## ")]
+
     def torn_tables(self) -> list[str]:
         """Returns the first row of each table that isn't a head, a line of dashes, and rows of as many cells."""
         torn, table = [], []
@@ -55,8 +59,8 @@ class Page:
         return torn
 
     def longer_lines(self, columns: int) -> list[int]:
-        """Returns the numbers of its lines that have more columns, rows of tables apart."""
-        return [number for number, line in enumerate(self.lines, 1) if len(line) > columns and not line.startswith("|")]
+        """Returns the numbers of its lines that have more columns."""
+        return [number for number, line in enumerate(self.lines, 1) if len(line) > columns]
 
     def quoted(self, pattern: str) -> list[str]:
         """Returns the names in backquotes where the pattern is found; `A::b` gives both A and b."""
@@ -78,4 +82,19 @@ def rows(lines: list[str]) -> list[list[str]]:
             found.pop()
         elif line.startswith("|"):
             found.append(cells(line))
+    return found
+
+
+def items(lines: list[str]) -> list[str]:
+    """Returns the items of the lists in these lines, each in one line."""
+    found: list[str] = []
+    inside = False
+    for line in lines:
+        if line.startswith("- "):
+            found.append(line[2:])
+            inside = True
+        elif inside and line.startswith("  "):
+            found[-1] += " " + line.strip()
+        else:
+            inside = False
     return found

@@ -7,8 +7,9 @@ A block ```sh is run, and where the next block is ```text, that is what it print
 with `$ ` is run, and the lines after it are what it prints. The blocks of a page run one after another in one shell, so that variables and
 files stay; the whole page is run by each of sh, bash and zsh that is there. A block ```bash, ```zsh or ```fish runs by that shell alone.
 They find the repository's folder `examples` beside them.
-A block ```js is a script of its own, which node runs at the top of the repository, if the module is built. A block that takes a tool of TOOLS, or
-the library, is skipped if that isn't here, and named. So are the examples of a manual page.
+A block of a kind of SCRIPTS is a script or a program of its own, which is run in an empty folder, if the module, as a package for npm, or the
+library that it asks is built. A block that takes a tool of TOOLS, or the library, is skipped if that isn't here, and named. So are
+the examples of a manual page.
 """
 import difflib
 import os
@@ -27,8 +28,16 @@ from tally import Tally
 
 # the shells by which a block of a kind is run
 SHELLS = {"sh": ("sh", "bash", "zsh"), "bash": ("bash",), "zsh": ("zsh",), "fish": ("fish",)}
-# what runs a block that is a script of its own, the ending of its file, and what it needs of the folder build
-SCRIPTS = {"js": ("node", ".mjs", "nissy.wasm")}
+# the words that run a block that is a script of its own, or that make the program `made` of it, the name of its file, and what it asks for of
+# the folder build. Node 20 hangs now and then at the end of a script, while it compiles beside it
+SCRIPTS = {
+    "js": ("node --no-concurrent-recompilation example.mjs", "nissy.wasm"),
+    "python": ("python3 example.py", "libnissy.so"),
+    "c": ("cc -std=c99 -Wall -Werror -o made example.c -lnissy", "libnissy.so"),
+    "cpp": ("c++ -std=c++17 -Wall -Werror -o made example.cpp -lnissy", "libnissy.so"),
+    "rust": ("rustc --edition 2021 -D warnings -o made example.rs", "libnissy.so"),
+    "go": ("go build -o made example.go", "libnissy.so"),
+}
 # tools that a system may lack, as a block takes them: at the beginning of a line; and what takes the library
 TOOLS = re.compile(r"^(?:import )?(cc|c\+\+|dask|parallel|python3)(?=[ .])", re.MULTILINE)
 OF_LIBRARY = re.compile(r"-lnissy|^import nissy|^python3 (examples/|-m nissy)", re.MULTILINE)
@@ -49,9 +58,9 @@ class Example:
 
     def needs(self) -> list[str]:
         """Returns the tools, and the files of the repository, without which it can't run."""
-        program, _, module = SCRIPTS.get(self.kind, (self.kind, "", ""))
-        built = ["libnissy.so"] if OF_LIBRARY.search(self.command) else []
-        return [program, *TOOLS.findall(self.command), *(f"build/{file}" for file in (module, *built) if file)]
+        words, asked = SCRIPTS.get(self.kind, (self.kind, ""))
+        built = ["libnissy.so"] if OF_LIBRARY.search(self.command) and not asked else []
+        return [words.split()[0], *TOOLS.findall(self.command), *(f"build/{file}" for file in (asked, *built) if file)]
 
 
 def from_roff(text: str) -> str:
@@ -119,20 +128,29 @@ def run_by(shell: str, examples: list[Example], environment: dict[str, str]) -> 
                 it.wrong[shell] = got
 
 
-def run_alone(it: Example) -> None:
-    """Runs an example that is a script of its own, in a folder that has what the top of the repository has."""
-    program, ending, _ = SCRIPTS[it.kind]
+def lay_package(room: Path) -> None:
+    """Lays the package for npm into a folder, as it would be installed there."""
+    package = room / "node_modules/nissy"
+    shutil.copytree(TOP / "build/web/module", package)
+    shutil.copy(TOP / "build/nissy.wasm", package)
+
+
+def run_alone(it: Example, environment: dict[str, str]) -> None:
+    """Runs an example that is a script or a program of its own, in an empty folder, in which the package for npm is installed."""
+    words = SCRIPTS[it.kind][0].split()
     with tempfile.TemporaryDirectory() as room:
-        for folder in ("web", "build"):
-            os.symlink(TOP / folder, Path(room, folder))
-        script = Path(room, f"example{ending}")
-        script.write_text(it.command)
-        # node 20 hangs now and then at the end of a script, while it compiles beside it
-        words = [program, "--no-concurrent-recompilation"] if program == "node" else [program]
-        ran = subprocess.run([*words, script], cwd=room, stdout=subprocess.PIPE, stderr=subprocess.STDOUT, check=False, timeout=SECONDS)
-        got = ran.stdout.decode(errors="replace")
-        if got != it.wanted:
-            it.wrong[program] = got
+        if it.kind == "js":
+            lay_package(Path(room))
+        next(Path(room, word) for word in words if word.startswith("example.")).write_text(it.command)
+        got = b""
+        for command in [words, ["./made"]] if "made" in words else [words]:
+            ran = subprocess.run(command, cwd=room, env=environment | {"GOCACHE": f"{room}/cache"}, stdout=subprocess.PIPE, stderr=subprocess.STDOUT,
+                                 check=False, timeout=SECONDS)
+            got += ran.stdout
+            if ran.returncode != 0:
+                break
+        if got.decode(errors="replace") != it.wanted:
+            it.wrong[words[0]] = got.decode(errors="replace")
 
 
 def show(it: Example) -> None:
@@ -176,7 +194,7 @@ def try_page(tally: Tally, page: Path, environment: dict[str, str]) -> None:
                 print(f"skipped: {name} by {shell}, which isn't here")
     for it in examples:
         if it.kind in SCRIPTS:
-            run_alone(it)
+            run_alone(it, environment)
     for it in examples:
         tally.holds(f"{name}:{it.line}: in {' '.join(it.wrong)} it prints this ('<' the page, '>' the program)", not it.wrong)
         if it.wrong:
