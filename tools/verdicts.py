@@ -95,3 +95,20 @@ def fault(said: str) -> str:
     errors = re.findall(r"^.*error.*", said, re.MULTILINE) or said.strip().split("\n")[-1:]
     fits_none = [it for it in errors if " has no function `" in it]
     return f"no such function: {fits_none[0][:200]}" if fits_none else f"it doesn't compile, or the check tells nothing: {errors[0][:300]}"
+
+
+class Count:
+    """How many bodies were refused, and how many were not, each of which is named."""
+
+    def __init__(self) -> None:
+        self.passed = self.failed = 0
+
+    def add(self, name: str, why: str) -> None:
+        if why == REFUSED:
+            self.passed += 1
+        else:
+            self.fail(f"NOT REFUSED: {name}: {why}")
+
+    def fail(self, why: str) -> None:
+        self.failed += 1
+        print(why, flush=True)
