@@ -188,10 +188,10 @@ function cutOr<Value>(status: number, cut: Telling, value: Value & { cut?: true 
 export function solutionsIn(reply: SolveReply | FoundParts | NoValue, { cut }: { cut: Telling }): any {
   const seen = withValue(reply);
   if ("out" in seen) {
-    const [more, nodes] = [READ.more(seen.answer, seen.at) === 1, kept(READ.nodes(seen.answer, seen.at))];
+    const solutions = solutionsFrom(seen.out) as Solutions;
     // beside its list, as its length is
-    const told = { more: { value: more }, nodes: { value: nodes } };
-    const solutions = Object.defineProperties(solutionsFrom(seen.out), told) as Solutions;
+    Object.defineProperty(solutions, "more", { value: READ.more(seen.answer, seen.at) === 1 });
+    Object.defineProperty(solutions, "nodes", { value: kept(READ.nodes(seen.answer, seen.at)) });
     return cutOr(seen.status, cut, solutions, () => new SearchCut(countSeen(seen), solutions));
   }
   const solutions: SideSolutions = bothSidesIn(seen.parts);

@@ -13,7 +13,7 @@ import { runIn } from "./runs.js";
 import { compiled, type ModuleSource } from "./source.js";
 import type { AllReply } from "../calls/many.js";
 import type { OneReply, SolveBytesReply } from "../calls/replies.js";
-import type { OneRequest, Request, SolveRequest, TextRequest } from "../calls/requests.js";
+import type { Request, SolveRequest, TextRequest } from "../calls/requests.js";
 import type { Progress } from "../calls/signals.js";
 
 export type Reply = OneReply | AllReply | PlainLine | Attempt[] | SeenAttempt[];

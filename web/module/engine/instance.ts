@@ -27,14 +27,6 @@ const ANSWER = 48;
 
 const NEEDED = ["memory", "__heap_base", "nissy_run"];
 
-/** @returns how many bytes it takes */
-function bytesFor(given: Exclude<Given, number | bigint>) {
-  if ("text" in given) return roomFor(given.text);
-  if ("room" in given) return given.room;
-  if ("rows" in given) return given.rows * given.of.bytes;
-  return "struct" in given ? given.struct.length : ROOM.bytes + given.lent;
-}
-
 export class Instance {
   #exports: Exports;
   /** Where the tables of each step are: no step has what some script gave to all objects. */
@@ -80,31 +72,42 @@ export class Instance {
    * @returns where each of these stands */
   ask(name: string, given: readonly Given[]): number[] {
     const places: number[] = [];
-    let end = this.free;
-    for (const each of given) {
-      places.push(end);
-      if (typeof each === "object") end = aligned(end + bytesFor(each));
-    }
-    this.memory.reach(end);
     const words: (number | bigint)[] = [BigInt(this.answer)];
-    given.forEach((each, nth) => this.#hand(words, each, places[nth]));
+    let end = this.free;
+    for (let nth = 0; nth < given.length; nth += 1) {
+      const each = given[nth];
+      places[nth] = end;
+      if (typeof each === "object") end = aligned(end + this.#hand(words, each, end));
+      else words.push(each);
+    }
     this.call((exports) => Reflect.apply(exports[name], undefined, words));
     return places;
   }
 
-  /** Writes what a call is given, and hands over its words. */
-  #hand(words: (number | bigint)[], given: Given, place: number) {
-    if (typeof given !== "object") words.push(given);
-    else if ("text" in given) words.push(BigInt(place), BigInt(this.memory.put(place, given.text)));
-    else if ("room" in given) words.push(BigInt(place), BigInt(given.room));
-    else if ("rows" in given) {
-      if (given.first) this.memory.put(place, given.first);
-      words.push(BigInt(place), BigInt(given.rows));
-    } else {
-      const lent = "lent" in given ? { block: place + ROOM.bytes, size: given.lent } : null;
-      this.memory.put(place, lent === null ? (given as { struct: Uint8Array }).struct : structOf(ROOM, lent));
-      words.push(BigInt(place));
+  /** Writes what a call is given at a place, and hands over its words.
+   * @returns how many bytes it has there */
+  #hand(words: (number | bigint)[], given: Exclude<Given, number | bigint>, place: number): number {
+    const { memory } = this;
+    words.push(BigInt(place));
+    if ("text" in given) {
+      const most = roomFor(given.text);
+      memory.reach(place + most);
+      words.push(BigInt(memory.put(place, given.text)));
+      return most;
     }
+    if ("struct" in given) {
+      memory.reach(place + given.struct.length);
+      return memory.put(place, given.struct);
+    }
+    if ("lent" in given) {
+      memory.reach(place + ROOM.bytes + given.lent);
+      return memory.put(place, structOf(ROOM, { block: place + ROOM.bytes, size: given.lent })) + given.lent;
+    }
+    const bytes = "room" in given ? given.room : given.rows * given.of.bytes;
+    memory.reach(place + bytes);
+    if ("rows" in given && given.first) memory.put(place, given.first);
+    words.push(BigInt("room" in given ? given.room : given.rows));
+    return bytes;
   }
 
   /** A number of the module's answer. */

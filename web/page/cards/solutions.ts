@@ -4,7 +4,7 @@ import { Stopped } from "../../module/shared/faults.js";
 import { thrownError, present } from "../shared/certain.js";
 import { announce, announceLater, button, counted, element, part, setBusy, spoken, tell } from "../shared/element.js";
 import {
-  Filters, NOT_MOVES, caseAtMost, chosen, offerChoices, offerLastTurns, offerMoves, withTurns,
+  Filters, NOT_MOVES, caseAtMost, offerChoices, offerLastTurns, offerMoves, withTurns,
 } from "./filters.js";
 import { GREATEST_SLACK } from "../state/limits.js";
 import { addRows, named, roveWithin, showRows, starButton, takeButton, takeNamed } from "../shared/rows.js";
