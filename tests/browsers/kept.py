@@ -33,10 +33,10 @@ def keeps_moves_alone(tally: Tally, browser: Browser) -> None:
     browser.open()
     browser.fill("scramble", "R U F // scramble\n\n() // nothing\n\nU R // good\n")
     browser.until("return document.querySelectorAll('#kept-list li').length > 0")
-    tally.equal("what has moves is kept", browser.texts("#kept-list .moves"), ["U R"])
+    tally.equal("what has moves is kept", browser.texts("#kept-list .step .moves"), ["U R"])
     browser.load()
     browser.until("return document.querySelectorAll('#kept-list li').length > 0")
-    tally.equal("and is in the address", browser.texts("#kept-list .moves"), ["U R"])
+    tally.equal("and is in the address", browser.texts("#kept-list .step .moves"), ["U R"])
 
 
 def keeps(tally: Tally, browser: Browser) -> None:
@@ -57,7 +57,7 @@ def keeps(tally: Tally, browser: Browser) -> None:
     second = browser.script("return decodeURIComponent(location.hash.split('kept=')[1].split(',')[0])")
     tally.equal("three are kept", (len(browser.texts("#kept-list li")), browser.text("kept-count")), (3, "3 lines"))
     tally.holds(f"one of the best, {second}", second.startswith(("normal.", "inverse.")))
-    tally.holds("one of the list", third in browser.texts("#kept-list .moves"))
+    tally.holds("one of the list", third in browser.texts("#kept-list .step .moves"))
     chips = browser.script(KEPT_WORDS.replace(".moves, .chip, .case", ".chip"))
     tally.equal("each with what it reaches", [any(word.startswith("EO ") for word in words) for words in chips], [True] * 3)
     cases = [len(each) for each in browser.script(KEPT_WORDS.replace(".moves, .chip, .case", ".case"))]
@@ -70,20 +70,20 @@ def keeps_in_address(tally: Tally, browser: Browser) -> None:
         "const note = document.querySelector('#kept-list .note-field'); note.value = 'a \u00e9 ~ , ; note'; note.dispatchEvent(new "
         "Event('change'))",
     )
-    before = browser.texts("#kept-list .moves")
+    before = browser.texts("#kept-list .step .moves")
     browser.open(browser.script("return location.hash"))
     browser.until(KEPT_SAID)
     notes = "return [...document.querySelectorAll('#kept-list .note-field')].map((each) => each.value)"
     tally.equal(
         "they come back from the address",
-        (browser.texts("#kept-list .moves"), browser.script(notes)),
+        (browser.texts("#kept-list .step .moves"), browser.script(notes)),
         (before, ["a \u00e9 ~ , ; note", "", ""]),
     )
     browser.act("#kept-list li:nth-child(2) button")
     tally.equal("one is gone on with", browser.text("bracketed"), before[1])
-    tally.equal("and the others stay", browser.texts("#kept-list .moves"), before)
+    tally.equal("and the others stay", browser.texts("#kept-list .step .moves"), before)
     browser.click("#kept-list li:nth-child(3) button:nth-of-type(2)")
-    tally.equal("one is taken away", browser.texts("#kept-list .moves"), before[:2])
+    tally.equal("one is taken away", browser.texts("#kept-list .step .moves"), before[:2])
     tally.equal("its stars are the page's", browser.script("return document.getElementById('keep-line').ariaPressed"), "true")
 
 
@@ -216,7 +216,7 @@ def keeps_a_note(tally: Tally, browser: Browser) -> None:
     browser.until(KEPT_SAID)
     browser.click("#kept-list li:nth-child(1) .note-field")
     browser.press("a note ")
-    second = browser.texts("#kept-list .moves")[1]
+    second = browser.texts("#kept-list .step .moves")[1]
     browser.click("#kept-list li:nth-child(2) button")
     browser.wait()
     tally.equal("the press after a note is heard", browser.text("bracketed"), second)
@@ -229,7 +229,7 @@ def keeps_a_note(tally: Tally, browser: Browser) -> None:
 
 def leaves_kept(tally: Tally, browser: Browser) -> None:
     """A scramble that is pasted in place of the whole leaves what is kept and taken, which Back leads to; the same one again doesn't."""
-    two = {"#kept-list .moves": ["R", "U"]}
+    two = {"#kept-list .step .moves": ["R", "U"]}
     browser.open(f"{ADDRESS}&kept=normal.R,normal.U")
     browser.walk(tally, "the same scramble keeps them", ("until", KEPT_SAID, {}), ("script", PASTE, f"{SCRAMBLE} // again", {}), ("wait", two),
         ("script", PASTE, EXAMPLE, {}), ("comes", "kept", 0, {}), ("script", "history.back()", {}), ("comes", "kept", 2, two),

@@ -99,7 +99,7 @@ def by_keys(tally: Tally, browser: Browser) -> None:
     browser.walk(tally, "keys", ("script", BLUR, {}), ("press", "i", {"side": "inverse side"}), ("press", "n", {"side": "normal side"}),
         ("press", "3", {"solutions-heading": "EO R/L, normal side"}))
     first = browser.texts("#solutions-groups .take")[:1]
-    browser.walk(tally, "keys", ("press", "s", {"#kept-list .moves": first}), ("press", "/", {"focus": "filter"}), ("press", "u", {"filter=": "u"}),
+    browser.walk(tally, "keys", ("press", "s", {"#kept-list .step .moves": first}), ("press", "/", {"focus": "filter"}), ("press", "u", {"filter=": "u"}),
         ("script", take, {}), ("comes", "steps", 1, {}), ("press", "u", {"steps": 0}),
         ("script", "part('keys-on').checked = false;" + BLUR, {}), ("press", "i", {"side": "normal side"}))
 

@@ -61,5 +61,5 @@ def kept(tally: Tally, browser: Browser) -> None:
     """Lines that an address keeps are read as its steps are; one that can't be read is said, and stays."""
     lines = {f"normal.{written(typed)}": faces for typed, faces in LINES if faces and "(" not in typed}
     browser.walk(tally, "by their face turns", ("go", "#scramble=F&kept=" + ",".join(lines), {}),
-        ("choose", "kept-sort", "kept", {"#kept-list .moves": list(lines.values())}), ("go", "#scramble=F&kept=normal.M_2,normal.R", {}),
-        ("until", "return part('alert').textContent.startsWith('The lines that are')", {"#kept-list .moves": ["M 2", "R"]}))
+        ("choose", "kept-sort", "kept", {"#kept-list .step .moves": list(lines.values())}), ("go", "#scramble=F&kept=normal.M_2,normal.R", {}),
+        ("until", "return part('alert').textContent.startsWith('The lines that are')", {"#kept-list .step .moves": ["M 2", "R"]}))
