@@ -25,7 +25,7 @@ PRESS = """new MutationObserver((_, observer) => {
         line.querySelector('button').click();
     }).observe(document, { childList: true, subtree: true })"""
 KEPT_WORDS = """return [...document.querySelectorAll('#kept-list li')]
-    .map((each) => [...each.querySelectorAll('.moves, .chip, .case')].map((one) => one.textContent))"""
+    .map((each) => [...each.querySelectorAll('.step .moves, .chip, .case')].map((one) => one.textContent))"""
 
 
 def keeps_moves_alone(tally: Tally, browser: Browser) -> None:
@@ -58,9 +58,9 @@ def keeps(tally: Tally, browser: Browser) -> None:
     tally.equal("three are kept", (len(browser.texts("#kept-list li")), browser.text("kept-count")), (3, "3 lines"))
     tally.holds(f"one of the best, {second}", second.startswith(("normal.", "inverse.")))
     tally.holds("one of the list", third in browser.texts("#kept-list .step .moves"))
-    chips = browser.script(KEPT_WORDS.replace(".moves, .chip, .case", ".chip"))
+    chips = browser.script(KEPT_WORDS.replace(".step .moves, .chip, .case", ".chip"))
     tally.equal("each with what it reaches", [any(word.startswith("EO ") for word in words) for words in chips], [True] * 3)
-    cases = [len(each) for each in browser.script(KEPT_WORDS.replace(".moves, .chip, .case", ".case"))]
+    cases = [len(each) for each in browser.script(KEPT_WORDS.replace(".step .moves, .chip, .case", ".case"))]
     tally.equal("and its cases, a row of the best with its own and the moves to it", cases, [2, 2, 2])
 
 
