@@ -28,17 +28,10 @@ def chip(number: int) -> str:
     return f"{CHIPS}:nth-child({number})"
 
 
-def clear(browser: Browser) -> None:
-    """Opens the page as one who was never here."""
-    browser.open()
-    browser.script("localStorage.clear()")
-    browser.open()
-
-
 def reads_one(tally: Tally, browser: Browser) -> None:
     """A scramble with a solution below it, one with a name, a solution beside the steps, a label before it."""
     for text, scramble, line, kept, said in ONE:
-        clear(browser)
+        browser.open()
         browser.walk(tally, f"{text!r}", ("script", PASTE, text, {}), ("comes", "bracketed", line, {}),
             ("comes", KEPT, kept, {"scramble=": scramble, "scramble-read": said, "scramble-fault": ""}))
 
@@ -46,17 +39,17 @@ def reads_one(tally: Tally, browser: Browser) -> None:
 def doubts(tally: Tally, browser: Browser) -> None:
     """A text that may be meant otherwise than it is read: why is said, with the place marked, until anything is changed, and not beside a fault."""
     for text, scramble, line, said, sign, before in DOUBTS:
-        clear(browser)
+        browser.open()
         browser.walk(tally, f"{text!r}", ("script", PASTE, text, {}),
             ("comes", "#scramble-doubt p", [f"In doubt: {said}."], {"#scramble-doubt mark": [sign], "scramble=": scramble, "bracketed": line}))
         shown = browser.texts("#scramble-doubt pre")[0].split("\n")
         tally.equal(f"the place of the doubt of {text!r}", (shown[1].index("^"), shown[0][before]), (before, sign))
         browser.walk(tally, "it goes away", ("fill", "scramble", "R U", {"scramble-doubt?": False}), ("fill", "scramble", "r q", {"scramble-doubt?": False}))
     small = ["In doubt: “r” is read as a wide turn."]
-    clear(browser)
+    browser.open()
     browser.walk(tally, "a scramble in small letters",  ("fill", "scramble", "r u f", {"#scramble-doubt p": small}),
         ("submit", "own", "F", {}), ("comes", "steps", 1, {"scramble-doubt?": False}))
-    clear(browser)
+    browser.open()
     browser.walk(tally, "a solution that solves", ("script", PASTE, "r u f\n\nf' u' r'", {}),
         ("comes", "steps", 1, {"scramble-doubt?": False}))
 
@@ -67,7 +60,7 @@ def chooses(tally: Tally, browser: Browser) -> None:
     second = {"scramble=": "F' L2 U", "bracketed": "", "kept": 0, SHOWN: ["2"]}
     for width in (1280, 360):
         browser.resize(width, 900, width < 400)
-        clear(browser)
+        browser.open()
         browser.walk(tally, f"{width}: a sheet", ("script", PASTE, SHEET, {"desk?": True}),
             ("comes", "kept", 1, first | {"scramble-read": "Left out: 1 line before the scramble."}),
             ("act", chip(2), second | {"scramble?": width > 400}),
@@ -90,7 +83,7 @@ def joins(tally: Tally, browser: Browser) -> None:
     joined = {"bracketed": "F2", KEPT: ["L2", "B", "U"], NOTES: ["one", "", ""], "kept": 3}
     full = "#scramble=R_U_F&kept=" + ",".join(f"normal.{'_'.join(['R', 'U'] * at)}" for at in range(1, 24))
     most = "24 lines are kept, and there can be no more: remove one of them first."
-    clear(browser)
+    browser.open()
     browser.walk(tally, "a solution of the same scramble", ("choose", "kept-sort", "kept", {}),
         ("script", PASTE, "R U F\nD // EO\n\nL2\n// one\n\nB\n", {}), ("comes", "kept", 2, first),
         ("script", PASTE, "R,  U F\nF2 // EO\n\nL2\n// other\n\nU\n", {}), ("comes", "kept", 3, joined),

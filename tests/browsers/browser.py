@@ -87,7 +87,16 @@ class Browser(Tab):
         """Has a script no longer run before those of a page."""
         self.command("Page.removeScriptToEvaluateOnNewDocument", identifier=name)
 
+    def forget(self) -> None:
+        """Takes all scrambles off the desk, as for one who was never here."""
+        self.script("if (location.protocol === 'file:') localStorage.removeItem('nissy-desk')")
+
     def open(self, address: str = "", page: str = "") -> None:
+        """The same of one who was never here."""
+        self.forget()
+        self.reopen(address, page)
+
+    def reopen(self, address: str = "", page: str = "") -> None:
         """Loads the page anew with this text after its address, and waits for its answers."""
         self.load("about:blank")
         self.load((page or self.page) + address)
@@ -95,6 +104,11 @@ class Browser(Tab):
             self.wait()
 
     def go(self, address: str = "") -> None:
+        """The same of one whose desk is empty."""
+        self.forget()
+        self.follow(address)
+
+    def follow(self, address: str = "") -> None:
         """Has the page go to this address, or loads it if it isn't open, and waits for its answers: what was chosen stays."""
         if self.script("""const before = location.hash, results = part("results");
                 if (results === null) return true;

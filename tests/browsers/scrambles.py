@@ -1,11 +1,10 @@
 """The desk: each scramble that is worked on stays with its line, its list and what is kept, whatever else is read, and also for later."""
-from attempts import CHIPS, PASTE, SHOWN, chip, clear
+from attempts import CHIPS, PASTE, SHOWN, chip
 from browser import Browser
 from tally import Tally
 
 KEPT = "#kept-list .step .moves"
 MEAN = "1. R U F\n2. F' L2 U\n3. B2 R D\n"
-CLEAR = "localStorage.clear()"
 # of a session that is pasted the browser has the text at the event alone
 PASTE_ALL = """const field = part('scramble'), clipboardData = new DataTransfer();
     clipboardData.setData('text/plain', arguments[0]);
@@ -20,7 +19,7 @@ REFUSES = "Storage.prototype.setItem = () => { throw new DOMException('no room',
 
 def begin(browser: Browser, tally: Tally, what: str) -> None:
     """Opens the page as one who was never here, with three scrambles."""
-    clear(browser)
+    browser.open()
     browser.walk(tally, what, ("choose", "kept-sort", "kept", {"desk?": False}), ("script", PASTE, MEAN, {}),
         ("comes", CHIPS, ["1", "2", "3"], {SHOWN: ["1"], "scramble=": "R U F", "scramble-read": ""}))
 
@@ -37,11 +36,11 @@ def keeps_each(tally: Tally, browser: Browser) -> None:
     browser.walk(tally, "back to the first one", ("act", chip(1), {"hash": first, KEPT: ["D L"], "bracketed": "D L", "solutions?": True}),
         ("script", "history.back()", {}), ("comes", "hash", second, {SHOWN: ["2 ★1"], KEPT: ["B (U)"]}))
     tally.equal("the note", browser.script("return all('.note-field').map((each) => each.value)"), [""])
-    browser.open(first)
+    browser.reopen(first)
     browser.walk(tally, "a reload takes nothing", ("comes", CHIPS, ["1 ★1", "2 ★1", "3"], {SHOWN: ["1 ★1"]}),
         ("act", "#random", {}), ("comes", "n #desk-chips a", 4, {CHIPS: ["1 ★1", "2 ★1", "3", "4"]}),
         ("act", "#random", {}), ("comes", CHIPS, ["1 ★1", "2 ★1", "3", "4"], {SHOWN: ["4"]}),
-        ("open", {CHIPS: ["1 ★1", "2 ★1", "3", "4"], SHOWN: [], "welcome?": True}),
+        ("reopen", {CHIPS: ["1 ★1", "2 ★1", "3", "4"], SHOWN: [], "welcome?": True}),
         ("act", chip(2), {"hash": second, KEPT: ["B (U)"], "welcome?": False}),
         ("act", "#desk-new", {"focus": "scramble", "hash": "", "scramble=": "", "welcome?": True}),
         ("script", PASTE, "R U F", {}), ("comes", "bracketed", "D L", {SHOWN: ["1 ★1"], KEPT: ["D L"]}))
@@ -53,16 +52,16 @@ def keeps_what_back_leaves(tally: Tally, browser: Browser) -> None:
     browser.walk(tally, "kept after a step", ("submit", "own", "D", {}), ("comes", "steps", 1, {}), ("act", "#keep-line", {}),
         ("submit", "own", "L", {}), ("comes", "steps", 2, {}), ("act", "#keep-line", {"kept": 2}),
         ("script", "history.go(-2)", {}), ("comes", "steps", 0, {KEPT: ["D", "D L"]}),
-        ("go", "#scramble=R_U_F&steps=normal.B&kept=normal.B2", {KEPT: ["D", "D L", "B2"], "bracketed": "B", CHIPS: ["1 ★3", "2", "3"]}),
-        ("go", "#scramble=R_U_F", {"bracketed": "B", "kept": 3}),
-        ("go", "#scramble=R_U_F&steps=normal.F", {"bracketed": "F", KEPT: ["D", "D L", "B2", "B"]}))
+        ("follow", "#scramble=R_U_F&steps=normal.B&kept=normal.B2", {KEPT: ["D", "D L", "B2"], "bracketed": "B", CHIPS: ["1 ★3", "2", "3"]}),
+        ("follow", "#scramble=R_U_F", {"bracketed": "B", "kept": 3}),
+        ("follow", "#scramble=R_U_F&steps=normal.F", {"bracketed": "F", KEPT: ["D", "D L", "B2", "B"]}))
 
 
 def opens_steps(tally: Tally, browser: Browser) -> None:
     """A scramble of a text with a solution below it is read with that once it is opened, also after a reload."""
-    clear(browser)
+    browser.open()
     browser.walk(tally, "a sheet", ("script", PASTE, "1. B2 R D\n\n2. R U F\nD // EO\n\nL2\n// a note\n", {}),
-        ("comes", CHIPS, ["1", "2"], {"scramble=": "B2 R D"}), ("open", {CHIPS: ["1", "2"]}),
+        ("comes", CHIPS, ["1", "2"], {"scramble=": "B2 R D"}), ("reopen", {CHIPS: ["1", "2"]}),
         ("act", chip(2), {}), ("comes", "kept", 1, {"scramble=": "R U F", "bracketed": "D", KEPT: ["L2"], CHIPS: ["1", "2 ★1"]}))
 
 
@@ -86,11 +85,9 @@ def copies(tally: Tally, browser: Browser) -> None:
         ("script", NOTE, "it's <b>good</b>, 9", {}), ("act", "#copy-desk", {}))
     text = browser.script("return window.copied")
     tally.holds("it shows the scrambles", all(each in text for each in ("1. R U F\n", "2. F' L2 U\n", "3. B2 R D\n")))
-    browser.script(CLEAR)
     browser.walk(tally, "another page", ("open", {"desk?": False}), ("script", PASTE_ALL, text, {}),
         ("comes", CHIPS, ["1 ★1", "2", "3"], {"scramble=": "R U F", "bracketed": "D (L)", KEPT: ["D (L)"]}))
     tally.equal("the note", browser.script("return all('.note-field').map((each) => each.value)"), ["it's <b>good</b>, 9"])
-    browser.script(CLEAR)
     browser.walk(tally, "a page with one of them", ("open", {}), ("script", PASTE, "R U F", {}), ("submit", "own", "B", {}), ("comes", "steps", 1, {}),
         ("act", "#keep-line", {}), ("script", PASTE_ALL, text, {}), ("comes", CHIPS, ["1 ★2", "2", "3"], {KEPT: ["B", "D (L)"]}))
     browser.no_longer(stub)
@@ -98,14 +95,14 @@ def copies(tally: Tally, browser: Browser) -> None:
 
 def says_what_is_refused(tally: Tally, browser: Browser) -> None:
     """If the browser keeps nothing, that is said, and the desk lasts as long as the page."""
-    clear(browser)
+    browser.open()
     stub = browser.before_page(REFUSES)
     said = "This browser keeps nothing of what is done here: take it along by Copy all."
-    browser.walk(tally, "nothing is kept", ("open", {"desk?": False}), ("script", PASTE, MEAN, {}),
+    browser.walk(tally, "nothing is kept", ("reopen", {"desk?": False}), ("script", PASTE, MEAN, {}),
         ("comes", CHIPS, ["1", "2", "3"], {"desk-note": said}), ("submit", "own", "D", {}), ("comes", "steps", 1, {}), ("act", "#keep-line", {}),
         ("act", chip(2), {"kept": 0}), ("act", chip(1), {"bracketed": "D", KEPT: ["D"], CHIPS: ["1 ★1", "2", "3"]}))
     browser.no_longer(stub)
-    browser.open()
+    browser.reopen()
 
 
 def reads_what_is_right(tally: Tally, browser: Browser) -> None:
@@ -115,21 +112,21 @@ def reads_what_is_right(tally: Tally, browser: Browser) -> None:
         '[{"id": 1, "address": "#scramble=%"}]', '[{"id": 1, "address": "#scramble=R&steps=normal.%3Cb%3E"}]', '[{"id": 1, "address": 2}]')
     store = "localStorage.setItem('nissy-desk', arguments[0])"
     for text in odd:
-        browser.walk(tally, f"{text}", ("script", store, text, {}), ("open", {"desk?": False, CHIPS: []}))
-    browser.walk(tally, "beside a good one", ("script", store, f'[{{"id": "x"}}, {good}, 5]', {}), ("open", {CHIPS: ["1"], "desk?": True}),
+        browser.walk(tally, f"{text}", ("script", store, text, {}), ("reopen", {"desk?": False, CHIPS: []}))
+    browser.walk(tally, "beside a good one", ("script", store, f'[{{"id": "x"}}, {good}, 5]', {}), ("reopen", {CHIPS: ["1"], "desk?": True}),
         ("act", chip(1), {"scramble=": "R U", "bracketed": "F"}))
     late = '[{"id": 7, "address": "#scramble=R_U", "written": {"text": "R U", "at": 5}}]'
-    browser.walk(tally, "a text that has fewer scrambles", ("script", store, late, {}), ("open", {CHIPS: ["1"]}), ("act", chip(1), {"scramble=": "R U"}))
-    browser.script(CLEAR)
+    browser.walk(tally, "a text that has fewer scrambles", ("script", store, late, {}), ("reopen", {CHIPS: ["1"]}), ("act", chip(1), {"scramble=": "R U"}))
+    browser.forget()
 
 
 def has_room(tally: Tally, browser: Browser) -> None:
     """A hundred scrambles are all that the desk holds; of more it is said that they had no room. On a phone the strip is no wider than the page."""
-    clear(browser)
+    browser.open()
     browser.resize(360, 900, True)
     many = "\n".join(f"{at}. {'R U ' * (at % 7)}{'F' if at % 2 else 'B'} {'D L ' * (at // 7)}" for at in range(1, 106))
-    browser.walk(tally, "more than fit", ("open", {}), ("script", PASTE, many, {}),
+    browser.walk(tally, "more than fit", ("reopen", {}), ("script", PASTE, many, {}),
         ("comes", "n #desk-chips a", 100, {"desk-note": "The desk is full: 5 scrambles had no room.",
             "return document.documentElement.scrollWidth": 360}))
-    browser.script(CLEAR)
+    browser.forget()
     browser.resize()

@@ -83,6 +83,7 @@ export class Desk {
 
   /** Turns to the sheet of a scramble, if it has one. @param id of the sheet that is meant, or 0 */
   turnTo(scramble: string, id = 0): Sheet | null {
+    this.readAgain();
     const sheet = this.#sheets.find((each) => each.id === id) ?? this.#withScramble(scramble);
     const before = this.shown;
     this.#at = sheet?.id ?? 0;
