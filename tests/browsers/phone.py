@@ -70,7 +70,7 @@ def leads_back(tally: Tally, browser: Browser) -> None:
     for way, act in WAYS.items():
         browser.walk(tally, way, ("go", ADDRESS + TWO_KEPT, {}))
         before = browser.hash()
-        browser.walk(tally, way, ("script", act, TEXT, {}), ("comes", "steps", int("pasted" in way), {"desk?": True}),
+        browser.walk(tally, way, ("script", act, TEXT, {}), ("comes", "desk?", True, {"steps": int("pasted" in way)}),
             ("act", f"#desk a[href='{before}']", back | {"hash": before}))
     browser.walk(tally, "what is typed keeps them", ("go", ADDRESS + TWO_KEPT, {}), ("fill", "scramble", "R U F", {"kept": 2}))
 

@@ -260,7 +260,7 @@ export class KeptCandidates {
     });
     this.#notes[at] = field;
     const cubes = walk === null ? [] : [element("details", {},
-      element("summary", {}, "Set-ups"), element("dl", {}, ...setUps(walk.now.lines)))];
+      element("summary", {}, "Set-ups"), element("dl", {}, ...setUps(walk.now.lines, `: ${said}`)))];
     return element("li", {},
       stepOf(parts, walk),
       element("span", { class: "row" },

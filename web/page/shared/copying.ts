@@ -93,13 +93,14 @@ export async function copy(text: string, button: HTMLElement, shownIn: HTMLEleme
 }
 
 /** How the cube in one's hands is set up on each side, from solved: premoves, scramble and moves, each to be copied.
- * @param lines that lead there */
-export const setUps = (lines: Part) => SIDES.flatMap((side) => {
+ * @param lines that lead there
+ * @param of what is there, as it is said after the names of the buttons */
+export const setUps = (lines: Part, of = "") => SIDES.flatMap((side) => {
   const shown = element("output", { class: "moves" }, lines[side]);
   return [
     element("dt", {}, `Set-up of the ${side} side, from solved`),
     element("dd", {}, shown, button("Copy", {
-      class: "quiet", "aria-label": `Copy the set-up of the ${side} side`,
+      class: "quiet", "aria-label": `Copy the set-up of the ${side} side${of}`,
       click: ({ currentTarget }) => copy(lines[side], currentTarget, shown),
     })),
   ];
