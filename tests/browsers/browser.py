@@ -104,8 +104,9 @@ class Browser(Tab):
             self.wait()
 
     def go(self, address: str = "") -> None:
-        """The same of one whose desk is empty."""
-        self.forget()
+        """The same of one whose desk is empty, if the page isn't there already."""
+        if self.script("return location.hash !== arguments[0]", address):
+            self.forget()
         self.follow(address)
 
     def follow(self, address: str = "") -> None:

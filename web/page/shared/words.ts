@@ -122,7 +122,8 @@ const WORDS_OF_DOUBTS: Record<string, (word: string) => string> = {
   "small letters": (word) => `“${word}” is read as a wide turn`,
   comment: () => "moves stand in a comment, and are left out",
   repetition: (word) => `“${word}” may say that moves are made several times, and they are read once`,
-  insertion: (word) => `“${word}” may say that moves belong into others, and they are read in the order of the text`,
+  insertion: (word) =>
+    `“${word}” may say that moves belong into others, and they are read in the order of the text`,
   "a part": () => "the steps don't solve the scramble, but some of them do",
 };
 
