@@ -57,6 +57,7 @@ GO = """const [results, slack, before] = [document.getElementById("results"), do
     if (results === null) return true;
     document.activeElement?.blur();
     if (slack.value !== "0") { slack.value = "0"; slack.dispatchEvent(new Event("change")); }
+    localStorage.removeItem("nissy-desk");
     location.hash = %s;
     if (location.hash !== before) results.setAttribute("aria-busy", "true")"""
 DRAWN = """

@@ -89,7 +89,8 @@ class Browser(Tab):
 
     def forget(self) -> None:
         """Takes all scrambles off the desk, as for one who was never here."""
-        self.script("if (location.protocol === 'file:') localStorage.removeItem('nissy-desk')")
+        # a browser may deny it
+        self.script("try { localStorage.removeItem('nissy-desk') } catch {}")
 
     def open(self, address: str = "", page: str = "") -> None:
         """The same of one who was never here."""

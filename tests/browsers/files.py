@@ -61,7 +61,8 @@ def is_closed(tally: Tally, page: str) -> None:
     links = re.findall(r'\b(?:src|href|action|data|poster)="([^"]*)"', page)
     # it is drawn first once its last part is read: a drawing before that takes as long as its script
     last = re.findall(r' id="([^"]+)"', page.split("<script")[0])[-1]
-    tally.equal("its links are data, but for one to its last part", [each for each in links if not each.startswith("data:image/svg+xml,")], [f"#{last}"])
+    others = [each for each in links if not each.startswith("data:image/svg+xml,")]
+    tally.equal("its links are data, but for one to its last part, and one to itself without a scramble", others, [f"#{last}", "#"])
     tally.holds("it has data", len(links) > 1)
     tally.equal("its signs beyond ASCII", re.findall(r"[^\x00-\x7f]", page), [])
     tally.holds("no style asks for a file", not re.search(r"url\(|@import", element(page, "style")))

@@ -72,7 +72,8 @@ def removes(tally: Tally, browser: Browser) -> None:
         ("comes", CHIPS, ["1", "2 ★1", "3"], {}),
         ("act", "#desk-remove", {CHIPS: ["1", "2"], SHOWN: ["2"], "scramble=": "B2 R D", "desk-removed-words": "Scramble 2 was removed."}),
         ("act", "#desk-back", {CHIPS: ["1", "2 ★1", "3"], SHOWN: ["2 ★1"], "bracketed": "B", "desk-removed?": False}))
-    for left in (["1", "2"], ["1"], []):
+    lefts: tuple[list[str], ...] = (["1", "2"], ["1"], [])
+    for left in lefts:
         browser.walk(tally, f"{len(left)} are left", ("act", "#desk-remove", {CHIPS: left}))
     browser.walk(tally, "the last one comes back", ("act", "#desk-back", {CHIPS: ["1"], "welcome?": False}))
 

@@ -119,7 +119,12 @@ def impatient(tally: Tally, browser: Browser) -> None:
     browser.wait()
     tally.equal("of many scrambles the one of the seed is shown", browser.value("scramble"), drawn(browser, browser.value("seed")))
     add = "const own = part('own'); own.value = 'R'; for (let at = 0; at < 3; at += 1) own.form.requestSubmit();"
-    another = EXAMPLE + "part('results').setAttribute('aria-busy', 'true')"
+    another = """const field = part('scramble');
+        field.select();
+        field.dispatchEvent(new ClipboardEvent('paste'));
+        field.value = 'F B U';
+        field.dispatchEvent(new InputEvent('input', { inputType: 'insertFromPaste' }));
+        part('results').setAttribute('aria-busy', 'true')"""
     browser.walk(tally, "moves that are sent three times at once", ("script", EXAMPLE + add, {}),
         ("until", "return all('#line-list li').length > 0", {"bracketed": "R", "own-fault": "", "own=": ""}))
     browser.walk(tally, "before another scramble", ("script", add + another, {"steps": 0, "own-fault": "", "own=": "R"}))
