@@ -32,7 +32,10 @@ export class NextFocus {
   take(to: Where): boolean {
     if (this.#next?.to !== to) return false;
     const { from } = this.#next;
+    const at = document.activeElement;
     this.#next = null;
-    return [from, document.body].includes(document.activeElement);
+    // a row that was drawn anew meanwhile has another button in the place of the one that was pressed
+    const control = from?.isConnected ? undefined : from?.dataset.control;
+    return at === from || at === document.body || (control !== undefined && at?.dataset.control === control);
   }
 }
