@@ -87,7 +87,9 @@ def has_a_plain_title(tally: Tally, browser: Browser) -> None:
 
 def goes_on_with_reduction(tally: Tally, browser: Browser) -> None:
     """A line that is kept with its reduction is gone on with by that reduction's list, on the side where it is least, which has the focus."""
-    browser.go(SCRAMBLE + "&kept=inverse.B_D_R_F2_B_D;;drfb-eoud")
-    browser.until("return document.querySelector('#kept-list .case') !== null")
-    browser.walk(tally, "its list is open", ("act", "#kept-list button", {"solutions-heading": "DR F/B after EO U/D, normal side"}),
-        ("until", "return document.activeElement.closest('#solutions-groups') !== null", {}))
+    kept, is_told = SCRAMBLE + "&kept=inverse.B_D_R_F2_B_D;;drfb-eoud", "return document.querySelector('#kept-list .case') !== null"
+    has_focus = "return document.activeElement.closest('#solutions-groups') !== null"
+    browser.walk(tally, "its list is open", ("go", kept, {}), ("until", is_told, {}),
+        ("act", "#kept-list button", {"solutions-heading": "DR F/B after EO U/D, normal side"}), ("until", has_focus, {}))
+    anew = "const it = document.querySelector('#kept-list button'); it.focus(); it.click(); part('kept-sort').dispatchEvent(new Event('change'))"
+    browser.walk(tally, "its row is drawn anew meanwhile", ("go", kept, {}), ("until", is_told, {}), ("script", anew, {}), ("until", has_focus, {}))
