@@ -9,5 +9,9 @@ export function present<Value>(value: Value | null | undefined): Value {
 /** @returns the last of some, of which there is one */
 export const lastOf = <Each>(all: readonly Each[]): Each => present(all[all.length - 1]);
 
+/** @returns the fields of what came from outside; none of what is no object */
+export const fieldsOf = (value: unknown): Record<string, unknown> =>
+  (value !== null && typeof value === "object" ? value as Record<string, unknown> : {});
+
 /** @returns what was thrown, as an error: it says in words what is wrong */
 export const thrownError = (thrown: unknown): Error => (thrown instanceof Error ? thrown : new Error(String(thrown)));

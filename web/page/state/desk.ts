@@ -1,6 +1,7 @@
 // The desk: the scrambles that are worked on, each with all that was done with it, in the order in which they came. The
 // browser keeps it, for all pages that it has open; what it refuses lasts as long as the page.
 import { addressOf, fitsAddress, hasLines, readAddress, type State } from "./address.js";
+import { fieldsOf } from "../shared/certain.js";
 import { joinedStates } from "./candidates.js";
 import { placeIn, type Place } from "./history.js";
 import { store, stored } from "./storage.js";
@@ -18,24 +19,23 @@ const MOST_SHEETS = 100;
 
 /** Where a scramble stands in a text that the browser kept, or null. */
 function writtenIn(value: unknown): Written | null {
-  if (value === null || typeof value !== "object") return null;
-  const { text, at } = value as Record<string, unknown>;
+  const { text, at } = fieldsOf(value);
   return typeof text === "string" && typeof at === "number" ? { text, at } : null;
 }
 
 /** A sheet that the browser kept, or null: its address is read as any other one. */
 function sheetIn(value: unknown): Sheet | null {
-  if (value === null || typeof value !== "object") return null;
-  const { id, address, place, written, isDrawn } = value as Record<string, unknown>;
+  const { id, address, place, written, isDrawn } = fieldsOf(value);
   if (typeof id !== "number" || typeof address !== "string") return null;
   const { state, fault } = readAddress(address);
   if (fault !== "" || state.scramble.trim() === "") return null;
   return { id, address, place: placeIn(place), written: writtenIn(written), isDrawn: isDrawn === true };
 }
 
-function keptSheets(): Sheet[] {
+/** @param text that the browser kept */
+function sheetsOf(text: string): Sheet[] {
   try {
-    const values: unknown = JSON.parse(stored(DESK) || "[]");
+    const values: unknown = JSON.parse(text || "[]");
     return Array.isArray(values) ? values.flatMap((value) => sheetIn(value) ?? []) : [];
   } catch {
     return [];
@@ -50,7 +50,9 @@ export const stateOfSheet = ({ address }: Sheet) => readAddress(address).state;
 const plainly = (scramble: string) => scramble.trim().replace(/ +/g, " ");
 
 export class Desk {
-  #sheets = keptSheets();
+  /** what the browser keeps, and what it says */
+  #text = stored(DESK);
+  #sheets = sheetsOf(this.#text);
   /** the sheet that is shown, or 0 */
   #at = 0;
   /** whether the browser keeps what is done */
@@ -67,14 +69,18 @@ export class Desk {
 
   /** Takes over what other pages changed. */
   readAgain() {
-    if (this.isKept) this.#sheets = keptSheets();
+    const text = this.isKept ? stored(DESK) : this.#text;
+    if (text === this.#text) return;
+    this.#text = text;
+    this.#sheets = sheetsOf(text);
   }
 
   #change(change: (sheets: Sheet[]) => Sheet[]) {
     // what other pages did meanwhile stays
     this.readAgain();
     this.#sheets = change(this.#sheets);
-    this.isKept = store(DESK, JSON.stringify(this.#sheets));
+    this.#text = JSON.stringify(this.#sheets);
+    this.isKept = store(DESK, this.#text);
   }
 
   #withScramble(scramble: string) {

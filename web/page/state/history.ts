@@ -2,6 +2,7 @@
 // was scrolled is kept, so that Back leads to the same place; the way to a card and back; and the lines that were taken
 // in this session, which lists and the best mark.
 import { addressOf, fitsAddress, type List, type State } from "./address.js";
+import { fieldsOf } from "../shared/certain.js";
 import { part, tell } from "../shared/element.js";
 import { bracketed } from "../shared/offered-steps.js";
 import { NOT_IN_ADDRESS } from "../shared/words.js";
@@ -11,8 +12,7 @@ export type Place = { key: string; scroll: number };
 
 /** @returns a place that came out of the history, or null */
 export function placeIn(state: unknown): Place | null {
-  if (state === null || typeof state !== "object") return null;
-  const { key, scroll } = state as Record<string, unknown>;
+  const { key, scroll } = fieldsOf(state);
   return typeof key === "string" && typeof scroll === "number" ? { key, scroll } : null;
 }
 
@@ -24,7 +24,7 @@ export function placeNow(): Place {
 
 /** @returns the sheet that an entry of the history is of, or 0 */
 export function sheetOfEntry(): number {
-  const { sheet } = (history.state ?? {}) as Record<string, unknown>;
+  const { sheet } = fieldsOf(history.state);
   return typeof sheet === "number" ? sheet : 0;
 }
 
