@@ -6,6 +6,7 @@ Line K of the output belongs to line K of the input: a length (or `none`), a tab
 """
 from __future__ import annotations
 
+import signal
 import sys
 import typing
 
@@ -13,13 +14,16 @@ import nissy
 
 
 def main() -> None:
-    """Answers line by line, by tables that are built once."""
+    """Answers line by line; the tables of the step are built once."""
     if len(sys.argv) != 2:
         sys.exit(__doc__)
-    tables = nissy.Tables(typing.cast(nissy.Step, sys.argv[1]))
+    # a reader that has enough, such as head, ends it without a word
+    if hasattr(signal, "SIGPIPE"):
+        signal.signal(signal.SIGPIPE, signal.SIG_DFL)
+    step = typing.cast(nissy.Step, sys.argv[1])
     for line in sys.stdin.buffer:
         try:
-            found = tables.count(line.rstrip(b"\n"))
+            found = nissy.count(step, line.rstrip(b"\n"))
         except ValueError as fault:
             print("fault", fault, sep="\t")
         else:

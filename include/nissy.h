@@ -161,10 +161,9 @@ nissy_run_answer nissy_run(const uint8_t *words, size_t words_length, const uint
                            size_t out_room, uint8_t *err, size_t err_room);
 
 /* The tables of a step, or none. Its fields are the library's: begin with NISSY_NO_TABLES (all bytes 0 is the same), let only nissy_build
- * write to it, and copy it as you like: a copy has the same tables. Any threads may ask it and its copies (nissy_solve, nissy_solve_after,
- * nissy_count, nissy_count_lines) at the same time. While nissy_build runs on a struct, no other call and no copy may read or write that
- * struct; its copies may be asked. What no call can see is undefined: fields that something else wrote, and a struct into which another
- * thread builds meanwhile.
+ * write to it, and copy it as you like: a copy has the same tables. Any threads may ask it and its copies at the same time. While
+ * nissy_build runs on a struct, no other call and no copy may read or write that struct; its copies may be asked. What no call can see is
+ * undefined: fields that something else wrote, and a struct into which another thread builds meanwhile.
  *
  * Tables stay for as long as the process runs: there is no release, and so no use after one. So build those of a step once, and keep
  * them: a nissy_build into a struct without them takes their memory anew, 0.1 million bytes for an edge orientation, 1.2 million for a
@@ -233,8 +232,8 @@ nissy_search_answer nissy_solve_after(const nissy_tables *tables, const uint8_t 
                                       size_t out_room);
 
 /* Does what nissy_solve does with room enough, but writes nothing: it counts the solutions, and no more than `most` of them. With `most`
- * 1 it ends at the first one, and so finds the least length soonest. With NISSY_ALL twice and the slack 0 these are the numbers of the
- * program's `count`. It takes no memory. */
+ * 0 it ends at the first one, and so finds the least length soonest: `more` is 1 then if there is one. With NISSY_ALL twice and the slack
+ * 0 these are the numbers of the program's `count`. It takes no memory. */
 nissy_search_answer nissy_count(const nissy_tables *tables, const uint8_t *line, size_t line_length, uint8_t limit, uint8_t slack,
                                 uint64_t most, uint64_t most_nodes);
 
@@ -317,12 +316,13 @@ typedef struct nissy_ways_answer {
  * `tables` are nine, in the order of nissy_steps: eofb, eorl, eoud, drud-eofb, drrl-eofb, drud-eorl, drfb-eorl, drrl-eoud, drfb-eoud. `wanted`
  * may name some axes and lengths only: so a search goes in parts, between which a caller says how far it is, or ends it. The tables of an
  * axis that it doesn't name may be NISSY_NO_TABLES. The ways of all parts come into one room, if each call is told how many are there:
- * the best of them stay, as many as have place, whatever the order of the parts. It looks at no more than `most_nodes` positions: before it
- * would look at more it ends with NISSY_CUT, and each way that is there is a true one.
+ * the best of them stay, as many as have place, whatever the order of the parts. It looks at no more than `most_nodes` positions: if these
+ * may not be enough it ends with NISSY_CUT, maybe before it has looked at all of them, and each way that is there is a true one.
  *
  * It takes no memory, but 64 KiB of stack. NISSY_USAGE: tables that it asks aren't those of their steps, a number is out of its range, or
  * `there` is more than the room. NISSY_STOPPED, NISSY_FAULT: as of nissy_check; NISSY_TOO_LONG of line 2 without a column if both lines
- * have too many moves together. After these three the room is as it was. */
+ * have too many moves together: those so far more than 200 face turns on a side, or all more than 512. After these three the room is as
+ * it was. */
 nissy_ways_answer nissy_best(const nissy_tables *tables, const uint8_t *scramble, size_t scramble_length, const uint8_t *so_far,
                              size_t so_far_length, const nissy_ways_wanted *wanted, nissy_way *room, size_t room_length);
 

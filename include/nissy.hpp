@@ -29,12 +29,17 @@
 
 namespace nissy {
 
+// What the calls of these headers share. Its names are no part of the interface.
+namespace detail {
+
 // A column in bytes of a text in UTF-8, from 1, as one in characters; 0, which is no place, is 0.
 inline std::size_t character(std::string_view text, std::size_t column) noexcept {
     const auto begins = [](char byte) { return (static_cast<unsigned char>(byte) & 0xc0) != 0x80; };
     const std::string_view before = text.substr(0, column ? column - 1 : 0);
     return column ? static_cast<std::size_t>(std::count_if(before.begin(), before.end(), begins)) + 1 : 0;
 }
+
+} // namespace detail
 
 // A line that can't be read, or on whose cube a step may not start. what() says both place and fault.
 class fault : public std::runtime_error {
@@ -49,7 +54,7 @@ public:
     std::string_view part() const noexcept { return std::string_view(what()).substr(7, part_); } // what that one is called, as "scramble"
     // the place of the fault in bytes, from 1; 0 of NISSY_START
     std::size_t column() const noexcept { return column_; }
-    std::size_t character(std::string_view line) const noexcept { return nissy::character(line, column_); } // the same in characters
+    std::size_t character(std::string_view line) const noexcept { return detail::character(line, column_); } // the same in characters
     // what is wrong, without the place; a view into what()
     std::string_view text() const noexcept { return std::string_view(what()).substr(place_); }
     // the step that would have to hold, with which text() begins; empty but of NISSY_START
@@ -128,8 +133,7 @@ struct line_facts {
     const axis_facts &fb() const noexcept { return axes[NISSY_FB]; }
     const axis_facts &rl() const noexcept { return axes[NISSY_RL]; }
     const axis_facts &ud() const noexcept { return axes[NISSY_UD]; }
-    // the names of the steps that the cube has reached
-    std::vector<std::string> holds() const;
+    std::vector<std::string> holds() const; // the names of the steps that the cube has reached
 };
 
 // What a solution does to a scramble.
@@ -139,7 +143,6 @@ struct verdict {
     unsigned forms;         // the forms of nissy_form that it has, added: 0 if the WCA's notation for solutions has all of it
 };
 
-// What the calls of this header share. Its names are no part of the interface.
 namespace detail {
 
 inline const std::uint8_t *bytes(std::string_view text) { return reinterpret_cast<const std::uint8_t *>(text.data()); }
@@ -266,7 +269,7 @@ public:
     nissy_status status() const noexcept { return static_cast<nissy_status>(status_); }
     nissy_fault code() const noexcept { return static_cast<nissy_fault>(code_); }
     std::size_t column() const noexcept { return column_; } // as that of fault
-    std::size_t character(std::string_view line) const noexcept { return nissy::character(line, column_); }
+    std::size_t character(std::string_view line) const noexcept { return detail::character(line, column_); }
     // what is wrong with the line, without the place; empty if there is a value
     std::string text() const { return *this ? "" : status_ == NISSY_FAULT ? detail::text_of(code_, step_) : detail::TOO_LONG; }
     // throws what the call on only this line throws, if there is no value
@@ -338,9 +341,6 @@ inline std::vector<std::string> line_facts::holds() const {
         if (held[at]) those.push_back(std::move(names[at]));
     return those;
 }
-
-// The version of the library that runs: 10200 for 1.2.0.
-inline std::uint32_t version() { return nissy_version(); }
 
 // The tables of a step. They are built for the first object of the step, and stay: a copy or another object of the step has the same ones,
 // and costs nothing. One that was moved is as it was.

@@ -29,17 +29,17 @@ enum class doubt_reason {
     which_scramble // of a check: it isn't seen which of the known scrambles this is a solution of
 };
 
-// A reason as the library for Python names it, such as "another scramble".
-inline std::string doubt_name(doubt_reason reason) {
-    static constexpr std::array<const char *, 11> NAMES = {"",        "another scramble", "several solutions", "side",   "letters",       "small letters",
-                                                           "comment", "repetition",       "insertion",         "a part", "which scramble"};
-    return NAMES[static_cast<std::size_t>(reason)];
-}
-
 // A doubt, and where it is seen in the text.
 struct attempt_doubt {
     doubt_reason reason;
     text_place place;
+
+    // the reason as the library for Python names it, such as "another scramble"
+    std::string name() const {
+        static constexpr std::array<const char *, 11> NAMES = {"",        "another scramble", "several solutions", "side",   "letters",       "small letters",
+                                                               "comment", "repetition",       "insertion",         "a part", "which scramble"};
+        return NAMES[static_cast<std::size_t>(reason)];
+    }
 };
 
 // An attempt at a scramble, each part with its places in the whole text.
@@ -179,20 +179,32 @@ inline attempt attempt_of(std::string_view text, text_lines lines, place_counter
     return made;
 }
 
+// An attempt, and its lines among those of a text that was read.
+struct found_attempt {
+    nissy::attempt attempt;
+    text_lines lines = {nullptr, nullptr};
+};
+
+// The attempts of a text, by its lines.
+inline std::vector<found_attempt> attempts_of(std::string_view text, const std::vector<nissy_text_line> &all) {
+    std::vector<found_attempt> attempts;
+    place_counter places(text);
+    text_lines lines = {all.data(), all.data() + all.size()};
+    while (lines.first != lines.last) {
+        const text_lines own = lines.take([](const nissy_text_line &it) { return it.attempt; });
+        if (own.has(is_of_scramble)) attempts.push_back({attempt_of(text, own, places), own});
+    }
+    if (attempts.empty()) attempts.emplace_back();
+    return attempts;
+}
+
 } // namespace detail
 
 // The attempts of a text as solvers write it, at least one: a scramble, then the steps of its solution, each on a line with a comment or a label,
 // and blocks of candidates after blank lines; and the same of several numbered scrambles. A text of another form is one scramble.
 inline std::vector<attempt> read_attempts(std::string_view text) {
     std::vector<attempt> attempts;
-    detail::place_counter places(text);
-    const std::vector<nissy_text_line> all = detail::lines_in(text);
-    detail::text_lines lines = {all.data(), all.data() + all.size()};
-    while (lines.first != lines.last) {
-        const detail::text_lines own = lines.take([](const nissy_text_line &it) { return it.attempt; });
-        if (own.has(detail::is_of_scramble)) attempts.push_back(detail::attempt_of(text, own, places));
-    }
-    if (attempts.empty()) attempts.emplace_back();
+    for (detail::found_attempt &it : detail::attempts_of(text, detail::lines_in(text))) attempts.push_back(std::move(it.attempt));
     return attempts;
 }
 

@@ -22,17 +22,14 @@ struct orientation {
     std::vector<std::string> twins; // the last turns of its twins, written as `moves`: they differ only in the direction of these
 };
 
-// The least length of a reduction on each side without the other, if it has one of at most 20 turns there.
-struct lengths {
-    std::optional<int> normal, inverse;
-};
-
 // The domino reduction of a continuation; its moves are given as those of an orientation.
 struct reduction {
     std::string step, moves, normal, inverse;
     int length;
     std::vector<std::string> twins; // none after an orientation
-    nissy::lengths lengths;
+    struct {
+        std::optional<int> normal, inverse;
+    } lengths; // the least on each side without the other, if it is at most 20 there
 };
 
 // How a line goes on to a domino reduction.
@@ -44,16 +41,13 @@ struct continuation {
     std::string dr_case;           // that of the reduction before its moves, such as "4c4e"
 };
 
-// Is told how many are done, and of how many, or 0 until that is known.
-using progress = std::function<void(std::size_t, std::size_t)>;
-
 // How `best` searches: `slack` and `most` as it says, and at how many positions it looks at most. It goes in pieces, of one length of the first
 // step and one axis each; with a slack of 3 one may take some seconds. What is called between them ends the call by what it throws.
 struct best_search {
     std::int64_t slack = 0;
     std::uint64_t most = 20, nodes = NISSY_ALL;
-    nissy::progress progress = {};   // with how many ways were tried, and of how many, 0 until that is known
-    std::function<bool()> stop = {}; // whether to end: if it returns true, the call ends as one that is cut
+    std::function<void(std::size_t, std::size_t)> progress = {}; // with how many ways were tried, and of how many, 0 until that is known
+    std::function<bool()> stop = {};                             // whether to end: if it returns true, the call ends as one that is cut
 };
 
 // What `find_best` returns. If the search was cut, the rows are the best of what was tried until then: each is true, and others may be missing,

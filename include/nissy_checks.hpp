@@ -57,48 +57,31 @@ struct text_places {
     place_counter found, doubted, read;
 };
 
-// The steps of an attempt and its candidates, each once, by their places.
-inline std::map<std::size_t, const plain *> steps_by_place(const attempt &found) {
-    std::map<std::size_t, const plain *> steps;
-    const auto add = [&steps](const std::vector<plain> &more) {
-        for (const plain &step : more)
-            if (!step.places.empty()) steps[step.places.front()] = &step;
-    };
-    add(found.steps);
-    for (const attempt_candidate &it : found.candidates) add(it.steps);
-    return steps;
-}
-
-// Where a part of an attempt begins that solves its scramble by itself, of its first eight steps: the library looks at no more.
-inline std::optional<std::size_t> solved_part(const attempt &found) {
-    std::vector<std::size_t> begins;
-    std::string lines;
-    for (const auto &[place, step] : steps_by_place(found)) {
-        if (begins.size() == 8) break;
-        begins.push_back(place);
-        lines += step->line + "\n";
-    }
-    const std::string &scramble = found.scramble.line;
-    const nissy_part_answer part = nissy_solving_part(bytes(scramble), scramble.size(), bytes(lines), lines.size());
-    return part.how == 0 ? std::nullopt : std::optional<std::size_t>(begins[part.first]);
+// Where a part of the steps of an attempt begins that solves its scramble.
+inline std::optional<std::size_t> solving_part(std::string_view text, const found_attempt &found) {
+    const plain steps = moves_in(text, found.lines, NISSY_OF_EACH_STEP);
+    const std::string &scramble = found.attempt.scramble.line;
+    const nissy_part_answer part = nissy_solving_part(bytes(scramble), scramble.size(), bytes(steps.line), steps.line.size());
+    return part.how == NISSY_NO_PART ? std::nullopt : std::optional<std::size_t>(steps.places[part.begin]);
 }
 
 // What makes one doubt an attempt that isn't solved.
-inline std::optional<attempt_doubt> doubt_of(const attempt &found, place_counter &places) {
-    if (found.doubt) return found.doubt;
-    const std::optional<std::size_t> part = solved_part(found);
+inline std::optional<attempt_doubt> doubt_of(std::string_view text, const found_attempt &found, place_counter &places) {
+    if (found.attempt.doubt) return found.attempt.doubt;
+    const std::optional<std::size_t> part = solving_part(text, found);
     if (!part) return std::nullopt;
     return attempt_doubt{doubt_reason::a_part, places.at(*part)};
 }
 
-inline attempt_check check_of(std::string_view text, const attempt &found, text_places &places) {
+inline attempt_check check_of(std::string_view text, const found_attempt &read, text_places &places) {
+    const attempt &found = read.attempt;
     attempt_check made = {found, {}, {}, {}, {}, {}};
     const auto place = [&](const auto &it, const plain &part) { return places.found.at(place_in(part, column_of(it) - 1, text)); };
     try {
         // a scramble is read also if nothing solves it
         const verdict told = check(found.scramble.line, found.solution ? found.solution->line : std::string());
         if (found.solution) made.check = told;
-        if (!made.check || !told.solved) made.doubt = doubt_of(found, places.doubted);
+        if (!made.check || !told.solved) made.doubt = doubt_of(text, read, places.doubted);
     } catch (const fault &thrown) {
         made.fault = thrown;
         // a scramble that is known has no place in the text
@@ -110,8 +93,8 @@ inline attempt_check check_of(std::string_view text, const attempt &found, text_
     return made;
 }
 
-inline attempt with_scramble(attempt found, std::string_view scramble) {
-    found.scramble = {std::string(scramble), {}, {}};
+inline found_attempt with_scramble(found_attempt found, std::string_view scramble) {
+    found.attempt.scramble = {std::string(scramble), {}, {}};
     return found;
 }
 
@@ -125,20 +108,20 @@ inline bool is_same_cube(const std::string &scramble, std::string_view other) {
 
 // What is said of a part of a text of solutions.
 inline attempt_check check_of(std::string_view text, known_part &part, const std::vector<std::string> &scrambles, text_places &places) {
-    attempt &first = part.attempts[0];
+    attempt &first = part.attempts[0].attempt;
     if (!part.scramble) {
         first.doubt = attempt_doubt{doubt_reason::which_scramble, places.doubted.at(part.begin)};
         return {first, {}, {}, {}, {}, first.doubt};
     }
     const std::string &scramble = scrambles[*part.scramble];
     // who writes the scramble too says nothing else by it
-    if (part.attempts.size() == 2 && !first.solution && is_same_cube(part.attempts[1].scramble.line, scramble)) {
-        part.attempts[1].name = part.name;
+    if (part.attempts.size() == 2 && !first.solution && is_same_cube(part.attempts[1].attempt.scramble.line, scramble)) {
+        part.attempts[1].attempt.name = part.name;
         return check_of(text, part.attempts[1], places);
     }
     if (part.attempts.size() > 1)
-        first.doubt = attempt_doubt{doubt_reason::another_scramble, places.doubted.at(part.attempts[1].scramble.places.front())};
-    return check_of(text, with_scramble(first, scramble), places);
+        first.doubt = attempt_doubt{doubt_reason::another_scramble, places.doubted.at(part.attempts[1].attempt.scramble.places.front())};
+    return check_of(text, with_scramble(part.attempts[0], scramble), places);
 }
 
 } // namespace detail
@@ -147,7 +130,8 @@ inline attempt_check check_of(std::string_view text, known_part &part, const std
 inline std::vector<attempt_check> check_attempts(std::string_view text) {
     std::vector<attempt_check> checks;
     detail::text_places places(text);
-    for (const attempt &found : read_attempts(text)) checks.push_back(detail::check_of(text, found, places));
+    const std::vector<nissy_text_line> lines = detail::lines_in(text);
+    for (const detail::found_attempt &found : detail::attempts_of(text, lines)) checks.push_back(detail::check_of(text, found, places));
     return checks;
 }
 

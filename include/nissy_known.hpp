@@ -14,7 +14,8 @@ struct known_part {
     std::string name;                    // the head, or empty
     std::optional<std::size_t> scramble; // which of the scrambles it is of, from 0; none if that can't be seen
     std::size_t begin;                   // its first byte
-    std::vector<attempt> attempts;       // the first has what stands there without a scramble; others have one of their own
+    std::vector<nissy_text_line> lines;  // those that are read of it
+    std::vector<found_attempt> attempts; // the first has what stands there without a scramble; others have one of their own
 };
 
 inline bool is_digit(char byte) { return byte >= '0' && byte <= '9'; }
@@ -79,19 +80,17 @@ inline std::vector<nissy_text_line> lines_behind_scramble(std::string_view text,
     return lines;
 }
 
-// What a part has, with those of which the library says that they have another scramble after that.
-inline std::vector<attempt> attempts_in(std::string_view text, text_lines part, place_counter &places) {
-    const std::vector<nissy_text_line> lines = lines_behind_scramble(text, part);
-    text_lines rest = {lines.data(), lines.data() + lines.size()};
-    text_lines first = {rest.first, rest.find([](const nissy_text_line &it) { return it.attempt > 0; })};
+// Reads what a part has, with those of which the library says that they have another scramble after that.
+inline void read_part(std::string_view text, known_part &part, place_counter &places) {
+    text_lines rest = {part.lines.data(), part.lines.data() + part.lines.size()};
+    const text_lines first = {rest.first, rest.find([](const nissy_text_line &it) { return it.attempt > 0; })};
     rest.first = first.last;
-    std::vector<attempt> attempts = {attempt_of(text, first, places)};
-    attempts[0].name = name_of(text, part);
+    part.attempts = {{attempt_of(text, first, places), first}};
+    part.attempts[0].attempt.name = part.name;
     while (rest.first != rest.last) {
         const text_lines own = rest.take([](const nissy_text_line &it) { return it.attempt; });
-        if (own.has(is_of_scramble)) attempts.push_back(attempt_of(text, own, places));
+        if (own.has(is_of_scramble)) part.attempts.push_back({attempt_of(text, own, places), own});
     }
-    return attempts;
 }
 
 // Says of each part which scramble it is of: that whose number its head has, and no other head; if none has one, and there are as many parts as
@@ -112,8 +111,10 @@ inline void assign(std::vector<known_part> &parts, std::size_t count) {
 inline std::vector<known_part> solutions_in(std::string_view text, std::size_t count, place_counter &places) {
     const std::vector<nissy_text_line> all = lines_in(text);
     std::vector<known_part> parts;
-    for (const text_lines &part : parts_in(text, {all.data(), all.data() + all.size()}, count))
-        parts.push_back({name_of(text, part), {}, part.find(is_something)->begin, attempts_in(text, part, places)});
+    for (const text_lines &part : parts_in(text, {all.data(), all.data() + all.size()}, count)) {
+        parts.push_back({name_of(text, part), {}, part.find(is_something)->begin, lines_behind_scramble(text, part), {}});
+        read_part(text, parts.back(), places);
+    }
     assign(parts, count);
     return parts;
 }

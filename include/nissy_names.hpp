@@ -30,12 +30,12 @@ std::vector<std::string> chosen(const std::bitset<Size> &bits, const std::array<
 } // namespace detail
 
 // The places of edges, such as "UF", in the order of EDGE_PLACES.
-inline std::vector<std::string> edge_names(const std::bitset<12> &places) {
+inline std::vector<std::string> place_names(const std::bitset<12> &places) {
     return detail::chosen(places, EDGE_PLACES);
 }
 
 // The places of corners, such as "URF", in the order of CORNER_PLACES.
-inline std::vector<std::string> corner_names(const std::bitset<8> &places) {
+inline std::vector<std::string> place_names(const std::bitset<8> &places) {
     return detail::chosen(places, CORNER_PLACES);
 }
 

@@ -105,7 +105,7 @@ inline std::vector<std::size_t> stickers_by(const std::vector<std::string> &plac
 // The place of each letter of `facelets` in the usual net of 9 rows and 12 columns: U above F, L F R B in a row, and D below F.
 inline constexpr std::array<net_place, 54> NET = detail::places_in_net();
 
-// The stickers of some places, such as those of edge_names: the numbers of their letters in what `facelets` returns of an unturned cube, from 0,
+// The stickers of some places, such as those of place_names: the numbers of their letters in what `facelets` returns of an unturned cube, from 0,
 // those of a place in the order of its name. A name that is none is a std::invalid_argument.
 inline std::vector<std::size_t> stickers_of(const std::vector<std::string> &places) { return detail::stickers_by(places, detail::FACE_LETTERS); }
 

@@ -61,8 +61,8 @@ typedef struct nissy_text_line {
     uint8_t headed;   /* a head stands before head_end, such as "2." or "Scramble 2:": the first one of an attempt is its name */
     uint8_t labelled; /* its label, from label_begin to label_end, says that the solution follows */
     uint8_t inverse;  /* it is said of this step that it is on the inverse, and it has no brackets */
-    uint8_t doubt;    /* one of nissy_doubt: of a line of the scramble or the solution, or if there is none, of any step. It counts if the
-                       * solution doesn't solve the scramble: what does was read as it was meant */
+    uint8_t doubt;    /* one of nissy_doubt: of a line of the scramble or the solution, or if there is none, of any step or note. It counts if
+                       * the solution doesn't solve the scramble: what does was read as it was meant */
     uint64_t attempt; /* which attempt, from 0 */
     uint64_t group;   /* of a step or a note: 0 directly under the scramble, and then the blocks after blank lines */
     uint64_t begin; /* of the line */
@@ -90,12 +90,14 @@ nissy_text_answer nissy_text_lines(const uint8_t *text, size_t text_length, niss
 enum nissy_moves_of {
     NISSY_OF_SCRAMBLE = 0, /* the lines of the scramble */
     NISSY_OF_STEPS = 1,    /* all steps */
-    NISSY_OF_SOLUTION = 2  /* the steps of the solution */
+    NISSY_OF_SOLUTION = 2, /* the steps of the solution */
+    NISSY_OF_EACH_STEP = 3 /* all steps, each a line of its own, as nissy_solving_part takes them */
 };
 
 /* Writes the moves of those of some lines that are wanted, one of nissy_moves_of, as one line for the other calls, and for each byte of it its
- * place in the text: in the order of the lines, joined by a blank, whose place is the end of the line before. Of each it reads the bytes from
- * `moves` to `comment` as nissy_plain reads moves; those of an `inverse` one stand in brackets, whose places are `moves` and `comment`.
+ * place in the text: in the order of the lines, parted by a blank, or a line feed, whose place is the end of the line before. Of each it reads
+ * the bytes from `moves` to `comment` as nissy_plain reads moves; those of an `inverse` one stand in brackets, whose places are `moves` and
+ * `comment`.
  * `left_out` says what one of these lines has left out, in its label and its comment too.
  *
  * Three bytes and places for each from `moves` to `comment`, and three for each line, are never too few. NISSY_USAGE: no moves have this
@@ -105,7 +107,7 @@ enum nissy_moves_of {
 nissy_plain_answer nissy_text_moves(const uint8_t *text, size_t text_length, const nissy_text_line *lines, size_t count, uint8_t which,
                                     uint8_t *out, size_t out_room, uint64_t *places, size_t places_room);
 
-/* The most bytes of the steps in which a part is looked for. */
+/* The most bytes of the first eight steps, in which a part is looked for. */
 #define NISSY_MOST_STEPS 65536
 
 /* What is to be done with some steps of an attempt, one after another, so that it solves. */
@@ -119,10 +121,12 @@ enum nissy_part {
 
 /* What nissy_solving_part returns. */
 typedef struct nissy_part_answer {
-    uint8_t status; /* NISSY_DONE; NISSY_STOPPED: the scramble has more than NISSY_MOST_INPUT bytes, or the steps more than NISSY_MOST_STEPS */
+    uint8_t status; /* NISSY_DONE; NISSY_STOPPED: the scramble has more than NISSY_MOST_INPUT bytes, or the first eight steps more than
+                     * NISSY_MOST_STEPS */
     uint8_t how;    /* one of nissy_part */
     uint8_t first;  /* the first of these steps, from 0 */
     uint8_t last;   /* the last of them */
+    uint64_t begin; /* where the first of them begins, in bytes of the steps */
 } nissy_part_answer;
 
 /* Whether a part of an attempt solves its scramble: who wrote more than the solution, or the side of a step not at all, may have meant that. The

@@ -28,12 +28,10 @@ def _words() -> argparse.ArgumentParser:
 
 
 def _step(part: Union[Orientation, Reduction]) -> str:
-    """Returns a step's name and its moves."""
     return f"{part.step} {part.moves}".strip()
 
 
 def _shown(way: Continuation) -> str:
-    """Returns a way as a line."""
     steps = [_step(part) for part in (way.eo, way.dr) if part]
     return f"{way.total} moves: " + f", {way.case}, ".join(steps)
 

@@ -1,17 +1,18 @@
 """Reads what solvers write down of their attempts, by the library: scrambles, each with the steps of a solution and
 candidates beside it. Nothing of it is called at fault here: what is no line of moves is at fault where it is used."""
 import ctypes
+from bisect import bisect_left
 from itertools import groupby
-from typing import Dict, List, NamedTuple, Optional, Sequence, Tuple
+from typing import Any, Dict, Iterator, List, NamedTuple, Optional, Sequence, Tuple
 
 from . import _library
-from ._given import Text
+from ._given import Text, bytes_of
 from ._library import TEXT_LINE
-from ._written import PlainLine, TextPlace, Written
+from ._written import AROUND, PlainLine, TextPlace, Written, WrittenLine, left_around, written_by
 
 _BEFORE, SCRAMBLE, STEP, _NOTE = range(1, 5)
 # whose moves the library writes
-_OF_SCRAMBLE, _OF_STEPS, _OF_SOLUTION = range(3)
+_OF_SCRAMBLE, _OF_STEPS, _OF_SOLUTION, _OF_EACH_STEP = range(4)
 # the white space of the web's scripts
 _WHITE = ("\n\t\v\f\r \u00a0\u1680\u2000\u2001\u2002\u2003\u2004\u2005\u2006\u2007\u2008\u2009\u200a\u2028\u2029\u202f"
           "\u205f\u3000\ufeff")
@@ -97,28 +98,61 @@ class Reader:
         self._room = bytearray(TEXT_LINE.size * most)
         self._address = ctypes.addressof(ctypes.c_char.from_buffer(self._room))
         self._count = _library.nissy_text_lines(data, len(data), self._address, most).lines
+        # the moves of all lines, by whose they are
+        self._all: Dict[int, WrittenLine] = {}
         self._steps: Dict[int, PlainLine] = {}
 
     def lines(self) -> List[TextLine]:
         """Returns the lines that aren't blank, or have only a head."""
-        told = self._room[:TEXT_LINE.size * self._count]
-        heads = told[_HEADED::TEXT_LINE.size]
-        return [TextLine._make((at, *TEXT_LINE.unpack_from(told, TEXT_LINE.size * at)))
-                for at, kind in enumerate(told[::TEXT_LINE.size]) if kind or heads[at]]
+        told = TEXT_LINE.iter_unpack(memoryview(self._room)[:TEXT_LINE.size * self._count])
+        return [TextLine._make((at, *line)) for at, line in enumerate(told) if line[0] or line[_HEADED]]
 
     def moves(self, lines: Sequence[TextLine], which: int) -> PlainLine:
         """Returns the moves of those of some lines that are wanted, one after another."""
-        if not lines:
-            return _NOTHING
+        return self.whole.plain(self._written(lines, which), self._before) if lines else _NOTHING
+
+    def _written(self, lines: Sequence[TextLine], which: int) -> WrittenLine:
+        """Returns the same in bytes, with places in the bytes that are read."""
         count = lines[-1].at + 1 - lines[0].at
-        place, most = self._address + TEXT_LINE.size * lines[0].at, lines[-1].end - lines[0].begin + count
-        return self.whole.plain(3 * most, lambda *room: _library.nissy_text_moves(
-            self._data, len(self._data), place, count, which, *room), self._before)
+        return self._written_of(lines[0].at, count, lines[-1].end - lines[0].begin, which)
+
+    def _written_of(self, first: int, count: int, size: int, which: int) -> WrittenLine:
+        """Returns the same of this many lines, which have this many bytes."""
+        place = self._address + TEXT_LINE.size * first
+        return written_by(3 * (size + count), lambda *room: _library.nissy_text_moves(
+            self._data, len(self._data), place, count, which, *room))
+
+    def _of_line(self, line: TextLine, which: int) -> PlainLine:
+        """Returns the moves of one line, cut out of those of all, if these tell what it leaves out: if it is written as
+        it stands, or if none of them leaves out anything among its moves."""
+        if which not in self._all:
+            self._all[which] = self._written_of(0, self._count, len(self._data), which)
+        written, places, left_out = self._all[which]
+        begin, end = bisect_left(places, line.moves), bisect_left(places, line.comment)
+        own, around = written[begin:end], left_around(line.label_begin < line.label_end, line.comment < line.end)
+        if line.is_inverse or self._data[line.head_end:line.label_begin].strip():
+            return self.moves([line], which)
+        if own == self._data[line.moves:line.comment]:
+            return self.whole.cut(own, self._before + line.moves, around)
+        if left_out & ~AROUND:
+            return self.moves([line], which)
+        return self.whole.plain(WrittenLine(own, places[begin:end], around), self._before)
+
+    def _in_one(self, wanted: Sequence[TextLine], lines: Sequence[TextLine], which: int) -> PlainLine:
+        """Returns the moves of those of some lines that are wanted, which are these."""
+        return self._of_line(wanted[0], which) if len(wanted) == 1 else self.moves(lines, which)
+
+    def solving_part(self, scramble: str, lines: Sequence[TextLine]) -> Optional[TextPlace]:
+        """Returns where a part of the steps of an attempt begins that solves a scramble, or None."""
+        if not lines:
+            return None
+        data, steps = bytes_of(scramble, ""), self._written(lines, _OF_EACH_STEP)
+        part = _library.nissy_solving_part(data, len(data), steps.line, len(steps.line))
+        return self.place(steps.places[part.begin]) if part.how else None
 
     def step(self, line: TextLine) -> PlainLine:
-        """Returns the moves of a step."""
         if line.at not in self._steps:
-            self._steps[line.at] = self.moves([line], _OF_STEPS)
+            self._steps[line.at] = self._of_line(line, _OF_STEPS)
         return self._steps[line.at]
 
     def place(self, byte: int) -> TextPlace:
@@ -141,7 +175,6 @@ class Reader:
         return next((self._part(line.begin, line.head_end) for line in lines if line.is_headed), "")
 
     def _label(self, line: TextLine) -> str:
-        """Returns the words of a line's label."""
         return self._part(line.label_begin, line.label_end)
 
     def _joined(self, steps: Sequence[TextLine], lines: Sequence[TextLine], which: int) -> PlainLine:
@@ -149,42 +182,60 @@ class Reader:
         return self.step(steps[0]) if len(steps) == 1 else self.moves(lines, which)
 
     def _candidate(self, lines: List[TextLine]) -> AttemptCandidate:
-        """Returns a group of lines."""
         steps = [line for line in lines if line.kind == STEP]
         note = " ".join(self._note(line) for line in lines if line.kind == _NOTE)
         told = next((self._label(line) for line in lines if line.says_solution), "")
         return AttemptCandidate(tuple(map(self.step, steps)), self._joined(steps, lines, _OF_STEPS), note or told)
 
+    def _candidates(self, lines: Sequence[TextLine]) -> Iterator[AttemptCandidate]:
+        """Returns the groups of an attempt that have steps, but the first one."""
+        for number, group in groupby((line for line in lines if line.kind >= STEP), lambda line: line.group):
+            own = list(group)
+            if number > 0 and any(line.kind == STEP for line in own):
+                yield self._candidate(own)
+
     def attempt(self, lines: Sequence[TextLine]) -> Attempt:
-        """Returns the attempt of its lines."""
-        groups = [list(group) for _, group in groupby((it for it in lines if it.kind >= STEP), lambda it: it.group)]
-        told = [line for line in lines if line.kind == STEP and line.is_solution]
-        steps = [line for line in lines if line.kind == STEP and line.group == 0] or told
+        all_steps = [line for line in lines if line.kind == STEP]
+        told = [line for line in all_steps if line.is_solution]
+        steps = [line for line in all_steps if line.group == 0] or told
         doubted = next((line for line in lines if line.doubt), None)
         return Attempt(
-            self.name(lines), self.moves(lines, _OF_SCRAMBLE), tuple(map(self.step, steps)),
-            self._joined(told, lines, _OF_SOLUTION) if told else None,
-            tuple(self._candidate(group) for group in groups
-                  if group[0].group > 0 and any(line.kind == STEP for line in group)),
+            self.name(lines), self._in_one([line for line in lines if line.kind == SCRAMBLE], lines, _OF_SCRAMBLE),
+            tuple(map(self.step, steps)), self._joined(told, lines, _OF_SOLUTION) if told else None,
+            tuple(self._candidates(lines)) if lines and lines[-1].group > 0 else (),
             sum(line.kind == _BEFORE for line in lines),
             doubted and AttemptDoubt(_DOUBTS[doubted.doubt], self.place(doubted.doubt_at)))
 
 
+class Found(NamedTuple):
+    """An attempt, and its lines among those of a text that was read."""
+
+    attempt: Attempt
+    reader: Optional[Reader] = None
+    lines: Sequence[TextLine] = ()
+
+    def replaced(self, **fields: Any) -> "Found":
+        """Returns the same with other fields of the attempt."""
+        return self._replace(attempt=self.attempt._replace(**fields))
+
+    def solving_part(self) -> Optional[TextPlace]:
+        """Returns where a part of its steps begins that solves, or None."""
+        return self.reader.solving_part(self.attempt.scramble.line, self.lines) if self.reader else None
+
+
 def by_attempts(lines: List[TextLine]) -> List[List[TextLine]]:
-    """Returns the lines of each attempt."""
     return [list(own) for _, own in groupby(lines, lambda line: line.attempt)]
 
 
-def attempts_of(whole: Written) -> List[Attempt]:
-    """Returns the attempts of a text."""
+def attempts_of(whole: Written) -> List[Found]:
     reader = Reader(whole, whole.data)
-    read = [reader.attempt(lines) for lines in by_attempts(reader.lines())
+    read = [Found(reader.attempt(lines), reader, lines) for lines in by_attempts(reader.lines())
             if any(line.kind == SCRAMBLE for line in lines)]
-    return read or [Attempt("", _NOTHING, (), None, (), 0)]
+    return read or [Found(Attempt("", _NOTHING, (), None, (), 0))]
 
 
 def read_attempts(text: Text) -> List[Attempt]:
     """The attempts of a text as solvers write it, at least one: a scramble, then the steps of its solution, each on a
     line with a comment or a label, and blocks of candidates after blank lines; and the same of several numbered
     scrambles. A text of another form is one scramble."""
-    return attempts_of(Written(text))
+    return [found.attempt for found in attempts_of(Written(text))]

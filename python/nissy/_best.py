@@ -67,8 +67,8 @@ def best(scramble: Text, so_far: Text = "", *, slack: int = 0, most: Optional[in
     on each side. The order is by these, then by the moves of the first step, then by the pieces of the case. No more
     than `most` are returned, or all if it is None. Each unit of slack makes this many times as long and as large.
 
-    With `nodes` the search looks at no more than that many positions: if it would look at more, Cut is raised, or with
-    `partial` the best of what was tried until then is returned, whose `cut` is true.
+    With `nodes` the search looks at no more than that many positions: if these may not be enough, Cut is raised, or
+    with `partial` the best of what was tried until then is returned, whose `cut` is true.
     The search goes in pieces, of one length of the first step and one axis each. `progress` is called before each, and
     at the end, with how many ways were tried, and of how many, None until that is known. `stop` is asked before each
     whether to end, such as the `is_set` of an Event: if it returns true, the call ends as one that is cut. With a slack

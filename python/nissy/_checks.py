@@ -1,20 +1,14 @@
 """Checks the attempts of a text as solvers write it, by the calls for one scramble, one solution and one place."""
-from heapq import nsmallest
-from itertools import chain
 from typing import Any, Dict, Iterable, List, NamedTuple, Optional, Tuple
 
-from . import _library
-from ._attempts import Attempt, AttemptDoubt, attempts_of
+from ._attempts import Attempt, AttemptDoubt, Found, attempts_of
 from ._facts import Check, check
-from ._given import Text, bytes_of, each_of
+from ._given import Text, each_of
 from ._known import Part, solutions_of
 from ._lines import facelets
-from ._tokens import form_places
+from ._tokens import places_of
 from ._values import Fault, LineFault
 from ._written import PlainLine, TextPlace, Written, place_in, string_of
-
-# of how many steps the library looks for a part
-_MOST_STEPS = 8
 
 
 class FormInText(NamedTuple):
@@ -49,31 +43,23 @@ class AttemptCheck(NamedTuple):
 
     def as_dict(self) -> Dict[str, Any]:
         """What is said of it, as json.dumps takes it, with the `name` of the attempt."""
-        checked = self.check and {**self.check._asdict(), "forms": list(self.check.forms)}
+        checked = None if self.check is None else {**self.check._asdict(), "forms": list(self.check.forms)}
         return {"name": self.attempt.name, "check": checked, "fault": self.fault and self.fault.as_dict(),
                 "place": self.place and self.place._asdict(), "forms": [it.as_dict() for it in self.forms],
                 "doubt": self.doubt and {"reason": self.doubt.reason, "place": self.doubt.place._asdict()}}
 
 
-def _doubt_of(attempt: Attempt, whole: Written) -> Optional[AttemptDoubt]:
+def _doubt_of(found: Found) -> Optional[AttemptDoubt]:
     """Returns what makes one doubt an attempt that isn't solved: its reading, or that a part of it solves."""
-    if attempt.doubt is not None:
-        return attempt.doubt
-    steps = _steps_of(attempt)
-    scramble, lines = bytes_of(attempt.scramble.line, ""), bytes_of("\n".join(step.line for step in steps), "")
-    part = _library.nissy_solving_part(scramble, len(scramble), lines, len(lines))
-    return AttemptDoubt("a part", whole.place(steps[part.first].places[0])) if part.how else None
+    if found.attempt.doubt is not None:
+        return found.attempt.doubt
+    place = found.solving_part()
+    return place and AttemptDoubt("a part", place)
 
 
-def _steps_of(attempt: Attempt) -> List[PlainLine]:
-    """Returns the first steps of an attempt and its candidates in the text, each once."""
-    each = chain(attempt.steps, chain.from_iterable(it.steps for it in attempt.candidates))
-    steps = {step.places[0]: step for step in each if step.places}
-    return [steps[place] for place in nsmallest(_MOST_STEPS, steps)]
-
-
-def _checked(attempt: Attempt, whole: Written) -> AttemptCheck:
+def _checked(found: Found, whole: Written) -> AttemptCheck:
     """Returns what is said of an attempt of a text."""
+    attempt = found.attempt
     scramble, solution = attempt.scramble, attempt.solution
     try:
         # the scramble has its fault without a solution too
@@ -85,10 +71,14 @@ def _checked(attempt: Attempt, whole: Written) -> AttemptCheck:
         # the traceback would keep what the calls had, as long as the fault is kept
         return AttemptCheck(attempt, None, fault.with_traceback(None), place, ())
     if solution is None:
-        return AttemptCheck(attempt, None, None, None, (), _doubt_of(attempt, whole))
-    forms = (FormInText(it.text, it.forms, whole.place(place_in(it, solution))) for it in form_places(solution.line))
-    doubt = None if told.solved else _doubt_of(attempt, whole)
-    return AttemptCheck(attempt, told, None, None, tuple(forms), doubt)
+        return AttemptCheck(attempt, None, None, None, (), _doubt_of(found))
+    doubt = None if told.solved else _doubt_of(found)
+    return AttemptCheck(attempt, told, None, None, _forms_in(solution, whole) if told.forms else (), doubt)
+
+
+def _forms_in(solution: PlainLine, whole: Written) -> Tuple[FormInText, ...]:
+    """Returns where a solution that was read has forms."""
+    return tuple(FormInText(it.text, it.forms, whole.place(place_in(it, solution))) for it in places_of(solution.line))
 
 
 def _is_same(scramble: str, other: str) -> bool:
@@ -104,14 +94,15 @@ def _checked_part(part: Part, scrambles: List[str], whole: Written) -> AttemptCh
     first, *others = part.attempts
     if part.scramble is None:
         doubt = AttemptDoubt("which scramble", whole.place(part.begin))
-        return AttemptCheck(first._replace(doubt=doubt), None, None, None, (), doubt)
+        return AttemptCheck(first.attempt._replace(doubt=doubt), None, None, None, (), doubt)
     scramble = scrambles[part.scramble]
     # who writes the scramble too says nothing else by it
-    if len(others) == 1 and first.solution is None and _is_same(scramble, others[0].scramble.line):
-        return _checked(others[0]._replace(name=first.name), whole)
+    if len(others) == 1 and first.attempt.solution is None and _is_same(scramble, others[0].attempt.scramble.line):
+        return _checked(others[0].replaced(name=first.attempt.name), whole)
     if others:
-        first = first._replace(doubt=AttemptDoubt("another scramble", whole.place(others[0].scramble.places[0])))
-    return _checked(first._replace(scramble=PlainLine(scramble, (), ())), whole)
+        place = whole.place(others[0].attempt.scramble.places[0])
+        first = first.replaced(doubt=AttemptDoubt("another scramble", place))
+    return _checked(first.replaced(scramble=PlainLine(scramble, (), ())), whole)
 
 
 def _checked_solutions(whole: Written, scrambles: List[str]) -> List[AttemptCheck]:
@@ -119,7 +110,7 @@ def _checked_solutions(whole: Written, scrambles: List[str]) -> List[AttemptChec
     parts = solutions_of(whole, len(scrambles))
     told = [(part.scramble, _checked_part(part, scrambles, whole)) for part in parts]
     of = {at: it for at, it in told if at is not None}
-    nothing = (_checked(Attempt("", PlainLine(line, (), ()), (), None, (), 0), whole) for line in scrambles)
+    nothing = (_checked(Found(Attempt("", PlainLine(line, (), ()), (), None, (), 0)), whole) for line in scrambles)
     return [of.get(at, it) for at, it in enumerate(nothing)] + [it for at, it in told if at is None]
 
 
@@ -134,5 +125,5 @@ def check_attempts(text: Text, *, scrambles: Optional[Iterable[Text]] = None) ->
     in doubt."""
     whole = Written(text)
     if scrambles is None:
-        return [_checked(attempt, whole) for attempt in attempts_of(whole)]
+        return [_checked(found, whole) for found in attempts_of(whole)]
     return _checked_solutions(whole, [string_of(it) for it in each_of(scrambles, "the scrambles")])

@@ -44,7 +44,6 @@ class Pieces(int):
         return self._places
 
     def __reduce__(self) -> Tuple[Any, ...]:
-        """What a copy is made of."""
         return type(self), (self.places,)
 
 
@@ -73,7 +72,6 @@ class Facts:
         self._told = told
 
     def _numbers(self) -> Tuple[int, ...]:
-        """Returns the numbers of the library's struct."""
         return FACTS_ANSWER.unpack(self._told)
 
     @property
@@ -142,12 +140,11 @@ class Facts:
         return f"<Facts: {solved}, {self.moves} moves, {self.clean_moves} cleaned, {cases}>"
 
     def __reduce__(self) -> Tuple[Any, ...]:
-        """What a copy is made of."""
         return type(self), (self._told,)
 
 
 class Check(NamedTuple):
-    """Whether a solution solves a scramble."""
+    """Whether a solution solves a scramble: it is true if it does."""
 
     solved: bool
     """The solution's moves after the scramble's solve the cube, however it is held then."""
@@ -159,28 +156,27 @@ class Check(NamedTuple):
     """The forms that the solution has and the WCA's notation for solutions hasn't: "slices", "lower_case", "brackets",
     "apostrophe" (U+2019 in place of ') and "half_prime" (2' for a half turn)."""
 
+    def __bool__(self) -> bool:
+        return self.solved
+
 
 @lru_cache(maxsize=None)
 def _edges(mask: int) -> Pieces:
-    """Returns the edges of a mask."""
     return Pieces(_chosen(mask, EDGE_PLACES))
 
 
 @lru_cache(maxsize=None)
 def _corners(mask: int) -> Pieces:
-    """Returns the corners of a mask."""
     return Pieces(_chosen(mask, CORNER_PLACES))
 
 
 @lru_cache(maxsize=None)
 def _case(corners: int, edges: int) -> Case:
-    """Returns the case of this many corners and edges."""
     return Case(f"{corners}c{edges}e")
 
 
 @lru_cache(maxsize=None)
 def _steps_of(mask: int) -> Tuple[Step, ...]:
-    """Returns the steps of a mask."""
     return _chosen(mask, steps())
 
 

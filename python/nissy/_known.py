@@ -5,7 +5,7 @@ from collections import Counter
 from itertools import groupby
 from typing import List, NamedTuple, Optional
 
-from ._attempts import SCRAMBLE, STEP, Attempt, Reader, TextLine, by_attempts
+from ._attempts import SCRAMBLE, STEP, Found, Reader, TextLine, by_attempts
 from ._written import Written
 
 # a whole scramble, after which the library reads lines as steps
@@ -21,7 +21,7 @@ class Part(NamedTuple):
     """Which of the scrambles it is of, from 0, or None if that can't be told."""
     begin: int
     """Its first character."""
-    attempts: List[Attempt]
+    attempts: List[Found]
     """The first has what stands there without a scramble; others have one of their own."""
 
 
@@ -61,7 +61,7 @@ def _parts(reader: Reader, lines: List[TextLine], count: int) -> List[List[TextL
     return [part for part in parts if any(line.is_headed or _is_moves(line) for line in part)]
 
 
-def _read(reader: Reader, part: List[TextLine]) -> List[Attempt]:
+def _read(reader: Reader, part: List[TextLine]) -> List[Found]:
     """Returns what a part has, by how the library reads its lines after a scramble, with those of which it says that
     they have another scramble after that."""
     head = max((at for at, line in enumerate(part) if line.is_headed), default=0)
@@ -70,8 +70,8 @@ def _read(reader: Reader, part: List[TextLine]) -> List[Attempt]:
     begin = max(line.begin, part[head].head_end)
     own = Reader(reader.whole, _BEFORE + reader.whole.data[begin:part[-1].end], begin - len(_BEFORE))
     first, *others = by_attempts(own.lines())
-    behind = [own.attempt(lines) for lines in others if any(it.kind == SCRAMBLE for it in lines)]
-    return [own.attempt(first[1:])._replace(name=reader.name(part)), *behind]
+    behind = [Found(own.attempt(lines), own, lines) for lines in others if any(it.kind == SCRAMBLE for it in lines)]
+    return [Found(own.attempt(first[1:]), own, first[1:]).replaced(name=reader.name(part)), *behind]
 
 
 def _scrambles_of(names: List[str], count: int) -> List[Optional[int]]:

@@ -1,11 +1,11 @@
-"""The C library: where it is found, and its calls and structs as nissy.h has them."""
+"""The C library: where it is found, and its calls and structs, named as nissy.h and nissy_text.h do."""
 from __future__ import annotations
 
 import ctypes
 import os
 import struct
 import sys
-from typing import Any, BinaryIO, Callable
+from typing import Any, Callable, Tuple
 
 MOST_INPUT = 16_777_216
 """The most bytes of a line or of an input."""
@@ -21,104 +21,36 @@ NOT_START = 6
 LINE_ROOM = 2048
 ERROR_ROOM = 128
 
-
-class LineAnswer(ctypes.Structure):
-    """`nissy_line_answer` of nissy.h."""
-    _fields_ = [("status", ctypes.c_uint8), ("fault", ctypes.c_uint8), ("column", ctypes.c_uint32),
-                ("length", ctypes.c_uint64)]
+_NUMBERS = {"1": ctypes.c_uint8, "2": ctypes.c_uint16, "4": ctypes.c_uint32, "8": ctypes.c_uint64}
 
 
-class RunAnswer(ctypes.Structure):
-    """`nissy_run_answer` of nissy.h."""
-    _fields_ = [("status", ctypes.c_uint8), ("out_too_small", ctypes.c_uint8), ("err_too_small", ctypes.c_uint8),
-                ("out_length", ctypes.c_uint64), ("err_length", ctypes.c_uint64)]
+def _struct(fields: str, *others: Tuple[str, Any]) -> Any:
+    """Returns a struct, of whose fields each is a name with the bytes of its number, or another one with its type."""
+    named = [(name, _NUMBERS[size]) for name, size in (field.split(":") for field in fields.split())]
+    return type("Struct", (ctypes.Structure,), {"_fields_": [*named, *others]})
 
 
 class KeptTables(ctypes.Structure):
-    """`nissy_tables` of nissy.h: the tables of a step, or none."""
+    """The tables of a step, or none: nissy_tables."""
     _fields_ = [("tables", ctypes.c_void_p), ("built", ctypes.c_uint8)]
 
 
-class SearchAnswer(ctypes.Structure):
-    """`nissy_search_answer` of nissy.h."""
-    _fields_ = [("status", ctypes.c_uint8), ("fault", ctypes.c_uint8), ("least", ctypes.c_uint8),
-                ("more", ctypes.c_uint8), ("column", ctypes.c_uint32), ("length", ctypes.c_uint64),
-                ("solutions", ctypes.c_uint64), ("nodes", ctypes.c_uint64)]
-
-
-class AxisFacts(ctypes.Structure):
-    """`nissy_axis_facts` of nissy.h."""
-    _fields_ = [("bad_edge_places", ctypes.c_uint16), ("bad_corner_places", ctypes.c_uint16),
-                ("misplaced_edge_places", ctypes.c_uint16), ("bad_edges", ctypes.c_uint8),
-                ("bad_corners", ctypes.c_uint8), ("misplaced_edges", ctypes.c_uint8)]
-
-
-class FactsAnswer(ctypes.Structure):
-    """`nissy_facts_answer` of nissy.h."""
-    _fields_ = [("status", ctypes.c_uint8), ("fault", ctypes.c_uint8), ("solved", ctypes.c_uint8),
-                ("column", ctypes.c_uint32), ("moves", ctypes.c_uint16), ("clean_moves", ctypes.c_uint16),
-                ("holds", ctypes.c_uint16), ("axes", AxisFacts * 3)]
-
-
-class CheckAnswer(ctypes.Structure):
-    """`nissy_check_answer` of nissy.h."""
-    _fields_ = [("status", ctypes.c_uint8), ("fault", ctypes.c_uint8), ("line", ctypes.c_uint8),
-                ("solved", ctypes.c_uint8), ("column", ctypes.c_uint32), ("moves", ctypes.c_uint16),
-                ("clean_moves", ctypes.c_uint16), ("forms", ctypes.c_uint8)]
-
-
-class LinesAnswer(ctypes.Structure):
-    """`nissy_lines_answer` of nissy.h."""
-    _fields_ = [("status", ctypes.c_uint8), ("lines", ctypes.c_uint64), ("bytes", ctypes.c_uint64)]
-
-
-class PlainAnswer(ctypes.Structure):
-    """`nissy_plain_answer` of nissy_text.h."""
-    _fields_ = [("status", ctypes.c_uint8), ("left_out", ctypes.c_uint8), ("length", ctypes.c_uint64)]
-
-
-class PartAnswer(ctypes.Structure):
-    """`nissy_part_answer` of nissy_text.h."""
-
-    _fields_ = [("status", ctypes.c_uint8), ("how", ctypes.c_uint8), ("first", ctypes.c_uint8)]
-
-
-class TextAnswer(ctypes.Structure):
-    """`nissy_text_answer` of nissy_text.h."""
-    _fields_ = [("status", ctypes.c_uint8), ("lines", ctypes.c_uint64), ("attempts", ctypes.c_uint64)]
-
-
-class WaysWanted(ctypes.Structure):
-    """`nissy_ways_wanted` of nissy.h."""
-    _fields_ = [("slack", ctypes.c_uint8), ("axes", ctypes.c_uint8), ("least", ctypes.c_uint8),
-                ("most", ctypes.c_uint8), ("most_nodes", ctypes.c_uint64), ("there", ctypes.c_uint64)]
-
-
-class WaysAnswer(ctypes.Structure):
-    """`nissy_ways_answer` of nissy.h."""
-    _fields_ = [("status", ctypes.c_uint8), ("fault", ctypes.c_uint8), ("line", ctypes.c_uint8),
-                ("next", ctypes.c_uint8), ("column", ctypes.c_uint32), ("rows", ctypes.c_uint64),
-                ("tried", ctypes.c_uint64), ("nodes", ctypes.c_uint64)]
-
-
-class SidesWanted(ctypes.Structure):
-    """`nissy_sides_wanted` of nissy.h."""
-    _fields_ = [("sides", ctypes.c_uint8), ("length", ctypes.c_uint8), ("counts", ctypes.c_uint8),
-                ("passed", ctypes.c_uint64), ("most_nodes", ctypes.c_uint64)]
-
-
-class SidesAnswer(ctypes.Structure):
-    """`nissy_sides_answer` of nissy.h."""
-    _fields_ = [("status", ctypes.c_uint8), ("fault", ctypes.c_uint8), ("line", ctypes.c_uint8),
-                ("more", ctypes.c_uint8), ("column", ctypes.c_uint32), ("rows", ctypes.c_uint64),
-                ("solutions", ctypes.c_uint64), ("nodes", ctypes.c_uint64)]
-
-
-class LineAfterAnswer(ctypes.Structure):
-    """`nissy_line_after_answer` of nissy.h."""
-    _fields_ = [("status", ctypes.c_uint8), ("fault", ctypes.c_uint8), ("line", ctypes.c_uint8),
-                ("column", ctypes.c_uint32), ("length", ctypes.c_uint64)]
-
+LineAnswer = _struct("status:1 fault:1 column:4 length:8")
+RunAnswer = _struct("status:1 out_too_small:1 err_too_small:1 out_length:8 err_length:8")
+SearchAnswer = _struct("status:1 fault:1 least:1 more:1 column:4 length:8 solutions:8 nodes:8")
+AxisFacts = _struct(
+    "bad_edge_places:2 bad_corner_places:2 misplaced_edge_places:2 bad_edges:1 bad_corners:1 misplaced_edges:1")
+FactsAnswer = _struct("status:1 fault:1 solved:1 column:4 moves:2 clean_moves:2 holds:2", ("axes", AxisFacts * 3))
+CheckAnswer = _struct("status:1 fault:1 line:1 solved:1 column:4 moves:2 clean_moves:2 forms:1")
+LinesAnswer = _struct("status:1 lines:8 bytes:8")
+PlainAnswer = _struct("status:1 left_out:1 length:8")
+PartAnswer = _struct("status:1 how:1 first:1 last:1 begin:8")
+TextAnswer = _struct("status:1 lines:8 attempts:8")
+WaysWanted = _struct("slack:1 axes:1 least:1 most:1 most_nodes:8 there:8")
+WaysAnswer = _struct("status:1 fault:1 line:1 next:1 column:4 rows:8 tried:8 nodes:8")
+SidesWanted = _struct("sides:1 length:1 counts:1 passed:8 most_nodes:8")
+SidesAnswer = _struct("status:1 fault:1 line:1 more:1 column:4 rows:8 solutions:8 nodes:8")
+LineAfterAnswer = _struct("status:1 fault:1 line:1 column:4 length:8")
 
 # The fields of structs that come in great number, in the order of the header: ctypes would take as
 # long to read them as the search. Of a part these are the number of the step, and of each side the count, how many are
@@ -151,61 +83,12 @@ def _place() -> str:
     return _NAME
 
 
-# The sizes of an ELF file's header and of a segment's, of 64 bits. By its first four bytes it is such a file at all,
-# and those that _KIND names say which processor it is for.
-_MAGIC = b"\x7fELF"
-_HEADER, _SEGMENT = 64, 56
-_KIND = (slice(4, 6), slice(18, 20))
-
-
-def _end_of(file: BinaryIO, header: bytes, size: int) -> int:
-    """Returns how many bytes an ELF file of this size needs to have by its headers: those of the file, of its
-    segments and of its sections."""
-    segments, sections = struct.unpack_from("<QQ", header, 32)
-    segment_size, segment_count, section_size, section_count = struct.unpack_from("<HHHH", header, 54)
-    end: int = max(segments + segment_size * segment_count, sections + section_size * section_count)
-    if end <= size and segment_size == _SEGMENT:
-        file.seek(segments)
-        for begin, length in struct.iter_unpack("<8xQ16xQ16x", file.read(segment_size * segment_count)):
-            end = max(end, begin + length)
-    return end
-
-
-def _wrong_with(path: str) -> str:
-    """Returns what is wrong with a file of which the system has no plain words: one for another processor it says isn't
-    there, and one that was cut off ends the process by a signal. Anything else is left to the system to tell."""
-    with open(path, "rb") as file:
-        header, size = file.read(_HEADER), os.fstat(file.fileno()).st_size
-        if not header.startswith(_MAGIC):
-            return ""
-        if size >= _HEADER and _is_of_another_kind(header):
-            return "it is for another processor than this Python"
-        needed = _HEADER if size < _HEADER else _end_of(file, header, size)
-    return f"it is cut off: {size:,} of {needed:,} bytes" if size < needed else ""
-
-
-def _is_of_another_kind(header: bytes) -> bool:
-    """Returns whether a header is of a file for another processor than the one that runs this."""
-    try:
-        with open("/proc/self/exe", "rb") as python:
-            own = python.read(_HEADER)
-    except OSError:
-        return False
-    return own.startswith(_MAGIC) and any(header[part] != own[part] for part in _KIND)
-
-
 def _loaded(place: str) -> ctypes.CDLL:
     """Returns the library that is there. A place without a folder is one where the system looks for it."""
     try:
-        why = _wrong_with(place) if os.sep in place else ""
-    except OSError:
-        why = ""
-    if not why:
-        try:
-            return ctypes.CDLL(place)
-        except OSError as error:
-            why = str(error)
-    told = why if place in why else f"{place}: {why}"
+        return ctypes.CDLL(place)
+    except OSError as error:
+        told = str(error) if place in str(error) else f"{place}: {error}"
     raise ImportError(f"nissy's library can't be loaded: {told}")
 
 

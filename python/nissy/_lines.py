@@ -38,7 +38,6 @@ def fault_of(status: int, fault: int, column: int, data: bytes, line: Optional[i
 
 @lru_cache(maxsize=None)
 def fault_text(fault: int) -> str:
-    """Returns the library's words for a fault."""
     return _written(_library.nissy_fault_text, b"", fault)
 
 

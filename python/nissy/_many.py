@@ -39,7 +39,6 @@ class Piece(NamedTuple):
     text: bytes
 
     def line(self, at: int) -> Tuple[int, bytes]:
-        """Returns the number of a line, and its bytes."""
         return self.first + at, bytes_of(self.lines[at], "the line")
 
 
@@ -81,7 +80,6 @@ class _Telling:
             self.add(1)
 
     def end(self) -> None:
-        """Tells that all are done."""
         is_told = self._done == self._told == self._all
         self._all = self._done
         if not is_told:
@@ -106,7 +104,6 @@ class _Taking:
             yield piece
 
     def _piece(self) -> Piece:
-        """Returns the next lines."""
         lines: List[Text] = []
         try:
             # what came before an exception is there

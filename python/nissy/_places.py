@@ -30,7 +30,6 @@ class Place:
         return tables
 
     def _build(self) -> KeptTables:
-        """Builds the tables, keeps them and returns them."""
         tables, name = KeptTables(), self.step.encode()
         if _library.nissy_build(ctypes.addressof(tables), name, len(name)) != DONE:
             raise MemoryError(f"no memory for the tables of {self.step}")
@@ -53,7 +52,6 @@ os.register_at_fork(after_in_child=_renew_locks)
 
 
 def place_of(step: Step) -> Place:
-    """Returns the place of a step's tables."""
     given: object = step
     if not isinstance(given, str):
         raise TypeError(f"the step is a str, not {'None' if given is None else type(given).__name__}")

@@ -29,8 +29,6 @@ def _joined(words: Iterable[Text]) -> bytes:
 
 
 class _Run:
-    """One run, whose output went to a room."""
-
     def __init__(self, room: Room, words: bytes, data: bytes) -> None:
         self._room, self._err = room, ctypes.create_string_buffer(ERROR_ROOM)
         self._told = _library.nissy_run(words, len(words), data, len(data), room.address, room.size,
@@ -67,7 +65,7 @@ def run(words: Iterable[Text], data: Text = b"", room: Optional[int] = None) -> 
     A word or an input that is a string is read as UTF-8. If the room is too small for the output, the run is made again
     with eight times as much. With `room` the run is made once, with room for that many bytes, and `full` says whether
     these were too few. Raises MemoryError if there is no room for the output. If there is none for the words or tables,
-    the status is STOPPED, as the program's.
+    the status is 3, as the program's.
     """
     joined, given = _joined(words), bytes_of(data, "the input")
     if room is None:

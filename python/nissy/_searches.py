@@ -28,116 +28,19 @@ _LEAST, _SOLUTIONS, _NODES = 2, 2, 3
 _Numbers = Tuple[int, int, int, int]
 
 
-class Tables:
-    """The tables of a step, for searches of many lines.
+class _Search:
+    """Searches of a step, by its tables. These are built when they are first needed in a process, once for each step,
+    and stay until it ends. Any threads may ask at the same time."""
 
-    They are built when they are first needed in a process, once for each step, whoever asks, and stay in its
-    memory until it ends: 0.1 million bytes for an edge orientation, 1.2 million for a domino reduction, and as
-    much for each axis of a step that has several; some 15 million for all thirteen steps. So there is nothing to
-    close, and nothing can be given back: a cache that dropped some would build them again beside the old ones. Any
-    threads may ask at the same time.
-    """
-
-    __slots__ = ("_step", "_kept", "_tables")
+    __slots__ = ("step", "_kept", "_tables")
 
     def __init__(self, step: Step) -> None:
         place = place_of(step)
         self._kept = place.built()
         self._tables = ctypes.addressof(self._kept)
-        self._step: Step = place.step
+        self.step: Step = place.step
 
-    @property
-    def step(self) -> Step:
-        """The step's name."""
-        return self._step
-
-    def __repr__(self) -> str:
-        return f"Tables({self.step!r})"
-
-    def __reduce__(self) -> Tuple[Any, ...]:
-        """What a copy is made of: tables stay in their process, and another one builds its own."""
-        return type(self), (self.step,)
-
-    def solve(self, line: Text, limit: int = 20, slack: int = 0, most: Optional[int] = None,
-              nodes: Optional[int] = None, partial: bool = False, *, sides: Optional[Sides] = None) -> Solutions:
-        """The solutions of a line, as the function `solve` returns them."""
-        numbers, data = _numbers(limit, slack, most, nodes), bytes_of(line, "the line")
-        return self._solve(numbers, partial, data) if sides is None else self._on(sides, numbers, partial, data)
-
-    def solutions(self, line: Text, limit: int = 20, slack: int = 0) -> Iterator[Solution]:
-        """The solutions of a line one after another, as the function `solutions` returns them."""
-        data = bytes_of(line, "the line")
-        most_turns, longer = number_of(limit, "the limit", MOST_TURNS), number_of(slack, "the slack", MOST_TURNS)
-        pieces = self._pieces(most_turns, longer, data)
-        # the first piece tells what is wrong with the line
-        return chain.from_iterable(chain((next(pieces),), pieces))
-
-    def count(self, line: Text, limit: int = 20, slack: int = 0, most: Optional[int] = None,
-              nodes: Optional[int] = None, partial: bool = False) -> Count:
-        """How many solutions a line has, as the function `count` returns it."""
-        numbers, data = _numbers(limit, slack, most, nodes), bytes_of(line, "the line")
-        answer = _library.nissy_count(self._tables, data, len(data), *numbers)
-        status, found = answer.status, answer.solutions
-        if status and status != CUT:
-            raise self._fault(status, answer.fault, answer.column, data)
-        count = Count(answer.least if found else None, found, answer.nodes, status == CUT)
-        if status and not partial:
-            raise Cut(count)
-        return count
-
-    @overload
-    def solve_all(self, lines: Iterable[Text], limit: int = 20, slack: int = 0, most: Optional[int] = None,
-                  nodes: Optional[int] = None, *, partial: Partial, threads: int = 1,
-                  progress: Optional[Progress] = None) -> Iterator[Union[Solutions, Fault]]: ...
-
-    @overload
-    def solve_all(self, lines: Iterable[Text], limit: int = 20, slack: int = 0, most: Optional[int] = None,
-                  nodes: Optional[int] = None, partial: bool = False, threads: int = 1,
-                  progress: Optional[Progress] = None) -> Iterator[Union[Solutions, Fault, Cut]]: ...
-
-    def solve_all(self, lines: Iterable[Text], limit: int = 20, slack: int = 0, most: Optional[int] = None,
-                  nodes: Optional[int] = None, partial: bool = False, threads: int = 1,
-                  progress: Optional[Progress] = None) -> Iterator[Union[Solutions, Fault, Cut]]:
-        """The solutions of each line, as the function `solve_all` returns them."""
-        numbers = _numbers(limit, slack, most, nodes)
-
-        def ask(number: int, data: bytes) -> Union[Solutions, Fault, Cut]:
-            try:
-                return self._solve(numbers, partial, data)
-            except (Fault, Cut) as fault:
-                fault.line = number
-                return fault.with_traceback(None)
-
-        return one_by_one(lines, ask, threads, progress)
-
-    @overload
-    def count_all(self, lines: Iterable[Text], limit: int = 20, slack: int = 0, most: Optional[int] = None,
-                  nodes: Optional[int] = None, *, partial: Partial, threads: int = 1,
-                  progress: Optional[Progress] = None) -> Iterator[Union[Count, Fault]]: ...
-
-    @overload
-    def count_all(self, lines: Iterable[Text], limit: int = 20, slack: int = 0, most: Optional[int] = None,
-                  nodes: Optional[int] = None, partial: bool = False, threads: int = 1,
-                  progress: Optional[Progress] = None) -> Iterator[Union[Count, Fault, Cut]]: ...
-
-    def count_all(self, lines: Iterable[Text], limit: int = 20, slack: int = 0, most: Optional[int] = None,
-                  nodes: Optional[int] = None, partial: bool = False, threads: int = 1,
-                  progress: Optional[Progress] = None) -> Iterator[Union[Count, Fault, Cut]]:
-        """How many solutions each line has, as the function `count_all` returns it."""
-        numbers = _numbers(limit, slack, most, nodes)
-
-        def ask(piece: Piece) -> bytes:
-            room, size = _rooms.take(), SEARCH_ANSWER.size * len(piece.lines)
-            _library.nissy_count_lines(
-                self._tables, piece.text, len(piece.text), *numbers, room.address, len(piece.lines))
-            told = room.memory[:size]
-            _rooms.put_back(room)
-            return told
-
-        return in_pieces(lines, Asking(ask, lambda piece, told: self._counts(partial, piece, told)), threads, progress)
-
-    def _solve(self, numbers: _Numbers, partial: bool, data: bytes) -> Solutions:
-        """Returns the solutions of a line, by numbers that were checked."""
+    def solve(self, numbers: _Numbers, partial: bool, data: bytes) -> Solutions:
         room = _rooms.take()
         answer = _library.nissy_solve(self._tables, data, len(data), *numbers, room.address, room.size)
         out = room.memory[:answer.length]
@@ -158,8 +61,7 @@ class Tables:
                 raise Cut(Count(answer.least if found else None, len(found), found.nodes, True), found)
         return found
 
-    def _on(self, sides: Sides, numbers: _Numbers, partial: bool, data: bytes) -> Solutions:
-        """Returns the solutions of a line on some sides."""
+    def solve_on(self, sides: Sides, numbers: _Numbers, partial: bool, data: bytes) -> Solutions:
         found, answer = solve_sides(self._tables, sides_of(sides), numbers, data)
         if answer.status not in (DONE, CUT):
             raise self._fault(answer.status, answer.fault, answer.column, data)
@@ -167,7 +69,7 @@ class Tables:
             raise Cut(Count(found[0].length if found else None, len(found), found.nodes, True), found)
         return found
 
-    def _pieces(self, limit: int, slack: int, data: bytes) -> Iterator[Solutions]:
+    def pieces(self, limit: int, slack: int, data: bytes) -> Iterator[Solutions]:
         """Yields the solutions of a line in pieces, each of those after the last one of the piece before."""
         nodes, last = _NODES_OF_PIECE, None
         while True:
@@ -197,7 +99,25 @@ class Tables:
         found.more = bool(answer.more)
         return found
 
-    def _counts(self, partial: bool, piece: Piece, told: bytes) -> Iterable[Union[Count, Fault, Cut]]:
+    def count(self, numbers: _Numbers, partial: bool, data: bytes) -> Count:
+        answer = _library.nissy_count(self._tables, data, len(data), *numbers)
+        status, found = answer.status, answer.solutions
+        if status and status != CUT:
+            raise self._fault(status, answer.fault, answer.column, data)
+        count = Count(answer.least if found else None, found, answer.nodes, status == CUT)
+        if status and not partial:
+            raise Cut(count)
+        return count
+
+    def told_of(self, numbers: _Numbers, piece: Piece) -> bytes:
+        """Returns what the library says of each line of a piece."""
+        room, size = _rooms.take(), SEARCH_ANSWER.size * len(piece.lines)
+        _library.nissy_count_lines(self._tables, piece.text, len(piece.text), *numbers, room.address, len(piece.lines))
+        told = room.memory[:size]
+        _rooms.put_back(room)
+        return told
+
+    def counts(self, partial: bool, piece: Piece, told: bytes) -> Iterable[Union[Count, Fault, Cut]]:
         """Returns the counts of a piece's lines, or why there are none."""
         # the tuple's own way to make one takes half the time
         size, new = SEARCH_ANSWER.size, tuple.__new__
@@ -253,23 +173,23 @@ def _numbers(limit: int, slack: int, most: Optional[int], nodes: Optional[int]) 
             MOST_WORD if nodes is None else number_of(nodes, "nodes", MOST_WORD))
 
 
-_last: Dict[str, Tables] = {}
+_last: Dict[str, _Search] = {}
 
 
-def _tables(step: Step) -> Tables:
-    """Returns the tables of a step, those of the last call if there was one."""
+def _search(step: Step) -> _Search:
+    """Returns the searches of a step, those of the last call if there was one."""
     try:
         return _last[step]
     except (KeyError, TypeError):
-        tables = Tables(step)
-        return _last.setdefault(tables.step, tables)
+        search = _Search(step)
+        return _last.setdefault(search.step, search)
 
 
 def solve(step: Step, line: Text, limit: int = 20, slack: int = 0, most: Optional[int] = None,
           nodes: Optional[int] = None, partial: bool = False, *, sides: Optional[Sides] = None) -> Solutions:
     """The solutions of a line: those that have at most `limit` turns and at most `slack` more than the shortest, by
     length and then in turn order, as `nissy near` writes them (`nissy solve` with slack 0). With `most` no more
-    than that many of them, and the search ends there. With `nodes` the search looks at no more than that many
+    than that many of them, and the search ends at the next one. With `nodes` the search looks at no more than that many
     positions: if it would look at more, Cut is raised, or with `partial` what was found until then is returned.
 
     With `sides` "inverse" or "both" they are on the inverse of the line, or over both: those on the inverse stand in
@@ -277,28 +197,27 @@ def solve(step: Step, line: Text, limit: int = 20, slack: int = 0, most: Optiona
     turns don't reach the step, by length, then by how many turns are outside brackets, then in turn order.
     Raises LineFault, StartFault and Cut.
     """
-    return _tables(step).solve(line, limit, slack, most, nodes, partial, sides=sides)
-
-
-def near(step: Step, line: Text, limit: int, slack: int, most: Optional[int] = None, nodes: Optional[int] = None,
-         partial: bool = False) -> Solutions:
-    """The solutions of a line up to `slack` turns longer than the shortest: `solve` by another
-    name, which is the program's."""
-    return _tables(step).solve(line, limit, slack, most, nodes, partial)
+    search, numbers, data = _search(step), _numbers(limit, slack, most, nodes), bytes_of(line, "the line")
+    return search.solve(numbers, partial, data) if sides is None else search.solve_on(sides, numbers, partial, data)
 
 
 def solutions(step: Step, line: Text, *, limit: int = 20, slack: int = 0) -> Iterator[Solution]:
     """The solutions of a line one after another, those of `solve` in the same order. The library is asked for them in
     pieces, so millions of them take no memory, and Ctrl-C is heard. Raises LineFault and StartFault as it is called."""
-    return _tables(step).solutions(line, limit, slack)
+    search, data = _search(step), bytes_of(line, "the line")
+    most_turns, longer = number_of(limit, "the limit", MOST_TURNS), number_of(slack, "the slack", MOST_TURNS)
+    pieces = search.pieces(most_turns, longer, data)
+    # the first piece tells what is wrong with the line
+    return chain.from_iterable(chain((next(pieces),), pieces))
 
 
 def count(step: Step, line: Text, limit: int = 20, slack: int = 0, most: Optional[int] = None,
           nodes: Optional[int] = None, partial: bool = False) -> Count:
     """How many solutions `solve` returns of a line, of which length the shortest are, and how many positions the search
-    looks at. With `most=1` it ends at the first one, and so finds the length soonest. Takes `nodes` and `partial` as
-    `solve` does. Raises LineFault, StartFault and Cut."""
-    return _tables(step).count(line, limit, slack, most, nodes, partial)
+    looks at. With `most=1` it ends at the second one, and so finds the length soonest. Takes `nodes` and `partial`
+    as `solve` does. Raises LineFault, StartFault and Cut."""
+    search = _search(step)
+    return search.count(_numbers(limit, slack, most, nodes), partial, bytes_of(line, "the line"))
 
 
 @overload
@@ -320,7 +239,16 @@ def solve_all(step: Step, lines: Iterable[Text], limit: int = 20, slack: int = 0
     with the line's number, from 1, as `line` (`raising` raises it). A line is taken from the iterable when its answer
     is asked for. With `threads` that many lines are asked side by side, and more are taken ahead; the answers come in
     the same order. `progress` is called as by `count_all`."""
-    return _tables(step).solve_all(lines, limit, slack, most, nodes, partial, threads, progress)
+    search, numbers = _search(step), _numbers(limit, slack, most, nodes)
+
+    def ask(number: int, data: bytes) -> Union[Solutions, Fault, Cut]:
+        try:
+            return search.solve(numbers, partial, data)
+        except (Fault, Cut) as fault:
+            fault.line = number
+            return fault.with_traceback(None)
+
+    return one_by_one(lines, ask, threads, progress)
 
 
 @overload
@@ -344,4 +272,9 @@ def count_all(step: Step, lines: Iterable[Text], limit: int = 20, slack: int = 0
     `threads` that many pieces are counted side by side; the answers come in the same order. `progress` is called
     between pieces, in the thread that takes the answers, with how many lines are done, and of how many, None until that
     is known; what it raises ends the call."""
-    return _tables(step).count_all(lines, limit, slack, most, nodes, partial, threads, progress)
+    search, numbers = _search(step), _numbers(limit, slack, most, nodes)
+
+    def counts(piece: Piece, told: bytes) -> Iterable[Union[Count, Fault, Cut]]:
+        return search.counts(partial, piece, told)
+
+    return in_pieces(lines, Asking(lambda piece: search.told_of(numbers, piece), counts), threads, progress)

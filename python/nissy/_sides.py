@@ -22,7 +22,6 @@ _NUMBERS: Dict[str, int] = {"normal": 1, "inverse": 2, "both": 3}
 
 
 def sides_of(sides: Sides) -> int:
-    """Returns the library's number for some sides."""
     if sides not in _NUMBERS:
         raise ValueError(f"the sides are one of {', '.join(_NUMBERS)}")
     return _NUMBERS[sides]

@@ -58,7 +58,6 @@ def stickers_of(places: Iterable[str], letters: Optional[str] = None) -> List[in
 
 
 def _stickers_at(place: str, centres: str) -> Tuple[int, ...]:
-    """Returns the stickers of a place."""
     if place not in _STICKERS:
         raise ValueError(f"no place is called {place}")
     return _AROUND[_unturned(place, centres)]

@@ -1,6 +1,7 @@
 """The moves of a line one by one, for those who draw or count them, and those that the WCA's notation hasn't."""
 import re
 import sys
+from functools import lru_cache
 from typing import Dict, List, NamedTuple, Tuple
 
 from ._given import Text, bytes_of
@@ -72,8 +73,8 @@ def tokens(line: Text) -> List[Token]:
     return found
 
 
+@lru_cache(maxsize=None)
 def _forms_of(item: str) -> Tuple[str, ...]:
-    """Returns the forms of a move or a bracket."""
     has = {"slices": item[0] in "MES", "lower_case": item[0] in "udrlfb", "brackets": item in "()",
            "apostrophe": item[-1] == "\u2019", "half_prime": item[-2:] in ("2'", "2\u2019")}
     return tuple(form for form, there in has.items() if there)
@@ -84,8 +85,12 @@ def form_places(line: Text) -> List[FormPlace]:
     of `check`. Raises LineFault."""
     data = bytes_of(line, "the line")
     unniss(data)
+    return places_of(data.decode())
+
+
+def places_of(text: str) -> List[FormPlace]:
+    """Returns the same of a line that the library has read."""
     found, item_end, column = [], 0, 1
-    text = data.decode()
     for it in _ITEM.finditer(text):
         # what was counted before isn't counted again
         column += len(text[item_end:it.start()].encode())

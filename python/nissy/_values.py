@@ -87,6 +87,15 @@ class Fault(ValueError):
         """What it has, by the same names, as json.dumps takes it."""
         return {"text": self.text, "line": self.line, "part": self.part}
 
+    def __eq__(self, other: object) -> bool:
+        return type(other) is type(self) and isinstance(other, Fault) and self.as_dict() == other.as_dict()
+
+    def __hash__(self) -> int:
+        return hash((type(self), self.text))
+
+    def __repr__(self) -> str:
+        return f"{type(self).__name__}({str(self)!r})"
+
     def __reduce__(self) -> Tuple[Any, ...]:
         """What a copy is made of, as for another process: an exception is made again of its message, if nothing else is
         said. With it go its attributes, among which are notes of others."""
@@ -106,11 +115,9 @@ class LineFault(Fault):
         return f"{self._of_line(', ')}column {self.column}: {self.text}"
 
     def as_dict(self) -> Dict[str, Any]:
-        """What it has, as of a Fault."""
         return {**super().as_dict(), "column": self.column, "character": self.character}
 
     def __reduce__(self) -> Tuple[Any, ...]:
-        """What a copy is made of, as of a Fault."""
         return type(self), (self.column, self.text, self.line, self.character), self.__dict__
 
 
@@ -124,11 +131,9 @@ class StartFault(Fault):
         self.start = start
 
     def as_dict(self) -> Dict[str, Any]:
-        """What it has, as of a Fault."""
         return {**super().as_dict(), "step": self.step, "start": self.start}
 
     def __reduce__(self) -> Tuple[Any, ...]:
-        """What a copy is made of, as of a Fault."""
         return type(self), (self.step, self.start, self.text, self.line), self.__dict__
 
 
@@ -149,8 +154,16 @@ class Cut(RuntimeError):
         """What it has, by the same names, as json.dumps takes it; the count by those of its own."""
         return {"count": self.count._asdict(), "solutions": list(map(str, self.solutions)), "line": self.line}
 
+    def __eq__(self, other: object) -> bool:
+        return isinstance(other, Cut) and self.as_dict() == other.as_dict()
+
+    def __hash__(self) -> int:
+        return hash(self.count)
+
+    def __repr__(self) -> str:
+        return f"{type(self).__name__}({str(self)!r})"
+
     def __reduce__(self) -> Tuple[Any, ...]:
-        """What a copy is made of, as of a Fault."""
         return type(self), (self.count, self.solutions, self.line), self.__dict__
 
 

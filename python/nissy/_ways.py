@@ -36,12 +36,10 @@ class Wanted(NamedTuple):
 
 @lru_cache(maxsize=None)
 def _tables() -> ctypes.Array[KeptTables]:
-    """Returns the tables of the steps, one after the other."""
     return (KeptTables * len(_STEPS))(*(place_of(step).built() for step in _STEPS))
 
 
 def _line(turns: Tuple[int, ...]) -> str:
-    """Returns turns as moves."""
     return " ".join(_TURNS[turn] for turn in turns)
 
 
@@ -103,7 +101,6 @@ class _Search:
         return min(self._most, self._room.size // WAY.size)
 
     def _rows(self) -> bytes:
-        """Returns the rows that are there."""
         return self._room.memory[:self._asked.there * WAY.size]
 
     def _answer(self) -> Any:

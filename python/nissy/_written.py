@@ -14,6 +14,8 @@ from ._values import Fault, LineFault
 # what the library leaves out, by its bits, and what each number of them says
 _NAMES = ("labels", "numbers of moves", "comments", "line numbers", "commas", "signs that aren't seen")
 _LEFT_OUT = [tuple(name for bit, name in enumerate(_NAMES) if number >> bit & 1) for number in range(1 << len(_NAMES))]
+_LABELS, _COMMENTS = 1, 4
+AROUND = _LABELS + _COMMENTS
 # the apostrophes for which the library writes U+2019, and of these those that have fewer bytes
 _APOSTROPHES = "\u2018\u02bc\u2032\u00b4`"
 _SHORTER = ((b"`", 2), (b"\xc2\xb4", 1), (b"\xca\xbc", 1))
@@ -62,6 +64,32 @@ def _is_utf8(data: bytes) -> bool:
     return True
 
 
+class WrittenLine(NamedTuple):
+    """A line that a call wrote of a text, in bytes, with the place in the text of each, and the library's number for
+    what is left out."""
+
+    line: bytes
+    places: Tuple[int, ...]
+    left_out: int
+
+
+def left_around(labels: bool, comments: bool) -> int:
+    """Returns the library's number for what stands around moves."""
+    return _LABELS * labels + _COMMENTS * comments
+
+
+def written_by(most: int, call: Callable[..., Any]) -> WrittenLine:
+    """Returns what a call writes into a room of this many bytes and places."""
+    size = (1 + _PLACE) * most
+    room = _rooms.take() if size <= _rooms.ORDINARY else _rooms.Room(size)
+    answer = call(room.address + _PLACE * most, most, room.address, most)
+    line = room.memory[_PLACE * most:_PLACE * most + answer.length]
+    places = struct.unpack(f"={answer.length}Q", room.memory[:_PLACE * answer.length])
+    if size <= _rooms.ORDINARY:
+        _rooms.put_back(room)
+    return WrittenLine(line, places, answer.left_out)
+
+
 class Written:
     """A text in characters and in bytes."""
 
@@ -79,7 +107,6 @@ class Written:
             self._characters = [*chain(*([at] * size for at, size in enumerate(sizes))), len(self.text)]
 
     def at(self, byte: int) -> int:
-        """Returns which character a byte is of."""
         return byte if self._characters is None else self._characters[byte]
 
     def place(self, at: int) -> TextPlace:
@@ -93,23 +120,20 @@ class Written:
         return TextPlace(at, line, max(at - self._lines[line - 1], 0) + 1)
 
     def part(self, begin: int, end: int) -> str:
-        """Returns the characters from one byte to another."""
         return self.text[self.at(begin):self.at(end)]
 
-    def plain(self, most: int, call: Callable[..., Any], before: int = 0) -> PlainLine:
-        """Returns what a call writes as a line into a room of this many bytes and places, which have this many
-        fewer bytes before them than in this text."""
-        size = (1 + _PLACE) * most
-        room = _rooms.take() if size <= _rooms.ORDINARY else _rooms.Room(size)
-        answer = call(room.address + _PLACE * most, most, room.address, most)
-        line = room.memory[_PLACE * most:_PLACE * most + answer.length]
-        places = struct.unpack(f"={answer.length}Q", room.memory[:_PLACE * answer.length])
-        if size <= _rooms.ORDINARY:
-            _rooms.put_back(room)
-        return self._plain(line, tuple(map(before.__add__, places)) if before else places, _LEFT_OUT[answer.left_out])
+    def cut(self, line: bytes, begin: int, left_out: int) -> PlainLine:
+        """Returns some bytes of this text, from this one on, which are a line as they stand."""
+        if not line.isascii():
+            return self.plain(WrittenLine(line, tuple(range(begin, begin + len(line))), left_out))
+        at = self.at(begin)
+        return PlainLine(line.decode("ascii"), tuple(range(at, at + len(line))), _LEFT_OUT[left_out])
 
-    def _plain(self, line: bytes, places: Tuple[int, ...], left_out: Tuple[str, ...]) -> PlainLine:
-        """Returns a line, with its places in bytes, in characters."""
+    def plain(self, written: WrittenLine, before: int = 0) -> PlainLine:
+        """Returns a line that was written of this text, or of a part that has this many bytes before it here."""
+        line, places, left_out = written.line, written.places, _LEFT_OUT[written.left_out]
+        if before:
+            places = tuple(map(before.__add__, places))
         if self._characters is None and line.isascii():
             return PlainLine(line.decode("ascii"), places, left_out)
         if self._is_text:
@@ -133,7 +157,7 @@ def plain_line(text: Text) -> PlainLine:
     data = whole.data
     # a sign is written as three bytes at most
     most = len(data) + sum(more * data.count(sign) for sign, more in _SHORTER)
-    return whole.plain(most, lambda *room: _library.nissy_plain(data, len(data), *room))
+    return whole.plain(written_by(most, lambda *room: _library.nissy_plain(data, len(data), *room)))
 
 
 @overload

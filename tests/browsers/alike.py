@@ -71,7 +71,7 @@ def shown(window: Window, page: str, address: str, act: str) -> dict[str, object
         window.open(page + address)
         window.script(REFUSED)
         # so that none of them is further than another
-        window.script("document.getElementById('best-further').checked = false")
+        window.script("document.getElementById('best-further').value = 'none'")
     if not window.until(DONE):
         raise TimeoutError(f"no answer at {address}")
     if act != "":

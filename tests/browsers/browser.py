@@ -10,6 +10,8 @@ from tally import Tally
 
 # longer continuations are looked for by themselves only while the page is seen: for most of what is tried it isn't, so that rows stay
 UNSEEN = 'Object.defineProperty(Document.prototype, "hidden", { configurable: true, get: () => !window.isSeen });'
+# by itself it looks for them on a machine with some processors
+PROCESSORS = "Object.defineProperty(Navigator.prototype, 'hardwareConcurrency', { configurable: true, get: () => %d });"
 IDLE = """
     return document.querySelector("#results[aria-busy=false]") !== null
         && document.querySelector("[aria-busy=true]:not([hidden], #best, #best-body)") === null"""
@@ -68,7 +70,7 @@ class Browser(Tab):
         self.page, self.program, self.page_without_engine = page, "", ""
         self.resize()
         self.media(prefers_color_scheme="light")
-        self.before_page(UNSEEN)
+        self.before_page(UNSEEN + PROCESSORS % 4)
 
     def resize(self, width: int = 1280, height: int = 1000, mobile: bool = False) -> None:
         """Makes the window so large."""

@@ -15,12 +15,11 @@ def of_the_best(tally: Tally, browser: Browser) -> None:
     browser.open(address_of(LONGER))
     browser.wait_best()
     first = browser.texts("#best-body tr")
-    every = browser.script(
-        "return ['best-corners', 'best-edges', 'most-corners'].map((name) => document.getElementById(name).options[0].text)")
-    tally.equal("what leaves any case is called so", every, ["any"] * 3)
+    every = browser.script("return ['best-axis', 'best-side', 'last-turn'].map((name) => document.getElementById(name).options[0].text)")
+    tally.equal("what leaves any is called so", every, ["any"] * 3)
     tally.equal("without a filter nothing is said", browser.script(SIGNS, "best"), ["", "", ""])
     browser.choose("best-axis", "EO F/B")
-    browser.choose("best-corners", "4")
+    browser.choose("best-total", "10")
     left = browser.texts("#best-body tr")
     tally.equal("two are on", browser.script(SIGNS, "best"), ["2 on", CLEAR, ""])
     tally.holds("and leave less", left != first)
@@ -28,16 +27,16 @@ def of_the_best(tally: Tally, browser: Browser) -> None:
     browser.wait_best()
     tally.holds("they are folded", not browser.script("return document.getElementById('best-options').open"))
     tally.equal("for the next scramble too", browser.script(SIGNS, "best")[:2], ["2 on", CLEAR])
-    browser.choose("best-corners", "0")
-    browser.choose("best-edges", "0")
+    browser.choose("best-total", "7")
+    browser.choose("best-side", "normal")
     tally.equal("nothing is left", browser.texts("#best-body tr"), [])
     tally.equal("which is said", browser.script(SIGNS, "best"), ["3 on", CLEAR, "No row is left by the filters below."])
     browser.click("#best-clear")
     tally.equal("they are cleared", browser.script(SIGNS, "best"), ["", "", ""])
     tally.holds("and all are there", browser.texts("#best-body tr"))
     tally.equal("the focus is at the fold", browser.script("return document.activeElement.closest('#best-options') !== null"), True)
-    values = "return [...document.querySelectorAll('#best-filters select:not(#best-sort)')].map((each) => each.value)"
-    tally.equal("no field is set", browser.script(values), [""] * 6)
+    values = "return [...document.querySelectorAll('#best-filters select, #best-cases')].map((each) => each.value)"
+    tally.equal("no field is set", browser.script(values), [""] * 5)
 
 
 def of_many(tally: Tally, browser: Browser) -> None:
@@ -70,7 +69,7 @@ def of_a_list(tally: Tally, browser: Browser) -> None:
     tally.equal("nothing is left", (browser.listed(), browser.script(SIGNS, "list")), ([], said))
     browser.click("#list-clear")
     tally.equal("they are cleared", (len(browser.listed()), browser.script(SIGNS, "list")), (count, ["", "", ""]))
-    browser.choose("most-corners", "4")
+    browser.click("#list-cases-chips button")
     tally.equal("a case", browser.script(SIGNS, "list")[0], "1 on")
     browser.act('[data-cell="eofb.normal"]')
     tally.equal("another list has none", browser.script(SIGNS, "list"), ["", "", ""])

@@ -20,6 +20,10 @@ LISTEN = """
 QUIET = 1.5
 SAID = "return said.splice(0)"
 FOCUS = "part(arguments[0]).focus();"
+# sign by sign, however slow the machine is
+TYPE = """const [typed] = arguments;
+    [...typed].forEach((sign, at) => setTimeout(() => { document.execCommand("insertText", false, sign) }, 100 * at))
+    return new Promise((done) => setTimeout(done, 100 * typed.length))"""
 SLACK = FOCUS + "const it = part('slack'); it.value = arguments[1]; it.dispatchEvent(new Event('change'));"
 
 
@@ -83,7 +87,7 @@ def says(tally: Tally, browser: Browser) -> None:
     browser.script(FOCUS, "filter")
     shortest = next(cell for cell in Position(SCRAMBLE).cells() if cell.endswith(", shortest")).removesuffix(", shortest")
     for typed in ("u r", "x"):
-        browser.press(typed)
+        browser.script(TYPE, typed)
         time.sleep(QUIET)
         tally.equal(f"what is said of {typed!r}", browser.script(SAID), [browser.text("solutions-note")])
     browser.go()

@@ -5,7 +5,8 @@ import time
 
 from at_once import LISTEN
 from best import ROWS, SCRAMBLE, address_of
-from browser import Browser
+from browser import PROCESSORS, Browser
+from searches import FLIPPED
 from tally import Tally
 
 SEEN = "window.isSeen = true;"
@@ -22,12 +23,20 @@ const said = (text, button) => {
   [note.textContent, found.textContent, found.hidden] = [text, button, button === ""];
   return Math.round(rows.getBoundingClientRect().top);
 };
-const tried = "Up to 2 longer: the best 200 of 1,244,538 rows.";
-return [said("", ""), said(tried, ""), said(tried, "120 new rows: 10 moves"), said(`Stopped. ${tried}`, "120 new rows: 10 moves")];
+const tried = "Up to 2 longer: the best 200 of 1,244,538 rows.", held = "The best 200 of 307,200 rows. Up to 2 longer: about 11,000,000 EOs, 2 min.";
+return [said("", ""), said(tried, ""), said(tried, "120 new rows: 10 moves"), said(`Stopped. ${tried}`, "120 new rows: 10 moves"),
+  said(held, ""), said(held, "120 new rows: 10 moves")];
 """
 WIDTHS = (1920, 1440, 1180, 1024, 960, 900, 768, 640, 601, 600, 430, 390, 360, 320)
 # longer than the page waits before it goes on
 LONGER_THAN_REST = 2
+# it waits until it is asked for, and what was asked of the best
+FORGET = "try { localStorage.removeItem('nissy-further') } catch {}"
+HELD_IS = "part('best-stop').textContent === 'Go on' && !part('best-stop').disabled"
+HELD = f"return {HELD_IS}"
+ASKED = "return window.asked.filter((each) => each === 'best').length"
+# how many EOs have at most one move more than the shortest of their axis, over both sides or on one: told by all turns on both sides
+ORIENTATIONS = {"R U F": 68, "F R U F": 112}
 # longer EOs lead to a better one
 WORSE = "F' B2 U2 L2 D' B R' D' F2 R' U2 L2 F' U' B L2 U' F U B2 D F' U' R2 U"
 
@@ -118,14 +127,53 @@ def pauses(tally: Tally, browser: Browser) -> None:
     count = browser.script(asked)
     time.sleep(LONGER_THAN_REST)
     tally.equal("and ends it", (browser.script(asked), browser.script(ENDED)), (count, True))
+    browser.script(TURN, False)
+    tally.equal("what it said stays once the page is left", browser.text("best-note"), note)
     browser.no_longer(script)
     browser.open(address_of(SCRAMBLE))
-    browser.script("document.getElementById('best-further').click()")
-    browser.wait_best()
+
+
+def is_measured(tally: Tally, browser: Browser) -> None:
+    """
+    A phone, and whoever has few processors, waits until it is asked for longer ones, with how many there are, as the model counts them, and about how
+    long they take; then it goes on.
+    """
+    script = browser.before_page(LISTEN + SEEN)
+    for of_what, prepared in (("few processors", browser.before_page(PROCESSORS % 2)), ("a phone", "")):
+        browser.script(FORGET)
+        browser.command("Emulation.setTouchEmulationEnabled", enabled=not prepared)
+        for scramble, count in ORIENTATIONS.items():
+            begins(browser, scramble)
+            tally.holds(f"{of_what}: it waits", browser.until(HELD))
+            note, longer = browser.text("best-note"), f"Up to 1 longer: {count} EOs, about 1 s."
+            tally.holds(f"{of_what}: it says how many there are: {note}", note.endswith(f" rows. {longer}"))
+            tally.equal(f"{of_what}: and has asked nothing more", (browser.value("best-further"), browser.script(ASKED)), ("none", 3))
+        browser.click("#best-stop")
+        tally.holds(f"{of_what}: asked, it goes on, and waits with the next ones", browser.until(f"return {NOTE}.includes('Up to 2 longer: ') && {HELD_IS}"))
+        tally.equal(f"{of_what}: once more of each axis", browser.script(ASKED), 6)
+        if prepared:
+            browser.no_longer(prepared)
+    browser.command("Emulation.setTouchEmulationEnabled", enabled=False)
+    browser.script(FORGET)
+    browser.no_longer(script)
+
+
+def is_chosen(tally: Tally, browser: Browser) -> None:
+    """By itself it goes up to ten seconds of one processor, and waits with more, unless it is to go on always, or never: what is chosen stays chosen."""
+    script = browser.before_page(LISTEN + SEEN)
+    begins(browser, FLIPPED)
+    tally.holds("many are waited with", browser.until(HELD))
     note = browser.text("best-note")
-    browser.script(TURN, True)
-    time.sleep(LONGER_THAN_REST)
-    tally.equal("it doesn't begin where it is switched off", (browser.text("best-note"), browser.script(ENDED)), (note, True))
+    tally.holds(f"which it says: {note}", re.search(r" Up to 2 longer: about [0-9,]{9,} EOs, [0-9]+ (s|min)\.$", note))
+    tally.equal("though it may go on by itself", browser.value("best-further"), "some")
+    browser.choose("best-further", "all")
+    tally.holds("it goes on if that is chosen", browser.until("return part('best-stop').textContent === 'Stop' && !part('best-stop').disabled"))
+    browser.choose("best-further", "none")
+    browser.reopen(address_of(WORSE))
+    browser.wait_best()
+    tally.holds("what is chosen stays chosen", browser.until(HELD) and browser.value("best-further") == "none")
+    browser.script(FORGET)
+    browser.no_longer(script)
 
 
 def three_moves(tally: Tally, browser: Browser) -> None:

@@ -1,5 +1,6 @@
 """How the page looks and what it is called: contrast in light and dark, names, themes, print, help."""
 import re
+from collections import Counter
 
 from browser import Browser, Keys
 from tally import Tally
@@ -52,7 +53,9 @@ def is_named(tally: Tally, browser: Browser, what: str) -> None:
     tally.holds(f"{what}: there are controls", len(controls) > 30)
     tally.equal(f"{what}: controls without a name", [role for role, name in controls if not name.strip()], [])
     tally.equal(f"{what}: buttons of one word", [name for _, name in controls if name in ("Use", "Add", "Copy", "?")], [])
-    texts = [name for role, name in nodes if role == "StaticText"]
+    texts = Counter(name for role, name in nodes if role == "StaticText")
+    # a move that stands between two cases is a letter too
+    texts -= Counter(browser.script("return [...document.querySelectorAll('.passed')].map((it) => it.textContent)"))
     tally.equal(f"{what}: letters of stickers beside the label of their net, and what only explains a colour",
         [text for text in texts if text in ("shortest", *"URFDLB")], [])
     pressed = [name for role, name in controls if role == "button"]

@@ -98,7 +98,9 @@ def has_rows(tally: Tally, browser: Browser) -> None:
         browser.open(SCRAMBLE + after)
         browser.choose("best-slack", "2")
         browser.wait_best()
-        browser.choose("best-sort", "case")
+        browser.script("part('best-options').open = true")
+        browser.wait_best()
+        browser.script("part('best-options').open = false")
         for _ in range(3):
             browser.script("part('best-more').click()")
         browser.wait_best()

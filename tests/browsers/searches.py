@@ -31,15 +31,13 @@ def cases(tally: Tally, browser: Browser) -> None:
         [each.querySelector('.take').dataset.key, [...each.querySelectorAll('.case')].map((one) => one.textContent)])"""))
     two = [["U/D 4c4e", "R/L 4c6e"], ["U/D 4c2e", "R/L 6c6e"]]
     tally.equal("the cases of two", [listed.get("R2 L D' F"), listed.get("R2 D' L F")], two)
-    browser.choose("most-corners", "4")
-    browser.choose("most-edges", "2")
-    few = [moves for moves, names in listed.items() if any(int(name[4]) <= 4 and int(name[6]) <= 2 for name in names)]
-    tally.equal("at most four corners and two edges", browser.listed(), few)
-    tally.holds("which leaves some, and not all", 0 < len(few) < len(listed))
-    for name, value in (("most-corners", ""), ("most-edges", ""), ("list-sort", "case")):
-        browser.choose(name, value)
-    far = [min(int(name[4]) + int(name[6]) for name in listed[moves]) for moves in browser.listed()]
-    tally.equal("sorted by case", far, sorted(far))
+    pressed: list[str] = []
+    for case in ("4c2e", "4c4e"):
+        pressed.append(case)
+        browser.click(f"#list-cases-chips [data-case='{case}']")
+        few = [moves for moves, names in listed.items() if any(name.split()[1] in pressed for name in names)]
+        tally.equal(f"those with {pressed} on an axis", browser.listed(), few)
+        tally.holds("are some, and one alone leaves not all", few and (len(few) < len(listed) or len(pressed) > 1))
     browser.walk(tally, "a step", ("submit", "own", "R2 D' L F", {}), ("comes", "steps", 1, {}))
     tally.equal("the cases of the steps that follow", browser.script(heads)[:2], ["DR U/D 4c2e", "DR R/L 6c6e"])
 

@@ -151,10 +151,15 @@ def says_in_all(tally: Tally, browser: Browser) -> None:
     scramble, made = "R' U' F U' R2 F D2 L R D2 U B U' B' L B U' L' F' R2 B F L R' U' F", "R2 B U' R F"
     at = Position(scramble, made)
     address = f"#scramble={scramble}&steps=normal.{made}&list=drrl-eofb.normal.0".replace(" ", "_").replace("'", "-")
-    browser.walk(tally, "in all", ("go", address, {"cells": at.cells(), "listed": at.rows("drrl-eofb", "normal")}))
+    browser.walk(tally, "in all", ("go", address, {"cells": at.cells()}))
+    listed = browser.listed()
+    tally.equal("each row is there", sorted(listed), sorted(at.rows("drrl-eofb", "normal")))
+    counted = [at.in_all("normal", moves) for moves in listed]
+    tally.equal("those with the fewest in all first", counted, sorted(counted))
     totals = at.totals("drrl-eofb", "normal")
     counts = [(total, totals.count(total)) for total in sorted(set(totals))]
     tally.holds(f"they have several: {counts}", len(counts) > 1)
     heads = [head.split(":")[0] for head in browser.texts("#solutions-groups h3")]
     length = at.count("drrl-eofb", "normal")[0]
-    tally.equal("by all moves", heads, [f"{length} moves, {total} in all" for total, _ in counts])
+    tally.equal("by all moves", list(dict.fromkeys(head.split(", trigger")[0] for head in heads)),
+        [f"{length} moves, {total} in all" for total, _ in counts])

@@ -6,6 +6,7 @@ from pathlib import Path
 
 sys.path.insert(0, str(Path(__file__).resolve().parent.parent / "model"))
 
+import bad_pieces  # noqa: E402
 import model  # noqa: E402
 
 SIDES = ("normal", "inverse")
@@ -112,6 +113,11 @@ class Position:
     def letters(self, side: str) -> str:
         """The 54 letters of the cube on a side."""
         return answer("print", self.lines[side])
+
+    def case(self, axis: str) -> str:
+        """The case of a reduction on an axis."""
+        pieces = bad_pieces.seen(self.lines["normal"].encode()).axes[axis]
+        return f"{len(pieces.bad_corners)}c{len(pieces.misplaced_edges)}e"
 
     def may_start(self, step: str) -> bool:
         """Whether a step may start: an orientation does, and a reduction after its own."""

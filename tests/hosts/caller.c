@@ -159,25 +159,12 @@ static void say_check(text of, lines those) {
     let_go(it.scramble), let_go(it.solution);
 }
 
-/* The place of the part of the steps that alone solves, if there is one. */
+/* The place of the part of the steps that solves, if there is one. */
 static void say_part(text of, lines those, const written *scramble) {
-    enum { MOST = 8 };
-    uint64_t begins[MOST];
-    size_t count = 0, length = 0;
-    uint8_t *const steps = memory(3 * of.length + 2 * MOST);
-    for (size_t at = 0; at < those.count && count < MOST; at++) {
-        const written step = moves_of(of, (lines){those.first + at, 1}, NISSY_OF_STEPS);
-        if (step.length) {
-            begins[count++] = step.places[0];
-            memcpy(steps + length, step.bytes, step.length);
-            length += step.length;
-            steps[length++] = '\n';
-        }
-        let_go(step);
-    }
-    const nissy_part_answer part = nissy_solving_part(scramble->bytes, scramble->length, steps, length);
-    if (part.how) say_text("a part"), say_place(of, begins[part.first]);
-    free(steps);
+    const written steps = moves_of(of, those, NISSY_OF_EACH_STEP);
+    const nissy_part_answer part = nissy_solving_part(scramble->bytes, scramble->length, steps.bytes, steps.length);
+    if (part.how) say_text("a part"), say_place(of, steps.places[part.begin]);
+    let_go(steps);
 }
 
 static void say_doubt(text of, lines those) {
@@ -224,6 +211,13 @@ static void say_plain(text of) {
     free(characters), let_go(it);
 }
 
+/* The beginning of what hosts.py has of `text`. */
+static void say_all(text of) {
+    say_plain(of), say("\x1e", 1);
+    say_each(of, say_check), say("\x1e", 1);
+    say_each(of, say_doubt), say("\x1e", 1);
+}
+
 /* Puts the bytes of hexadecimal digits in their place, and returns how many there are. */
 static size_t bytes_in(uint8_t *digits, size_t length) {
     for (size_t at = 0; at < length; at++) digits[at] = (uint8_t)(digits[at] <= '9' ? digits[at] - '0' : digits[at] - 'a' + 10);
@@ -239,9 +233,13 @@ int main(void) {
         const text of = {digits, bytes_in(digits, (size_t)length - (size_t)(digits - (uint8_t *)line) - 1)};
         said_length = 0;
         if (line[0] == 'p') say_plain(of);
+        else if (line[0] == 't') say_all(of);
         else say_each(of, line[0] == 'c' ? say_check : say_doubt);
         putchar('=');
-        for (size_t at = 0; at < said_length; at++) printf("%02x", (unsigned)(uint8_t)said[at]);
+        for (size_t at = 0; at < said_length; at++) {
+            const uint8_t byte = (uint8_t)said[at];
+            putchar("0123456789abcdef"[byte / 16]), putchar("0123456789abcdef"[byte % 16]);
+        }
         putchar('\n');
         fflush(stdout);
     }

@@ -23,7 +23,8 @@ std::string to_hex(std::string_view text) {
 class exact {
 public:
     explicit exact(const std::string &hex) : size_(hex.size() / 2), bytes_(size_ ? new char[size_] : nullptr) {
-        for (std::size_t at = 0; at < size_; at++) bytes_[at] = static_cast<char>(std::stoi(hex.substr(1 + 2 * at, 2), nullptr, 16));
+        const auto digit = [&hex](std::size_t at) { return hex[at] <= '9' ? hex[at] - '0' : hex[at] - 'a' + 10; };
+        for (std::size_t at = 0; at < size_; at++) bytes_[at] = static_cast<char>(16 * digit(1 + 2 * at) + digit(2 + 2 * at));
     }
     std::string_view view() const { return {bytes_.get(), size_}; }
 
@@ -80,8 +81,8 @@ std::string seen(std::string_view line) {
         if (count(it.misplaced_edge_places) != it.misplaced_edges) return "another number";
         const std::string wanted = std::to_string(it.bad_corners) + "c" + std::to_string(it.misplaced_edges) + "e";
         if (it.dr_case() != wanted) return "another case";
-        axes += " " + joined(nissy::edge_names(it.bad_edge_places)) + "/";
-        axes += joined(nissy::corner_names(it.bad_corner_places)) + "/" + joined(nissy::edge_names(it.misplaced_edge_places));
+        axes += " " + joined(nissy::place_names(it.bad_edge_places)) + "/";
+        axes += joined(nissy::place_names(it.bad_corner_places)) + "/" + joined(nissy::place_names(it.misplaced_edge_places));
     }
     return std::to_string(facts.solved) + " " + std::to_string(facts.moves) + " " + std::to_string(facts.clean_moves) + " " +
            joined(facts.holds()) + axes;
@@ -128,7 +129,7 @@ std::string plain_of(std::string_view text) {
         const bool goes_on = (static_cast<unsigned char>(it.line[at]) & 0xc0) == 0x80;
         if (!goes_on) begin = at;
         if (it.places[at] != it.places[begin] + (is_of_another_form(text, it, begin) ? 0 : at - begin)) return "another place";
-        if (!goes_on) places += (places.empty() ? "" : " ") + std::to_string(nissy::character(text, it.places[at] + 1) - 1);
+        if (!goes_on) places += (places.empty() ? "" : " ") + std::to_string(nissy::detail::character(text, it.places[at] + 1) - 1);
     }
     return it.places.size() == it.line.size() ? it.line + "\n" + places + "\n" + joined(it.left_out, "|") : "other places";
 }
@@ -136,11 +137,11 @@ std::string plain_of(std::string_view text) {
 // The place of a byte of a part in its text, in characters from 0, by the line and column of a fault there; a line ends as for read_attempts.
 std::string place_in(std::string_view text, const nissy::plain &part, std::size_t at) {
     const nissy::text_place it = nissy::place_of(nissy::fault(NISSY_NOT_A_MOVE, at + 1, ""), part, text).value();
-    const std::size_t wanted = nissy::character(text, it.at + 1) - 1;
+    const std::size_t wanted = nissy::detail::character(text, it.at + 1) - 1;
     std::size_t begin = 0;
     for (std::size_t line = 1; line < it.line; line++) begin = text.find('\n', begin) + 1;
     const bool has_returns = text.find('\r') != std::string_view::npos;
-    return has_returns || nissy::character(text, begin + 1) + it.column - 2 == wanted ? std::to_string(wanted) : "another place";
+    return has_returns || nissy::detail::character(text, begin + 1) + it.column - 2 == wanted ? std::to_string(wanted) : "another place";
 }
 
 // A part of an attempt without blanks around it, and the places of its first and last sign.
@@ -190,7 +191,7 @@ std::string said_of(const nissy::attempt_check &it) {
 
 // What makes one doubt it, and where.
 std::string doubt_of(const nissy::attempt_check &it) {
-    return it.doubt ? nissy::doubt_name(it.doubt->reason) + said_of(it.doubt->place) : "";
+    return it.doubt ? it.doubt->name() + said_of(it.doubt->place) : "";
 }
 
 // Something of each check, each on a line.
@@ -211,6 +212,13 @@ std::vector<std::string> split(std::string_view text) {
 std::string known_of(std::string_view text, std::string_view scrambles) {
     const auto said = [](const nissy::attempt_check &it) { return it.attempt.name + "|" + said_of(it) + "|" + doubt_of(it); };
     return each_on_a_line(nissy::check_attempts(text, split(scrambles)), said);
+}
+
+// All that is said of a text, as hosts.py has it.
+std::string text_of(std::string_view text, std::string_view scrambles) {
+    const std::vector<nissy::attempt_check> checks = nissy::check_attempts(text);
+    const std::string told = each_on_a_line(checks, [](const auto &it) { return said_of(it); });
+    return joined({plain_of(text), told, each_on_a_line(checks, doubt_of), attempts_of(text), known_of(text, scrambles)}, "\x1e");
 }
 
 // What is said of pairs, of which there are two lines each.
@@ -295,6 +303,7 @@ std::string called(const std::string &call, std::istream &asked) {
     if (call == "read_attempts") return attempts_of(line.view());
     if (call == "check_attempts") return each_on_a_line(nissy::check_attempts(line.view()), [](const auto &it) { return said_of(it); });
     if (call == "attempt_doubts") return each_on_a_line(nissy::check_attempts(line.view()), doubt_of);
+    if (call == "text") return text_of(line.view(), exact(other).view());
     if (call == "known_checks") return known_of(line.view(), exact(other).view());
     if (call == "check_all") return pairs_of(line.view());
     if (call == "attempt_counts") return counts_of(line.view());

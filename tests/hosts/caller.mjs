@@ -5,7 +5,7 @@
 import { readFileSync } from "node:fs";
 import { createInterface } from "node:readline";
 import {
-  AXES, CORNER_PLACES, EDGE_PLACES, NET, Nissy, NissyFault, NissyWorker, SearchCut, placeOf, stickersOf,
+  AXES, CORNER_PLACES, EDGE_PLACES, NET, STEPS, Nissy, NissyFault, NissyWorker, SearchCut, placeOf, stickersOf,
 } from "../../build/web/module/node.js";
 
 const ALL = 2n ** 64n - 1n;
@@ -44,23 +44,41 @@ const lines = (all) => all.map((line) => `${line}\n`).join("");
 const solved = (found) => lines(found.map(({ moves, length }) => `${moves}${moves && " "}(${length})`));
 const part = ({ step, moves, normal, inverse, length, twins }) => [step, moves, normal, inverse, length, twins.join()].join(";");
 
-const seen = ({ solved: is, moves, cleanMoves, holds, cases, ...pieces }) => {
+const seen = ({ solved: is, moves, cleanMoves, holds, case: cases, ...pieces }) => {
   const { badEdges, badCorners, misplacedEdges } = pieces;
   const axes = AXES.map((axis) => [badEdges, badCorners, misplacedEdges].map((each) => each[axis].join()).join("/"));
   const isCase = AXES.every((axis) => cases[axis] === `${badCorners[axis].length}c${misplacedEdges[axis].length}e`);
   return isCase ? [Number(is), moves, cleanMoves, holds.join(), ...axes].join(" ") : "another case";
 };
 
+/** How many characters stand before each unit of a text, and before its end. */
+function charactersBefore(text) {
+  const counts = [];
+  let count = 0;
+  for (const sign of text) {
+    for (let unit = 0; unit < sign.length; unit += 1) counts.push(count);
+    count += 1;
+  }
+  return [...counts, count];
+}
+
+/** Where the characters and the lines of a text are. */
+const seenIn = (text) => ({
+  characters: charactersBefore(text), begins: [0, ...[...text.matchAll(/\n/g)].map(({ index }) => index + 1)], hasReturns: text.includes("\r"),
+});
+
 /** A text as one line, the places of its signs in characters, and what is left out. */
 function plain(text, { line, places, leftOut }) {
-  const begins = [...line].map((sign, at, signs) => signs.slice(0, at).join("").length);
-  const goesOn = places.some((place, at) => !begins.includes(at) && place !== places[at - 1] + 1);
+  const characters = charactersBefore(text);
+  const own = charactersBefore(line);
+  const begins = (at) => own[at] !== own[at - 1];
+  const goesOn = places.some((place, at) => !begins(at) && place !== places[at - 1] + 1);
   if (goesOn || places.length !== line.length) return "another place";
-  return [line, begins.map((at) => [...text.slice(0, places[at])].length).join(" "), leftOut.join("|")].join("\n");
+  return [line, places.filter((_, at) => begins(at)).map((place) => characters[place]).join(" "), leftOut.join("|")].join("\n");
 }
 
 /** A part of an attempt without blanks around it, and the places of its first and last sign, which a fault there has too. */
-function partIn(text, plain) {
+function partIn(text, plain, { characters, begins, hasReturns }) {
   if (plain === null) return "none";
   const own = plain.line.trim();
   if (own === "") return "";
@@ -68,19 +86,22 @@ function partIn(text, plain) {
   const last = first + own.length - [...own].at(-1).length;
   const placeAt = (at) => {
     const { at: place, line, column } = placeOf({ character: at + 1 }, plain, text);
-    const above = text.split("\n").slice(0, line - 1).join("\n");
-    const told = text.includes("\r") ? [...text.slice(0, place)].length : [...above].length + Number(line > 1) + column - 1;
-    return told === [...text.slice(0, place)].length ? told : "another place";
+    const told = hasReturns ? characters[place] : characters[begins[line - 1]] + column - 1;
+    return told === characters[place] ? told : "another place";
   };
   return `${own}@${placeAt(first)}-${placeAt(last)}`;
 }
 
 /** The attempts of a text, each on a line. */
-const attempts = (text, found) => found.map(({ name, before, scramble, steps, solution, candidates }) => {
-  const all = (each) => each.map((one) => partIn(text, one)).join("/");
-  const others = candidates.map((each) => `${all(each.steps)}=${partIn(text, each.solution)}#${each.note}`).join(";");
-  return [name, before, partIn(text, scramble), all(steps), partIn(text, solution), others].join("|");
-}).join("\n");
+function attempts(text, found) {
+  const seen = seenIn(text);
+  const one = (each) => partIn(text, each, seen);
+  const all = (each) => each.map(one).join("/");
+  return found.map(({ name, before, scramble, steps, solution, candidates }) => {
+    const others = candidates.map((each) => `${all(each.steps)}=${one(each.solution)}#${each.note}`).join(";");
+    return [name, before, one(scramble), all(steps), one(solution), others].join("|");
+  }).join("\n");
+}
 
 /** How many attempts a text has, and how many steps and candidates all of them. */
 function attemptCounts(found) {
@@ -99,6 +120,18 @@ function attemptTold({ check, fault, place, forms }) {
 
 /** What makes one doubt an attempt, and where. */
 const doubtTold = ({ doubt }) => (doubt ? `${doubt.reason}@${doubt.place.line}:${doubt.place.column}` : "");
+
+/** What is told of a known scramble, or of what isn't told to be of one. */
+const knownTold = (it) => [it.attempt.name, attemptTold(it), doubtTold(it)].join("|");
+
+/** All that is told of a text, as hosts.py has it. */
+async function textTold(engine, text, scrambles) {
+  const checks = await engine.checkAttempts(text);
+  const known = await engine.checkAttempts(text, { scrambles });
+  const [line, found] = [await engine.plainLine(text), await engine.readAttempts(text)];
+  const each = [[checks, attemptTold], [checks, doubtTold], [known, knownTold]].map(([all, told]) => all.map(told).join("\n"));
+  return [plain(text, line), each[0], each[1], attempts(text, found), each[2]].join("\x1e");
+}
 
 // each call by an engine, and what is given to it
 const CALLS = {
@@ -119,12 +152,13 @@ const CALLS = {
   attempt_doubts: async (engine, text) => (await engine.checkAttempts(string(bytesOf(text)))).map(doubtTold).join("\n"),
   known_checks: async (engine, text, scrambles) => {
     const told = await engine.checkAttempts(string(bytesOf(text)), { scrambles: linesOf(scrambles) });
-    return told.map((it) => [it.attempt.name, attemptTold(it), doubtTold(it)].join("|")).join("\n");
+    return told.map(knownTold).join("\n");
   },
+  text: async (engine, text, scrambles) => textTold(engine, string(bytesOf(text)), linesOf(scrambles)),
   check_all: async (engine, text) => {
     const all = linesOf(text);
     const pairs = all.filter((_, at) => at % 2 === 0).map((scramble, at) => [scramble, all[2 * at + 1]]);
-    const told = await engine.checkAll(pairs, { faults: "value" });
+    const told = await engine.checkAll(pairs);
     return told.map((it) => (it instanceof NissyFault ? `${it.part}:${it.column}:${it.text}` : judged(it))).join("\n");
   },
   line_after: async (engine, scramble, soFar) => engine.lineAfter(lineOf(scramble), lineOf(soFar)),
@@ -138,7 +172,7 @@ const CALLS = {
     const given = [BigInt(state), BigInt(stream), Number(length)];
     return lines([await engine.scramble(...given), ...(await engine.scrambles(...given, Number(count)))]);
   },
-  steps: async (engine) => lines(await engine.steps()),
+  steps: async () => lines(STEPS),
   net: async () => [...[AXES, EDGE_PLACES, CORNER_PLACES].map((names) => names.join()), ...NET.map(({ row, column }) => `${row},${column}`)].join("\n"),
   stickers: async (_, names, ...letters) => {
     const places = string(bytesOf(names)).split(",").filter(Boolean);

@@ -2,7 +2,8 @@
 
 A call is a name and what is given to it, bytes for a text, else a number or a word. A caller reads it from a line, with blanks between, texts as
 hexadecimal digits behind an `=`, and answers a line: its text so; before that of a fault stand which of two lines has it, or 0, and its column,
-or 0. A search that is cut answers as a fault of that text; what `best` found until then, if that is wanted, has it as a last line.
+or 0. A search that is cut answers as a fault of that text; what `best` found until then, if that is wanted, has it as a last line. `text` answers
+what `plain_line`, `check_attempts`, `attempt_doubts`, `read_attempts` and `known_checks` tell of one text, parted by PARTED.
 """
 from __future__ import annotations
 
@@ -25,6 +26,7 @@ from tally import made_again
 Given = Union[bytes, int, str]
 AXES: List[nissy.Axis] = ["fb", "rl", "ud"]
 ALL = 2**64 - 1
+PARTED = "\x1e"
 # what wine says of itself, also where one of its services fails, and of a program that crashed
 OF_WINE, OF_CRASH = b"wine: ", b"Unhandled"
 # the same bytes as what a line may be given as
@@ -262,6 +264,18 @@ def known_check(it: nissy.AttemptCheck) -> str:
     return "|".join([it.attempt.name, attempt_check(it), attempt_doubt(it)])
 
 
+def each_on_a_line(told: Callable[[nissy.AttemptCheck], str], checks: List[nissy.AttemptCheck]) -> str:
+    """Something of each check."""
+    return "\n".join(map(told, checks))
+
+
+def text_told(text: str, form: Any, known: List[nissy.AttemptCheck]) -> str:
+    """All that is told of a text, with the checks of known scrambles."""
+    checks = nissy.check_attempts(form)
+    return PARTED.join([plain_line(nissy.plain_line(form)), each_on_a_line(attempt_check, checks), each_on_a_line(attempt_doubt, checks),
+                        attempts(text, form), each_on_a_line(known_check, known)])
+
+
 def pair_check(it: nissy.Check | nissy.Fault) -> str:
     """What is said of one of many pairs."""
     return f"{it.part}:{getattr(it, 'column', 0)}:{it.text}" if isinstance(it, nissy.Fault) else checked(it)
@@ -281,8 +295,8 @@ class Python(Host):
 
     def solve(self, name: Any, *given: Any) -> nissy.Solutions:
         """Solutions by the next of the calls."""
-        return [lambda: nissy.near(name, *given), lambda: nissy.Tables(name).solve(*given),
-                lambda: next(nissy.raising(nissy.solve_all(name, given[:1], *given[1:])))][self.asked % 3]()
+        return [lambda: nissy.solve(name, *given),
+                lambda: next(nissy.raising(nissy.solve_all(name, given[:1], *given[1:])))][self.asked % 2]()
 
     def count(self, name: Any, line: Any, limit: int, slack: int) -> nissy.Count:
         """A count by the next of them."""
@@ -312,12 +326,13 @@ class Python(Host):
         if call == "read_attempts":
             return attempts(given[0].decode(), self.line(given[0]))
         if call == "check_attempts":
-            return "\n".join(map(attempt_check, nissy.check_attempts(self.line(given[0]))))
+            return each_on_a_line(attempt_check, nissy.check_attempts(self.line(given[0])))
         if call == "attempt_doubts":
-            return "\n".join(map(attempt_doubt, nissy.check_attempts(self.line(given[0]))))
-        if call == "known_checks":
-            scrambles = given[1].decode().splitlines()
-            return "\n".join(map(known_check, nissy.check_attempts(self.line(given[0]), scrambles=map(self.line, map(str.encode, scrambles)))))
+            return each_on_a_line(attempt_doubt, nissy.check_attempts(self.line(given[0])))
+        if call in ("known_checks", "text"):
+            form, scrambles = self.line(given[0]), given[1].decode().splitlines()
+            known = nissy.check_attempts(form, scrambles=map(self.line, map(str.encode, scrambles)))
+            return each_on_a_line(known_check, known) if call == "known_checks" else text_told(given[0].decode(), form, known)
         if call == "check_all":
             lines_of = given[0].decode("utf-8", "surrogateescape").split("\n")
             return "\n".join(map(pair_check, nissy.check_all(zip(lines_of[::2], lines_of[1::2]))))

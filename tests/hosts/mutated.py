@@ -4,8 +4,8 @@
     tests/hosts/mutated.py SEED COUNT HOST..
 
 A host is one of hosts.py, with the library of NISSY_LIBRARY, and here a process of its own: all read side by side, and each many texts without a
-wait between. The first one's answers are those of the others; Python's are tried by plain.py. C tells all but the parts of attempts. The last line is
-`N passed, M failed`, and the status is 1 if M isn't 0.
+wait between. The first one's answers are those of the others; Python's are tried by plain.py. C tells all but the parts of attempts and known
+scrambles, which it has no wrapper for. The last line is `N passed, M failed`, and the status is 1 if M isn't 0.
 """
 from __future__ import annotations
 
@@ -15,17 +15,15 @@ from concurrent.futures import ThreadPoolExecutor
 from itertools import islice
 from typing import Callable, Iterator, List, Set
 
-from hosts import Caller, callers_of, question, told_by  # isort: skip
+from hosts import PARTED, Caller, callers_of, question, told_by  # isort: skip
 
 import called
 from tally import Tally
 
-CALLS = ["plain_line", "check_attempts", "attempt_doubts"]
-# those that C has no wrapper for
-FURTHER = ["read_attempts", "known_checks"]
-DOUBTS = CALLS.index("attempt_doubts")
+# which part of what is told of a text has the doubts
+DOUBTS = 2
 # how many texts a host is asked of before the others' answers are looked at
-PORTION = 250
+PORTION = 1000
 # scrambles that some of the texts solve
 KNOWN = b"R' U' F D2 L2 F R2 U2 R2 B D2 L B2 D' B2 L' R' B' D2 B2 R' U' F\nR U F\nR' U' F L2 D B2 U R2 F2 D2 B U2 L R' U' F\n"
 # what a change puts in: signs that are read otherwise than others, and words of scrambles, sides and solutions
@@ -83,22 +81,15 @@ def mutated(draw: random.Random, count: int, texts: List[str]) -> Iterator[str]:
         yield text
 
 
-def questions(host: Caller, text: str) -> List[str]:
-    """What a host is asked of a text."""
-    data, further = text.encode(), FURTHER if host.name != "C" else []
-    return [question(call, data, *([KNOWN] if call == "known_checks" else [])) for call in CALLS + further]
+def answers(host: Caller, texts: List[str]) -> List[str]:
+    """What a host tells of each text, as it is written."""
+    known = [KNOWN] if host.name != "C" else []
+    return host.answers_to([question("text", text.encode(), *known) for text in texts])
 
 
-def answers(host: Caller, texts: List[str]) -> List[List[str]]:
-    """What a host tells of each text, call by call."""
-    asked = [questions(host, text) for text in texts]
-    told = iter(host.answers_to([call for calls in asked for call in calls]))
-    return [list(islice(told, len(calls))) for calls in asked]
-
-
-def shown(told: List[str]) -> List[str]:
-    """Answers as they are read."""
-    return [answer and bytes.fromhex(answer.split("=")[-1]).decode() for answer in told]
+def parts(answer: str) -> List[str]:
+    """An answer as it is read."""
+    return told_by(answer).decode().split(PARTED)
 
 
 def main() -> None:
@@ -113,12 +104,13 @@ def main() -> None:
         while portion := list(islice(texts, PORTION)):
             of_first, *of_others = room.map(answers, hosts, [portion] * len(hosts))
             for wanted in of_first:
-                seen.update(line.partition("@")[0] for line in told_by(wanted[DOUBTS]).decode().split("\n"))
+                seen.update(line.partition("@")[0] for line in parts(wanted)[DOUBTS].split("\n"))
             for host, told in zip(hosts[1:], of_others):
                 for text, got, wanted in zip(portion, told, of_first):
-                    same = got == wanted[:len(got)]
+                    # what C tells ends behind its last part
+                    same = got == wanted or (host.name == "C" and wanted.startswith(got.rstrip()))
                     # one line for all that hold
-                    tally.holds("" if same else f"{text!r} in {host.name}: {shown(got)!r} for {shown(wanted)!r}", same)
+                    tally.holds("" if same else f"{text!r} in {host.name}: {parts(got)!r} for {parts(wanted)!r}", same)
     tally.holds(f"each kind of doubt is there: {seen}", count < 10_000 or len(seen) == 10)
     for host in hosts:
         tally.equal(f"{host.name} ends, and has said no more", host.end(), 0)

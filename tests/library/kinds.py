@@ -55,7 +55,7 @@ def of_words() -> Iterator[Kind]:
 def verdict(kind: Kind) -> str:
     """How a text is read: right, at fault, in doubt, without a solution, or silently wrong."""
     checks = nissy.check_attempts(kind.text)
-    found = [it.check and it.check.solved for it in checks]
+    found = [None if it.check is None else it.check.solved for it in checks]
     is_doubted = any(it.doubt for it in checks)
     if any(it.fault for it in checks):
         return "fault"

@@ -162,7 +162,7 @@ def progress(tally: Tally) -> None:
     raised there ends the call."""
     lines: List[Any] = ["F", "R U F", "R Q", ""] * 5000
     calls: List[Any] = [lambda it, **given: nissy.count_all("eofb", it, **given), lambda it, **given: nissy.solve_all("eofb", it, **given),
-                        lambda it, **given: nissy.Tables("eofb").count_all(it, **given), nissy.facts_all]
+                        nissy.facts_all]
     told: List[Any] = []
 
     def tell(*given: object) -> None:

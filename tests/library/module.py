@@ -25,6 +25,7 @@ from tally import Tally, raised, tried
 # the package as one calls it who looks at no types
 untyped: Any = nissy
 COPIES: List[Any] = [copy.copy, copy.deepcopy, lambda it: pickle.loads(pickle.dumps(it))]
+MOST_INPUT = 16_777_216
 USAGE = b"usage: nissy COMMAND [ARGUMENTS]\n"
 TOO_LONG = b"nissy: input longer than 16777216 bytes\n"
 # methods of a class that doesn't say what its values hold
@@ -38,11 +39,11 @@ def runs(tally: Tally) -> None:
     rows: List[Any] = [
         (["invert"], "R\u2019", (0, b"R\n", b"")), (("invert", "R"), b"q", (0, b"R'\n", b"")), (["invert", "\udcff"], b"", (2, b"", USAGE)),
         (["invert", "\ud800"], b"", (2, b"", USAGE)), (["invert"], "R\ud800", (1, b"", b"nissy: line 1, column 2: not a move\n")),
-        (["invert"], b" " * (nissy.MOST_INPUT + 1), (3, b"", TOO_LONG))]
+        (["invert"], b" " * (MOST_INPUT + 1), (3, b"", TOO_LONG))]
     for words, data, wanted in rows:
         answer = nissy.run(words, data)
         tally.equal(f"run of {words}", (answer.status, answer.out, answer.err, answer.full), wanted + (False,))
-    most = b" " * nissy.MOST_INPUT
+    most = b" " * MOST_INPUT
     tally.equal("16,777,216 blanks are read", (nissy.invert(most), nissy.count("eofb", most).solutions), ("", 1))
     tally.holds("and judged", nissy.facts(most).solved and nissy.check(most, most).solved)
     tally.holds("a word with a zero byte is a ValueError", raised(ValueError, lambda: nissy.run(["invert", "R\0U"])))
@@ -54,8 +55,8 @@ def names(tally: Tally) -> None:
     brought: typing.Dict[str, object] = {}
     exec("from nissy import *", brought)
     del brought["__builtins__"]
-    wanted = {"invert", "unniss", "cleanup", "facelets", "run", "Answer", "LineFault", "MOST_INPUT", "DONE", "FAULT", "USAGE", "STOPPED",
-              "solve", "solve_all", "near", "count", "count_all", "scramble", "scrambles", "steps", "Tables", "Solution", "Count",
+    wanted = {"invert", "unniss", "cleanup", "facelets", "run", "Answer", "LineFault",
+              "solve", "solve_all", "count", "count_all", "scramble", "scrambles", "steps", "Solution", "Count",
               "StartFault", "Fault", "Cut", "Solutions", "raising", "facts", "facts_all", "check", "Facts", "Check", "Case", "Pieces",
               "tokens", "Token", "solutions", "best", "best_all", "Continuation", "Continuations", "Orientation", "Reduction", "Lengths", "form_places", "FormPlace",
               "start_of", "plain_line", "PlainLine", "AXES", "EDGE_PLACES", "CORNER_PLACES", "NET", "stickers_of",
@@ -98,7 +99,7 @@ def classes(tally: Tally) -> None:
             tally.equal(f"the place of {name}", getattr(nissy, name).__module__, "nissy")
     named = tuple(nissy.steps()) if sys.version_info >= (3, 8) else None
     tally.equal("the names of the type of a step", getattr(nissy.Step, "__args__", None), named)
-    for value, name in ((nissy.Tables("eofb"), "step"), (nissy.facts("R"), "solved"), (nissy.count("eofb", "R"), "nodes")):
+    for value, name in ((nissy.facts("R"), "solved"), (nissy.count("eofb", "R"), "nodes")):
         tally.holds(f"{name} can't be changed", raised(AttributeError, lambda: setattr(value, name, "eorl")))
     tally.holds("nor a row", raised(dataclasses.FrozenInstanceError, lambda: setattr(nissy.best("R U")[0], "total", 1)))
 
@@ -110,8 +111,7 @@ def liars(tally: Tally) -> None:
     tally.equal("a str that lies about its bytes", nissy.invert(text("R U")), "U' R'")
     tally.holds("a number that lies about its order", raised(ValueError, lambda: nissy.solve("eofb", "F", number(276))))
     tally.holds("a room that lies about its size", raised(MemoryError, lambda: nissy.run(["steps"], room=number(2**62))))
-    tables = nissy.Tables(text("eoud"))
-    tally.equal("a name that says that it is another one", (tables.step, tables.solve("R")), ("eorl", ["R", "R'"]))
+    tally.equal("a name that says that it is another one", nissy.solve(text("eoud"), "R"), ["R", "R'"])
     tally.equal("that step for others", nissy.solve("eorl", "R"), ["R", "R'"])
     tally.equal("words that lie", nissy.run([text("invert"), data(b"R")]).out, b"R'\n")
 
@@ -120,10 +120,10 @@ def copies(tally: Tally) -> None:
     """What comes to another process, copies, hashes and JSON."""
     fault = raised(nissy.LineFault, lambda: list(nissy.raising(nissy.solve_all("eofb", ["R\u2019 Q"]))))
     start = raised(nissy.StartFault, lambda: list(nissy.raising(nissy.solve_all("drfb-eorl", ["R"]))))
-    cut = raised(nissy.Cut, lambda: nissy.near("eofb", "R U F", 20, 2, nodes=100))
+    cut = raised(nissy.Cut, lambda: nissy.solve("eofb", "R U F", 20, 2, nodes=100))
     # what `add_note` of Python 3.11 sets
     fault.__notes__, start.__notes__ = ["mine"], ["mine too"]
-    row, tables = nissy.best("R' U' F D2 L2 F R2", "R (U')")[0], nissy.Tables("eofb")
+    row = nissy.best("R' U' F D2 L2 F R2", "R (U')")[0]
     values: List[Any] = [nissy.solve("eofb", "F B"), nissy.solve("eofb", "F B")[0], nissy.count("eofb", "R U F"), nissy.facts("R"),
                          nissy.facts("R").bad_edges["rl"], nissy.facts("R").case["ud"], nissy.check("R", "M"), row, row.eo, row.dr,
                          nissy.best("U R F", nodes=50, partial=True)]
@@ -133,10 +133,10 @@ def copies(tally: Tally) -> None:
             tally.equal("a copy", (made, type(made), vars(made) if hasattr(made, "__dict__") else 0),
                         (value, type(value), vars(value) if hasattr(value, "__dict__") else 0))
         tally.equal("pieces", again(values[4]).places, ("UR", "DR", "FR", "BR"))
-        tally.equal("tables", (again(tables).step, again(tables).solve("F"), repr(again(tables))), ("eofb", ["F", "F'"], "Tables('eofb')"))
         for value, names_of in ((fault, "column character text line __notes__"), (start, "step start text line __notes__"),
                                 (cut, "count solutions line")):
             made = again(value)
+            tally.holds("a copy of a fault or a cut is equal", made == value and hash(made) == hash(value))
             tally.equal("a fault or a cut", (type(made), str(made), *(getattr(made, name) for name in names_of.split())),
                         (type(value), str(value), *(getattr(value, name) for name in names_of.split())))
     tally.equal("equal ones have one hash", (len({nissy.facts("R"), nissy.facts("R"), nissy.facts("R'")}), len({row, copy.copy(row)})), (1, 1))
@@ -183,7 +183,7 @@ def dicts_of_faults(tally: Tally) -> None:
         (nissy.Fault, lambda: nissy.best("R U", "F R " * 128), {"text": "more than 256 moves", "line": 2, "part": "moves so far"}),
         (nissy.StartFault, lambda: list(nissy.raising(nissy.count_all("drfb-eorl", ["", "R"]))),
          {"text": "eorl does not hold", "line": 2, "part": "", "step": "drfb-eorl", "start": "eorl"}),
-        (nissy.Cut, lambda: nissy.near("eofb", "F B", 20, 0, nodes=0),
+        (nissy.Cut, lambda: nissy.solve("eofb", "F B", nodes=0),
          {"count": {"length": None, "solutions": 0, "nodes": 0, "cut": True}, "solutions": [], "line": None})]
     for kind, call, wanted in rows:
         error = raised(kind, call)
@@ -195,26 +195,11 @@ def dicts_of_faults(tally: Tally) -> None:
 
 
 def stickers(tally: Tally) -> None:
-    """Where the stickers of places are, by what bad pieces show on a cube. Names begin with the sticker that is there if a piece is good: of edges
-    on the axis fb, of corners on ud. Where the letters are in space, tests/hosts tries."""
-    for moves in ("", *(face + turn for face in "UDRLFB" for turn in ("", "2", "'")), "R U F2 L' B D"):
-        letters, seen = nissy.facelets(moves), nissy.facts(moves)
-        shown = {place: "".join(letters[at] for at in nissy.stickers_of([place])) for place in nissy.EDGE_PLACES + nissy.CORNER_PLACES}
-        flipped = tuple(place for place in nissy.EDGE_PLACES if shown[place] not in nissy.EDGE_PLACES)
-        tally.equal(f"the edges after {moves}", flipped, seen.bad_edges["fb"].places)
-        tally.holds("each is an edge the other way round", {shown[place][::-1] for place in flipped} <= set(nissy.EDGE_PLACES))
-        twisted = tuple(place for place in nissy.CORNER_PLACES if shown[place][0] not in "UD")
-        tally.equal("its corners", twisted, seen.bad_corners["ud"].places)
+    """Places that have no stickers, and what is no cube. Where the stickers of places are, also of cubes that are turned, tests/hosts tries."""
     tally.equal("several", nissy.stickers_of(iter(("UF", "URF"))), [*nissy.stickers_of(["UF"]), *nissy.stickers_of(("URF",))])
     for name in ("FU", "uf", "", "U", "RUF", "UF "):
         tally.equal(f"no place {name!r}", str(raised(ValueError, lambda: nissy.stickers_of([name]))), f"no place is called {name}")
     tally.equal("a name alone", str(raised(TypeError, lambda: nissy.stickers_of("UF"))), "the places are a list or another iterable, not str")
-    letters = nissy.facelets("R U F")
-    for rotation in ("x", "y2", "z' y"):
-        # facts name places by the centres, so that they show the same letters however the cube is held
-        held, bad = nissy.facelets(f"R U F {rotation}"), nissy.facts(f"R U F {rotation}").bad_edges["fb"].places
-        shown_held = "".join(held[at] for at in nissy.stickers_of(bad, held))
-        tally.equal(f"held by {rotation}", shown_held, "".join(letters[at] for at in nissy.stickers_of(bad)))
     for what, wrong in no_letters(nissy.facelets("")).items():
         said = str(raised(ValueError, lambda: nissy.stickers_of([], wrong)))
         tally.equal(f"no letters of a cube: {what}", said, "these are not the 54 letters of a cube")
@@ -257,13 +242,13 @@ def rooms(tally: Tally) -> None:
     for larger, times in ((growth, 2), (2, 3)):
         untyped._rooms._GROWTH = larger
         asked.clear()
-        found = nissy.near("eofb", "", 5, 20)
+        found = nissy.solve("eofb", "", 5, 20)
         tally.holds("they come whole", [f"{it} ({it.length})".strip() for it in found] == written)
         tally.equal("searches that were made", len(asked), times)
     untyped._rooms._GROWTH = growth
     asked.clear()
     tally.equal("so many as there are", nissy.count("eofb", "", 5, 20).solutions, len(found))
-    tally.holds("the first 10,000", nissy.near("eofb", "", 5, 20, 10_000) == found[:10_000] and len(asked) == 1)
+    tally.holds("the first 10,000", nissy.solve("eofb", "", 5, 20, 10_000) == found[:10_000] and len(asked) == 1)
     tally.equal("a short one after it", nissy.solve("eofb", "F"), ["F", "F'"])
     library.nissy_run, library.nissy_solve = run, solve
 

@@ -10,12 +10,9 @@ import http.client
 import json
 import os
 import random
-import signal
-import socket
 import subprocess
 import sys
 import threading
-import time
 from pathlib import Path
 from typing import Dict, List, Tuple
 from urllib.parse import urlencode
@@ -71,15 +68,6 @@ def any_address_is_answered(tally: Tally) -> None:
     tally.equal("the first of many places", told["foreign"], [{"text": "()"[at % 2], "character": at + 1} for at in range(20)])
 
 
-def by_hand(tally: Tally, port: int) -> None:
-    """The server answers a request whose address is none."""
-    with socket.create_connection(("127.0.0.1", port), SECONDS) as client:
-        client.sendall(b"GET http://[ HTTP/1.1\r\nConnection: close\r\n\r\n")
-        with client.makefile("rb") as answer:
-            said = answer.read()
-    tally.holds(f"an address that is none: {said!r}", said.startswith(b"HTTP/1.1 400 ") and said.endswith(b"}"))
-
-
 def asked(port: int, path: str, wanted: Dict[str, str]) -> Tuple[int, Dict[str, object]]:
     """The status of a request to the running server, and its answer."""
     client = http.client.HTTPConnection("127.0.0.1", port, timeout=SECONDS)
@@ -108,30 +96,6 @@ def searches_are_cut(tally: Tally, port: int) -> None:
     tally.equal("the longest search", told, [(200, True)] * CLIENTS)
 
 
-def ends_amid_searches(tally: Tally, server: subprocess.Popen[str], port: int) -> None:
-    """SIGTERM ends the server while clients ask it, one search after another."""
-    answered = threading.Semaphore(0)
-
-    def ask() -> None:
-        try:
-            while True:
-                asked(port, "/search", LONG)
-                answered.release()
-        except (OSError, http.client.HTTPException):
-            pass  # the server is gone
-
-    clients = [threading.Thread(target=ask) for _ in range(CLIENTS)]
-    for client in clients:
-        client.start()
-    tally.holds("clients are answered", all(answered.acquire(timeout=SECONDS) for _ in clients))
-    begun = time.monotonic()
-    server.terminate()
-    tally.equal("the server ends by SIGTERM", server.wait(SECONDS), -signal.SIGTERM)
-    tally.holds("and soon", time.monotonic() - begun < SECONDS / 2)
-    for client in clients:
-        client.join()
-
-
 def main() -> None:
     """Asks the functions, and then a server of its own."""
     tally = Tally()
@@ -142,9 +106,8 @@ def main() -> None:
         assert server.stdout is not None
         port = int(server.stdout.readline())
         with without_imports(tally):
-            by_hand(tally, port)
             searches_are_cut(tally, port)
-            ends_amid_searches(tally, server, port)
+        server.terminate()
     tally.end()
 
 

@@ -155,12 +155,14 @@ static void moves_of_a_sheet(void) {
     moves_are(TEXT, lines, 8, NISSY_OF_SCRAMBLE, "R U F ", SCRAMBLE, NISSY_COMMAS);
     moves_are(TEXT, lines, 8, NISSY_OF_STEPS, "(R' ) L  D\xe2\x80\x99 B", STEPS,
               NISSY_LABELS | NISSY_COMMENTS | NISSY_NUMBERS_OF_MOVES | NISSY_LINE_NUMBERS);
+    moves_are(TEXT, lines, 8, NISSY_OF_EACH_STEP, "(R' )\nL \nD\xe2\x80\x99\nB", STEPS,
+              NISSY_LABELS | NISSY_COMMENTS | NISSY_NUMBERS_OF_MOVES | NISSY_LINE_NUMBERS);
     moves_are(TEXT, lines, 8, NISSY_OF_SOLUTION, "D\xe2\x80\x99 B", SOLUTION, NISSY_LABELS);
     moves_are(TEXT, lines, 0, NISSY_OF_STEPS, "", SOLUTION, 0);
     moves_are(TEXT, lines + 6, 1, NISSY_OF_SCRAMBLE, "", SOLUTION, 0);
     uint8_t byte = UNTOUCHED;
     uint64_t place = 0;
-    const nissy_plain_answer none = nissy_text_moves((const uint8_t *)TEXT, sizeof TEXT - 1, lines, 8, 3, &byte, 1, &place, 1);
+    const nissy_plain_answer none = nissy_text_moves((const uint8_t *)TEXT, sizeof TEXT - 1, lines, 8, 4, &byte, 1, &place, 1);
     holds(none.status == NISSY_USAGE && none.length == 0 && none.left_out == 0 && byte == UNTOUCHED, "an unknown number", "moves of a sheet");
 }
 
@@ -178,12 +180,19 @@ static void lines_of_no_text(void) {
     moves_are(TEXT, &line, 1, NISSY_OF_STEPS, "", PLACES, 0);
 }
 
+/* Where a step begins, of steps that stand a line each. */
+static uint64_t begin_of(const char *steps, uint8_t nth) {
+    const char *at = steps;
+    for (; nth > 0; nth--) at = strchr(at, '\n') + 1;
+    return (uint64_t)(at - steps);
+}
+
 /* Whether this is said of the parts of some steps. */
 static void part_is(const char *scramble, const char *steps, uint8_t how, uint8_t first, uint8_t last) {
     guarded one = copied(scramble, strlen(scramble)), other = copied(steps, strlen(steps));
     const nissy_part_answer got = nissy_solving_part(one.bytes, one.size, other.bytes, other.size);
     holds(got.status == NISSY_DONE && got.how == how, "what solves", steps);
-    holds(got.first == first && got.last == last, "which steps", steps);
+    holds(got.first == first && got.last == last && got.begin == begin_of(steps, first), "which steps", steps);
     let_go(one), let_go(other);
 }
 
@@ -213,6 +222,9 @@ static void parts_of_steps(void) {
     const nissy_part_answer many = nissy_solving_part((const uint8_t *)"R", 1, steps.bytes, NISSY_MOST_STEPS + 1);
     holds(few.status == NISSY_DONE && few.how == NISSY_PART_ALONE, "as many bytes as may be", "long steps");
     holds(many.status == NISSY_STOPPED && many.how == NISSY_NO_PART, "one byte more", "long steps");
+    memset(steps.bytes + 8, '\n', 8);
+    const nissy_part_answer eight = nissy_solving_part((const uint8_t *)"R", 1, steps.bytes, steps.size);
+    holds(eight.status == NISSY_DONE && eight.how == NISSY_PART_ALONE, "many bytes after eight steps", "long steps");
     let_go(steps);
 }
 

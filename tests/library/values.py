@@ -37,7 +37,8 @@ FAULTS: List[Any] = [(line, int(column), len(line.encode("utf-8", "surrogateesca
                      for line, column, text in shared.rows("fault")]
 FAULTS += [("U" * 257, 257, 257, "more than 256 moves"), ("R\ud800", 2, 2, "not a move"), (b"R\0", 2, 2, "not a move"),
            ("R\u2019 U\u2019 Q", 11, 7, "not a move"), (b"R\xe2\x80\x99 Q", 6, 4, "not a move"), ("R\u2019\udcff", 5, 3, "not a move")]
-BEYOND = b" " * (nissy.MOST_INPUT + 1)
+MOST_INPUT = 16_777_216
+BEYOND = b" " * (MOST_INPUT + 1)
 TOO_LONG = "a line has at most 16,777,216 bytes"
 MOST = 2**64 - 1
 
@@ -54,12 +55,9 @@ def told(fault: Any) -> Any:
 
 
 def by_each_call(call: str, step: Any, line: Any, *numbers: int) -> Iterable[Any]:
-    """What the calls of a search answer: the function, tables, and both on two lines, of which each answer comes."""
-    tables = nissy.Tables(step)
+    """What the calls of a search answer: that on a line, and that on two, of which each answer comes."""
     yield getattr(nissy, call)(step, line, *numbers)
-    yield getattr(tables, call)(line, *numbers)
     yield from getattr(nissy, call + "_all")(step, [line] * 2, *numbers)
-    yield from getattr(tables, call + "_all")([line] * 2, *numbers)
 
 
 def searches(tally: Tally) -> None:
@@ -81,8 +79,8 @@ def searches(tally: Tally) -> None:
         for count in by_each_call("count", *given):
             length = pairs[0][1] if pairs else None
             tally.equal(f"count{given}", count, nissy.Count(length, len(pairs), count.nodes if nodes is None else nodes))
-    near = nissy.near("drud-eofb", "", 1, 1)
-    tally.equal("near", (len(near), nissy.near("drud-eofb", "", 1, 1, 3), nissy.count("drud-eofb", "", 1, 1)[:2]), (11, near[:3], (0, 11)))
+    longer = nissy.solve("drud-eofb", "", 1, 1)
+    tally.equal("longer ones", (len(longer), nissy.solve("drud-eofb", "", 1, 1, 3), nissy.count("drud-eofb", "", 1, 1)[:2]), (11, longer[:3], (0, 11)))
     first = list(itertools.islice(nissy.solutions("eofb", "R U F", slack=9), 3))
     tally.equal("the first of very many", first, nissy.solve("eofb", "R U F", slack=9, most=3))
     tally.holds("many", sum(1 for _ in itertools.islice(nissy.solutions("eofb", "R U F", slack=5), 20_000)) == 20_000)
@@ -109,6 +107,7 @@ def lines(tally: Tally) -> None:
             tally.equal("its case", (str(case), case.corners, case.edges), (f"{pieces[1]}c{pieces[2]}e", pieces[1], pieces[2]))
     for scramble, solution, solved, count, clean, bits in shared.rows("check"):
         forms = tuple(form for at, form in enumerate(FORMS) if int(bits) >> at & 1)
+        tally.equal(f"{solution!r} of {scramble!r} as a truth", bool(nissy.check(scramble, solution)), solved == "1")
         tally.equal(f"{solution!r} of {scramble!r}", nissy.check(scramble, solution), nissy.Check(solved == "1", int(count), int(clean), forms))
     for line, places in shared.rows("forms"):
         at_places = nissy.form_places(line)
@@ -131,7 +130,7 @@ def without_lines(tally: Tally) -> None:
     tally.equal("the longest scramble", len(nissy.scramble(MOST, MOST, 256).split()), 256)
     tally.equal("the most scrambles", len(nissy.scrambles(7, 9, 1, 10_000)), 10_000)
     run = untyped._library.nissy_run
-    untyped._library.nissy_run = lambda *given: untyped._library.RunAnswer(nissy.STOPPED)
+    untyped._library.nissy_run = lambda *given: untyped._library.RunAnswer(untyped._library.STOPPED)
     says(tally, MemoryError, "no memory for the scrambles", lambda: nissy.scrambles(1, 2, 3, 2))
     untyped._library.nissy_run = run
     header = (TOP / "include/nissy.h").read_text("utf-8")
@@ -141,8 +140,7 @@ def without_lines(tally: Tally) -> None:
 ON_A_LINE: Dict[str, Callable[[Any], object]] = {
     "invert": untyped.invert, "unniss": untyped.unniss, "cleanup": untyped.cleanup, "facelets": untyped.facelets, "facts": untyped.facts,
     "tokens": untyped.tokens, "form_places": untyped.form_places, "solve": lambda it: untyped.solve("eofb", it),
-    "count": lambda it: untyped.count("eofb", it), "near": lambda it: untyped.near("eofb", it, 1, 1),
-    "solutions": lambda it: untyped.solutions("eofb", it)}
+    "count": lambda it: untyped.count("eofb", it), "solutions": lambda it: untyped.solutions("eofb", it)}
 # calls on a scramble and another line
 ON_TWO: List[Callable[[Any, Any], object]] = [untyped.check, untyped.best, untyped.line_after]
 # those on many lines, each with that on one
@@ -167,7 +165,16 @@ def faults(tally: Tally) -> None:
             next(answers)
             tally.equal("the same raised", told(raised(nissy.LineFault, lambda: next(answers))), (*place, text, 2))
             tally.holds("it ends there", raised(StopIteration, lambda: next(answers)))
-    says(tally, nissy.LineFault, "column 3: not a move", lambda: nissy.near("eo", "R Q", 3, 1))
+    says(tally, nissy.LineFault, "column 3: not a move", lambda: nissy.solve("eo", "R Q", 3, 1))
+    told_twice: Callable[[], List[Any]] = lambda: list(untyped.count_all("eofb", ["R", "R q", "F B"], nodes=0))
+    tally.holds("faults of equal parts are equal, and cuts", told_twice() == told_twice() and len({*told_twice(), *told_twice()}) == 3)
+    first, second, start = (list(untyped.count_all(step, given))[-1] for step, given in (
+        ("eofb", ["q"]), ("eofb", ["", "q"]), ("drud-eofb", ["F"])))
+    tally.holds("others differ", first != second and first != start and first != nissy.Fault(first.text, first.line) and first != "q")
+    shown = (second, start, told_twice()[2], raised(nissy.LineFault, lambda: nissy.check("R q", "")))
+    tally.equal("how faults and cuts are shown", list(map(repr, shown)), [
+        "LineFault('line 2, column 1: not a move')", "StartFault('line 1: eofb does not hold')",
+        "Cut('line 3: the search was cut after 0 nodes')", "LineFault('scramble, column 3: not a move')"])
     says(tally, nissy.LineFault, "line 2, column 3: not a move", lambda: list(nissy.raising(nissy.count_all("eo", ["", "R Q"]))))
     for pair, other in zip(ON_TWO, ("solution", "moves so far", "moves so far")):
         says(tally, nissy.LineFault, "scramble, column 3: not a move", lambda: pair("R Q", "U"))
@@ -216,7 +223,7 @@ def wrong_types(tally: Tally) -> None:
         for many, _ in ON_MANY:
             says(tally, TypeError, f"the lines are a list or another iterable, not {named}", lambda: many(value))
         says(tally, TypeError, f"the words are a list or another iterable, not {named}", lambda: untyped.run(value))
-    by_step: List[Callable[[Any], object]] = [untyped.Tables, lambda it: untyped.solve(it, "R"), lambda it: untyped.count_all(it, []), untyped.start_of]
+    by_step: List[Callable[[Any], object]] = [lambda it: untyped.solve(it, "R"), lambda it: untyped.count_all(it, []), untyped.start_of]
     for call in by_step:
         for value, named in ((3, "int"), (b"eofb", "bytes"), (None, "None"), (["eofb"], "list")):
             says(tally, TypeError, f"the step is a str, not {named}", lambda: call(value))
@@ -228,9 +235,9 @@ def numbers(tally: Tally) -> None:
     """Numbers out of their ranges, and what is no number."""
     calls: List[Tuple[str, int, Callable[[Any], object]]] = [
         ("the limit", 20, lambda it: untyped.solve("eofb", "", it)), ("the limit", 20, lambda it: untyped.count("eofb", "", it)),
-        ("the limit", 20, lambda it: untyped.solve_all("eofb", [], it)), ("the limit", 20, lambda it: untyped.near("eofb", "", it, 0)),
+        ("the limit", 20, lambda it: untyped.solve_all("eofb", [], it)),
         ("the limit", 20, lambda it: untyped.solutions("eofb", "", limit=it)), ("the slack", 20, lambda it: untyped.solutions("eofb", "", slack=it)),
-        ("the slack", 20, lambda it: untyped.near("eofb", "", 0, it)), ("the slack", 20, lambda it: untyped.count_all("eofb", [], 3, it)),
+        ("the slack", 20, lambda it: untyped.solve("eofb", "", 0, it)), ("the slack", 20, lambda it: untyped.count_all("eofb", [], 3, it)),
         ("the slack", 20, lambda it: untyped.best("", slack=it)), ("nodes", MOST, lambda it: untyped.best("", nodes=it)),
         ("most", MOST, lambda it: untyped.solve("eofb", "", most=it)),
         ("nodes", MOST, lambda it: untyped.count("eofb", "", nodes=it, partial=True)),
@@ -265,7 +272,7 @@ def bounds(tally: Tally) -> None:
         tally.equal("what was found until then", (some, some.cut, some.more, some.nodes), (found[:part.solutions], True, True, part.nodes))
         cut = raised(nissy.Cut, lambda: nissy.count("eofb", "R U F", slack=2, nodes=nodes))
         tally.equal("the same raised", (cut.count, cut.solutions, cut.line), (part, [], None))
-        cut = raised(nissy.Cut, lambda: nissy.near("eofb", "R U F", 20, 2, nodes=nodes))
+        cut = raised(nissy.Cut, lambda: nissy.solve("eofb", "R U F", 20, 2, nodes=nodes))
         tally.equal("with solutions", (cut.count, cut.solutions, str(cut)), (part, some, f"the search was cut after {part.nodes:,} nodes"))
     begun = time.process_time()
     tally.holds("the longest search of all ends", raised(nissy.Cut, lambda: nissy.count("eofb", "R", slack=20, nodes=1_000_000)))
@@ -278,10 +285,10 @@ def bounds(tally: Tally) -> None:
                 [nissy.Cut, nissy.Solutions, nissy.LineFault])
     # by their types these have no cuts, and the last ones may have
     counts: Iterator[Union[nissy.Count, nissy.Fault]] = nissy.count_all("eofb", ["R U F"], nodes=15, partial=True)
-    lists: Iterator[Union[nissy.Solutions, nissy.Fault]] = nissy.Tables("eofb").solve_all(["R U F"], nodes=15, partial=True)
+    lists: Iterator[Union[nissy.Solutions, nissy.Fault]] = nissy.solve_all("eofb", ["R U F"], nodes=15, partial=True)
     tally.equal("no cuts", [type(next(counts)), type(next(lists))], [nissy.Count, nissy.Solutions])
     counts = nissy.count_all("eofb", ["R U F"], nodes=15)  # type: ignore[assignment]
-    lists = nissy.Tables("eofb").solve_all(["R U F"], nodes=15)  # type: ignore[assignment]
+    lists = nissy.solve_all("eofb", ["R U F"], nodes=15)  # type: ignore[assignment]
     tally.equal("cuts", [type(next(counts)), type(next(lists))], [nissy.Cut, nissy.Cut])
     first = nissy.count("eofb", "R U F", slack=2, most=1)
     tally.equal("the first one alone", (first.length, first.solutions, first.cut), (1, 1, False))

@@ -124,8 +124,8 @@ void attempts_are_checked() {
     const std::vector<nissy::attempt_check> empty = nissy::check_attempts({});
     holds(empty.size() == 1 && !empty[0].check && !empty[0].fault && empty[0].forms.empty(), "one that is empty", "no text");
     // valgrind takes half a minute to read so many bytes out of a text, so the attempt is made here
-    nissy::attempt of_blanks;
-    of_blanks.scramble.line.assign(NISSY_MOST_INPUT + 1, ' ');
+    nissy::detail::found_attempt of_blanks;
+    of_blanks.attempt.scramble.line.assign(NISSY_MOST_INPUT + 1, ' ');
     nissy::detail::text_places places({});
     try {
         nissy::detail::check_of({}, of_blanks, places);
@@ -133,28 +133,6 @@ void attempts_are_checked() {
     } catch (const std::length_error &thrown) {
         holds(thrown.what()[0] != 0, "it says what", "16,777,217 blanks");
     }
-}
-
-// Each reason for a doubt, and where it is seen, of the rows of tests/library/kinds.py; a solution that solves is in none.
-void doubts_are_told() {
-    struct row {
-        const char *text;
-        const char *reason;
-        std::size_t line, column;
-    };
-    static constexpr row ROWS[] = {{"R' U' F D R' U' F R U", "another scramble", 1, 1},
-                                   {"R U F\n\nEO: D\n\nDR: L\n\nD L B", "several solutions", 3, 5},
-                                   {"R U F\n\nR U // premoves\nF' // EO", "side", 3, 8}, {"R U F\n\nF' U' R LUL", "letters", 3, 10},
-                                   {"r u f\n\nF' U' R'", "small letters", 1, 1}, {"R U F\n\nF' // EO U' R' D", "comment", 3, 4},
-                                   {"R U R U\n\n(U' R')\u00d72", "repetition", 3, 8}, {"R U F\n\nF' [1] R'\n[1] = U' D D'", "insertion", 3, 4},
-                                   {"R U F\n\nAnna: F' U' R'\nBert: F' U' D", "a part", 3, 7}, {"R U F\n\n(F') U' R'", "a part", 3, 1}};
-    for (const auto &[text, reason, line, column] : ROWS) {
-        const auto doubt = nissy::check_attempts(text).at(0).doubt;
-        holds(doubt && nissy::doubt_name(doubt->reason) == reason, "its reason", text);
-        holds(doubt && doubt->place.line == line && doubt->place.column == column, "where it is seen", text);
-    }
-    for (const char *text : {"R U F\n\nF' U' R'", "R U F\n\nF' U' R", "R U F", "R U F\n\nR U // premoves\nF q"})
-        holds(!nissy::check_attempts(text).at(0).doubt, "no doubt", text);
 }
 
 // What the rows of tests/calls.tsv say of known scrambles, the hosts try; this is what they can't tell.

@@ -155,7 +155,7 @@ def odd_checks(tally: Tally) -> None:
         tally.equal("a later one", (second.check, str(second.fault), second.place), (None, "solution, column 3: not a move", (16, 3, 3)))
     (none,) = nissy.check_attempts("")
     tally.equal("no moves", none[1:], (None, None, None, (), None))
-    long = "R" + "\U0001f600" * (nissy.MOST_INPUT // 4)
+    long = "R" + "\U0001f600" * (16_777_216 // 4)
     fault = raised(nissy.Fault, lambda: nissy.check_attempts(long))
     tally.equal("too many bytes", fault and (fault.text, fault.line, fault.part), ("a line has at most 16,777,216 bytes", 1, "scramble"))
 

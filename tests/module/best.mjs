@@ -1,5 +1,5 @@
-// Tries `best`: rows beside those of the independent model, each beside what the other calls say of it, values that no call takes, its progress,
-// and its bound in workers and pools. That its rows are those of the other languages is tried by tests/hosts.
+// Tries `best`: rows beside those of the independent model, values that no call takes, its progress, and its bound in workers and pools. That its
+// rows are those of the other languages is tried by tests/hosts.
 //
 //     node tests/module/best.mjs MODULE
 //
@@ -72,68 +72,6 @@ function tryModel() {
   same("some questions of the model", all.length > 8, true);
 }
 
-const OPPOSITE = { U: "D", D: "U", R: "L", L: "R", F: "B", B: "F" };
-const QUARTERS = { "": 1, 2: 2, "'": 3 };
-
-/** How many moves some turns have once those of one face are merged that only turns of the opposite face stand between. */
-function merged(line) {
-  const made = [];
-  for (const turn of line.split(" ").filter(Boolean)) {
-    let at = made.length - 1;
-    while (at >= 0 && made[at].face === OPPOSITE[turn[0]]) at -= 1;
-    if (at < 0 || made[at].face !== turn[0]) made.push({ face: turn[0], quarters: QUARTERS[turn.slice(1)] });
-    else made[at].quarters = (made[at].quarters + QUARTERS[turn.slice(1)]) % 4;
-    if (at >= 0 && made[at].quarters === 0) made.splice(at, 1);
-  }
-  return made.length;
-}
-
-/** What a line has outside of brackets, and inside. */
-const sidesOf = (line) => [line.replace(/\([^()]*\)/g, " "), [...line.matchAll(/\(([^()]*)\)/g)].map(([, moves]) => moves).join(" ")];
-
-/** Moves with other last turns, which a twin has. */
-function withEnd({ normal, inverse }, twin) {
-  const replaced = [normal, inverse].map((moves, side) => {
-    const [turns, end] = [moves, sidesOf(twin)[side]].map((each) => each.trim().split(" ").filter(Boolean));
-    return [...turns.slice(0, turns.length - end.length), ...end].join(" ");
-  });
-  return `${replaced[0]} (${replaced[1]})`;
-}
-
-/** Each row is true: its moves reach its steps, and so do its twins, and its numbers are those of the lines. */
-function tryTruth(scramble, soFar, slack) {
-  const rows = nissy.best(scramble, { soFar, slack, most: 60 });
-  const what = `${scramble} / ${soFar}, slack ${slack}`;
-  const lineAfter = (moves) => nissy.lineAfter(scramble, `${soFar} ${moves}`);
-  const reaches = (moves, step) => nissy.facts(lineAfter(moves)).holds.includes(step);
-  for (const { total, line, eo, dr, case: of } of rows) {
-    const first = eo ?? dr;
-    const before = lineAfter(eo?.moves ?? "");
-    same(`${what}: ${line} reaches both`, [reaches(first.moves, first.step), reaches(line, dr.step)], [true, true]);
-    same(`${what}: ${line}, its total`, total, sidesOf(`${soFar} ${line}`).map(merged).reduce((sum, count) => sum + count));
-    same(`${what}: ${line}, its case`, of, nissy.facts(before).cases[dr.step.slice(2, 4)]);
-    const lengths = [before, nissy.invert(before)].map((each) => nissy.count(dr.step, each, { most: 1 }).length);
-    same(`${what}: ${line}, on each side alone`, Object.values(dr.lengths), lengths);
-    same(`${what}: ${line}, its turns`, [first, dr].map((step) => step.length), [first, dr].map(({ moves }) => moves.split(" ").filter(Boolean).length));
-    same(`${what}: ${line}, its twins`, first.twins.filter((twin) => !reaches(withEnd(first, twin), first.step)), []);
-    same(`${what}: ${line}, moves`, line.replace(/[()]/g, ""), [eo?.moves ?? "", dr.moves].join(" ").replace(/[()]/g, "").trim());
-  }
-  same(`${what}: each once, and in order`, [new Set(rows.map(({ line, dr }) => line + dr.step)).size, rows.every(({ total }, at) => at === 0 || total >= rows[at - 1].total)], [rows.length, true]);
-  return rows;
-}
-
-/** Rows of drawn scrambles: some over both sides, some with twins, some with fewer moves since they merge. */
-function tryDrawn() {
-  const rows = [20261127, 20261128, 20261129].flatMap((seed) => {
-    const scramble = nissy.scramble(seed, 1, 25);
-    const [{ moves }] = nissy.solve("eorl", scramble, { most: 1 });
-    return [["", 1], ["R U2 D (F B2)", 0], [moves, 1], [`${moves} (F)`, 0]].flatMap(([soFar, slack]) => tryTruth(scramble, soFar, slack));
-  });
-  const isBoth = (step) => step !== null && step.normal !== "" && step.inverse !== "";
-  const kinds = [({ eo }) => isBoth(eo), ({ dr }) => isBoth(dr), ({ eo }) => eo === null, ({ eo, dr }) => (eo ?? dr).twins.length > 2, ({ eo }) => eo?.twins.length === 1];
-  same("rows of each kind", kinds.map((is) => rows.some(is)), kinds.map(() => true));
-}
-
 /** More rows than there is room for at first come all, and those of fewer are their beginning. */
 function tryMany() {
   const scramble = nissy.scramble(20261127, 1, 25);
@@ -150,10 +88,10 @@ async function tryAll() {
   const wanted = scrambles.map((scramble) => (scramble === "R q" ? null : nissy.best(scramble, { most: 3 })));
   const [worker, pool] = [await NissyWorker.start(moduleBytes), await NissyPool.start(2, moduleBytes)];
   for (const engine of [nissy, worker, pool]) {
-    const told = await engine.bestAll(scrambles, { most: 3, faults: "value" });
+    const told = await engine.bestAll(scrambles, { most: 3 });
     same("each is that of its scramble", told.map((each) => (each instanceof NissyFault ? null : each)), wanted);
     same("the fault", [told[1].line, told[1].column], [2, 3]);
-    same("thrown", await thrown(() => engine.bestAll(scrambles)), ["NissyFault", "line 2, column 3: not a move"]);
+    same("thrown", await thrown(() => engine.bestAll(scrambles, { faults: "throw" })), ["NissyFault", "line 2, column 3: not a move"]);
     same("cut", await thrown(() => engine.bestAll(["R U F", "U R F"], { nodes: 10 })), ["SearchCut", "line 1: the search was cut after 10 nodes"]);
   }
   worker.end();
@@ -217,7 +155,6 @@ async function tryPoolBounds() {
 }
 
 tryModel();
-tryDrawn();
 tryMany();
 await tryAll();
 await tryFaults(nissy);

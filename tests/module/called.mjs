@@ -1,7 +1,7 @@
 // Calls by their names with what is wanted, and values of other types at each place of each call: for `Nissy`, and for what has the same
 // calls as promises.
 import { readFileSync } from "node:fs";
-import { NissyFault, startOf } from "../../build/web/module/nissy.js";
+import { NissyFault, STEPS, startOf } from "../../build/web/module/nissy.js";
 import { fingerprint, same, thrown } from "./tally.mjs";
 import { DETACHED, WRONG } from "./values.mjs";
 
@@ -19,7 +19,6 @@ const ROWS = [
   ["a number of solutions that no search has", ["solve", "eofb", "F", { most: Number.MAX_SAFE_INTEGER }], F_OR_ITS_INVERSE],
   ["no options", ["solve", "eofb", "F", {}], F_OR_ITS_INVERSE],
   ["options that are left open", ["solve", "eofb", "F", { limit: undefined, slack: undefined, most: undefined }], F_OR_ITS_INVERSE],
-  ["the steps", ["steps"], STARTS.map(([step]) => step)],
   ["numbers of both kinds", ["scrambles", 42, 54n, 3, 2], ["L' D' F'", "L F' L'"]],
   ["the first of them", ["scramble", 42n, 54, 3], "L' D' F'"],
   ["the characters of a form", ["formPlaces", "U\u2019 M"], [
@@ -35,8 +34,10 @@ const FAULTS = [
   [["solve", "dr-eorl", "R"], "eorl does not hold", null, "dr-eorl", "eorl", "eorl does not hold"],
 ];
 
-/** What has to hold before each step. */
-async function tryStarts() {
+/** The steps, in the module's order, and what has to hold before each. */
+async function tryStarts(nissy) {
+  const { out } = await nissy.run(["steps"]);
+  same("the steps", [[...STEPS], new TextDecoder().decode(out).trim().split("\n")], Array(2).fill(STARTS.map(([step]) => step)));
   for (const [step, start] of STARTS) same(`before ${step}`, startOf(step), start === "" ? null : start);
   same("no step", await thrown(() => startOf("htr")), ["RangeError", 'there is no step of the name "htr"']);
   same("a step of another type", await thrown(() => startOf(3)), ["TypeError", "the step is no string"]);
@@ -57,7 +58,7 @@ async function faultOf(nissy, call, given) {
 
 /** Rows, by `Nissy` or by what has the same calls as promises. What is read of lines is tried by tests/hosts. */
 export async function tryRows(nissy) {
-  await tryStarts();
+  await tryStarts(nissy);
   for (const [what, [call, ...given], wanted] of ROWS) same(what, await nissy[call](...given), wanted);
   for (const [[call, ...given], ...wanted] of FAULTS) {
     const fault = await faultOf(nissy, call, given);
@@ -65,7 +66,7 @@ export async function tryRows(nissy) {
     same(`${call} ${given.join(", ").slice(0, 20)}`, seen, [true, "NissyFault", ...wanted]);
   }
   for (const [line, ...wanted] of CHARACTERS) {
-    const calls = [["invert", line], ["solve", "eofb", line], ["check", "", line], ["factsAll", ["R", line]], ["countAll", "eofb", [line]]];
+    const calls = [["invert", line], ["solve", "eofb", line], ["check", "", line], ["factsAll", ["R", line], { faults: "throw" }], ["countAll", "eofb", [line], { faults: "throw" }]];
     for (const [call, ...given] of calls) {
       const { column, character } = await faultOf(nissy, call, given);
       same(`${call}: the character at fault of ${line}`, [column, character], wanted);
@@ -117,9 +118,9 @@ const MANY = [
   [["countAll", "eofb", new Set(["F"])], "TypeError", "the lines are no array"],
   [["solveAll", "eofb", ["F", 3]], "TypeError", "line 2 is neither a string nor a Uint8Array"],
   [["countAll", "eofb", [, "F"]], "TypeError", "line 1 is neither a string nor a Uint8Array"],
-  [["countAll", "eofb", ["F", BEYOND]], "RangeError", "line 2 has more bytes than the engine reads"],
-  [["solveAll", "eofb", ["F", "R q"]], "NissyFault", "line 2, column 3: not a move"],
-  [["countAll", "dr-eofb", ["", "R", "F"]], "NissyFault", "line 3: eofb does not hold"],
+  [["countAll", "eofb", ["F", BEYOND], { faults: "throw" }], "RangeError", "line 2 has more bytes than the engine reads"],
+  [["solveAll", "eofb", ["F", "R q"], { faults: "throw" }], "NissyFault", "line 2, column 3: not a move"],
+  [["countAll", "dr-eofb", ["", "R", "F"], { faults: "throw" }], "NissyFault", "line 3: eofb does not hold"],
   [["run", [, "R"]], "TypeError", "word 1 is neither a string nor a Uint8Array"],
   ...[2 ** 53, 67_108_865, Infinity, -1, Number.NaN].flatMap((length) => [
     [["countAll", "eofb", posing(length)], "RangeError", NO_LENGTH],
@@ -130,14 +131,13 @@ const MANY = [
 
 /** A line of too many bytes among others, of which each has its answer, by `Nissy` or by what has the same calls as promises. */
 export async function tryTooLong(nissy) {
-  const faults = "value";
   const lines = ["F", "R q", BEYOND, new Uint8Array(16_777_217), "R"];
   const wanted = [null, "column 3: not a move", ...[3, 4].map((line) => `line ${line}: the line has more bytes than the engine reads`), null];
   const told = {
-    solutions: await nissy.solveAll("eofb", lines, { faults }),
-    counts: await nissy.countAll("eofb", lines, { faults }),
-    "counts of searches that may be cut": await nissy.countAll("eofb", lines, { faults, nodes: 1_000 }),
-    facts: await nissy.factsAll(lines, { faults }),
+    solutions: await nissy.solveAll("eofb", lines),
+    counts: await nissy.countAll("eofb", lines, { faults: "value" }),
+    "counts of searches that may be cut": await nissy.countAll("eofb", lines, { nodes: 1_000 }),
+    facts: await nissy.factsAll(lines),
   };
   for (const [what, each] of Object.entries(told)) {
     const said = each.map((one) => (one instanceof Error ? one.message.replace(/^line 2, /, "") : null));

@@ -71,7 +71,7 @@ async function trySignals(worker) {
 }
 
 const CALLS_WITHOUT_OPTIONS = [
-  ["run", ["steps"], ""], ["invert", "R"], ["checkAttempts", "R"], ["steps"], ["scramble", 1, 2, 3], ["countAll", "eofb", []],
+  ["run", ["steps"], ""], ["invert", "R"], ["checkAttempts", "R"], ["scramble", 1, 2, 3], ["countAll", "eofb", []],
 ];
 
 /** Options that are none: a room that is given by itself, as `Nissy` takes it, isn't lost without a word. */
@@ -159,7 +159,7 @@ async function tryMany(worker) {
   const cut = await worker.run(["invert"], "R\n", { room: 2 });
   same("a run in a room", [cut.status, text(cut.out), cut.full], [3, "R'", true]);
   const [, step, endless, slack] = LONG;
-  const first = await thrown(() => worker.countAll(step, ["R q", endless], { ...slack, signal: AbortSignal.timeout(4 * SOON) }));
+  const first = await thrown(() => worker.countAll(step, ["R q", endless], { ...slack, faults: "throw", signal: AbortSignal.timeout(4 * SOON) }));
   same("no line is searched after a fault", first, ["NissyFault", "line 1, column 3: not a move"]);
 }
 
@@ -252,48 +252,6 @@ async function tryGivenUpAtOnce() {
   same("which is answered", await kept, "D'");
 }
 
-/** Signals whose listeners can't be added, or taken away: the first gives no call to be answered, the others end as any other. */
-async function tryHostileSignals() {
-  const hostile = (name) => {
-    const stop = new AbortController();
-    const { signal } = stop;
-    const own = signal[name].bind(signal);
-    signal[name] = () => {
-      throw new Error(`no ${name}`);
-    };
-    return { stop, signal, mend: () => { signal[name] = own; } };
-  };
-  const { all, started } = puppets();
-  const calls = new WorkerCalls(moduleBytes, started);
-  const deaf = hostile("addEventListener");
-  same("a signal that can't be listened to", await thrown(() => calls.invert("R", { signal: deaf.signal })), ["Error", "no addEventListener"]);
-  deaf.mend();
-  const heard = thrown(() => calls.invert("R", { signal: deaf.signal }));
-  deaf.stop.abort();
-  same("is heard once it can be", (await heard)[0], "AbortError");
-  const kept = hostile("removeEventListener");
-  const first = calls.invert("U", { signal: kept.signal });
-  const second = calls.invert("F", { signal: kept.signal });
-  const { sent } = all[1];
-  all[1].took({ id: sent[1].id, reply: { status: 0, out: "U'" } });
-  all[1].took({ id: sent[2].id, reply: { status: 0, out: "F'" } });
-  same("a signal that can't be left leaves no call open", await Promise.all([first, second]), ["U'", "F'"]);
-  const last = thrown(() => calls.invert("D", { signal: kept.signal }));
-  const waiting = thrown(() => calls.invert("L"));
-  calls.stop();
-  same("nor where calls are given up", await Promise.all([last, waiting]), [["AbortError", "stopped"], ["AbortError", "stopped"]]);
-}
-
-/** A reply is none that failed, though some script gave an error to all objects. */
-async function tryGivenToAll() {
-  const { all, started } = puppets();
-  const call = thrown(() => new WorkerCalls(moduleBytes, started).invert("R"));
-  Object.defineProperty(Object.prototype, "error", { configurable: true, value: { name: "Error", message: "of all" } });
-  all[0].took({ id: all[0].sent[1].id, reply: { status: 0, out: "R'" } });
-  delete Object.prototype.error;
-  same("a reply while all objects have an error", await call, ["nothing", ""]);
-}
-
 const worker = await NissyWorker.start(WebAssembly.compile(moduleBytes));
 await tryRows(worker);
 await tryWrongValues(worker);
@@ -314,7 +272,5 @@ await tryAllAtOnce(worker);
 await tryUnstarted();
 await tryPuppets();
 await tryGivenUpAtOnce();
-await tryGivenToAll();
-await tryHostileSignals();
 // the process ends though the worker lives
 ended();

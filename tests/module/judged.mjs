@@ -9,7 +9,7 @@ const FAULTS = [
   [["check", "q", "q"], 1, 1, "scramble, column 1: not a move"],
   [["check", "R", "R\nU"], 2, 2, "solution, column 2: not a move"],
   [["facts", "R q"], null, 3, "column 3: not a move"],
-  [["factsAll", ["R", "U".repeat(257)]], 2, 257, "line 2, column 257: more than 256 moves"],
+  [["factsAll", ["R", "U".repeat(257)], { faults: "throw" }], 2, 257, "line 2, column 257: more than 256 moves"],
 ];
 
 /** Lines at fault, and what is no line. */
@@ -116,15 +116,15 @@ export async function tryPairs(nissy) {
   const alone = await Promise.all(pairs.map(([scramble, solution]) => nissy.check(scramble, solution)));
   same("checks of pairs", await nissy.checkAll(pairs), alone);
   same("no pairs", await nissy.checkAll([]), []);
-  const told = await nissy.checkAll([["R", "q"], ["R", "R'"], ["q", "q"], ["R", " ".repeat(16_777_217)]], { faults: "value" });
+  const told = await nissy.checkAll([["R", "q"], ["R", "R'"], ["q", "q"], ["R", " ".repeat(16_777_217)]]);
   same("faults in their places", told.map(({ message, line, part, solved }) => message ?? solved), [
     "line 1, solution, column 1: not a move", true, "line 3, scramble, column 1: not a move", "line 4: the solution has more bytes than the engine reads",
   ]);
   same("their parts", told.map(({ line, part }) => [line, part]), [[1, "solution"], [undefined, undefined], [3, "scramble"], [undefined, undefined]]);
   const first = ["NissyFault", "line 2, scramble, column 2: not a move"];
-  same("the first fault", await thrown(() => nissy.checkAll([["R", "R"], ["Rq", ""], ["q", ""]])), first);
+  same("the first fault", await thrown(() => nissy.checkAll([["R", "R"], ["Rq", ""], ["q", ""]], { faults: "throw" })), first);
   const many = Array.from({ length: 2_000 }, (_, at) => [TURNS[at % 18], at % 5 === 0 ? "q" : TURNS[at % 6]]);
-  const each = await nissy.checkAll(many, { faults: "value" });
+  const each = await nissy.checkAll(many);
   same("many pairs", each.map((one) => (one instanceof NissyFault ? one.line : one.solved)),
     many.map(([scramble, solution], at) => (at % 5 === 0 ? at + 1 : isUndone(scramble, solution))));
 }
@@ -158,7 +158,7 @@ export async function tryBounds(nissy) {
   same("that of a count has no solutions", (await caught(() => nissy.count("eofb", "F B", { nodes: 0, cut: "throw" }))).found, null);
   const many = await caught(() => nissy.countAll("eofb", ["", "F B", "F"], { nodes: 30 }));
   same("a cut of many", [many.name, many.line], ["SearchCut", 2]);
-  const mixed = await caught(() => nissy.countAll("eofb", ["", "q", "F B", "F"], { nodes: 30, faults: "value" }));
+  const mixed = await caught(() => nissy.countAll("eofb", ["", "q", "F B", "F"], { nodes: 30 }));
   same("a cut behind a fault that is told", [mixed.name, mixed.line], ["SearchCut", 3]);
   const told = await nissy.countAll("eofb", ["", "F B", "F"], { nodes: 30, cut: "value" });
   same("a cut of many, told", told.map((count) => count.cut), [undefined, true, undefined]);
@@ -166,7 +166,7 @@ export async function tryBounds(nissy) {
   const long = ["R U F2 L D R B", "q"];
   const limited = { slack: 4, cut: "value", nodes: 100_000 };
   same("a long search among many", await nissy.countAll("eo", long.slice(0, 1), limited), [await nissy.count("eo", long[0], limited)]);
-  same("and the fault behind it", await thrown(() => nissy.countAll("eo", long, limited)), ["NissyFault", "line 2, column 1: not a move"]);
+  same("and the fault behind it", await thrown(() => nissy.countAll("eo", long, { ...limited, faults: "throw" })), ["NissyFault", "line 2, column 1: not a move"]);
   same("a long one that ends", await nissy.countAll("eo", long.slice(0, 1), { slack: 3 }), [await nissy.count("eo", long[0], { slack: 3 })]);
   const endless = await nissy.count("eo", "R U F2 L D R B", { slack: 20, nodes: 1_000_000, cut: "value" });
   same("a search that would take days", [endless.cut, endless.nodes <= 1_000_000], [true, true]);
@@ -190,19 +190,19 @@ export async function tryMixed(nissy) {
   const lines = ["F", "R q", "", "R\nU", bytes("F"), bytes("F\n"), "(R", " ".repeat(300_000), bytes("R \u2019"), "F B"];
   const wrong = { 1: "line 2, column 3: not a move", 3: "line 4, column 2: not a move", 5: "line 6, column 2: not a move",
     6: "line 7, column 1: bracket not closed", 8: "line 9, column 3: not a move" };
-  const counted = await nissy.countAll("eofb", lines, { faults: "value" });
+  const counted = await nissy.countAll("eofb", lines);
   const wanted = await Promise.all(lines.map(async (line, at) => wrong[at] ?? nissy.count("eofb", line)));
   same("counts of lines of which some are at fault", counted.map(shown), wanted);
   same("they are faults", counted.filter((told) => told instanceof NissyFault).map(({ line, column }) => [line, column]),
     [[2, 3], [4, 2], [6, 2], [7, 1], [9, 3]]);
-  const seen = await nissy.factsAll(lines, { faults: "value" });
+  const seen = await nissy.factsAll(lines);
   same("facts of the same", seen.map(shown), await Promise.all(lines.map(async (line, at) => wrong[at] ?? nissy.facts(line))));
-  const found = await nissy.solveAll("eofb", lines, { faults: "value", most: 1 });
+  const found = await nissy.solveAll("eofb", lines, { most: 1 });
   same("solutions of the same", found.map(shown), await Promise.all(lines.map(async (line, at) => wrong[at] ?? nissy.solve("eofb", line, { most: 1 }))));
-  const [, start] = await nissy.countAll("dr-eofb", ["", "F", ""], { faults: "value" });
+  const [, start] = await nissy.countAll("dr-eofb", ["", "F", ""]);
   same("a step that can't begin", [start.step, start.start, start.line, start.message], ["dr-eofb", "eofb", 2, "line 2: eofb does not hold"]);
   const many = Array.from({ length: 1_000 }, (_, at) => (at % 7 === 3 ? "q" : TURNS[at % 18]));
-  const counts = await nissy.countAll("eofb", many, { faults: "value" });
+  const counts = await nissy.countAll("eofb", many);
   const lengths = counts.map((told) => (told instanceof NissyFault ? told.line : told.length));
   same("a thousand lines, each with its own", lengths, many.map((line, at) => (line === "q" ? at + 1 : Number(/^[FB]'?$/.test(line)))));
   same("facts of no lines", await nissy.factsAll([]), []);

@@ -65,7 +65,7 @@ function tryTwins(step, line) {
   const whole = groups.map(twinsOf);
   same(`${step} after ${line}: each is in a group`, [whole.flat().sort(), groups.length < left.length], [[...kept].sort(), true]);
   const axes = REDUCTIONS.filter(({ name, needs }) => needs === step || name === step).map(({ axis }) => axis);
-  const casesOf = (moves) => axes.map((axis) => nissy.facts(`${line} ${moves}`).cases[axis]).join();
+  const casesOf = (moves) => axes.map((axis) => nissy.facts(`${line} ${moves}`).case[axis]).join();
   same(`${step} after ${line}: twins have one case`, whole.filter((twins) => new Set(twins.map(casesOf)).size !== 1), []);
 }
 

@@ -41,21 +41,20 @@ function differing(one, other) {
 
 /** Many lines as one engine has them, with the progress. */
 async function tryMany(pool, lines) {
-  const faults = "value";
   const told = [];
   const onProgress = (done, all) => told.push([done, all]);
-  same("facts of many lines", differing(await pool.factsAll(lines, { faults, onProgress }), nissy.factsAll(lines, { faults })), "nowhere");
+  same("facts of many lines", differing(await pool.factsAll(lines, { onProgress }), nissy.factsAll(lines)), "nowhere");
   same("the progress begins with none of all", told[0], [0, lines.length]);
   same("it goes on", told.every(([done], at) => at === 0 || done > told[at - 1][0]), true);
   same("up to all", told[told.length - 1], [lines.length, lines.length]);
   same("which is said each time", new Set(told.map(([, all]) => all)), new Set([lines.length]));
-  const counts = await pool.countAll("eofb", lines, { faults, slack: 1, onProgress: () => {} });
-  same("counts of many lines", differing(counts, nissy.countAll("eofb", lines, { faults, slack: 1 })), "nowhere");
+  const counts = await pool.countAll("eofb", lines, { slack: 1, onProgress: () => {} });
+  same("counts of many lines", differing(counts, nissy.countAll("eofb", lines, { slack: 1 })), "nowhere");
   const some = lines.slice(0, 5_000);
-  const found = await pool.solveAll("eo", some, { faults, most: 2 });
-  same("solutions of many lines", differing(found, nissy.solveAll("eo", some, { faults, most: 2 })), "nowhere");
+  const found = await pool.solveAll("eo", some, { most: 2 });
+  same("solutions of many lines", differing(found, nissy.solveAll("eo", some, { most: 2 })), "nowhere");
   const bytes = some.map((line, at) => (at % 2 === 0 ? new TextEncoder().encode(line) : line));
-  same("of bytes", differing(await pool.factsAll(bytes, { faults }), nissy.factsAll(bytes, { faults })), "nowhere");
+  same("of bytes", differing(await pool.factsAll(bytes), nissy.factsAll(bytes)), "nowhere");
 }
 
 /** Faults as one engine has them, wherever they stand. */
@@ -64,9 +63,9 @@ async function tryFaults(pool) {
   for (const places of [[0], [2_999], [1_500, 2_999], [255, 256], [256], [1_023]]) {
     const lines = good.map((line, at) => (places.includes(at) ? "R q" : line));
     const message = `line ${places[0] + 1}, column 3: not a move`;
-    same(`the first fault of ${places}`, await thrown(() => pool.factsAll(lines)), ["NissyFault", message]);
+    same(`the first fault of ${places}`, await thrown(() => pool.factsAll(lines, { faults: "throw" })), ["NissyFault", message]);
   }
-  same("a step that can't begin", await thrown(() => pool.countAll("dr-eofb", ["", "R", "F"])), ["NissyFault", "line 3: eofb does not hold"]);
+  same("a step that can't begin", await thrown(() => pool.countAll("dr-eofb", ["", "R", "F"], { faults: "throw" })), ["NissyFault", "line 3: eofb does not hold"]);
   const cut = { nodes: 10 };
   const isCut = (engine) => thrown(() => engine.countAll("eofb", ["", ENDLESS], cut));
   same("a search that is cut", await isCut(pool), await isCut(nissy));
@@ -74,7 +73,7 @@ async function tryFaults(pool) {
   same("or told", values.map((each) => each.cut), [undefined, true]);
   const begun = performance.now();
   const endless = Array.from({ length: 12 }, () => ENDLESS);
-  same("lines behind a fault aren't waited for", await thrown(() => pool.countAll("eo", ["q", ...endless], LONG)), ["NissyFault", "line 1, column 1: not a move"]);
+  same("lines behind a fault aren't waited for", await thrown(() => pool.countAll("eo", ["q", ...endless], { ...LONG, faults: "throw" })), ["NissyFault", "line 1, column 1: not a move"]);
   same("so it is told soon", performance.now() - begun < SOON, true);
 }
 
@@ -227,7 +226,7 @@ async function tryDead() {
   };
   const pool = new WorkerPool(2, moduleBytes, fails);
   same("a worker that ends", await thrown(() => pool.factsAll(["R", "U", "F"])), ["EngineMissing", "it has ended"]);
-  const next = await pool.factsAll(["R", "U"], { faults: "value" });
+  const next = await pool.factsAll(["R", "U"]);
   same("the next call", next.map(({ text }) => text), ["here", "here"]);
 }
 
@@ -244,7 +243,7 @@ async function tryManyWorkers() {
   process.on("warning", hear);
   const pool = new WorkerPool(40, moduleBytes, quick);
   const lines = Array.from({ length: LINES }, () => "R");
-  same("forty workers share a call", (await pool.factsAll(lines, { faults: "value" })).length, LINES);
+  same("forty workers share a call", (await pool.factsAll(lines)).length, LINES);
   const stop = new AbortController();
   const { signal } = stop;
   const calls = Array.from({ length: 40 }, () => new WorkerCalls(moduleBytes, quick));
@@ -272,7 +271,7 @@ async function tryAhead() {
     };
   });
   const stop = new AbortController();
-  const given = thrown(() => pool.factsAll(Array.from({ length: LINES }, () => "R"), { faults: "value", signal: stop.signal }));
+  const given = thrown(() => pool.factsAll(Array.from({ length: LINES }, () => "R"), { signal: stop.signal }));
   const has = async () => {
     await new Promise((done) => setImmediate(done));
     return workers[0].sent.length;
@@ -282,7 +281,7 @@ async function tryAhead() {
     workers[0].answer(milliseconds);
     same(`so many behind one of ${milliseconds} ms`, await has(), wanted);
   }
-  const other = pool.factsAll(["D"], { faults: "value" });
+  const other = pool.factsAll(["D"]);
   workers[0].answer(1);
   same("one of another call isn't sent before the last one is answered", [await has(), workers[0].sent[0].request.lines[0]], [1, "R"]);
   workers[0].answer(1);
@@ -291,14 +290,14 @@ async function tryAhead() {
   same("it has its answer", (await other).map(({ text }) => text), ["here"]);
   workers[0].answer(1);
   same("two again", await has(), 2);
-  const later = pool.factsAll(["U"], { faults: "value" });
+  const later = pool.factsAll(["U"]);
   stop.abort(new RangeError("no more"));
   same("both are given up", await given, ["RangeError", "no more"]);
   await has();
   same("by the end of their worker", workers.map(({ isEnded }) => isEnded), [true, false]);
   workers[1].answer(1);
   same("another one has what waited", (await later).map(({ text }) => text), ["here"]);
-  const first = thrown(() => pool.factsAll(Array.from({ length: LINES }, () => "R")));
+  const first = thrown(() => pool.factsAll(Array.from({ length: LINES }, () => "R"), { faults: "throw" }));
   await has();
   workers[1].answer(1);
   same("a fault in the first piece", await first, ["NissyFault", "line 1, column 1: here"]);

@@ -1,8 +1,8 @@
 // A caller in TypeScript, who is told of what is wrong: tests/module.sh has tsc read this beside the types of the module.
 import {
-  AXES, isStep, loadNissy, NET, Nissy, NissyFault, NissyPool, NissyWorker, placeOf, SearchCut, startOf, stickersOf,
-  VERSION, type Attempt, type AttemptCheck, type AttemptDoubt, type Axis, type Best, type BestRow, type BestStep, type Check, type Count, type EdgePlace, type Facts, type Form,
-  type FormInText, type FormPlace, type NetPlace, type PlainLine, type SideSolutions, type Solution, type Solutions, type Step, type TextPlace, type Token,
+  AXES, loadNissy, NET, Nissy, NissyFault, NissyPool, NissyWorker, placeOf, SearchCut, startOf, STEPS, stickersOf, VERSION,
+  type Attempt, type AttemptCheck, type Axis, type Best, type BestRow, type Check, type Count, type EdgePlace, type Facts, type Form, type FormPlace,
+  type PlainLine, type SideSolutions, type Solution, type Solutions, type Step, type TextPlace, type Token,
 } from "./node.js";
 import { NissyPool as NissyPoolOfBrowsers, NissyWorker as NissyWorkerOfBrowsers } from "./browser.js";
 import type { LineFault, LineReply, Seen, StartFault } from "./calls/replies.js";
@@ -18,17 +18,17 @@ export async function calls(bytes: Uint8Array, compiled: WebAssembly.Module, req
   const count: Count = nissy.count("eofb", "R U F", { limit: 9 });
   const length: number | null = count.length;
   const fixed: readonly string[] = ["R", "U"];
-  const many: number[] = [...nissy.countAll("eofb", ["R", bytes]), ...nissy.countAll("eofb", fixed)].map(({ nodes }) => nodes);
+  const many: number[] = [...nissy.countAll("eofb", ["R", bytes], { faults: "throw" }), ...nissy.countAll("eofb", fixed, { faults: "throw" })].map(({ nodes }) => nodes);
   const scrambles: string[] = [nissy.scramble(1n, 2, 25), ...nissy.scrambles(1, 2n, 25, 3)];
   const status: number = nissy.run(["steps"] as const, VERSION, 1_000).status;
-  return [inverse, moves, length, many, scrambles, status, nissy.steps()].flat().join(" ");
+  return [inverse, moves, length, many, scrambles, status, STEPS].flat().join(" ");
 }
 
 export async function callsInWorker(bytes: Uint8Array, signal: AbortSignal): Promise<number[]> {
   const workers = [await NissyWorker.start(bytes), await NissyWorkerOfBrowsers.start(bytes)];
   const [worker] = workers;
   const solutions: Solution[] = await worker.solve("eofb", "R U F", { slack: 1, signal });
-  const all: Solution[][] = await worker.solveAll("eofb", ["R U F"] as const, { most: 1, signal });
+  const all: Solution[][] = await worker.solveAll("eofb", ["R U F"] as const, { most: 1, faults: "throw", signal });
   const drawn: string[] = await worker.scrambles(1n, 2, 25, all.length, { signal });
   worker.stop();
   worker.drop();
@@ -48,14 +48,14 @@ export async function read(nissy: Nissy, worker: NissyWorker, text: string, plac
 export function drawn(nissy: Nissy): string {
   const [first, ...others]: readonly Axis[] = AXES;
   const bad: number[] = AXES.map((axis) => nissy.facts("R").badEdges[axis].length);
-  const places: readonly NetPlace[] = NET;
+  const places: readonly { readonly row: number; readonly column: number }[] = NET;
   return [first, others, bad, places.map(({ row, column }) => 12 * row + column)].join(" ");
 }
 
 export function judged(nissy: Nissy): string {
-  const { solved, moves, badEdges, cases, holds }: Facts = nissy.facts("R");
+  const { solved, moves, badEdges, case: cases, holds }: Facts = nissy.facts("R");
   const places: readonly EdgePlace[] = badEdges.fb;
-  const steps: Step[] = [...holds, ...nissy.steps()];
+  const steps: Step[] = [...holds, ...STEPS];
   const { cleanMoves, forms }: Check = nissy.check("R", "R'");
   const names: readonly Form[] = forms;
   const where: FormPlace[] = nissy.formPlaces("M");
@@ -67,28 +67,27 @@ export function judged(nissy: Nissy): string {
 export async function checked(nissy: Nissy, worker: NissyWorker, pool: NissyPool, text: string, signal: AbortSignal): Promise<string> {
   const later: AttemptCheck[][] = [await worker.checkAttempts(text, { signal }), await pool.checkAttempts(text)];
   const [{ attempt, check, fault, place, forms, doubt }]: AttemptCheck[] = [...nissy.checkAttempts(text), ...later.flat()];
-  const each: FormInText[] = forms;
-  const names: Form[] = each.flatMap((form) => [...form.forms]);
+  const names: Form[] = forms.flatMap((form) => [...form.forms]);
   const [of, told, wrong, where]: [Attempt, Check | null, NissyFault | null, TextPlace | null] = [attempt, check, fault, place];
   const pairs: readonly (readonly [string, Uint8Array])[] = [["R", Uint8Array.of(0x52)]];
-  const both: Check[] = [...nissy.checkAll(pairs), ...(await worker.checkAll([["R", "R'"]], { signal }))];
-  const orFaults: (Check | NissyFault | RangeError)[] = await pool.checkAll(pairs, { faults: "value", onProgress: () => both.length });
+  const both: Check[] = [...nissy.checkAll(pairs, { faults: "throw" }), ...(await worker.checkAll([["R", "R'"]], { faults: "throw", signal }))];
+  const orFaults: (Check | NissyFault | RangeError)[] = await pool.checkAll(pairs, { onProgress: () => both.length });
   const known: AttemptCheck[] = [...nissy.checkAttempts(text, { scrambles: ["R", Uint8Array.of(0x52)] }), ...(await pool.checkAttempts(text, { scrambles: ["R"], signal }))];
-  const why: AttemptDoubt | null = known[0].doubt ?? doubt ?? attempt.doubt;
+  const why: AttemptCheck["doubt"] = known[0].doubt ?? doubt ?? attempt.doubt;
   const reason: "side" | "letters" | undefined = why?.reason === "side" || why?.reason === "letters" ? why.reason : undefined;
-  return [of.name, told?.solved, wrong?.part, where?.line, each[0].text, each[0].place.column, names, reason, why?.place.at, orFaults.length].join(" ");
+  return [of.name, told?.solved, wrong?.part, where?.line, forms[0].text, forms[0].place.column, names, reason, why?.place.at, orFaults.length].join(" ");
 }
 
 export async function bounded(nissy: Nissy, worker: NissyWorker, step: string): Promise<number> {
-  const counts: Count[] = nissy.countAll("eofb", ["R"], { nodes: 1_000, cut: "value" });
+  const counts: Count[] = nissy.countAll("eofb", ["R"], { nodes: 1_000, cut: "value", faults: "throw" });
   const told: (Count | NissyFault | RangeError)[] = await worker.countAll("eofb", ["R"], { faults: "value" });
-  const all: (Facts | NissyFault | RangeError)[] = nissy.factsAll(["R"], { faults: "value" });
+  const all: (Facts | NissyFault | RangeError)[] = nissy.factsAll(["R"]);
   // also one chosen as the program runs, and options that were given to the caller
   const chosen: (Count | NissyFault | RangeError)[] = nissy.countAll("eofb", ["R"], { faults: step === "" ? "value" : "throw" });
-  const given: { readonly limit: number; readonly faults?: "throw" } = { limit: 3 };
+  const given: { readonly limit: number; readonly faults: "throw" } = { limit: 3, faults: "throw" };
   const limited: Count[] = await worker.countAll("eofb", ["R"], given);
-  const unset: Count[] = nissy.countAll("eofb", ["R"], { faults: undefined });
-  const solutions: Solutions = nissy.solve(isStep(step) ? step : "eofb", "R", { nodes: 1_000, cut: "value" });
+  const unset: (Count | NissyFault | RangeError)[] = nissy.countAll("eofb", ["R"], { faults: undefined });
+  const solutions: Solutions = nissy.solve(STEPS.find((it) => it === step) ?? "eofb", "R", { nodes: 1_000, cut: "value" });
   // a string that isn't known is judged by the call
   nissy.solve(step, "R");
   const [others, nodes]: [boolean, number] = [solutions.more, solutions.nodes];
@@ -102,9 +101,9 @@ export async function followed(nissy: Nissy, worker: NissyWorker, bytes: Uint8Ar
   const lengths: (number | null)[] = [dr.lengths.normal, dr.lengths.inverse];
   const tokens: Token[] = [...nissy.tokens(line), ...(await worker.tokens(line, { signal }))];
   const pools = [await NissyPool.start(4), await NissyPoolOfBrowsers.start(2, bytes)];
-  const counts: (Count | NissyFault | RangeError)[] = await pools[0].countAll("eofb", ["R"], { faults: "value", signal, onProgress });
-  const facts: Facts[] = await pools[1].factsAll(["R"], { onProgress });
-  const solutions: Solutions[] = await pools[0].solveAll("eofb", ["R"] as const, { most: 1 });
+  const counts: (Count | NissyFault | RangeError)[] = await pools[0].countAll("eofb", ["R"], { signal, onProgress });
+  const facts: Facts[] = await pools[1].factsAll(["R"], { faults: "throw", onProgress });
+  const solutions: Solutions[] = await pools[0].solveAll("eofb", ["R"] as const, { most: 1, faults: "throw" });
   // a function written in the call has the types of what it is told, also beside other options
   await pools[0].countAll("eofb", ["R"], { signal, onProgress: (done, all) => onProgress(done, all) });
   await pools[0].solveAll("eofb", ["R"], { faults: "value", onProgress: (done, all) => onProgress(done, all) });
@@ -114,10 +113,10 @@ export async function followed(nissy: Nissy, worker: NissyWorker, bytes: Uint8Ar
   await pools[0].countAll("eofb", ["R"], { onProgress: async (done, all) => void (await Promise.resolve(onProgress(done, all))) });
   const after: string[] = [nissy.lineAfter(bytes), await worker.lineAfter("R", "(U)", { signal }), await pools[0].lineAfter("R x", bytes)];
   const best: Best = await pools[1].best("R U F", { slack: 1, nodes: 1_000, cut: "value" });
-  const each: (Best | NissyFault | RangeError)[] = await pools[0].bestAll(["R U F"], { faults: "value", most: 3, signal, onProgress });
-  const step: BestStep | null = nissy.bestAll(["R U F"])[0][0].eo;
+  const each: (Best | NissyFault | RangeError)[] = await pools[0].bestAll(["R U F"], { most: 3, signal, onProgress });
+  const step: BestRow["eo"] = nissy.bestAll(["R U F"], { faults: "throw" })[0][0].eo;
   const overBoth: SideSolutions = await pools[0].solve("eofb", "R U F", { sides: "both", slack: 1, signal });
-  const inverse: string = nissy.solveAll("eofb", ["R U F"], { sides: "inverse" })[0][0].inverse + overBoth[0].normal;
+  const inverse: string = nissy.solveAll("eofb", ["R U F"], { sides: "inverse", faults: "throw" })[0][0].inverse + overBoth[0].normal;
   for (const pool of pools) pool.end();
   return [rows, total, eo?.moves, step?.inverse, inverse, each.length, best.nodes, lengths, tokens.map(({ layers }) => layers[0]), counts, facts, solutions, best, solved, pools[0].size, ...after].join(" ");
 }
@@ -133,7 +132,7 @@ export async function leftOpen(nissy: Nissy, worker: NissyWorker, pool: NissyPoo
   const within: { limit: number | undefined; slack: number | undefined; most: number | undefined } = { limit: open, slack: open, most: open };
   const bounds: { nodes: number | undefined; cut: undefined } = { nodes: open, cut: undefined };
   const onProgress: ((done: number, all: number | null) => void) | undefined = undefined;
-  const counts: Count[] = await pool.countAll("eofb", ["R"], { ...within, ...bounds, faults: undefined, signal, onProgress });
+  const counts: (Count | NissyFault | RangeError)[] = await pool.countAll("eofb", ["R"], { ...within, ...bounds, faults: undefined, signal, onProgress });
   const solutions: Solutions = nissy.solve("eofb", "R", { ...within, ...bounds });
   const best: Best = await pool.best("R", { soFar: undefined, slack: open, most: open, ...bounds, signal, onProgress });
   for await (const { moves } of worker.solutions("eofb", "R", { limit: open, slack: open, signal })) if (moves) break;
@@ -201,7 +200,7 @@ export function wrong(nissy: Nissy, worker: NissyWorker): void {
   // @ts-expect-error also that of the best
   nissy.best("R", { cut: true });
   // @ts-expect-error faults in the place of counts are told by the type
-  nissy.countAll("eofb", ["R"], { faults: "value" })[0].nodes.toFixed();
+  nissy.countAll("eofb", ["R"])[0].nodes.toFixed();
   // @ts-expect-error what all callers share is changed by none
   AXES[0] = "rl";
   // @ts-expect-error nor is a place of it

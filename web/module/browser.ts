@@ -4,8 +4,6 @@ import { WorkerCalls } from "./workers/worker-calls.js";
 import { listenedTo } from "./workers/worker-queue.js";
 import type { ModuleSource } from "./engine/source.js";
 
-export type { ModuleSource } from "./engine/source.js";
-
 export * from "./nissy.js";
 
 const SCRIPT = "worker.js";

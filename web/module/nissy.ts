@@ -17,25 +17,19 @@ import type { Calls } from "./calls/calls.js";
 import type { ModuleSource } from "./engine/source.js";
 
 export type {
-  Answer, AttemptCheck, Best, Count, SideSolutions, Solution, Solutions, SolutionsOn,
+  Answer, AttemptCheck, Best, Count, SideSolutions, Solution, Solutions,
 } from "./calls/replies.js";
-export type { Attempt, AttemptCandidate, AttemptDoubt } from "./text/attempts.js";
+export type { Attempt } from "./text/attempts.js";
 export type { Axis, Check, CornerPlace, EdgePlace, Facts, Form } from "./shared/facts.js";
-export type { BestReduction, BestRow, BestStep } from "./shared/ways.js";
-export type { BestWanted, Known, OnSides, Request, Sides, Wanted } from "./calls/requests.js";
-export type { Followed, Progress as BestProgress } from "./calls/signals.js";
-export type { FormInText } from "./text/attempt-checks.js";
+export type { BestRow } from "./shared/ways.js";
+export type { BestWanted, Wanted } from "./calls/requests.js";
 export type { FormPlace, Token } from "./text/tokens.js";
-export type { Many, OnFaults, Told } from "./calls/many.js";
-export type { ModuleSource } from "./engine/source.js";
-export type { NetPlace } from "./shared/stickers.js";
 export type { PlainLine, TextPlace } from "./text/written.js";
-export type { Step, StepName } from "./shared/steps.js";
-export type { Text } from "./shared/bytes.js";
+export type { Step } from "./shared/steps.js";
 
 export { EngineMissing, NissyFault, NoWebAssembly, SearchCut, Stopped } from "./shared/faults.js";
 export { AXES, CORNER_PLACES, EDGE_PLACES } from "./shared/facts.js";
-export { STEPS, isStep, startOf } from "./shared/steps.js";
+export { STEPS, startOf } from "./shared/steps.js";
 export { NET, stickersOf } from "./shared/stickers.js";
 export { placeOf } from "./text/written.js";
 

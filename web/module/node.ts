@@ -7,8 +7,6 @@ import { WorkerCalls } from "./workers/worker-calls.js";
 import type { ModuleSource } from "./engine/source.js";
 import type { NewWorker } from "./workers/worker-queue.js";
 
-export type { ModuleSource } from "./engine/source.js";
-
 export * from "./nissy.js";
 
 /** @returns the module that stands beside this file */

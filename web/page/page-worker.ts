@@ -5,10 +5,14 @@ import { Nissy } from "../module/nissy.js";
 import { bestIn, type BestReply } from "../module/calls/replies.js";
 import { bestRequest } from "../module/calls/requests.js";
 import { serveBy, type Port } from "../module/workers/serve.js";
+import { AXES } from "../module/shared/facts.js";
 import { STEPS, type Step } from "../module/shared/steps.js";
+import { casesPassed } from "./answers/cases-passed.js";
+import { orientationsOn } from "./answers/orientations.js";
+import { positionAfter } from "./answers/position-after.js";
 import { readAddressed, readByHand, readWritten } from "./answers/read-lines.js";
 import { rowsOfList } from "./answers/list-rows.js";
-import { countsAfter, examine, framesOf, walkKept } from "./answers/examine.js";
+import { afterRow, examine, framesOf, walkKept } from "./answers/examine.js";
 import { bracketed, sizeOfCase, stateOf, stepNamed } from "./shared/offered-steps.js";
 import { sidesOfTwins } from "./shared/twins.js";
 import type { BestRow, BestStep } from "../module/shared/ways.js";
@@ -16,10 +20,13 @@ import type { FoundOnAxis, Question, Row } from "./cards/finder.js";
 
 const SCRAMBLE_TURNS = 25;
 const STREAM = 1;
+const ANY_SCRAMBLE = "R' U' F L2 U2 R2 B2 D R2 U' L2 B2 D' F' L D' U2 B' R' D2 F2 U R' U' F";
 
 /** @returns the scramble of a seed, or null if it is none */
 const scrambleOf = (nissy: Nissy, { seed }: { seed: string }) => (/^\d+$/.test(seed) && BigInt(seed) < 2n ** 64n
   ? nissy.scramble(BigInt(seed), STREAM, SCRAMBLE_TURNS) : null);
+
+const partOf = ({ normal, inverse }: BestStep) => ({ normal, inverse });
 
 /** What rows are put in order by, as one number: all moves, those of the first step, the pieces of the case, the
  * step. */
@@ -29,29 +36,41 @@ const rankOf = (total: number, { length, step }: BestStep, far: number) =>
 /** A row as the page has it, with what it reaches in the page's words. */
 function rowInWords({ total, eo, dr, case: name }: BestRow): Row {
   const first = eo ?? dr;
-  const { far } = sizeOfCase(name);
-  const partOf = ({ normal, inverse }: BestStep) => ({ normal, inverse });
   const { step, length, lengths } = dr;
   const next = eo && { step, part: partOf(dr), length, marks: stateOf(stepNamed(step)), case: name, lengths };
   return {
-    total, part: partOf(first), state: stateOf(stepNamed(first.step)), twins: first.twins, far, next,
+    total, part: partOf(first), state: stateOf(stepNamed(first.step)), twins: first.twins, passed: [], next,
     lines: eo ? [] : sidesOfTwins(dr, dr.twins), key: [first.step, first.moves, step].join(" "),
-    rank: rankOf(total, first, far),
+    rank: rankOf(total, first, sizeOfCase(name).far),
   };
+}
+
+/** The rows of reductions, each with the cases that it passes. @param now the line before them */
+function reductionsInWords(nissy: Nissy, now: string, rows: readonly BestRow[]): Row[] {
+  const told = rows.map(rowInWords);
+  for (const axis of AXES) {
+    const own = told.filter((_, at) => stepNamed(rows[at].dr.step).axis === axis);
+    const passed = casesPassed(nissy, axis, now, own.map(({ part }) => part));
+    own.forEach((row, at) => Object.assign(row, { passed: passed[at] }));
+  }
+  return told;
 }
 
 /** The best of one axis, of which it is told how many were tried. */
 function bestOfAxis(
-  _: Nissy, { axis, question: { scramble, parts, slack }, most }: { axis: number; question: Question; most: number },
+  nissy: Nissy, { axis, question, most }: { axis: number; question: Question; most: number },
   tell: (tried: number) => void, engine: Engine,
 ): FoundOnAxis {
+  const { scramble, parts, reached, slack } = question;
   const request = bestRequest(scramble, { soFar: bracketed(parts), slack, most });
   let tried = 0;
   const reply = engine.answer({ ...request, axes: [axis] }, ({ done }) => {
     tried = done;
     tell(tried);
   });
-  return { rows: bestIn(reply as BestReply, request).map(rowInWords), tried };
+  const rows = bestIn(reply as BestReply, request);
+  if (reached.length === 0) return { rows: rows.map(rowInWords), tried };
+  return { rows: reductionsInWords(nissy, positionAfter(nissy, scramble, parts).lines.normal, rows), tried };
 }
 
 /** Has the tables of a step built. */
@@ -59,9 +78,16 @@ function build(nissy: Nissy, { step }: { step: Step }) {
   nissy.count(step, "");
 }
 
+/** Finds the best of one axis of any scramble: a browser compiles well only what has run, so the first answer that
+ * someone waits for would take half as long again. */
+function warmUp(nissy: Nissy, { axis }: { axis: number }, _: unknown, engine: Engine) {
+  const question = { scramble: ANY_SCRAMBLE, parts: [], reached: [], slack: 0 };
+  bestOfAxis(nissy, { axis, question, most: 12 }, () => {}, engine);
+}
+
 const ANSWERS = {
-  bestOfAxis, build, countsAfter, examine, framesOf, readAddressed, readByHand, readWritten, rowsOfList, scrambleOf,
-  walkKept,
+  afterRow, bestOfAxis, build, examine, framesOf, orientationsOn, readAddressed, readByHand, readWritten, rowsOfList,
+  scrambleOf, walkKept, warmUp,
 };
 
 export type Answers = typeof ANSWERS;

@@ -9,8 +9,8 @@ use crate::path_sinks::{PairComparison, Refused};
 use crate::searches::{Search, tables_of};
 use niss_cube::{Cube, Face, Step};
 use niss_search::{
-    Ends, Lengths, Limit, Meter, Outcome, PairsWanted, Sides, Stopped, Tables, search_both_within,
-    search_pairs_of_length,
+    Ends, Lengths, Limit, Meter, Outcome, PairsWanted, Sides, StepFrom, Stopped, Tables,
+    search_both_within, search_pairs_of_length,
 };
 use std::process::Abort;
 
@@ -49,7 +49,11 @@ impl Row {
         };
         let mut meter = Meter::new();
         let mut sink = PairComparison::new(self.pairs);
-        let answer = search_both_within(tables, &cube, lengths, &mut meter, &mut sink, self.bound);
+        let from = StepFrom {
+            tables,
+            cube: &cube,
+        };
+        let answer = search_both_within(&from, lengths, &mut meter, &mut sink, self.bound);
         assert!(rt; sink.took_all(), "{}", self.search.moves);
         assert!(rt; answer == self.answer, "{}", self.search.moves);
         assert!(rt; meter.count() == self.looks, "{}", self.search.moves);
@@ -207,7 +211,11 @@ fn pairs_have_a_length_and_sides(rt: HostRuntime) {
         };
         let mut meter = Meter::new();
         let mut sink = PairComparison::new(pairs);
-        let answer = search_pairs_of_length(&tables, &cube, wanted, &mut meter, &mut sink, ENOUGH);
+        let from = StepFrom {
+            tables: &tables,
+            cube: &cube,
+        };
+        let answer = search_pairs_of_length(&from, wanted, &mut meter, &mut sink, ENOUGH);
         assert!(rt; sink.took_all(), "{turns}");
         assert!(rt; answer == Ok(pairs.len() as u128), "{turns}");
         assert!(rt; meter.count() == *looks, "{turns}");
@@ -227,7 +235,11 @@ fn one_of_twins_may_be_enough(rt: HostRuntime) {
     };
     let mut meter = Meter::new();
     let mut sink = PairComparison::new(&[("", "F"), ("F", "")]);
-    let answer = search_pairs_of_length(&tables, &cube, wanted, &mut meter, &mut sink, ENOUGH);
+    let from = StepFrom {
+        tables: &tables,
+        cube: &cube,
+    };
+    let answer = search_pairs_of_length(&from, wanted, &mut meter, &mut sink, ENOUGH);
     assert!(rt; sink.took_all());
     assert!(rt; answer == Ok(2));
     assert!(rt; meter.count() == 38);

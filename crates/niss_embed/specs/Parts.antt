@@ -105,18 +105,26 @@ IsFound steps solving whole found.WithoutBrackets = ((q : Part) → IsPart steps
 IsFound steps solving whole found.Nothing = ((q : Part) → IsPart steps q → solving q ≡ false) × (whole ≡ false)
 
 abbrev pub no_part : Status → PartAnswer
-no_part status = record { status = status_number status; how = 0; first = 0; last = 0 }
+no_part status = record { status = status_number status; how = 0; first = 0; last = 0; begin = 0 }
 
-abbrev pub answer_of : ℕ → Found → PartAnswer
-answer_of steps (found.Part p) = record { status = status_number Done; how = how_number p.how; first = p.first; last = p.behind - 1 }
-answer_of steps found.WithoutBrackets = record { status = status_number Done; how = 4; first = 0; last = steps - 1 }
-answer_of steps found.Nothing = no_part Done
+-- the answer to steps that begin and end at these places
+abbrev pub answer_of : List ℕ → Found → PartAnswer
+answer_of bounds (found.Part p) =
+    record { status = status_number Done; how = how_number p.how; first = p.first; last = p.behind - 1; begin = slice_index bounds p.first }
+answer_of bounds found.WithoutBrackets = record { status = status_number Done; how = 4; first = 0; last = length bounds - 1 - 1; begin = 0 }
+answer_of bounds found.Nothing = no_part Done
 
--- What a call tells of a scramble and steps, of which one is too long or none is.
-abbrev pub Tells : Bool → (scramble steps : List ℕ) → PartAnswer → Type 0
-Tells true scramble steps answer = answer ≡ no_part Stopped
-Tells false scramble steps answer = let bounds = bounds_of steps in let count = length bounds - 1 in
-    (it : Found) × IsFound count (solves_part (read_line scramble) steps bounds) (solves_whole (read_line scramble) steps bounds) it × (answer ≡ answer_of count it)
+-- What a call tells of a scramble and steps, which begin and end at these places, and of which one is too long or none is.
+abbrev pub Tells : Bool → (scramble steps bounds : List ℕ) → PartAnswer → Type 0
+Tells true scramble steps bounds answer = answer ≡ no_part Stopped
+Tells false scramble steps bounds answer =
+    (it : Found) × IsFound (length bounds - 1) (solves_part (read_line scramble) steps bounds) (solves_whole (read_line scramble) steps bounds) it
+    × (answer ≡ answer_of bounds it)
+
+-- the first eight steps
+abbrev pub first_steps : List ℕ → List ℕ
+first_steps text = take (end_of_steps (bounds_of text)) text
 
 abbrev pub TellsPart : (scramble steps : List ℕ) → PartAnswer → Type 0
-TellsPart scramble steps answer = Tells (nat_lt most_bytes (length scramble) || nat_lt 65536 (length steps)) scramble steps answer
+TellsPart scramble steps answer = let bounds = bounds_of steps in
+    Tells (nat_lt most_bytes (length scramble) || nat_lt 65536 (end_of_steps bounds)) scramble (first_steps steps) bounds answer

@@ -55,7 +55,8 @@ fn answer_of(found: FoundWays) -> WaysAnswer
 }
 
 /// Puts the best ways on from a scramble and the moves so far into the room, as `find_ways` does. The tables are those of the nine
-/// steps. The answer says `Usage` if a number is out of its range, or if fewer ways have place in the room than stand there.
+/// steps. The answer says `Usage` if a number is out of its range, or if fewer ways have place in the room than stand there. After a
+/// fault the room is as it was.
 pub fn best_ways<A: Allocator>(
     tables: &WayTables<A>,
     scramble: &[u8],
@@ -91,7 +92,8 @@ fn put_line(start: &Start, out: &mut [u8]) -> LineAfterAnswer
 }
 
 /// Writes the line of the cube at which one stands after a scramble and the moves so far: clean face turns, named by the centres, with
-/// the moves in brackets inverted before the scramble.
+/// the moves in brackets inverted before the scramble. All of it is written, at most 256 turns, or nothing, if the buffer is too small, a
+/// line has a fault, or both have too many moves; 2,048 bytes are enough.
 pub fn line_after(scramble: &[u8], so_far: &[u8], out: &mut [u8]) -> LineAfterAnswer
     ensures does { WritesLineAfter (both_of scramble.now so_far.now) (memory out.old out.new) result }
     ensures room { 2048 ≤ length out.old → result.status ≢ status_number NoRoom }

@@ -76,7 +76,8 @@ fn facts_of_moves(line: &Niss) -> FactsAnswer
     facts_of_cube(&cube, written_moves(line), cleaned_moves(line))
 }
 
-/// What is seen of any bytes: of the line's cube with its centres home, and of its moves.
+/// What is seen of any bytes: of the line's cube with its centres home, and of its moves; or the line's fault, or that it has
+/// too many bytes.
 pub fn facts_of_line(line: &[u8]) -> FactsAnswer
     ensures { result ≡ facts_of line.now }
 {
@@ -193,7 +194,7 @@ fn check_moves(scramble: &Niss, solution: &Niss, forms: u8) -> CheckAnswer
 }
 
 /// Whether the line of a solution solves that of a scramble, however the cube is held then, how many moves it counts, and
-/// in which forms it is written.
+/// in which forms it is written; or which line has a fault or too many bytes, the scramble's first.
 pub fn check_line(scramble: &[u8], solution: &[u8]) -> CheckAnswer
     ensures { result ≡ check_of scramble.now solution.now }
 {

@@ -100,7 +100,7 @@ fn answer_lines<T: Copy, Q: Question<T>>(
     taken(text, rest, lines)
 }
 
-/// Counts the solutions for each line of a text, as `count_line` does for one.
+/// Counts the solutions for each line of a text, as `count_line` does for one, as long as there is room for answers.
 pub fn count_lines<A: Allocator>(
     tables: &Tables<A>,
     text: &[u8],
@@ -112,7 +112,7 @@ pub fn count_lines<A: Allocator>(
     answer_lines(&Counts { tables, wanted }, text, answers)
 }
 
-/// Tells what is seen of each line of a text, as `facts_of_line` does of one.
+/// Tells what is seen of each line of a text, as `facts_of_line` does of one, as long as there is room for answers.
 pub fn facts_of_lines(text: &[u8], answers: &mut [FactsAnswer]) -> LinesAnswer
     ensures { AnswersLines TellsFacts text.now answers.old answers.new result }
 {

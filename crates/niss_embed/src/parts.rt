@@ -1,8 +1,8 @@
 //! Whether a part of the steps of an attempt solves its scramble.
-ghost use Rattle.std.specs.Prelude.{◌≡◌, ◌<◌, ◌≤◌, ◌+◌, ◌-◌, ◌++◌, ℕ, List, [], ◌∷◌, Ok, length, map, slice_range};
+ghost use Rattle.std.specs.Prelude.{◌≡◌, ◌<◌, ◌≤◌, ◌+◌, ◌-◌, ◌++◌, ℕ, List, [], ◌∷◌, Ok, length, map, take, slice_index, slice_range};
 ghost use Rattle.niss_moves.specs.Reader.{IsFed, read_line};
 ghost use Rattle.niss_embed.specs.Parts.{bounds_of, is_end, read_byte, how_number, arranged, solves_line, solves_part, solves_whole, part};
-ghost use Rattle.niss_embed.specs.Parts.{IsHow, IsFirstFrom, IsFound, IsWithin, TellsPart, answer_of, no_part};
+ghost use Rattle.niss_embed.specs.Parts.{IsHow, IsFirstFrom, IsFound, IsWithin, TellsPart, answer_of, no_part, end_of_steps};
 
 use crate::answer::Status;
 use crate::line_texts::read_by;
@@ -25,6 +25,8 @@ pub struct PartAnswer {
     pub first: u8,
     /// Its last step.
     pub last: u8,
+    /// Where its first step begins.
+    pub begin: usize,
 }
 
 /// What is done with some steps, one after another, so that a line solves.
@@ -134,6 +136,14 @@ fn stretch(text: &[u8], begin: usize, end: usize) -> &[u8]
     } else {
         &text[..0]
     }
+}
+
+/// The first bytes of a text, so many at most.
+fn first_bytes(text: &[u8], count: usize) -> &[u8]
+    ensures is { result.now ≡ take count text.now }
+    ensures few { length result.now ≤ count }
+{
+    &text[..count.min(text.len())]
 }
 
 /// Has a reader read some steps.
@@ -286,14 +296,15 @@ impl PartAnswer {
             how: 0,
             first: 0,
             last: 0,
+            begin: 0,
         }
     }
 
-    /// The answer to so many steps.
-    fn of(found: Found, steps: usize) -> PartAnswer
-        requires few { steps ≤ 8 }
-        requires part { IsWithin steps found }
-        ensures { result ≡ answer_of steps found }
+    /// The answer to steps that begin and end at these places.
+    fn of(found: Found, bounds: &[usize]) -> PartAnswer
+        requires few { (0 < length bounds.now) × (length bounds.now ≤ 9) }
+        requires part { IsWithin (length bounds.now - 1) found }
+        ensures { result ≡ answer_of bounds.now found }
     {
         let done = PartAnswer::nothing(Status::Done);
         match found {
@@ -301,11 +312,12 @@ impl PartAnswer {
                 how: part.how.number(),
                 first: part.first as u8,
                 last: (part.behind - 1) as u8,
+                begin: bounds[part.first],
                 ..done
             },
             Found::WithoutBrackets => PartAnswer {
                 how: 4,
-                last: steps.saturating_sub(1) as u8,
+                last: (bounds.len() - 1).saturating_sub(1) as u8,
                 ..done
             },
             Found::Nothing => done,
@@ -315,18 +327,20 @@ impl PartAnswer {
 
 /// Whether a part of the first eight steps of an attempt solves its scramble, and which: the first in order of `IsBefore`.
 /// Steps stand a line each. A part that has a fault doesn't solve, and nothing does if the scramble has one. The answer
-/// says `Stopped` if one has too many bytes.
+/// says `Stopped` if the scramble or these steps have too many bytes.
 pub fn solving_part(scramble: &[u8], steps: &[u8]) -> PartAnswer
     ensures { TellsPart scramble.now steps.now result }
 {
-    if scramble.len() > MOST_BYTES || steps.len() > MOST_STEP_BYTES {
+    let bounds = bounds_of(steps);
+    let end = bounds[bounds.len() - 1];
+    if scramble.len() > MOST_BYTES || end > MOST_STEP_BYTES {
         return PartAnswer::nothing(Status::Stopped);
     }
-    let bounds = bounds_of(steps);
+    let first = first_bytes(steps, end);
     let mut reader = LineReader::new();
     let found = match read_by(&mut reader, scramble) {
-        Ok(scramble) => found_in(scramble, steps, &bounds),
+        Ok(scramble) => found_in(scramble, first, &bounds),
         Err(_) => Found::Nothing,
     };
-    PartAnswer::of(found, bounds.len() - 1)
+    PartAnswer::of(found, &bounds)
 }

@@ -14,7 +14,7 @@ pub struct WaysWanted {
     pub slack: u8,
     /// On which axes the orientation is: 1 F and B, 2 R and L, 4 U and D, added.
     pub axes: u8,
-    /// How many turns the first step has, from and to.
+    /// How many turns the first step has, from and to, each 0 to 20.
     pub from: u8,
     pub to: u8,
     /// At how many positions it may look.

@@ -11,6 +11,7 @@ use niss_text::{PlainAnswer, TextAnswer, TextLine, plain_line, text_lines, text_
 pub extern "C" fn nissy_plain(text: &[u8], out: &mut [u8], places: &mut [u64]) -> PlainAnswer
     ensures reads { result.status ≡ 0 → IsPlain text.now (take result.length out.new) (take result.length places.new) }
     ensures room { 3 * length text.now ≤ length out.old → 3 * length text.now ≤ length places.old → result.status ≡ 0 }
+    ensures within { (result.length ≤ length out.old) × (result.length ≤ length places.old) }
     ensures behind { drop result.length out.new ≡ drop result.length out.old }
     ensures behind_places { drop result.length places.new ≡ drop result.length places.old }
 {

@@ -2,6 +2,7 @@ pub mod Words
 pub mod ListLemmas
 pub mod DepthFirst
 pub mod DescentParts
+pub mod KeptLemmas
 pub mod SpentLemmas
 pub mod LookLemmas
 pub mod ByLength

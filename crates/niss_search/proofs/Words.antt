@@ -45,7 +45,7 @@ pub use Rattle.niss_search.specs.Cubes.{HasPosition, near_looks_of, near_solutio
 pub use Rattle.niss_search.specs.Deepening.{Delivers, progress_of, Keeps, GoesThrough, progress_at, Descends, Progress, StopsIn, GoesAlong, EndsAt}
 pub use Rattle.niss_search.specs.Delivery.{Path, at_limit, EndedIn, StoppedIn, StoppedAt, WentInto, WentThrough}
 pub use Rattle.niss_search.specs.Deepening.{Part, only_looks, only_paths, then_part, for_each, deepening, all_deepenings, below_at, below}
-pub use Rattle.niss_search.specs.Deepening.{by_place, later_turn_at, all_after}
+pub use Rattle.niss_search.specs.Deepening.{by_place, later_turn_at, goes_on_at, all_after}
 unfoldable pub use Rattle.niss_search.specs.Deepening.{beyond, beyond_at, later, later_at}
 pub use Rattle.niss_search.specs.Draw.{after_words, choice, choices}
 unfoldable pub use Rattle.niss_search.specs.Draw.{draw, next_words}

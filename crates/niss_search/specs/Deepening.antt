@@ -1,6 +1,6 @@
 -- What a search does by its position alone: the paths that it hands out, and how often it looks. (For the search's own
 -- functions.)
-use Rattle.std.specs.Prelude.{◌≡◌, ℕ, zero, suc, ◌+◌, ◌-◌, ◌≤◌, ◌<◌, ◌==◌, nat_le, nat_lt, Bool, true, Result, Ok, Err}
+use Rattle.std.specs.Prelude.{◌≡◌, ℕ, zero, suc, ◌+◌, ◌-◌, ◌≤◌, ◌<◌, ◌^◌, ◌==◌, nat_le, nat_lt, Bool, true, Result, Ok, Err}
 use Rattle.std.specs.Prelude.{if◌then◌else◌, get_or, drop, map, replicate, ◌⊎◌, false, Option, None, Some}
 use Rattle.std.specs.List.{range_with_len}
 use Rattle.std.specs.Prelude.{List, [], ◌∷◌, ◌++◌, length, filter, flat_map, sum_by}
@@ -10,6 +10,7 @@ use Rattle.niss_search.specs.Solutions.{Space, reaching, looks, solutions, all_l
 use Rattle.niss_search.specs.After.{turn_place}
 use Rattle.niss_search.specs.Delivery.{Path, at_limit, WentThrough, EndedIn}
 use Rattle.niss_search.specs.Positions.{positions, distance_at, position_after}
+use Rattle.niss_search.specs.Budgets.{HasSpent}
 use Rattle.niss_search.specs.declared.searching.depth_first.Descent.{Descent}
 
 -- A part of a search: the paths that it hands out, how many looks it makes, and both in order: none at each look, and
@@ -103,6 +104,10 @@ later_turn_at step x p ts u =
     (below_at step (position_after x u) (p ++ u ∷ []) (length ts - 1))
     else only_looks 0
 
+-- what is done at a position whose path is the same as another as far, before its last turns ts, or else later by as many
+abbrev pub goes_on_at : Bool → Step → List GoalCoordinates → (p ts : List Turn) → Part
+goes_on_at same step x p ts = if same then later_at step x p ts else below_at step x p (length ts)
+
 -- what is done of the sequences of at most n turns that come after ts: of those as long, and then of each greater length
 abbrev pub all_after : Step → List GoalCoordinates → ℕ → List Turn → Part
 all_after step x n ts =
@@ -195,6 +200,23 @@ module _ {K : Type 0} where
       let limit = old.path.now.limit in
       Descends (at_limit took limit) (at_limit refused limit) part (progress_of meter old) (progress_of meter_now new)
       is_cut bound
+
+  -- What a descent is asked for: a part whose paths have so many turns more than its own, once `made` looks were made at
+  -- its position.
+  pub record MayMake (part : Part) (left made bound meter : ℕ) (descent : Descent K) : Type 0 where
+    pub room : length (turns descent) + left ≤ descent.path.now.limit
+    pub countable : meter + part.looks < 2 ^ 128
+    pub within : meter ≤ bound
+    pub found : descent.count + made ≤ meter
+
+-- What it gives back then: it made the part, kept the path, and stopped within the bound, which it has spent if it was cut.
+module _ {K E : Type 0} (took refused : K → Path → K → Type 0) (is_cut : E → Bool) (bound : ℕ) (step : Step) where
+  pub record HasMade
+      (part : Part) (made meter meter_now : ℕ) (old new : Descent K) (said : Result (Unit {0}) E) : Type 0 where
+    pub keeps : Keeps old new (meter - made) meter_now
+    pub within : meter_now ≤ bound
+    pub spent : HasSpent is_cut bound step meter_now said
+    pub makes : Makes took refused is_cut bound part meter meter_now old new said
 
 -- What deepenings do that make this part, by what they return: how many paths, or a fault.
 module _

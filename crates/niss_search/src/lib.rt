@@ -69,7 +69,7 @@ pub use path::{Lengths, Limit, TurnPath};
 pub use scan::next_at;
 pub use scramble::random_turns;
 pub use searching::{
-    Ends, Outcome, PairSink, PairsWanted, Sides, Sink, begins_reached, search, search_after,
-    search_both_within, search_pairs_of_length, search_within,
+    Ends, Outcome, PairSink, PairsWanted, Sides, Sink, StepFrom, begins_reached, search,
+    search_after, search_both_within, search_pairs_of_length, search_within,
 };
 pub use tables::{Meter, Position, Tables};

@@ -21,9 +21,10 @@ use crate::path::{Limit, TurnPath};
 use crate::tables::{Meter, Position, Tables};
 pub use after::search_after;
 pub use both::{
-    Ends, PairSink, PairsWanted, Sides, begins_reached, search_both_within, search_pairs_of_length,
+    Ends, PairSink, PairsWanted, Sides, StepFrom, begins_reached, search_both_within,
+    search_pairs_of_length,
 };
-use depth_first::Descent;
+use depth_first::{Descent, Guide};
 use niss_cube::laws::step_turns_in_order;
 use std::alloc::Allocator;
 use std::mem;
@@ -236,7 +237,11 @@ impl<A: Allocator> Root<'_, A> {
             sink,
             count: 0,
         };
-        let (after, ended) = descent.begin(self.tables, self.position, length, held, budget);
+        let guide = Guide {
+            tables: self.tables,
+            budget,
+        };
+        let (after, ended) = descent.begin(guide, self.position, length, held);
         let solutions = descent.count;
         *meter = after;
         ended?;

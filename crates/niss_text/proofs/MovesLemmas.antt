@@ -5,13 +5,13 @@ use Rattle.std.proofs.lemmas.List.{append-nil}
 use Rattle.std.proofs.lemmas.List.Elements.{All-append}
 use Rattle.niss_text.specs.declared.left_out.LeftOut.{LeftOut}
 use Rattle.niss_text.specs.declared.moves.MovesOf.{MovesOf}
-use Rattle.niss_text.specs.declared.moves.MovesOf.TheVariants.{Scramble, Steps, Solution}
+use Rattle.niss_text.specs.declared.moves.MovesOf.TheVariants.{Scramble, Steps, Solution, EachStep}
 use Rattle.niss_text.specs.declared.pen.Beginning.{Beginning}
 use Rattle.niss_text.specs.declared.piece.Place.TheVariants.{Among}
 use Rattle.niss_text.specs.declared.text_line.TextLine.{TextLine}
 use Rattle.niss_text.specs.Pieces.{line_of, places_of}
 use Rattle.niss_text.specs.LeftOut.{left_none, left_of_all, both}
-use Rattle.niss_text.specs.Moves.{LineMoves, AreMoves, AreJoined, opening, closing, opening_place, closing_place, bytes_of_moves, places_of_moves, blank_after, place_after, left_around, left_of_moves, is_wanted, number_of_moves}
+use Rattle.niss_text.specs.Moves.{LineMoves, AreMoves, AreJoined, opening, closing, opening_place, closing_place, bytes_of_moves, places_of_moves, gap_of, gap_after, place_after, left_around, left_of_moves, is_wanted, number_of_moves}
 use Rattle.niss_text.specs.Written.{PutsPart, AddsLine}
 use Rattle.niss_text.proofs.PlainLemmas.{both_assoc, both_none}
 unfoldable use Rattle.niss_text.specs.Moves.{bytes_after, places_after, left_of_lines, most_bytes}
@@ -20,31 +20,39 @@ pub same_moves : (a b : MovesOf) → number_of_moves a ≡ number_of_moves b →
 same_moves Scramble Scramble h = refl
 same_moves Scramble Steps h = absurd (omega arith)
 same_moves Scramble Solution h = absurd (omega arith)
+same_moves Scramble EachStep h = absurd (omega arith)
 same_moves Steps Scramble h = absurd (omega arith)
 same_moves Steps Steps h = refl
 same_moves Steps Solution h = absurd (omega arith)
+same_moves Steps EachStep h = absurd (omega arith)
 same_moves Solution Scramble h = absurd (omega arith)
 same_moves Solution Steps h = absurd (omega arith)
 same_moves Solution Solution h = refl
+same_moves Solution EachStep h = absurd (omega arith)
+same_moves EachStep Scramble h = absurd (omega arith)
+same_moves EachStep Steps h = absurd (omega arith)
+same_moves EachStep Solution h = absurd (omega arith)
+same_moves EachStep EachStep h = refl
 
-pub moves_known : (of : MovesOf) → number_of_moves of ≤ 2
+pub moves_known : (of : MovesOf) → number_of_moves of ≤ 3
 moves_known Scramble = omega arith
 moves_known Steps = omega arith
 moves_known Solution = omega arith
+moves_known EachStep = omega arith
 
 -- what stands around the moves of a line, and these, make them with their brackets
 four : (a b c d e : List ℕ) → ((a ++ (b ++ c)) ++ d) ++ e ≡ a ++ (b ++ (c ++ d ++ e))
 four a b c d e = simp append_assoc
 
-pub one_line : (text part : List ℕ) (line : TextLine) (from : Beginning) (before : Option ℕ) (b0 b1 b2 b3 p0 p1 p2 p3 : List ℕ) (l0 around l1 rest l2 : LeftOut) →
+pub one_line : (text part : List ℕ) (line : TextLine) (from : Beginning) (gap : ℕ) (before : Option ℕ) (b0 b1 b2 b3 p0 p1 p2 p3 : List ℕ) (l0 around l1 rest l2 : LeftOut) →
     from.at ≡ line.moves → from.place ≡ Among → part ≡ slice_range text line.moves line.comment →
-    b1 ≡ b0 ++ (blank_after before ++ opening line) → p1 ≡ p0 ++ (place_after before ++ opening_place line) → PutsPart part from b1 b2 p1 p2 l1 →
+    b1 ≡ b0 ++ (gap_after gap before ++ opening line) → p1 ≡ p0 ++ (place_after before ++ opening_place line) → PutsPart part from b1 b2 p1 p2 l1 →
     b3 ≡ b2 ++ closing line → p3 ≡ p2 ++ closing_place line → around ≡ left_around text line → rest ≡ both around l1 → l2 ≡ both l0 rest →
-    AddsLine text line before b0 b3 p0 p3 l0 l2
-one_line text part line from before b0 b1 b2 b3 p0 p1 p2 p3 l0 around l1 rest l2 at among is begun placed puts ended closed told joined all = record {
+    AddsLine text line gap before b0 b3 p0 p3 l0 l2
+one_line text part line from gap before b0 b1 b2 b3 p0 p1 p2 p3 l0 around l1 rest l2 at among is begun placed puts ended closed told joined all = record {
   parts = puts.parts;
   are_moves = record { are_pieces = puts.are_pieces; untitled = puts.untitled among; whole = puts.whole ∙ is };
-  bytes_are = sym (four b0 (blank_after before) (opening line) (line_of puts.parts) (closing line))
+  bytes_are = sym (four b0 (gap_after gap before) (opening line) (line_of puts.parts) (closing line))
       ∙ ap (λ v. (v ++ line_of puts.parts) ++ closing line) (sym begun) ∙ ap (λ v. v ++ closing line) puts.bytes_are ∙ sym ended;
   places_are = sym (four p0 (place_after before) (opening_place line) (places_of line.moves puts.parts) (closing_place line))
       ∙ ap (λ v. (v ++ places_of line.moves puts.parts) ++ closing_place line) (sym placed)
@@ -58,14 +66,14 @@ unfoldable pub end_after : Option ℕ → List LineMoves → Option ℕ
 end_after before [] = before
 end_after before (m ∷ ms) = end_after (Some m.line.end) ms
 
-bytes_more : (before : Option ℕ) (ms : List LineMoves) (m : LineMoves) →
-    bytes_after before (ms ++ m ∷ []) ≡ bytes_after before ms ++ (blank_after (end_after before ms) ++ bytes_of_moves m)
+bytes_more : (gap : ℕ) (before : Option ℕ) (ms : List LineMoves) (m : LineMoves) →
+    bytes_after gap before (ms ++ m ∷ []) ≡ bytes_after gap before ms ++ (gap_after gap (end_after before ms) ++ bytes_of_moves m)
 unfolding bytes_after end_after
-bytes_more before [] m = append-nil (blank_after before ++ bytes_of_moves m)
-bytes_more before (n ∷ ms) m =
-    ap (λ v. (blank_after before ++ bytes_of_moves n) ++ v) (bytes_more (Some n.line.end) ms m)
-    ∙ sym (append_assoc (blank_after before ++ bytes_of_moves n) (bytes_after (Some n.line.end) ms)
-    (blank_after (end_after (Some n.line.end) ms) ++ bytes_of_moves m))
+bytes_more gap before [] m = append-nil (gap_after gap before ++ bytes_of_moves m)
+bytes_more gap before (n ∷ ms) m =
+    ap (λ v. (gap_after gap before ++ bytes_of_moves n) ++ v) (bytes_more gap (Some n.line.end) ms m)
+    ∙ sym (append_assoc (gap_after gap before ++ bytes_of_moves n) (bytes_after gap (Some n.line.end) ms)
+    (gap_after gap (end_after (Some n.line.end) ms) ++ bytes_of_moves m))
 
 places_more : (before : Option ℕ) (ms : List LineMoves) (m : LineMoves) →
     places_after before (ms ++ m ∷ []) ≡ places_after before ms ++ (place_after (end_after before ms) ++ places_of_moves m)
@@ -101,7 +109,7 @@ pub record SoMany (text : List ℕ) (of : MovesOf) (lines rest : List TextLine) 
   pub are_moves : All (AreMoves text) moves
   pub are_wanted : map (λ m. m.line) moves ++ filter (is_wanted of) rest ≡ filter (is_wanted of) lines
   pub before_is : end_after None moves ≡ before
-  pub bytes_are : bytes_after None moves ≡ bytes
+  pub bytes_are : bytes_after (gap_of of) None moves ≡ bytes
   pub places_are : places_after None moves ≡ places
   pub left_is : left_of_lines text moves ≡ left
 
@@ -137,10 +145,10 @@ one_passed text of lines rest others line before bytes places left is not far = 
   left_is = far.left_is;
 }
 
-pub one_joined : (text : List ℕ) (of : MovesOf) (lines rest others : List TextLine) (line : TextLine) (before before' : Option ℕ) (bytes bytes' places places' : List ℕ)
-    (left left' : LeftOut) → rest ≡ line ∷ others → is_wanted of line ≡ true → SoMany text of lines rest before bytes places left →
-    AddsLine text line before bytes bytes' places places' left left' → before' ≡ Some line.end → SoMany text of lines others before' bytes' places' left'
-one_joined text of lines rest others line before before' bytes bytes' places places' left left' is wanted far adds ends =
+pub one_joined : (text : List ℕ) (of : MovesOf) (lines rest others : List TextLine) (line : TextLine) (gap : ℕ) (before before' : Option ℕ) (bytes bytes' places places' : List ℕ)
+    (left left' : LeftOut) → gap ≡ gap_of of → rest ≡ line ∷ others → is_wanted of line ≡ true → SoMany text of lines rest before bytes places left →
+    AddsLine text line gap before bytes bytes' places places' left left' → before' ≡ Some line.end → SoMany text of lines others before' bytes' places' left'
+one_joined text of lines rest others line gap before before' bytes bytes' places places' left left' same is wanted far adds ends =
     let m : LineMoves = record { line = line; parts = adds.parts } in
     let ms : List LineMoves = far.moves in
     record {
@@ -149,8 +157,9 @@ one_joined text of lines rest others line before before' bytes bytes' places pla
       are_wanted = lines_more ms m (filter (is_wanted of) others) ∙ ap (λ v. map (λ n. n.line) ms ++ v) (sym (filter_with of line others wanted))
           ∙ ap (λ v. map (λ n. n.line) ms ++ filter (is_wanted of) v) (sym is) ∙ far.are_wanted;
       before_is = end_more None ms m ∙ sym ends;
-      bytes_are = bytes_more None ms m ∙ ap (λ v. v ++ (blank_after (end_after None ms) ++ bytes_of_moves m)) far.bytes_are
-          ∙ ap (λ b. bytes ++ (blank_after b ++ bytes_of_moves m)) far.before_is ∙ adds.bytes_are;
+      bytes_are = bytes_more (gap_of of) None ms m ∙ ap (λ v. v ++ (gap_after (gap_of of) (end_after None ms) ++ bytes_of_moves m)) far.bytes_are
+          ∙ ap (λ b. bytes ++ (gap_after (gap_of of) b ++ bytes_of_moves m)) far.before_is
+          ∙ ap (λ g. bytes ++ (gap_after g before ++ bytes_of_moves m)) (sym same) ∙ adds.bytes_are;
       places_are = places_more None ms m ∙ ap (λ v. v ++ (place_after (end_after None ms) ++ places_of_moves m)) far.places_are
           ∙ ap (λ b. places ++ (place_after b ++ places_of_moves m)) far.before_is ∙ adds.places_are;
       left_is = left_more text ms m ∙ ap (λ v. both v (left_of_moves text m)) far.left_is ∙ adds.left_is;

@@ -8,18 +8,20 @@ use Rattle.niss_text.specs.declared.left_out.LeftOut.{LeftOut}
 use Rattle.niss_text.specs.declared.text_line.TextLine.{TextLine}
 use Rattle.niss_text.specs.declared.plain.PlainAnswer.{PlainAnswer}
 use Rattle.niss_text.specs.declared.moves.MovesOf.{MovesOf}
-use Rattle.niss_text.specs.declared.moves.MovesOf.TheVariants.{Scramble, Steps, Solution}
+use Rattle.niss_text.specs.declared.moves.MovesOf.TheVariants.{Scramble, Steps, Solution, EachStep}
 
 abbrev pub number_of_moves : MovesOf → ℕ
 number_of_moves Scramble = 0
 number_of_moves Steps = 1
 number_of_moves Solution = 2
+number_of_moves EachStep = 3
 
 -- the lines whose moves are wanted: those of the scramble, all steps, or those of the solution
 abbrev pub is_wanted : MovesOf → TextLine → Bool
 is_wanted Scramble line = line.kind == 2
 is_wanted Steps line = line.kind == 3
 is_wanted Solution line = (line.kind == 3) && not (line.is_solution == 0)
+is_wanted EachStep line = line.kind == 3
 
 -- a line of a text, and the pieces of its moves
 pub record LineMoves : Type 0 where
@@ -56,19 +58,26 @@ bytes_of_moves m = opening m.line ++ line_of m.parts ++ closing m.line
 abbrev pub places_of_moves : LineMoves → List ℕ
 places_of_moves m = opening_place m.line ++ places_of m.line.moves m.parts ++ closing_place m.line
 
--- what stands between the moves of a line and those of one that ends there: a blank
-abbrev pub blank_after : Option ℕ → List ℕ
-blank_after None = []
-blank_after (Some end) = 32 ∷ []
+-- what parts the moves of two lines: a blank, or a line feed if each step is a line of its own
+abbrev pub gap_of : MovesOf → ℕ
+gap_of Scramble = 32
+gap_of Steps = 32
+gap_of Solution = 32
+gap_of EachStep = 10
+
+-- what stands between the moves of a line and those of one that ends there
+abbrev pub gap_after : ℕ → Option ℕ → List ℕ
+gap_after gap None = []
+gap_after gap (Some end) = gap ∷ []
 
 abbrev pub place_after : Option ℕ → List ℕ
 place_after None = []
 place_after (Some end) = end ∷ []
 
--- the moves of lines after one that ends there, if there is one, joined by blanks
-unfoldable pub bytes_after : Option ℕ → List LineMoves → List ℕ
-bytes_after before [] = []
-bytes_after before (m ∷ ms) = (blank_after before ++ bytes_of_moves m) ++ bytes_after (Some m.line.end) ms
+-- the moves of lines after one that ends there, if there is one, parted by this byte
+unfoldable pub bytes_after : ℕ → Option ℕ → List LineMoves → List ℕ
+bytes_after gap before [] = []
+bytes_after gap before (m ∷ ms) = (gap_after gap before ++ bytes_of_moves m) ++ bytes_after gap (Some m.line.end) ms
 
 unfoldable pub places_after : Option ℕ → List LineMoves → List ℕ
 places_after before [] = []
@@ -95,7 +104,7 @@ pub record AreJoined (text : List ℕ) (of : MovesOf) (lines : List TextLine) (b
   pub moves : List LineMoves
   pub are_moves : All (AreMoves text) moves
   pub are_wanted : map (λ m. m.line) moves ≡ filter (is_wanted of) lines
-  pub bytes_are : bytes_after None moves ≡ bytes
+  pub bytes_are : bytes_after (gap_of of) None moves ≡ bytes
   pub places_are : places_after None moves ≡ places
   pub left_is : left_of_lines text moves ≡ left
 
@@ -111,8 +120,8 @@ pub record WritesMoves (text : List ℕ) (lines : List TextLine) (which : ℕ) (
       × AreJoined text of lines (take answer.length out_new) (take answer.length places_new) left
   pub room : (of : MovesOf) → number_of_moves of ≡ which → most_bytes (filter (is_wanted of) lines) ≤ length out_old →
       most_bytes (filter (is_wanted of) lines) ≤ length places_old → answer.status ≡ 0
-  pub known : which ≤ 2 → (answer.status ≡ 0) ⊎ (answer.status ≡ 4)
-  pub unknown : 2 < which → (answer.status ≡ 2) × (answer.left_out ≡ 0) × (answer.length ≡ 0)
+  pub known : which ≤ 3 → (answer.status ≡ 0) ⊎ (answer.status ≡ 4)
+  pub unknown : 3 < which → (answer.status ≡ 2) × (answer.left_out ≡ 0) × (answer.length ≡ 0)
   pub within : (answer.length ≤ length out_old) × (answer.length ≤ length places_old)
   pub behind : drop answer.length out_new ≡ drop answer.length out_old
   pub behind_places : drop answer.length places_new ≡ drop answer.length places_old

@@ -150,7 +150,8 @@ fn from_place(text: &[u8], at: usize) -> &[u8]
     &text[at..]
 }
 
-/// Tells of each line of a text what it is, as long as there is room. A text has no more lines than bytes.
+/// Tells of each line of a text what it is, as long as there is room: the answer has how many lines there are, and says
+/// `NoRoom` if these are more than have room. A text has no more lines than bytes. What follows them stays as it is.
 pub fn text_lines(text: &[u8], lines: &mut [TextLine]) -> TextAnswer
     ensures covers { result.lines ≤ length lines.old → Covers text.now 0 (take result.lines lines.new) (length text.now) }
     ensures few { result.lines ≤ length text.now }

@@ -28,7 +28,7 @@ pub enum Doubt {
     Letters,
     /// A scramble has a move in a small letter.
     SmallLetters,
-    /// Moves stand after the slashes of a comment.
+    /// Three moves or more stand one after another in a comment.
     Comment,
     /// Moves are said to be made several times.
     Repetition,
@@ -104,7 +104,7 @@ fn first_said(text: &[u8], from: usize, to: usize, has_brackets: bool) -> (Doubt
     for at in from..to {
         let rest = &text[at..to];
         let is_begun = at == from || !is_letter(text[at.saturating_sub(1)]);
-        if is_begun || word_length(rest, b"inv") > 0 {
+        if is_begun || (matches!(text[at], b'i' | b'I') && word_length(rest, b"inv") > 0) {
             let doubt = doubt_of_words(rest, has_brackets);
             if doubt != Doubt::Nothing {
                 return (doubt, at);
@@ -251,11 +251,9 @@ fn is_inverse(text: &[u8], told: &TextLine) -> bool
 {
     let label = &text[told.label_begin..told.label_end];
     let comment = &text[told.comment..told.end];
-    let is_named = says(label, Wanted::Inverse) || says(comment, Wanted::Inverse);
-    let is_switched = says(label, Wanted::Switch) || says(comment, Wanted::Switch);
     told.is_a(LineKind::Step)
-        && is_named
-        && !is_switched
+        && (says(label, Wanted::Inverse) || says(comment, Wanted::Inverse))
+        && !(says(label, Wanted::Switch) || says(comment, Wanted::Switch))
         && !has_bracket(&text[told.moves..told.comment])
 }
 

@@ -297,8 +297,11 @@ fn words_before_colon(line: &[u8]) -> (usize, usize)
     ensures order { result.0 ≤ result.1 }
     ensures fits { result.1 ≤ length line.now }
 {
+    if line.len() < 2 || !is_letter(first_kind(line)) || !is_of_word(first_kind(&line[1..])) {
+        return (0, 0);
+    }
     let words = length_of(line, Class::Words);
-    if words < 2 || !is_letter(first_kind(line)) || !is_of_word(first_kind(&line[1..])) {
+    if words < 2 {
         return (0, 0);
     }
     let count = &line[words..];

@@ -63,14 +63,16 @@ pub struct Line {
 }
 
 impl Line {
-    /// A line of that many bytes, which has nothing but moves from there on, or none at its end.
-    fn bare(moves: usize, length: usize, is_whole: bool) -> Line
-        requires { moves ≤ length }
+    /// A line of that many bytes, which after its head, if it has one, has nothing but moves from there on, or none at its
+    /// end.
+    fn bare(head: (Head, usize), moves: usize, length: usize, is_whole: bool) -> Line
+        requires head { head.1 ≤ moves }
+        requires moves { moves ≤ length }
         ensures { result.length ≡ length }
     {
         Line {
-            head_kind: Head::None,
-            head: 0,
+            head_kind: head.0,
+            head: head.1,
             label_begin: moves,
             label_end: moves,
             moves,
@@ -78,10 +80,10 @@ impl Line {
             name: length,
             slashes: length,
             length,
-            is_blank: moves == length,
-            is_head_alone: false,
+            is_blank: moves == length && head.0 == Head::None,
+            is_head_alone: moves == length && head.0 != Head::None,
             is_moves: moves < length,
-            is_told: false,
+            is_told: head.0 == Head::Word,
             is_solution: false,
             is_final: false,
             is_step: false,
@@ -152,11 +154,13 @@ fn head_of(line: &[u8], numbers: Numbers) -> (Head, usize)
     if word > 0 {
         return (Head::Word, behind_number + word);
     }
-    let listed = listed_length(line, numbers == Numbers::WithExtras);
-    if numbers == Numbers::OfLines || listed == 0 {
+    if numbers == Numbers::OfLines {
         return (Head::None, 0);
     }
-    (Head::Number, listed)
+    match listed_length(line, numbers == Numbers::WithExtras) {
+        0 => (Head::None, 0),
+        listed => (Head::Number, listed),
+    }
 }
 
 /// Where the parts of a line are: its label, its moves, and what is said after them.
@@ -238,21 +242,34 @@ fn line_behind(line: &[u8], head_kind: Head, head: usize) -> Line
     }
 }
 
+/// A line with a head, which ends there.
+fn headed_line(line: &[u8], kind: Head, head: usize) -> Line
+    requires { head ≤ length line.now }
+    ensures length { result.length ≡ length line.now }
+{
+    let moves = head + blanks(&line[head..]);
+    let body = &line[moves..];
+    if body.is_empty() || are_plain_moves(body) {
+        return Line::bare((kind, head), moves, line.len(), is_whole_scramble(body));
+    }
+    line_behind(line, kind, head)
+}
+
 /// What is seen of a line. One that goes on with prose after its head has none.
 pub fn line_of(line: &[u8], numbers: Numbers) -> Line
     ensures { result.length ≡ length line.now }
 {
     // E2 may be an extra
     if are_plain_moves(line) && line[0] != b'E' {
-        return Line::bare(0, line.len(), is_whole_scramble(line));
+        return Line::bare((Head::None, 0), 0, line.len(), is_whole_scramble(line));
     }
     let begin = blanks(line);
     if begin == line.len() {
-        return Line::bare(begin, begin, false);
+        return Line::bare((Head::None, 0), begin, begin, false);
     }
     let (kind, length) = head_of(&line[begin..], numbers);
     if kind != Head::None {
-        let seen = line_behind(line, kind, begin + length);
+        let seen = headed_line(line, kind, begin + length);
         if seen.is_moves || seen.is_head_alone {
             return seen;
         }

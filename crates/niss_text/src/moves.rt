@@ -3,7 +3,7 @@ ghost use Rattle.std.specs.Prelude.{◌≡◌, ◌<◌, ◌≤◌, ◌+◌, ◌*
 ghost use Rattle.std.specs.List.{list_any};
 ghost use Rattle.niss_text.specs.Signs.{is_digit};
 ghost use Rattle.niss_text.specs.LeftOut.{left_none};
-ghost use Rattle.niss_text.specs.Moves.{is_wanted, is_inverse, left_around, number_of_moves, blank_after, place_after, opening, opening_place, closing, closing_place, WritesMoves};
+ghost use Rattle.niss_text.specs.Moves.{is_wanted, is_inverse, left_around, number_of_moves, gap_of, gap_after, place_after, opening, opening_place, closing, closing_place, WritesMoves};
 ghost use Rattle.niss_text.specs.Written.{AddsLine};
 
 use crate::left_out::LeftOut;
@@ -21,17 +21,20 @@ pub enum MovesOf {
     /// All steps.
     Steps,
     Solution,
+    /// All steps, each on a line of its own.
+    EachStep,
 }
 
 impl MovesOf {
     /// Those of a number.
     fn of_number(number: u8) -> Option<MovesOf>
-        ensures { MatchOption result (2 < number) (λ of. number_of_moves of ≡ number) }
+        ensures { MatchOption result (3 < number) (λ of. number_of_moves of ≡ number) }
     {
         match number {
             0 => Some(MovesOf::Scramble),
             1 => Some(MovesOf::Steps),
             2 => Some(MovesOf::Solution),
+            3 => Some(MovesOf::EachStep),
             _ => None,
         }
     }
@@ -42,8 +45,18 @@ impl MovesOf {
     {
         match self {
             MovesOf::Scramble => line.is_a(LineKind::Scramble),
-            MovesOf::Steps => line.is_a(LineKind::Step),
+            MovesOf::Steps | MovesOf::EachStep => line.is_a(LineKind::Step),
             MovesOf::Solution => line.is_a(LineKind::Step) && line.is_solution != 0,
+        }
+    }
+
+    /// What parts the moves of two lines.
+    fn gap(self) -> u8
+        ensures { result ≡ gap_of self }
+    {
+        match self {
+            MovesOf::EachStep => b'\n',
+            _ => b' ',
         }
     }
 }
@@ -110,6 +123,8 @@ fn end_line(pen: Pen, line: &TextLine, out: &mut [u8], places: &mut [u64]) -> Pe
 /// How far the moves of some lines are written.
 #[derive(Clone, Copy)]
 struct Joined {
+    /// What parts the moves of two lines.
+    gap: u8,
     pen: Pen,
     /// Where the last line ends, if there was one.
     before: Option<usize>,
@@ -117,12 +132,12 @@ struct Joined {
 }
 
 impl Joined {
-    /// Writes what stands before the moves of a line: a blank after those of another, and a bracket if they are on the
+    /// Writes what stands before the moves of a line: a gap after those of another, and a bracket if they are on the
     /// inverse.
     fn begin_line(self, line: &TextLine, out: &mut [u8], places: &mut [u64]) -> Pen
         requires { (self.pen.length ≤ length out.old) × (self.pen.length ≤ length places.old) }
         ensures had { result.has_room ≡ true → self.pen.has_room ≡ true }
-        ensures written { result.has_room ≡ true → take result.length out.new ≡ take self.pen.length out.old ++ (blank_after self.before ++ opening line.now) }
+        ensures written { result.has_room ≡ true → take result.length out.new ≡ take self.pen.length out.old ++ (gap_after self.gap self.before ++ opening line.now) }
         ensures placed { result.has_room ≡ true → take result.length places.new ≡ take self.pen.length places.old ++ (place_after self.before ++ opening_place line.now) }
         ensures room { self.pen.has_room ≡ true → self.pen.length + 2 ≤ length out.old → self.pen.length + 2 ≤ length places.old → result.has_room ≡ true }
         ensures further { (self.pen.length ≤ result.length) × (result.length ≤ self.pen.length + 2) }
@@ -131,7 +146,7 @@ impl Joined {
         ensures behind_places { drop result.length places.new ≡ drop result.length places.old }
     {
         let pen = match self.before {
-            Some(end) => self.pen.put_sign(b' ', end as u64, out, places),
+            Some(end) => self.pen.put_sign(self.gap, end as u64, out, places),
             None => self.pen,
         };
         if is_inverse(line) {
@@ -145,8 +160,9 @@ impl Joined {
     fn with_line(self, text: &[u8], line: &TextLine, out: &mut [u8], places: &mut [u64]) -> Joined
         requires { (self.pen.length ≤ length out.old) × (self.pen.length ≤ length places.old) }
         ensures before { result.before ≡ Some line.now.end }
+        ensures gap { result.gap ≡ self.gap }
         ensures had { result.pen.has_room ≡ true → self.pen.has_room ≡ true }
-        ensures adds { result.pen.has_room ≡ true → AddsLine text.now line.now self.before (take self.pen.length out.old) (take result.pen.length out.new)
+        ensures adds { result.pen.has_room ≡ true → AddsLine text.now line.now self.gap self.before (take self.pen.length out.old) (take result.pen.length out.new)
             (take self.pen.length places.old) (take result.pen.length places.new) self.left_out result.left_out }
         ensures room { self.pen.has_room ≡ true → self.pen.length + (3 * (line.now.comment - line.now.moves) + 3) ≤ length out.old →
             self.pen.length + (3 * (line.now.comment - line.now.moves) + 3) ≤ length places.old → result.pen.has_room ≡ true }
@@ -163,6 +179,7 @@ impl Joined {
         let begun = self.begin_line(line, out, places);
         let (put, left_out) = begun.put_part(part, from, out, places);
         Joined {
+            gap: self.gap,
             pen: end_line(put, line, out, places),
             before: Some(line.end),
             left_out: self.left_out.and(left_around(text, line).and(left_out)),
@@ -171,8 +188,10 @@ impl Joined {
 }
 
 /// Writes the moves of some lines of a text as one line, joined by blanks, and in brackets if they are said to be on the
-/// inverse: of the lines those of the scramble, all steps, or those of the solution, by the number of `MovesOf`. Each
-/// byte that is written has its place in the text.
+/// inverse: of the lines those of the scramble, all steps, or those of the solution, by the number of `MovesOf`; or each
+/// step as a line of its own. Each byte that is written has its place in the text. Three bytes for each from `moves` to
+/// `comment` of these lines, and three for each line, are room enough; else the answer may say `NoRoom`. It says `Usage`,
+/// with nothing written, if the number is another. What follows the line in both rooms stays as it is.
 pub fn text_moves(
     text: &[u8],
     lines: &[TextLine],
@@ -190,6 +209,7 @@ pub fn text_moves(
         };
     };
     let mut joined = Joined {
+        gap: of.gap(),
         pen: Pen::new(),
         before: None,
         left_out: LeftOut::none(),

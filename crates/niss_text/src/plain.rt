@@ -43,7 +43,8 @@ impl PlainAnswer {
 }
 
 /// Writes a text as one line: without labels, comments, and numbers of lines and moves. Each byte that is written has
-/// its place in the text. Three bytes for each of the text are room enough.
+/// its place in the text. Three bytes for each of the text are room enough; else the answer may say `NoRoom`. What follows
+/// the line in both rooms stays as it is.
 pub fn plain_line(text: &[u8], out: &mut [u8], places: &mut [u64]) -> PlainAnswer
     ensures reads { result.status ≡ 0 → IsPlain text.now (take result.length out.new) (take result.length places.new) }
     ensures room { 3 * length text.now ≤ length out.old → 3 * length text.now ≤ length places.old → result.status ≡ 0 }

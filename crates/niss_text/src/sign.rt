@@ -109,6 +109,7 @@ fn kind_of_three(first: u8, second: u8, third: u8) -> Option<Kind>
 }
 
 /// The first sign of a text.
+#[inline(always)]
 pub fn first_sign(text: &[u8]) -> Sign
     requires { 0 < length text.now }
     ensures some { 0 < result.length }
@@ -226,6 +227,22 @@ impl Class {
 /// What is after the signs of a class in front of a text.
 #[inline(never)]
 pub fn behind(text: &[u8], class: Class) -> &[u8]
+    ensures { length result.now ≤ length text.now }
+{
+    // a loop for each of them, which has the test of that one alone
+    match class {
+        Class::Skipped => passed(text, Class::Skipped),
+        Class::Word => passed(text, Class::Word),
+        Class::Letters => passed(text, Class::Letters),
+        Class::NoLetters => passed(text, Class::NoLetters),
+        Class::NoBlanks => passed(text, Class::NoBlanks),
+        Class::Words => passed(text, Class::Words),
+    }
+}
+
+/// The same, to be compiled for one class.
+#[inline(always)]
+fn passed(text: &[u8], class: Class) -> &[u8]
     ensures { length result.now ≤ length text.now }
 {
     let mut rest = text;

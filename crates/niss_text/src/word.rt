@@ -1,5 +1,5 @@
 //! The words of a line: moves that stand alone, moves in one word, and words that are no moves.
-ghost use Rattle.std.specs.Prelude.{◌≡◌, ◌≤◌, ◌<◌, true, length};
+ghost use Rattle.std.specs.Prelude.{◌≡◌, ◌≤◌, ◌<◌, true, false, length, IfSome};
 
 use crate::forms::count_length;
 use crate::sign::{Kind, first_sign};
@@ -291,11 +291,42 @@ fn spelled_word(text: &[u8]) -> (Seen, usize)
     (seen, text.len() - rest.len())
 }
 
+/// Whether a text ends at a place, or has a blank there.
+fn ends_word(text: &[u8], at: usize) -> bool
+    ensures { result ≡ false → at < length text.now }
+{
+    at >= text.len() || text[at] == b' '
+}
+
+/// A word in front of a text that is one letter or digit, or a move with one sign after it, and how many bytes it has:
+/// most words are.
+fn short_word(text: &[u8]) -> Option<(Word, usize)>
+    requires { 0 < length text.now }
+    ensures { IfSome result (λ word. (0 < word.1) × (word.1 ≤ length text.now)) }
+{
+    let is_move = is_capital_move(text[0]) || is_small_move(text[0]);
+    if ends_word(text, 1) {
+        return match text[0] {
+            _ if is_move => Some((Word::Move, 1)),
+            b'A'..=b'Z' | b'a'..=b'z' => Some((Word::Other, 1)),
+            b'0'..=b'9' => Some((Word::Number, 1)),
+            _ => None,
+        };
+    }
+    if is_move && matches!(text[1], b'2' | b'\'') && ends_word(text, 2) {
+        return Some((Word::Move, 2));
+    }
+    None
+}
+
 /// The first word of a text, and how many bytes it has.
 pub fn first_word(text: &[u8]) -> (Word, usize)
     requires { 0 < length text.now }
     ensures { (0 < result.1) × (result.1 ≤ length text.now) }
 {
+    if let Some(word) = short_word(text) {
+        return word;
+    }
     let count = count_length(text);
     if count > 0 {
         return (Word::Parting, count);

@@ -174,13 +174,13 @@ fn begins_skeleton(text: &[u8]) -> bool {
 pub fn head_word_length(text: &[u8]) -> usize
     ensures { result ≤ length text.now }
 {
-    let scramble = word_length(text, b"scramble");
-    if scramble > 0 {
-        return scramble;
+    if text.is_empty() {
+        return 0;
     }
-    let attempt = word_length(text, b"attempt");
-    if attempt > 0 {
-        return attempt;
+    match small(text[0]) {
+        b's' => word_length(text, b"scramble"),
+        b'a' => word_length(text, b"attempt"),
+        b'e' => word_length(text, b"extra"),
+        _ => 0,
     }
-    word_length(text, b"extra")
 }

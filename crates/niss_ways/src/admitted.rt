@@ -2,8 +2,10 @@
 ghost use Rattle.std.specs.Prelude.{◌≡◌, ◌≤◌, IfOk};
 
 use crate::looks::{Cut, Looks, NO_LENGTH};
-use niss_cube::Cube;
-use niss_search::{Ends, Limit, PairSink, PairsWanted, Sides, Stopped, Tables, TurnPath};
+use crate::nearest::{Enough, Nearest};
+use crate::solution::Solution;
+use crate::start::Start;
+use niss_search::{Ends, Limit, PairsWanted, Sides, Stopped, Tables};
 use std::alloc::Allocator;
 
 /// The least lengths of a step's solutions, on the scramble alone, on its inverse alone and over both, or 21; and by
@@ -17,30 +19,10 @@ pub struct Admitted {
     ghost small: { (normal ≤ 21) × (inverse ≤ 21) × (both ≤ 21) × (slack ≤ 20) },
 }
 
-/// Refuses the first solution: that there is one is enough.
-#[derive(Drop)]
-struct First;
-
-/// There is a solution.
-#[derive(Clone, Copy, Debug, PartialEq, Eq)]
-struct Found;
-
-impl PairSink for First {
-    type Fault = Found;
-
-    ghost took = { λ old p new. Unit {0} };
-
-    ghost refused = { λ old p new. Unit {0} };
-
-    fn take(&mut self, _normal: &TurnPath, _inverse: &TurnPath) -> Result<(), Found> {
-        Err(Found)
-    }
-}
-
 /// The least length over both sides, which is at most the least on one.
 fn least_on_both<A: Allocator>(
     tables: &Tables<A>,
-    cube: &Cube,
+    start: &Start,
     on_one: u8,
     looks: &mut Looks,
 ) -> Result<u8, Cut>
@@ -48,6 +30,7 @@ fn least_on_both<A: Allocator>(
     ensures most { looks.new.most ≡ looks.old.most }
     ensures length { IfOk result (λ length. length ≤ 21) }
 {
+    let nothing = Solution::of(&[], &[]);
     for length in 0..on_one {
         let Some(limit) = Limit::new(length) else {
             break;
@@ -58,9 +41,10 @@ fn least_on_both<A: Allocator>(
             ends: Ends::NotCounter,
             length: limit,
         };
-        match looks.search(tables, cube, wanted, &mut First) {
+        let mut first = Nearest::first(start, &nothing);
+        match looks.search(tables, start.cube(), wanted, &mut first) {
             Ok(_) => {}
-            Err(Stopped::Refused(Found)) => return Ok(length),
+            Err(Stopped::Refused(Enough)) => return Ok(length),
             Err(Stopped::Cut) => return Err(Cut),
         }
     }
@@ -76,19 +60,20 @@ impl Admitted {
         slack: 0,
     };
 
-    /// Those of a step from a cube.
+    /// Those of a step from where one stands.
     pub fn find<A: Allocator>(
         tables: &Tables<A>,
-        cube: &Cube,
+        start: &Start,
         slack: Limit,
         looks: &mut Looks,
     ) -> Result<Admitted, Cut>
         ensures { looks.new.most ≡ looks.old.most }
     {
         let slack = slack.get();
+        let cube = start.cube();
         let normal = looks.distance(tables, cube)?;
         let inverse = looks.distance(tables, &cube.inverse())?;
-        let both = least_on_both(tables, cube, normal.min(inverse), looks)?;
+        let both = least_on_both(tables, start, normal.min(inverse), looks)?;
         Ok(Admitted {
             normal,
             inverse,

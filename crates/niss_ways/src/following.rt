@@ -203,12 +203,21 @@ impl<'a, A: Allocator> Following<'a, A> {
         })
     }
 
-    /// The place in the order of a way with so many moves in all that begins with an orientation or one of its twins.
-    pub fn rank_with(&self, total: u16, class: &Solution) -> u64 {
+    /// Whether a way with as many moves in all as another comes before it, if it begins with an orientation or one of its
+    /// twins. The case is looked at only if their first steps are equally long.
+    pub fn comes_before(&self, class: &Solution, other: &Way) -> bool {
+        let length = u16::from(class.len());
+        let rank = other.rank();
+        if rank_by(other.total, length + 1, 0, 0) <= rank {
+            return true;
+        }
+        if rank < rank_by(other.total, length, 0, 0) {
+            return false;
+        }
         let cube = class.cube_after(self.start.cube());
         let (corners, edges) = case_of(self.axes.domino, &cube);
         let step = edge_step_on(self.axes.edges) as u8;
-        rank_by(total, u16::from(class.len()), corners + edges, step)
+        rank_by(other.total, length, corners + edges, step) < rank
     }
 
     /// At most so many moves there are in all with the best reduction after an orientation.

@@ -93,3 +93,29 @@ pub fn twin_of(turns: &[Turn], number: u8) -> Sequence
     }
     twin
 }
+
+/// The half turn of the face of a quarter turn at a place from the end.
+fn half_turn(turns: &[Turn], from_end: usize) -> Option<Turn> {
+    let place = turns.len().checked_sub(from_end)?;
+    let turn = turns.get(place)?;
+    let half = Turn {
+        face: turn.face,
+        power: Power::Half,
+    };
+    (turn.power != Power::Half).then_some(half)
+}
+
+/// The half turns that lead to the twin of a number: of the last turn, and of the one before, if it turns them round.
+pub fn half_turns(turns: &[Turn], number: u8) -> [Option<Turn>; 2] {
+    let last = if number & 1 != 0 {
+        half_turn(turns, 1)
+    } else {
+        None
+    };
+    let before = if number & 2 != 0 {
+        half_turn(turns, 2)
+    } else {
+        None
+    };
+    [last, before]
+}

@@ -9,7 +9,7 @@ use crate::start::Start;
 use crate::way::{Names, Part};
 use niss_cube::{Cube, Step};
 use niss_search::{
-    Ends, Limit, Meter, PairSink, PairsWanted, Sides, Stopped, Tables, TurnPath,
+    Ends, Limit, Meter, PairSink, PairsWanted, Sides, StepFrom, Stopped, Tables, TurnPath,
     search_pairs_of_length,
 };
 use std::alloc::Allocator;
@@ -109,7 +109,8 @@ impl Rows<'_> {
             ends: Ends::Any,
             length: listed.length,
         };
-        let ended = search_pairs_of_length(tables, cube, wanted, &mut meter, self, most);
+        let from = StepFrom { tables, cube };
+        let ended = search_pairs_of_length(&from, wanted, &mut meter, self, most);
         self.found(&ended, meter.count() as u64)
     }
 

@@ -7,7 +7,9 @@ ghost use Rattle.niss_search.specs.BothSides.{pairs_with, looks_with};
 ghost use Rattle.niss_ways.specs.Searched.{Searched};
 
 use niss_cube::Cube;
-use niss_search::{Meter, PairSink, PairsWanted, Stopped, Tables, search_pairs_of_length};
+use niss_search::{
+    Meter, PairSink, PairsWanted, StepFrom, Stopped, Tables, search_pairs_of_length,
+};
 use std::alloc::Allocator;
 
 /// More turns than a solution has.
@@ -117,6 +119,7 @@ impl Looks {
     {
         let most = self.most;
         let left = u128::from(most) - self.meter.count();
-        search_pairs_of_length(tables, cube, wanted, &mut self.meter, sink, left)
+        let from = StepFrom { tables, cube };
+        search_pairs_of_length(&from, wanted, &mut self.meter, sink, left)
     }
 }

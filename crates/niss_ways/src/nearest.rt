@@ -36,7 +36,19 @@ fn merges(first: &[Turn], then: &[Turn]) -> bool
     !first.is_empty() && cleaned(&[], first, then).len() < first.len() + then.len()
 }
 
-impl Nearest<'_> {
+impl<'a> Nearest<'a> {
+    /// After nothing: the first solution of a step that comes is enough, and is kept.
+    pub fn first(start: &'a Start, nothing: &'a Solution) -> Nearest<'a> {
+        Nearest {
+            start,
+            orientation: nothing,
+            below: u16::MAX,
+            is_plain: true,
+            is_seen: false,
+            found: None,
+        }
+    }
+
     /// With which ends reductions are asked for: if nothing merges, the first one comes before its twins.
     pub fn ends(&self) -> Ends {
         if self.is_plain {

@@ -92,7 +92,7 @@ fn admitted_on<A: Allocator>(
 {
     match tables.on(axis) {
         Some(on_axis) if wish.axes.has(axis) => {
-            Admitted::find(on_axis.orientation, start.cube(), wish.slack, looks)
+            Admitted::find(on_axis.orientation, start, wish.slack, looks)
         }
         _ => Ok(Admitted::NONE),
     }
@@ -159,7 +159,7 @@ impl<A: Allocator> Orientations<'_, A> {
             return 0;
         }
         let last = self.room[places - 1];
-        let is_better = following.rank_with(last.total, class) < last.rank();
+        let is_better = following.comes_before(class, &last);
         self.below
             .min(last.total.saturating_add(u16::from(is_better)))
     }

@@ -19,9 +19,8 @@ pub struct Oriented {
 }
 
 impl Oriented {
-    /// That of an orientation on an axis.
-    pub fn by(start: &Start, axis: Axis, solution: Solution) -> Oriented {
-        let cube = solution.cube_after(start.cube());
+    /// That of an orientation on an axis, after which the cube is this one.
+    pub fn by(start: &Start, axis: Axis, solution: Solution, cube: Cube) -> Oriented {
         let made = Made::with(start, axis, &solution);
         Oriented {
             solution,

@@ -105,7 +105,7 @@ impl<'a, A: Allocator> Reductions<'a, A> {
         ensures most { looks.new.most ≡ looks.old.most }
         ensures room { KeepsReductions self.old self.new }
     {
-        let admitted = Admitted::find(reduction, self.start.cube(), wish.slack, looks)?;
+        let admitted = Admitted::find(reduction, self.start, wish.slack, looks)?;
         self.reduction = reduction;
         self.on_normal = admitted.normal;
         self.on_inverse = admitted.inverse;

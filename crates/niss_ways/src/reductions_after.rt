@@ -7,7 +7,7 @@ use crate::oriented::Oriented;
 use crate::solution::Solution;
 use crate::start::Start;
 use crate::tables::AxisTables;
-use niss_cube::Axis;
+use niss_cube::{Axis, Cube};
 use std::alloc::Allocator;
 
 /// Something of each of the two.
@@ -54,8 +54,9 @@ impl<'a, A: Allocator> ReductionsAfter<'a, A> {
             first: u16::MAX,
             second: u16::MAX,
         };
+        let cube = class.cube_after(self.start.cube());
         for number in 0..class.twins(self.axis) {
-            let after = self.oriented(class, number);
+            let after = self.oriented(class, &cube, number);
             least.first = least.first.min(self.first.at_most(&after, looks)?);
             least.second = least.second.min(self.second.at_most(&after, looks)?);
         }
@@ -77,8 +78,9 @@ impl<'a, A: Allocator> ReductionsAfter<'a, A> {
             first: None,
             second: None,
         };
+        let cube = class.cube_after(self.start.cube());
         for number in 0..class.twins(self.axis) {
-            let after = self.oriented(class, number);
+            let after = self.oriented(class, &cube, number);
             if let Some(found) = self.first.after(&after, below.first, looks)? {
                 below.first = found.total;
                 best.first = Some(found);
@@ -91,8 +93,10 @@ impl<'a, A: Allocator> ReductionsAfter<'a, A> {
         Ok(best)
     }
 
-    /// The cube after the twin of a number.
-    fn oriented(&self, class: &Solution, number: u8) -> Oriented {
-        Oriented::by(self.start, self.axis, class.twin(self.axis, number))
+    /// What is after the twin of a number, by the cube after its class.
+    fn oriented(&self, class: &Solution, cube: &Cube, number: u8) -> Oriented {
+        let twin = class.twin(self.axis, number);
+        let cube = class.cube_after_twin(self.axis, number, cube);
+        Oriented::by(self.start, self.axis, twin, cube)
     }
 }

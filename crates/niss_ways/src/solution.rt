@@ -2,7 +2,7 @@
 ghost use Rattle.std.specs.Prelude.{◌≡◌, ◌≤◌, length};
 
 use crate::counting::{Sequence, sequence_of};
-use crate::last_turns::{stands_for_twins, twin_count, twin_of};
+use crate::last_turns::{half_turns, stands_for_twins, twin_count, twin_of};
 use niss_cube::laws::steps_see_places;
 use niss_cube::{Axis, Cube, Step, Turn};
 use niss_moves::laws::places_stay;
@@ -87,6 +87,24 @@ impl Solution {
             normal: twin_of(self.normal(), number / count),
             inverse: twin_of(self.inverse(), number % count),
         }
+    }
+
+    /// The cube after the twin of a number, by that after the solution itself: a quarter turn that goes the other way is the
+    /// same one and a half turn.
+    pub fn cube_after_twin(&self, axis: Axis, number: u8, cube: &Cube) -> Cube {
+        let count = twin_count(axis, self.inverse()).max(1);
+        let mut twin = *cube;
+        for turn in half_turns(self.normal(), number / count) {
+            if let Some(turn) = turn {
+                twin.turn(turn);
+            }
+        }
+        for turn in half_turns(self.inverse(), number % count) {
+            if let Some(turn) = turn {
+                twin.turn_before(turn);
+            }
+        }
+        twin
     }
 
     /// The cube after it.

@@ -144,8 +144,9 @@ impl Start {
     ghost use Rattle.niss_cube.specs.Map.{map_of};
     ghost use Rattle.niss_ways.specs.Starts.{IsAfter};
 
-    /// The cube after a scramble and the moves so far; none if they are too many. Moves in brackets come before the
-    /// scramble, inverted; they name the faces as the moves outside brackets leave the cube.
+    /// The cube after a scramble and the moves so far; none if they are too many: more than 200 face turns on a side, or
+    /// 512 in all. Moves in brackets come before the scramble, inverted; they name the faces as the moves outside brackets
+    /// leave the cube.
     pub fn after(scramble: &Niss, so_far: &Niss) -> Option<Start>
         ensures { IfSome result (λ start. IsAfter scramble.now so_far.now start) }
     {

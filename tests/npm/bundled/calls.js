@@ -29,7 +29,7 @@ async function tryPool() {
   const pool = await NissyPool.start(3, fetch(WASM));
   const lines = Array.from({ length: 5_000 }, (_, at) => (at % 2 === 0 ? "R U F" : "R q"));
   const told = [];
-  const counts = await pool.countAll("eofb", lines, { faults: "value", onProgress: (done) => told.push(done) });
+  const counts = await pool.countAll("eofb", lines, { onProgress: (done) => told.push(done) });
   const isRight = (each, at) => (at % 2 === 0 ? each.length === 1 : each.column === 3 && each.line === at + 1);
   same("counts by several workers", [counts.length, counts.every(isRight), told[told.length - 1]], [5_000, true, 5_000]);
   same("the best by several workers", (await pool.best("R U", { most: 1 })).map(({ line, total }) => [line, total]), [["(R)", 1]]);

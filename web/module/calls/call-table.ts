@@ -3,12 +3,12 @@
 import { allOf, allRequest, pairsRequest, type AllRequest, type ReadOne } from "./many.js";
 import { optionOf } from "./options.js";
 import {
-  attemptChecksIn, bestIn, checkIn, countIn, factsIn, formPlacesIn, lineAfterIn, lineIn, linesIn, outputLinesIn,
+  attemptChecksIn, bestIn, checkIn, countIn, factsIn, formPlacesIn, lineAfterIn, lineIn, outputLinesIn,
   solutionsIn, tokensIn,
 } from "./replies.js";
 import {
   bestRequest, checkRequest, checksRequest, countRequest, factsRequest, lineAfterRequest, lineRequest, listRequest,
-  runRequest, scrambleRequest, scramblesRequest, stepsRequest, textRequest, type OfEach, type Request, type Rewriting,
+  runRequest, scrambleRequest, scramblesRequest, textRequest, type OfEach, type Request, type Rewriting,
 } from "./requests.js";
 import type { Calls } from "./calls.js";
 
@@ -62,7 +62,6 @@ export const TABLE: Record<Exclude<keyof Calls<"now">, "solutions">, Row> = {
   lineAfter: { takes: 2, request: lineAfterRequest, read: lineAfterIn },
   best: { takes: 1, options: OF_BEST, request: bestRequest, read: bestIn, isFollowed: true },
   bestAll: manyLines(1, OF_BEST, (_, options) => bestRequest("", options), bestIn),
-  steps: { takes: 0, request: stepsRequest, read: linesIn },
   scramble: { takes: 3, request: scrambleRequest, read: lineIn },
   scrambles: { takes: 4, request: scramblesRequest, read: outputLinesIn },
   run: {

@@ -3,7 +3,7 @@ import type { Attempt } from "../text/attempts.js";
 import type { Check, Facts } from "../shared/facts.js";
 import type { FormPlace, Token } from "../text/tokens.js";
 import type { PlainLine } from "../text/written.js";
-import type { Step, StepName } from "../shared/steps.js";
+import type { StepName } from "../shared/steps.js";
 import type { Text } from "../shared/bytes.js";
 import type { Many, OnFaults, Told } from "./many.js";
 import type { Answer, AttemptCheck, Best, Count, Solution, SolutionsOn } from "./replies.js";
@@ -30,7 +30,7 @@ export type RunRest<Time extends When> = Time extends "now" ? [room?: number]
 /** Each call throws a `TypeError` if it is given something of another type, and a `RangeError` for a number out of its
  * range, a step that isn't there, or if the host has no memory for the call. A call that reads a line throws
  * `NissyFault` if it can't be read, and a search `SearchCut` if it would look at more positions than it may. Of many
- * lines the first fault is thrown, which says in which it is, or each stands in its place. What is thrown at once, a
+ * lines each fault, which says in which it is, stands in its place, or the first is thrown. What is thrown at once, a
  * promise is rejected with. */
 export interface Calls<Time extends When> {
   /** The inverse of a line's moves. */
@@ -56,7 +56,7 @@ export interface Calls<Time extends When> {
     step: StepName<Name>, line: Text, options?: Pick<Wanted, "limit" | "slack"> & Besides<Time>,
   ): Listed<Time, Solution>;
   /** The same of many lines. */
-  solveAll<Name extends string, Faults extends OnFaults = "throw", On extends Sides | undefined = undefined>(
+  solveAll<Name extends string, Faults extends OnFaults = "value", On extends Sides | undefined = undefined>(
     step: StepName<Name>, lines: readonly Text[],
     options?: Wanted & OnSides<On> & Many<Faults> & ManyBesides<Time>,
   ): Answered<Time, Told<SolutionsOn<On>, Faults>[]>;
@@ -65,21 +65,21 @@ export interface Calls<Time extends When> {
     step: StepName<Name>, line: Text, options?: Wanted & Besides<Time>,
   ): Answered<Time, Count>;
   /** The same of many lines. */
-  countAll<Name extends string, Faults extends OnFaults = "throw">(
+  countAll<Name extends string, Faults extends OnFaults = "value">(
     step: StepName<Name>, lines: readonly Text[], options?: Wanted & Many<Faults> & ManyBesides<Time>,
   ): Answered<Time, Told<Count, Faults>[]>;
   /** What is seen of the cube after a line's moves without a search: whether it is solved, how many moves the line
    * counts, the bad pieces and the case on each axis, and which steps hold. */
   facts(line: Text, ...rest: Rest<Time>): Answered<Time, Facts>;
   /** The same of many lines. */
-  factsAll<Faults extends OnFaults = "throw">(
+  factsAll<Faults extends OnFaults = "value">(
     lines: readonly Text[], options?: Many<Faults> & ManyBesides<Time>,
   ): Answered<Time, Told<Facts, Faults>[]>;
   /** Whether a solution solves a scramble, how many moves it counts, and which forms it has that the WCA's notation
    * hasn't. The `line` of a fault is 1 for the scramble and 2 for the solution. */
   check(scramble: Text, solution: Text, ...rest: Rest<Time>): Answered<Time, Check>;
   /** The same of many pairs of a scramble and a solution, such as two columns of a table. */
-  checkAll<Faults extends OnFaults = "throw">(
+  checkAll<Faults extends OnFaults = "value">(
     pairs: readonly (readonly [Text, Text])[], options?: Many<Faults> & ManyBesides<Time>,
   ): Answered<Time, Told<Check, Faults>[]>;
   /** A text as solvers write it as one line: without labels, comments, and numbers of lines and moves. `placeOf` says
@@ -107,11 +107,9 @@ export interface Calls<Time extends When> {
    * holds. There are none after a reduction. A fault is told as `check` tells it. */
   best(scramble: Text, options?: BestWanted & Followed & Besides<Time>): Answered<Time, Best>;
   /** The same of many scrambles. */
-  bestAll<Faults extends OnFaults = "throw">(
+  bestAll<Faults extends OnFaults = "value">(
     scrambles: readonly Text[], options?: BestWanted & Many<Faults> & ManyBesides<Time>,
   ): Answered<Time, Told<Best, Faults>[]>;
-  /** The names of the steps. */
-  steps(...rest: Rest<Time>): Answered<Time, Step[]>;
   /** Random moves from a seed, as the program's `scramble` draws its first line: `length` turns, 256 at most. */
   scramble(
     state: number | bigint, stream: number | bigint, length: number, ...rest: Rest<Time>

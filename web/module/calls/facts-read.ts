@@ -42,7 +42,7 @@ export function factsFrom(bytes: Uint8Array, at: number): Facts {
     misplacedEdges: {
       fb: edgesIn(misplaced(bytes, fb)), rl: edgesIn(misplaced(bytes, rl)), ud: edgesIn(misplaced(bytes, ud)),
     },
-    cases: { fb: caseAt(bytes, fb), rl: caseAt(bytes, rl), ud: caseAt(bytes, ud) },
+    case: { fb: caseAt(bytes, fb), rl: caseAt(bytes, rl), ud: caseAt(bytes, ud) },
     holds: stepsIn(holds(bytes, at)),
   };
 }

@@ -1,7 +1,7 @@
-// What is asked of many lines, and what is told of them: a value of each, a fault in its place, or the first fault
+// What is asked of many lines, and what is told of them: a value of each, or a fault in its place, or the first fault
 // thrown.
 import { eachOf, readableLine, takenLine, type Text } from "../shared/bytes.js";
-import { NissyFault, SearchCut } from "../shared/faults.js";
+import { NissyFault, SearchCut, faultInPair } from "../shared/faults.js";
 import { STATUS } from "../engine/status.js";
 import { inLine, type OneReply, type Seen } from "./replies.js";
 import { toldBy, type OfEach, type Pair, type Telling } from "./requests.js";
@@ -24,16 +24,16 @@ export type AllReply = { count: number; size: number; values: Uint8Array; others
 /** Reads a reply to a line of many. */
 export type ReadOne = (reply: any, each: any) => unknown;
 
-/** What becomes of the faults of many lines: undefined has the first thrown. */
+/** What becomes of the faults of many lines: undefined has each in the place of an answer. */
 export type OnFaults = Telling | undefined;
 
-/** What is asked of many lines; `faults` says whether the first fault is thrown, as it is if it isn't given, or each in
- * the place of the line's answer. */
+/** What is asked of many lines; `faults` says whether each fault stands in the place of the line's answer, as it does
+ * if it isn't given, or the first is thrown. */
 export type Many<Faults extends OnFaults = OnFaults> = { faults?: Faults };
 
-/** What is told of a line of many: a value, or in its place what is wrong with the line, if the option `faults` says
- * so. */
-export type Told<Value, Faults> = Faults extends "value" ? Value | NissyFault | RangeError : Value;
+/** What is told of a line of many: a value, or in its place what is wrong with the line, unless the option `faults` has
+ * that thrown. */
+export type Told<Value, Faults> = Faults extends "throw" ? Value : Value | NissyFault | RangeError;
 
 /** One of many pairs. @param number from 1 */
 function pairOf(pair: unknown, number: number, take: typeof readableLine): Pair {
@@ -49,7 +49,7 @@ function pairOf(pair: unknown, number: number, take: typeof readableLine): Pair 
 export function allRequest(each: () => OfEach, lines: unknown, options: unknown = {}): AllRequest {
   if (!Array.isArray(lines)) throw new TypeError("the lines are no array");
   const asked = each();
-  const faults = toldBy(options, "faults");
+  const faults = toldBy(options, "faults", "value");
   const take = faults === "value" ? readableLine : takenLine;
   return { call: "all", each: asked, faults, lines: eachOf(lines, (line, index) => take(line, `line ${index + 1}`)) };
 }
@@ -57,7 +57,7 @@ export function allRequest(each: () => OfEach, lines: unknown, options: unknown 
 /** The same of pairs. @param each what is asked of each */
 export function pairsRequest(each: OfEach, pairs: unknown, options: unknown = {}): AllRequest {
   if (!Array.isArray(pairs)) throw new TypeError("the pairs are no array");
-  const faults = toldBy(options, "faults");
+  const faults = toldBy(options, "faults", "value");
   const take = faults === "value" ? readableLine : takenLine;
   return { call: "all", each, faults, lines: eachOf(pairs, (pair, index) => pairOf(pair, index + 1, take)) };
 }
@@ -75,7 +75,7 @@ export function toldOf(reply: OneReply, index: number, { each, faults }: AllRequ
     return one(reply, each);
   } catch (thrown) {
     const isOfPair = each.call === "check" && thrown instanceof NissyFault;
-    const error = isOfPair ? thrown.inPair(index + 1) : inLine(thrown, index + 1);
+    const error = isOfPair ? faultInPair(thrown, index + 1) : inLine(thrown, index + 1);
     if (faults === "throw" || error instanceof SearchCut) throw error;
     return error;
   }

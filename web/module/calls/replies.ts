@@ -1,5 +1,5 @@
 // Reads what the engine writes as values, or throws what is wrong.
-import { NissyFault, SearchCut, cutOfAll, withoutTraces } from "../shared/faults.js";
+import { NissyFault, SearchCut, cutOfAll, faultInLine, withoutTraces } from "../shared/faults.js";
 import { SEARCH_ANSWER } from "../shared/layout.js";
 import { textIn } from "../shared/utf8.js";
 import { checkFrom, factsFrom } from "./facts-read.js";
@@ -63,6 +63,8 @@ export type Seen = { status: 0 | 5; answer: Uint8Array; at: number };
 export type LineReply = { status: 0; out: string } | NoValue;
 export type SolveReply = Seen & { out: string } | NoValue;
 export type SolveBytesReply = Seen & { out: Uint8Array } | NoValue;
+/** How many there are of one length, if the search wasn't cut. */
+export type CountOfSides = { solutions: number; nodes: number; isCut: boolean };
 /** The rows that were found, as the module has them, and at how many positions it looked. */
 export type FoundParts = { status: 0 | 5; parts: Uint8Array; nodes: number };
 /** The same of ways on; `tried`: how many were. */
@@ -121,7 +123,7 @@ function errorIn(reply: NoValue, what = "line"): Error {
 function errorOfTwo(reply: OfTwo, names: readonly string[]): Error {
   const part = names[reply.line - 1];
   const error = errorIn(reply, part);
-  return error instanceof NissyFault ? error.inLine(reply.line, part) : error;
+  return error instanceof NissyFault ? faultInLine(error, reply.line, part) : error;
 }
 
 /** @returns the same, which has a value */
@@ -141,8 +143,6 @@ export const formPlacesIn = ({ line }: { line: Text }): FormPlace[] =>
 
 /** @returns its lines, each of which a line feed ends */
 const endedLines = (text: string): string[] => text.split("\n").slice(0, -1);
-
-export const linesIn = (reply: LineReply): string[] => endedLines(lineIn(reply));
 
 /** @param answer of a run that has no fault, but may have been refused memory */
 export function outputLinesIn({ status, out, err }: Answer): string[] {
@@ -245,7 +245,7 @@ const errorOfBest = (reply: OfTwo) => inLine(errorIn(reply), reply.line, NAMES_O
 /** What is wrong, with the number of the line in which it is.
  * @param part what a fault calls the line, if not by its number */
 export function inLine(error: unknown, line: number, part?: string) {
-  if (error instanceof NissyFault) return error.inLine(line, part);
-  if (error instanceof SearchCut) return error.inLine(line);
+  if (error instanceof NissyFault) return faultInLine(error, line, part);
+  if (error instanceof SearchCut) return new SearchCut(error.count, error.found, line);
   return error instanceof RangeError ? new RangeError(`line ${line}: ${error.message}`) : error;
 }

@@ -27,6 +27,7 @@ export type SolveRequest = Search & { call: "solve"; after?: string };
 /** On which the moves of a solution may be. */
 export type Sides = "normal" | "inverse" | "both";
 export type SidesRequest = Search & { call: "solveSides"; sides: Sides };
+export type CountSidesRequest = Search & { call: "countSides"; sides: Sides };
 export type FactsRequest = { call: "facts"; line: Text };
 export type CheckRequest = { call: "check"; scramble: Text; solution: Text };
 export type BestWithin = { slack: number; most: number; nodes: number; cut: Telling; axes: readonly number[] };
@@ -42,7 +43,8 @@ export type StepsRequest = { call: "steps" };
 export type OfEach = CountRequest | SolveRequest | SidesRequest | FactsRequest | BestRequest | CheckRequest;
 /** What `check` is given; null is one of too many bytes. */
 export type Pair = { scramble: Text | null; solution: Text | null };
-export type OneRequest = RunRequest | LineRequest | OfEach | LineAfterRequest | ScrambleRequest | StepsRequest;
+export type OneRequest = RunRequest | LineRequest | OfEach | CountSidesRequest | LineAfterRequest | ScrambleRequest
+  | StepsRequest;
 /** What an engine is asked. */
 export type Request = OneRequest | TextRequest | AllRequest;
 
@@ -110,9 +112,10 @@ function boundOf(options: unknown, name: string, what: string, otherwise: number
   return given === Infinity ? given : wholeNumber(given, what, Number.MAX_SAFE_INTEGER);
 }
 
-/** An option that says whether something is thrown. */
-export function toldBy(options: unknown, name: string): Telling {
-  const given = optionOf(options, name, "throw");
+/** An option that says whether something is thrown.
+ * @param otherwise what it is if it isn't given */
+export function toldBy(options: unknown, name: string, otherwise: Telling): Telling {
+  const given = optionOf(options, name, otherwise);
   if (typeof given !== "string") throw new TypeError(`the option ${name} is no string`);
   if (given !== "throw" && given !== "value") throw new RangeError(`the option ${name} is neither "throw" nor "value"`);
   return given;
@@ -123,7 +126,7 @@ const searchOf = (step: unknown, line: unknown, options: unknown): Search => ({
   slack: wholeNumber(optionOf(options, "slack", 0), "the slack", MOST_TURNS),
   most: boundOf(options, "most", "the greatest number of solutions"),
   nodes: boundOf(options, "nodes", "the greatest number of nodes"),
-  cut: toldBy(options, "cut"),
+  cut: toldBy(options, "cut", "throw"),
   step: stringOf(step, "the step"),
   line: takenLine(line, "the line"),
 });
@@ -199,7 +202,7 @@ export const bestRequest = (scramble: unknown, options: unknown = {}): BestReque
   slack: wholeNumber(optionOf(options, "slack", 0), "the slack", MOST_TURNS),
   most: boundOf(options, "most", "the greatest number of rows", MOST_TOLD),
   nodes: boundOf(options, "nodes", "the greatest number of nodes"),
-  cut: toldBy(options, "cut"),
+  cut: toldBy(options, "cut", "throw"),
   axes: ALL_AXES,
 });
 

@@ -85,11 +85,7 @@ export class Signals<Call> {
     listened.callsOf.delete(this);
     if (listened.callsOf.size > 0) return;
     heardSignals.delete(signal);
-    try {
-      signal.removeEventListener("abort", listened.heard);
-    } catch {
-      // it is heard no more, since none of its calls is left
-    }
+    signal.removeEventListener("abort", listened.heard);
   }
 
   static #listen(signal: AbortSignal): Listened {

@@ -8,12 +8,11 @@ import { Engine } from "../engine/engine.js";
 import { NoWebAssembly } from "../shared/faults.js";
 import { InputLines, split } from "./input-lines.js";
 import { SEARCH_ANSWER, SOLUTION } from "../shared/layout.js";
-import {
-  linesIn, type Answer, type LineFault, type LineReply, type NoValue, type Seen, type StartFault,
-} from "../calls/replies.js";
-import { countRequest, runRequest, solveRequest, stepsRequest } from "../calls/requests.js";
+import { countRequest, runRequest, solveRequest } from "../calls/requests.js";
+import { isStep } from "../shared/steps.js";
 import { Stop } from "./stop.js";
 import { readSome, writeAll } from "./streams.js";
+import type { Answer, LineFault, NoValue, Seen, StartFault } from "../calls/replies.js";
 
 /** Some solutions of a list. */
 export type Piece = Seen & { out: Uint8Array };
@@ -128,12 +127,11 @@ function writeSolutions(engine: Engine, { step, limit, slack }: Search, line: Ui
 }
 
 /** The search that these words ask for, if they ask for one. */
-function searchOf(engine: Engine, [command, step, ...rest]: string[]): Search | undefined {
+function searchOf([command, step, ...rest]: string[]): Search | undefined {
   if (command !== "solve" && command !== "count" && command !== "near") return undefined;
-  const steps = linesIn(engine.answer(stepsRequest()) as LineReply);
   const numbers = rest.slice(0, SEARCHES[command]);
   const areNumbers = numbers.every((word) => /^[0-9]+$/.test(word) && Number(word) <= MOST_TURNS);
-  if (numbers.length !== SEARCHES[command] || !areNumbers || !steps.includes(step)) return undefined;
+  if (numbers.length !== SEARCHES[command] || !areNumbers || !isStep(step)) return undefined;
   const [limit, slack = 0] = numbers.map(Number);
   return { command, step, limit, slack, words: rest.slice(numbers.length) };
 }
@@ -165,7 +163,7 @@ function makeSearch(engine: Engine, search: Search) {
 /** Does what the words say. If they read lines, they write nothing for an input without any; of the others only no
  * scrambles write nothing. */
 function obey(engine: Engine, words: string[]) {
-  const search = searchOf(engine, words);
+  const search = searchOf(words);
   if (search !== undefined) makeSearch(engine, search);
   else if (run(engine, words, NOTHING) === 0 && words[0] !== "scramble") {
     new InputLines(read).answer((lines, first) => run(engine, words, lines, first));

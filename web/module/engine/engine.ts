@@ -8,15 +8,15 @@ import { bestOf } from "./best-search.js";
 import { Instance } from "./instance.js";
 import { checked, counted, factsOf, lineAfterOf, rewritten, solved, solvedBytes, written } from "./line-calls.js";
 import { answerAll } from "./many-lines.js";
-import { solvedOverSides } from "./over-sides.js";
+import { countedOverSides, solvedOverSides } from "./over-sides.js";
 import { runIn } from "./runs.js";
 import { compiled, type ModuleSource } from "./source.js";
 import type { AllReply } from "../calls/many.js";
-import type { OneReply, SolveBytesReply } from "../calls/replies.js";
+import type { CountOfSides, OneReply, SolveBytesReply } from "../calls/replies.js";
 import type { Request, SolveRequest, TextRequest } from "../calls/requests.js";
 import type { Progress } from "../calls/signals.js";
 
-export type Reply = OneReply | AllReply | PlainLine | Attempt[] | SeenAttempt[];
+export type Reply = OneReply | CountOfSides | AllReply | PlainLine | Attempt[] | SeenAttempt[];
 /** Is told how far the search for the best is; what it throws ends that. */
 export type TellProgress = (progress: Progress) => unknown;
 /** An engine, or what asks one. */
@@ -37,6 +37,7 @@ const REPLIES: AnswersOf<Exclude<Request, { call: "all" }>> = {
   facelets: (instance, { line }) => rewritten(instance, "nissy_facelets", line),
   solve: solved,
   solveSides: solvedOverSides,
+  countSides: countedOverSides,
   count: counted,
   facts: factsOf,
   check: checked,

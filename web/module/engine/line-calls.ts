@@ -5,7 +5,6 @@ import {
   CHECK_ANSWER, FACTS_ANSWER, LINE_ANSWER, LINE_ROOM, SEARCH_ANSWER, SOLUTION,
 } from "../shared/layout.js";
 import { HEAD, type Struct } from "../shared/structs.js";
-import { PART_ANSWER } from "../text/text-layout.js";
 import { START_FAULT, STATUS, hasValue } from "./status.js";
 import type {
   CheckRequest, CountRequest, FactsRequest, LineAfterRequest, Search, SolveRequest,
@@ -130,10 +129,4 @@ export function checked(instance: Instance, { scramble, solution }: CheckRequest
   instance.ask("nissy_check", [{ text: scramble }, { text: solution }]);
   if (instance.status !== STATUS.done) return refusalOfTwo(instance, scramble, solution);
   return seen(instance, CHECK_ANSWER, STATUS.done);
-}
-
-/** The first of the steps of which a part solves a scramble, from 0, or null if none does. */
-export function solvingStep(instance: Instance, scramble: string, steps: string[]): number | null {
-  instance.ask("nissy_solving_part", [{ text: scramble }, { text: steps.join("\n") }]);
-  return instance.answered(PART_ANSWER.read.how) === 0 ? null : instance.answered(PART_ANSWER.read.first);
 }

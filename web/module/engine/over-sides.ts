@@ -3,9 +3,9 @@ import { SIDES_ANSWER, SIDES_WANTED, WAY_PART } from "../shared/layout.js";
 import { structOf } from "../shared/structs.js";
 import { refusal } from "./line-calls.js";
 import { STATUS, hasValue } from "./status.js";
-import type { FoundParts, NoValue } from "../calls/replies.js";
+import type { CountOfSides, FoundParts, NoValue } from "../calls/replies.js";
 import type { Instance } from "./instance.js";
-import type { SidesRequest } from "../calls/requests.js";
+import type { CountSidesRequest, SidesRequest } from "../calls/requests.js";
 
 /** The numbers of the sides that moves may be on. */
 const NUMBERS = { normal: 1, inverse: 2, both: 3 };
@@ -37,26 +37,46 @@ class PartsFound {
   }
 }
 
+/** What is asked of one length. `passed`: how many solutions are passed over; `rows`: how many have place; `nodes`: at
+ * how many positions it may look; `counts`: whether those without a place are counted, as 1 or 0. */
+type Piece = { length: number; passed: number; rows: number; nodes: number; counts: number };
+
 /** Asks the module for solutions of one length.
- * @param piece `passed`: how many are passed over; `rows`: how many have place; `nodes`: at how many positions it may
- * look */
-function partsIn(
-  instance: Instance, { step, line, sides }: SidesRequest,
-  { length, passed, rows, nodes }: { length: number; passed: number; rows: number; nodes: number },
-): FoundParts & { more: boolean } | NoValue {
+ * @returns where they stand, or why they aren't looked for */
+function asked(
+  instance: Instance, { step, line, sides }: SidesRequest | CountSidesRequest,
+  { length, passed, rows, nodes, counts }: Piece,
+): number | NoValue {
   const mostNodes = Math.min(nodes, Number.MAX_SAFE_INTEGER);
-  const wanted = structOf(SIDES_WANTED, { sides: NUMBERS[sides], length, counts: 0, passed, mostNodes });
+  const wanted = structOf(SIDES_WANTED, { sides: NUMBERS[sides], length, counts, passed, mostNodes });
   const places = instance.ask("nissy_solve_sides", [
     BigInt(instance.tablesOf(step)), { text: line }, { text: "" }, { struct: wanted }, { rows, of: WAY_PART },
   ]);
-  const { status } = instance;
-  if (!hasValue(status)) return refusal(instance, line, step);
+  return hasValue(instance.status) ? places[4] : refusal(instance, line, step);
+}
+
+/** Takes the solutions of one length that the module finds. */
+function partsIn(
+  instance: Instance, request: SidesRequest, piece: Omit<Piece, "counts">,
+): FoundParts & { more: boolean } | NoValue {
+  const place = asked(instance, request, { ...piece, counts: 0 });
+  if (typeof place !== "number") return place;
   return {
-    status: status as 0 | 5,
+    status: instance.status as 0 | 5,
     more: instance.answered(SIDES_ANSWER.read.more) === 1,
-    parts: instance.memory.copy(places[4], instance.answered(SIDES_ANSWER.read.rows) * WAY_PART.bytes),
+    parts: instance.memory.copy(place, instance.answered(SIDES_ANSWER.read.rows) * WAY_PART.bytes),
     nodes: instance.answered(SIDES_ANSWER.read.nodes),
   };
+}
+
+/** How many solutions of a step have exactly so many turns over the sides that are asked for, as far as it may look. */
+export function countedOverSides(instance: Instance, request: CountSidesRequest): CountOfSides | NoValue {
+  const { limit: length, nodes: most } = request;
+  const place = asked(instance, request, { length, passed: 0, rows: 0, nodes: most, counts: 1 });
+  if (typeof place !== "number") return place;
+  const { solutions, nodes } = SIDES_ANSWER.read;
+  const isCut = instance.status === STATUS.cut;
+  return { solutions: instance.answered(solutions), nodes: instance.answered(nodes), isCut };
 }
 
 /** Takes the solutions of a length.

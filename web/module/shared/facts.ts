@@ -42,7 +42,7 @@ export type Facts = {
   misplacedEdges: OnEachAxis<readonly EdgePlace[]>;
   /** The case of a domino reduction on the axis as solvers write it: `4c4e` has four bad corners and four misplaced
    * edges. */
-  cases: OnEachAxis<string>;
+  case: OnEachAxis<string>;
   /** The steps that the cube has reached. */
   holds: readonly Step[];
 };

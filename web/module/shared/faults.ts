@@ -51,30 +51,25 @@ export class NissyFault extends Error {
     this.part = part;
   }
 
-  /** The same in a line of many.
-   * @param line from 1
-   * @param part what the line is called, if not by its number */
-  inLine(line: number, part?: string) {
-    return new NissyFault(this.text, { ...this.#place(), line }, part);
-  }
-
-  /** The same of one of many pairs of lines, which have names: the message says the number too.
-   * @param line from 1 */
-  inPair(line: number) {
-    const fault = this.inLine(line, this.part);
-    fault.message = `line ${line}, ${this.message}`;
-    return fault;
-  }
-
   /** The same as a plain value. */
   parts(): FaultParts {
-    return { text: this.text, part: this.part, ...this.#place() };
+    const { text, part, column, character, step, start, line } = this;
+    return { text, part, column, character, step, start, line };
   }
+}
 
-  #place(): FaultPlace {
-    const { column, character, step, start, line } = this;
-    return { column, character, step, start, line };
-  }
+/** The same fault in a line of many.
+ * @param line from 1
+ * @param part what the line is called, if not by its number */
+export const faultInLine = (fault: NissyFault, line: number, part?: string) =>
+  new NissyFault(fault.text, { ...fault.parts(), line }, part);
+
+/** The same of one of many pairs of lines, which have names: the message says the number too.
+ * @param line from 1 */
+export function faultInPair(fault: NissyFault, line: number) {
+  const inPair = faultInLine(fault, line, fault.part);
+  inPair.message = `line ${line}, ${fault.message}`;
+  return inPair;
 }
 
 /** What is made with errors that are told in it, and not thrown: without their traces, which take ten times as long. */
@@ -105,12 +100,6 @@ export class SearchCut extends Error {
     this.count = count;
     this.found = found;
     this.line = line;
-  }
-
-  /** The same in a line of many.
-   * @param line from 1 */
-  inLine(line: number) {
-    return new SearchCut(this.count, this.found, line);
   }
 }
 

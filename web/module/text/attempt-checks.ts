@@ -1,10 +1,11 @@
 // What `check` says of each attempt of a text, where faults and forms stand in the text, and what makes one doubt the
 // reading of an attempt that isn't solved.
 import {
-  ANOTHER_SCRAMBLE, A_PART, WHICH_SCRAMBLE, attemptOf, attemptsIn, withoutPlaces, type Attempt, type AttemptDoubt,
+  ANOTHER_SCRAMBLE, A_PART, WHICH_SCRAMBLE, attemptOf, foundIn, withoutPlaces, type Attempt, type AttemptDoubt,
+  type FoundAttempt,
 } from "./attempts.js";
-import { knownParts, type KnownPart } from "./known.js";
-import { checked, rewritten, solvingStep } from "../engine/line-calls.js";
+import { foundInPart, knownParts, type KnownPart } from "./known.js";
+import { checked, rewritten } from "../engine/line-calls.js";
 import { CHECK_ANSWER } from "../shared/layout.js";
 import { formPlacesOf, type FormPlace } from "./tokens.js";
 import { unitOf, type PlainLine, type TextPlace, type TextPlaces } from "./written.js";
@@ -28,26 +29,14 @@ export type SeenAttempt = {
 /** An attempt without a solution is read with none, so that a fault of its scramble is told. */
 const NO_SOLUTION = "";
 
-/** Of how many steps the module looks for a part. */
-const MOST_STEPS = 8;
-
 const checkBy = (instance: Instance, scramble: string, solution: string): Seen | OfTwo =>
   checked(instance, { call: "check", scramble, solution });
 
-/** The first steps of an attempt and its candidates in the text, each once. */
-function firstSteps({ steps, candidates }: Attempt): PlainLine[] {
-  const all = [...steps, ...candidates.flatMap((each) => each.steps)].filter(({ places }) => places.length > 0);
-  const byPlace = new Map(all.map((step) => [step.places[0], step]));
-  const first = [...byPlace.keys()].sort((one, other) => one - other).slice(0, MOST_STEPS);
-  return first.map((place) => byPlace.get(place) as PlainLine);
-}
-
 /** What makes one doubt an attempt that isn't solved: its reading, or that a part of it solves. */
-function doubtOf(instance: Instance, attempt: Attempt, places: TextPlaces): AttemptDoubt | null {
+function doubtOf({ attempt, lines }: FoundAttempt, text: TextInMemory): AttemptDoubt | null {
   if (attempt.doubt !== null) return attempt.doubt;
-  const steps = firstSteps(attempt);
-  const first = solvingStep(instance, attempt.scramble.line, steps.map(({ line }) => line));
-  return first === null ? null : { reason: A_PART, place: places.of(steps[first].places[0]) };
+  const at = text.solvingPart(lines, attempt.scramble.line);
+  return at === null ? null : { reason: A_PART, place: text.written.places.of(text.written.unit(at)) };
 }
 
 /** Forms of a solution with their places in the text. */
@@ -55,13 +44,16 @@ const formsInText = (solution: PlainLine, places: TextPlaces): FormInText[] =>
   formPlacesOf(solution.line).map(({ text, forms, character }) =>
   ({ text, forms, place: places.of(unitOf(character, solution)) }));
 
-function seenAttempt(instance: Instance, attempt: Attempt, places: TextPlaces): SeenAttempt {
+/** @param text which is kept in memory */
+function seenAttempt(instance: Instance, found: FoundAttempt, text: TextInMemory): SeenAttempt {
+  const { attempt } = found;
   const { scramble, solution } = attempt;
+  const { places } = text.written;
   const seen = checkBy(instance, scramble.line, solution?.line ?? NO_SOLUTION);
   if ("answer" in seen) {
     const { solved, forms: formsOf } = CHECK_ANSWER.read;
     const isSolved = solution !== null && solved(seen.answer, seen.at) === 1;
-    const doubt = isSolved ? null : doubtOf(instance, attempt, places);
+    const doubt = isSolved ? null : doubtOf(found, text);
     const forms = solution === null || formsOf(seen.answer, seen.at) === 0 ? [] : formsInText(solution, places);
     return { attempt, seen, place: null, forms, doubt };
   }
@@ -74,10 +66,8 @@ function seenAttempt(instance: Instance, attempt: Attempt, places: TextPlaces): 
 
 /** The attempts of a text, each with what the module says of it. */
 export function seenAttempts(instance: Instance, text: TextInMemory): SeenAttempt[] {
-  // all of it is read before its memory is taken for the lines that are checked
-  const attempts = attemptsIn(text);
-  const { places } = text.written;
-  return attempts.map((attempt) => seenAttempt(instance, attempt, places));
+  const found = foundIn(text);
+  return text.kept(() => found.map((each) => seenAttempt(instance, each, text)));
 }
 
 /** Whether two scrambles make the same cube. */
@@ -86,34 +76,41 @@ function isSame(instance: Instance, scramble: string, other: string) {
   return "out" in one && "out" in another && one.out === another.out;
 }
 
-/** What is told of a part of a text of solutions. */
+/** The same attempt with other fields. */
+const changed = ({ attempt, lines }: FoundAttempt, fields: Partial<Attempt>): FoundAttempt =>
+  ({ attempt: { ...attempt, ...fields }, lines });
+
+/** What is told of a part of a text of solutions, which is kept in memory. */
 function seenPart(
-  instance: Instance, { scramble: at, begin, attempts }: KnownPart, scrambles: string[], places: TextPlaces,
+  instance: Instance, { scramble: at, begin, name }: KnownPart, [first, ...others]: FoundAttempt[], scrambles: string[],
+  text: TextInMemory,
 ): SeenAttempt {
-  const [first, ...others] = attempts;
+  const { places } = text.written;
   if (at === null) {
     const doubt: AttemptDoubt = { reason: WHICH_SCRAMBLE, place: places.of(begin) };
-    return { attempt: { ...first, doubt }, seen: null, place: null, forms: [], doubt };
+    return { attempt: { ...first.attempt, doubt }, seen: null, place: null, forms: [], doubt };
   }
   // who writes the scramble too says nothing else by it
-  const isWritten = others.length === 1 && first.solution === null
-    && isSame(instance, scrambles[at], others[0].scramble.line);
-  if (isWritten) return seenAttempt(instance, { ...others[0], name: first.name }, places);
+  const isWritten = others.length === 1 && first.attempt.solution === null
+    && isSame(instance, scrambles[at], others[0].attempt.scramble.line);
+  if (isWritten) return seenAttempt(instance, changed(others[0], { name }), text);
   const scramble = withoutPlaces(scrambles[at]);
-  if (others.length === 0) return seenAttempt(instance, { ...first, scramble }, places);
-  const doubt: AttemptDoubt = { reason: ANOTHER_SCRAMBLE, place: places.of(others[0].scramble.places[0]) };
-  return seenAttempt(instance, { ...first, scramble, doubt }, places);
+  if (others.length === 0) return seenAttempt(instance, changed(first, { scramble }), text);
+  const doubt: AttemptDoubt = { reason: ANOTHER_SCRAMBLE, place: places.of(others[0].attempt.scramble.places[0]) };
+  return seenAttempt(instance, changed(first, { scramble, doubt }), text);
 }
 
 /** The solutions in a text of known scrambles, one for each, and then what is no such solution. */
 export function seenSolutions(instance: Instance, text: TextInMemory, scrambles: string[]): SeenAttempt[] {
-  // all of it is read before its memory is taken for the lines that are checked
+  // its lines are read before its memory is taken for others
   const parts = knownParts(instance, text, scrambles.length);
-  const { places } = text.written;
-  const told = scrambles.map((scramble) => seenAttempt(instance, attemptOf(withoutPlaces(scramble)), places));
+  const withoutLines = (scramble: string) => ({ attempt: attemptOf(withoutPlaces(scramble)), lines: [] });
+  const told = scrambles.map((scramble) => seenAttempt(instance, withoutLines(scramble), text));
   const others: SeenAttempt[] = [];
   for (const part of parts) {
-    const seen = seenPart(instance, part, scrambles, places);
+    const own = part.inMemory();
+    const found = foundInPart(own, part.name);
+    const seen = own.kept(() => seenPart(instance, part, found, scrambles, own));
     if (part.scramble === null) others.push(seen);
     else told[part.scramble] = seen;
   }

@@ -37,6 +37,9 @@ export type Attempt = {
   doubt: AttemptDoubt | null;
 };
 
+/** An attempt, and its lines among those of a text in memory. */
+export type FoundAttempt = { attempt: Attempt; lines: TextLine[] };
+
 /** What a line is, by the module's numbers. */
 export const LINE_KIND = { blank: 0, before: 1, scramble: 2, step: 3, note: 4 };
 
@@ -78,7 +81,7 @@ export class AttemptReader {
 
   /** @returns each of the steps among them */
   #steps(lines: TextLine[]): PlainLine[] {
-    return lines.filter(isOfStep).map((line) => this.#text.moves([line], MOVES_OF.steps));
+    return lines.filter(isOfStep).map((line) => this.#text.movesOfLine(line, MOVES_OF.steps));
   }
 
   /** @returns the words of its label */
@@ -125,17 +128,23 @@ export class AttemptReader {
   }
 
   /** @param lines of an attempt */
-  attempt(lines: TextLine[]): Attempt {
+  found(lines: TextLine[]): FoundAttempt {
+    return { attempt: this.#attempt(lines), lines };
+  }
+
+  #attempt(lines: TextLine[]): Attempt {
     const after = lines.filter(({ kind }) => kind >= LINE_KIND.step);
     const groups = inRuns(after, ({ group }, before) => group === before.group);
     const moved = groups.filter((group) => group[0].group > 0 && group.some(isOfStep));
     const told = after.filter((line) => isOfStep(line) && line.isSolution);
     const under = after.filter((line) => isOfStep(line) && line.group === 0);
     const steps = this.#steps(under.length > 0 ? under : told);
+    const [first, ...more] = lines.filter(({ kind }) => kind === LINE_KIND.scramble);
     const alike = under.length === 0 || under[0] === told[0] ? steps : [];
     return {
       name: this.name(lines),
-      scramble: this.#text.moves(lines, MOVES_OF.scramble),
+      scramble: first !== undefined && more.length === 0 ? this.#text.movesOfLine(first, MOVES_OF.scramble)
+        : this.#text.moves(lines, MOVES_OF.scramble),
       steps,
       solution: told.length > 0 ? this.#inOne(alike, lines, MOVES_OF.solution) : null,
       candidates: moved.map((group) => this.#candidate(group)),
@@ -145,9 +154,11 @@ export class AttemptReader {
   }
 }
 
-/** The attempts of a text as solvers write it, at least one. */
-export function attemptsIn(text: TextInMemory): Attempt[] {
+/** The attempts of a text as solvers write it, at least one, each with its lines. */
+export function foundIn(text: TextInMemory): FoundAttempt[] {
   const reader = new AttemptReader(text);
-  const attempts = byAttempt(text.lines()).filter(hasScramble).map((lines) => reader.attempt(lines));
-  return attempts.length > 0 ? attempts : [attemptOf(withoutPlaces(""))];
+  const found = byAttempt(text.lines()).filter(hasScramble).map((lines) => reader.found(lines));
+  return found.length > 0 ? found : [{ attempt: attemptOf(withoutPlaces("")), lines: [] }];
 }
+
+export const attemptsIn = (text: TextInMemory): Attempt[] => foundIn(text).map(({ attempt }) => attempt);

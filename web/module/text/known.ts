@@ -1,13 +1,12 @@
 // Text that has solutions alone, of scrambles that are known: which part of the text is of which scramble, and what of
 // it is the solution.
-import { AttemptReader, LINE_KIND, byAttempt, hasScramble, inRuns, type Attempt } from "./attempts.js";
+import { AttemptReader, LINE_KIND, byAttempt, hasScramble, inRuns, type FoundAttempt } from "./attempts.js";
 import { TextInMemory, type TextLine } from "./text-calls.js";
 import type { Instance } from "../engine/instance.js";
 
 /** What stands in a text under a head, or in a block if it has no heads: which of the scrambles it is of, from 0, or
- * null if that can't be told; its first unit; and its attempts, of which the first has what stands there without a
- * scramble, and others one of their own. */
-export type KnownPart = { scramble: number | null; begin: number; attempts: Attempt[] };
+ * null if that can't be told; its first unit; its head; and what is read of it, once that is in memory. */
+export type KnownPart = { scramble: number | null; begin: number; name: string; inMemory: () => TextInMemory };
 
 /** A whole scramble, behind which the module reads lines as steps. */
 const WHOLE = "R' U' F D R' U' F\n";
@@ -58,17 +57,13 @@ class KnownReader {
     return parts.filter((part) => part.some((line) => line.isHeaded || isOfMoves(line)));
   }
 
-  /** What a part has, by how the module reads its lines behind a scramble. */
-  #attempts(part: TextLine[], name: string): Attempt[] {
+  /** What is read of a part: its lines behind a scramble. */
+  #inMemory(part: TextLine[]): TextInMemory {
     const head = Math.max(part.map(({ isHeaded }) => isHeaded).lastIndexOf(true), 0);
     // what stands a blank line below the head is directly under it too
     const line = part.slice(head).find(({ kind }) => kind !== LINE_KIND.blank) ?? part[head];
     const begin = Math.max(line.begin, part[head].headEnd);
-    const text = new TextInMemory(this.#instance, this.#text.written.behind(WHOLE, begin, part[part.length - 1].end));
-    const reader = new AttemptReader(text);
-    const [first, ...others] = byAttempt(text.lines());
-    const behind = others.filter(hasScramble).map((lines) => reader.attempt(lines));
-    return [{ ...reader.attempt(first.slice(1)), name }, ...behind];
+    return new TextInMemory(this.#instance, this.#text.written.behind(WHOLE, begin, part[part.length - 1].end));
   }
 
   /** @param count of scrambles */
@@ -79,7 +74,8 @@ class KnownReader {
     return parts.map((part, at) => ({
       scramble: scrambles[at],
       begin: this.#text.written.unit(part[0].begin),
-      attempts: this.#attempts(part, names[at]),
+      name: names[at],
+      inMemory: () => this.#inMemory(part),
     }));
   }
 }
@@ -93,6 +89,16 @@ function scramblesOf(names: string[], count: number): (number | null)[] {
   for (const number of numbers) counts.set(number, (counts.get(number) ?? 0) + 1);
   const isKnown = (number: string) => counts.get(number) === 1 && Number(number) <= count;
   return numbers.map((number) => (Number(number) > 0 && isKnown(number) ? Number(number) - 1 : null));
+}
+
+/** The attempts of a part in memory, of which the first has what stands there without a scramble, and others one of
+ * their own. */
+export function foundInPart(text: TextInMemory, name: string): FoundAttempt[] {
+  const reader = new AttemptReader(text);
+  const [[, ...own], ...others] = byAttempt(text.lines());
+  const first = reader.found(own);
+  const behind = others.filter(hasScramble).map((lines) => reader.found(lines));
+  return [{ ...first, attempt: { ...first.attempt, name } }, ...behind];
 }
 
 /** The solutions in a text, of so many scrambles. */

@@ -7,4 +7,4 @@ export const TEXT_LINE = struct({
   labelBegin: 8, labelEnd: 8, moves: 8, comment: 8, end: 8, doubtAt: 8,
 });
 export const TEXT_ANSWER = struct({ status: 1, lines: 8, attempts: 8 });
-export const PART_ANSWER = struct({ status: 1, how: 1, first: 1, last: 1 });
+export const PART_ANSWER = struct({ status: 1, how: 1, first: 1, last: 1, begin: 8 });

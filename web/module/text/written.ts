@@ -5,12 +5,22 @@ import { encoded, textIn } from "../shared/utf8.js";
 /** A text as one line: `places` has the place in the text of each of its signs, and `leftOut` names what it hasn't. */
 export type PlainLine = { line: string; places: number[]; leftOut: string[] };
 
+/** The same in bytes, of which each has its place in those of the text, with the module's bits of what is left out. */
+export type WrittenLine = { bytes: Uint8Array; places: number[]; leftOut: number };
+
 /** Where a fault, a form or a doubt stands in a text: `at` from 0, and its line and the character there, both from 1.
  */
 export type TextPlace = { at: number; line: number; column: number };
 
 /** What the module leaves out, by its bits. */
 const LEFT_OUT = ["labels", "numbers of moves", "comments", "line numbers", "commas", "signs that aren't seen"];
+
+/** What is left out, by the names of its bits. */
+const leftOutNames = (leftOut: number): string[] => LEFT_OUT.filter((_, bit) => ((leftOut >> bit) & 1) === 1);
+
+/** What stands around moves, by its names. */
+export const namesAround = (hasLabel: boolean, hasComment: boolean): string[] =>
+  leftOutNames(Number(hasLabel) + 4 * Number(hasComment));
 
 /** The first bits of a byte that goes on a sign in UTF-8, and the least with which a sign of four bytes begins. */
 const FIRST_BITS = 0xc0;
@@ -72,7 +82,7 @@ function pairEnds(text: string) {
 }
 
 /** How many of some numbers, the least first, are at most as great as another one. */
-function countUpTo(numbers: number[], most: number) {
+export function countUpTo(numbers: number[], most: number) {
   let [least, end] = [0, numbers.length];
   while (least < end) {
     const middle = (least + end) >> 1;
@@ -157,15 +167,18 @@ export class WrittenText {
     return this.#units === null ? byte : this.#units[byte];
   }
 
-  /** What stands from one byte to another, without white space around it. */
-  part(begin: number, end: number) {
-    return this.#text.slice(this.#own(begin), this.#own(end)).trim();
+  /** What stands from one byte to another. */
+  cut(begin: number, end: number) {
+    return this.#text.slice(this.#own(begin), this.#own(end));
   }
 
-  /** What the module wrote of the text.
-   * @param places of each in the text's bytes
-   * @param leftOut its bits */
-  plain(bytes: Uint8Array, places: number[], leftOut: number): PlainLine {
+  /** The same without white space around it. */
+  part(begin: number, end: number) {
+    return this.cut(begin, end).trim();
+  }
+
+  /** The same in units. */
+  plain({ bytes, places, leftOut }: WrittenLine): PlainLine {
     const units: number[] = [];
     for (let at = 0; at < bytes.length; at += 1) {
       if (!begins(bytes[at])) continue;
@@ -176,6 +189,6 @@ export class WrittenText {
     // half of a pair stays in the line as it stands in the text
     const asWritten = (_: string, at: number) => this.#text[units[at] - this.#shift];
     const line = textIn(bytes).replace(NO_CHARACTER, asWritten);
-    return { line, places: units, leftOut: LEFT_OUT.filter((_, bit) => ((leftOut >> bit) & 1) === 1) };
+    return { line, places: units, leftOut: leftOutNames(leftOut) };
   }
 }

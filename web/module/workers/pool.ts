@@ -11,7 +11,7 @@ import { byRank } from "../shared/ways.js";
 import { Pieces } from "./pieces.js";
 import { WorkerQueue, type NewWorker, type SentModule } from "./worker-queue.js";
 import type { AllRequest, ReadOne } from "../calls/many.js";
-import type { BestRequest, Request } from "../calls/requests.js";
+import { stepsRequest, type BestRequest, type Request } from "../calls/requests.js";
 import type { PieceReply } from "./serve.js";
 import type { Row } from "../calls/call-table.js";
 
@@ -99,7 +99,7 @@ export class WorkerPool extends LaterCalls<"pool"> {
     if (count === 0) throw new RangeError("a pool has one worker at least");
     const pool = new this(count, await compiled(source), newWorker);
     // one that isn't answered means that no worker can be started
-    await pool.steps();
+    await pool.#ask(stepsRequest(), {});
     return pool;
   }
 

@@ -3,7 +3,7 @@ import { LaterCalls } from "../calls/later-calls.js";
 import { Telling } from "../calls/signals.js";
 import { compiled, type ModuleSource } from "../engine/source.js";
 import { WorkerQueue, type NewWorker, type SentModule } from "./worker-queue.js";
-import type { Request } from "../calls/requests.js";
+import { stepsRequest, type Request } from "../calls/requests.js";
 import type { Stoppable } from "../calls/signals.js";
 
 /** The engine in a worker. Its calls are those of `Nissy`, and what these throw, the promises are rejected with. Each
@@ -30,7 +30,7 @@ export class WorkerCalls extends LaterCalls<"worker"> {
   static async startBy(source: ModuleSource | Promise<ModuleSource>, newWorker: NewWorker): Promise<WorkerCalls> {
     const calls = new this(await compiled(source), newWorker);
     // one that isn't answered means that the worker can't be started
-    await calls.steps();
+    await calls.#queue.answer(stepsRequest(), {});
     return calls;
   }
 

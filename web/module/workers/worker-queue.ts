@@ -180,7 +180,6 @@ export class WorkerQueue {
       return;
     }
     this.#sent.shift();
-    // not by `in`, since some script may have given an error to all objects
     if (Object.hasOwn(data, "error")) call.refused(errorOf((data as Unanswered).error));
     else call.answered((data as Answered).reply);
     this.#sendNext();

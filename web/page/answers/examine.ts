@@ -1,11 +1,13 @@
 // What the engine at hand says of a scramble and the moves after it: the cube after each step, what is reached, which
-// steps may follow, and how many reductions follow a row of the best.
+// steps may follow, and what is told of the reductions after a row of the best.
 import { NissyFault, type FaultParts } from "../../module/shared/faults.js";
 import { lastOf } from "../shared/certain.js";
+import { casesPassed } from "./cases-passed.js";
 import { positionAfter, totalsWith, type Position } from "./position-after.js";
 import { readScramble, type ReadScramble } from "./read-lines.js";
 import {
-  SIDES, bracketed, inGroups, isReduced, offeredAmong, openSteps, partOn, sideToward, stateOf, stepNamed, turnsOfStep,
+  REDUCTIONS, SIDES, bracketed, inGroups, isReduced, offeredAmong, openSteps, partOn, sideToward, singleMoves, stateOf,
+  stepNamed,
 } from "../shared/offered-steps.js";
 import type { Candidate } from "../state/address.js";
 import type { Count } from "../../module/calls/replies.js";
@@ -21,14 +23,15 @@ export type View = { letters: string; facts: Facts };
  * `best`: how many make that. */
 export type Counted = Count & { total: number; best: number };
 export type Offer = { step: StepOnAxis; normal: Counted; inverse: Counted };
-/** What is known of a line after each beginning, from none of its parts to all; `turns`: of each part; `now`: the
- * cube then. */
+/** What is known of a line after each beginning, from none of its parts to all; `turns`: of each part; `passed`: the
+ * case before each move of those that lead from an orientation to a reduction; `now`: the cube then. */
 export type Walk = {
   parts: Part[];
   facts: Facts[];
   reached: string[][];
   totals: number[];
   turns: number[];
+  passed: string[][];
   now: Position;
 };
 
@@ -37,16 +40,37 @@ function positionsOf(nissy: Nissy, scramble: string, parts: Part[]): Position[] 
   return [...parts, null].map((_, count) => positionAfter(nissy, scramble, parts.slice(0, count)));
 }
 
+/** The first reduction that is reached after an orientation, and between which beginnings that lies. */
+function reductionIn(reached: string[][]) {
+  const to = reached.findIndex(isReduced);
+  const step = to < 1 ? undefined : REDUCTIONS.find(({ name, needs }) =>
+    reached[to].includes(name) && needs !== null && reached[to - 1].includes(needs));
+  if (step === undefined) return null;
+  const from = reached.slice(0, to).findLastIndex((each) => !each.includes(String(step.needs))) + 1;
+  return { step, from, to };
+}
+
+/** The case before each move of those parts that lead from an orientation to a reduction. */
+function passedBy(nissy: Nissy, parts: Part[], positions: Position[], reached: string[][]): string[][] {
+  const way = reductionIn(reached);
+  return parts.map((part, at) => {
+    if (way === null || at < way.from || at >= way.to) return [];
+    return casesPassed(nissy, way.step.axis, positions[at].lines.normal, [part])[0];
+  });
+}
+
 /** @param scramble by its face turns */
 function walkOf(nissy: Nissy, scramble: string, parts: Part[]): Walk {
   const positions = positionsOf(nissy, scramble, parts);
   const facts = positions.map(({ lines }) => nissy.facts(lines.normal));
+  const reached = facts.map(({ holds }) => offeredAmong(holds));
   return {
     parts,
     facts,
-    reached: facts.map(({ holds }) => offeredAmong(holds)),
+    reached,
     totals: positions.map(({ count }) => count),
     turns: parts.map((part) => SIDES.reduce((sum, side) => sum + nissy.facts(part[side]).cleanMoves, 0)),
+    passed: passedBy(nissy, parts, positions, reached),
     now: lastOf(positions),
   };
 }
@@ -77,8 +101,7 @@ function examined(nissy: Nissy, { text, parts }: { text: string; parts: Part[] }
 export function framesOf(
   nissy: Nissy, { scramble, parts }: { scramble: string; parts: Part[] },
 ): { move: string; views: Record<Side, View> }[] {
-  const moves = parts.flatMap((part) => SIDES.flatMap((side) => turnsOfStep(partOn(side, part[side])).map((turn) =>
-    partOn(side, turn))));
+  const moves = singleMoves(parts);
   return positionsOf(nissy, scramble, moves).map((position, at) => (
     { move: at === 0 ? "" : bracketed([moves[at - 1]]), views: viewsOf(nissy, position) }));
 }
@@ -146,11 +169,15 @@ export function walkKept(
   });
 }
 
-/** How many of the shortest reductions there are on each side alone after some steps, null for none. */
-export function countsAfter(
-  nissy: Nissy, { scramble, parts, step }: { scramble: string; parts: Part[]; step: Step },
-): Record<Side, number | null> {
+/** How many of the shortest reductions there are on each side alone after some steps, null for none, and the cases that
+ * one of them passes. */
+export type After = Record<Side, number | null> & { passed: string[] };
+
+export function afterRow(
+  nissy: Nissy, { scramble, parts, step, first }: { scramble: string; parts: Part[]; step: Step; first: Part },
+): After {
   const { lines } = positionAfter(nissy, scramble, parts);
   const [normal, inverse] = SIDES.map((side) => nissy.count(step, lines[side]).solutions || null);
-  return { normal, inverse };
+  const [passed] = casesPassed(nissy, stepNamed(step).axis, lines.normal, [first]);
+  return { normal, inverse, passed };
 }

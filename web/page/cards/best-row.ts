@@ -1,9 +1,11 @@
 // A row of the best: its moves with their twins, what they reach, the reduction that follows with its least length on
 // each side alone and how many of that length there are, and its star.
 import { counted, element, inner, type Attributes } from "../shared/element.js";
+import { signsOfCases, withCases } from "../shared/passage.js";
 import { starButton, takeButton } from "../shared/rows.js";
+import { isNarrow } from "../shared/view.js";
 import { SIDES, bracketed, sidesOf } from "../shared/offered-steps.js";
-import type { Counts } from "./counts.js";
+import type { After } from "../answers/examine.js";
 import type { Moves as Part, Side } from "../../module/shared/sides.js";
 import type { Next, Row } from "./finder.js";
 
@@ -27,8 +29,11 @@ function cell(name: "td" | "th", attributes: Attributes, ...children: (Node | st
 /** The cell of a row's moves and twins, which tells the style how many signs its line has, if the page is narrow or
  * not.
  * @param line what it shows
- * @param isBeside whether they stand beside the moves on a narrow page */
-function movesCell(take: HTMLElement, line: string, twins: string[], isBeside: boolean) {
+ * @param isBeside whether they stand beside the moves on a narrow page, where no cases are shown
+ * @param cases how many signs these are */
+function movesCell(
+  take: HTMLElement, line: string, twins: string[], { isBeside, cases }: { isBeside: boolean; cases: number },
+) {
   // as solvers write it: the last turn may be the one or the other
   const [either, word] = twins.length === 1 ? [` / ${twins[0].replace(/[()]/g, "")}`, ""]
     : [` or ${twins.length}`, " twins"];
@@ -38,7 +43,7 @@ function movesCell(take: HTMLElement, line: string, twins: string[], isBeside: b
   const seen = take.classList.contains("seen") ? SEEN_SIGNS : 0;
   const [own, more] = [line.length + seen, SIGN_OF_TWIN * twin.length];
   made.style.setProperty("--signs", String(own + (isBeside ? more : 0)));
-  made.style.setProperty("--signs-wide", String(own + more));
+  made.style.setProperty("--signs-wide", String(own + cases + more));
   made.style.setProperty("--beside", String(isBeside ? more : 0));
   return made;
 }
@@ -54,19 +59,25 @@ function lengthCell({ part: reduction, length: best, lengths }: Next, side: Side
   return cell("td", about, length === null ? "–" : String(length), element("small", { class: "times" }));
 }
 
-/** Shows in a row how many of the shortest reductions there are on each side alone. @param shown the row */
-export function tellCounts(shown: Element, counts: Counts) {
+/** Shows in a row how many of the shortest reductions there are on each side alone, and how the first one goes. */
+export function tellAfter(shown: Element, { next }: Row, after: After) {
+  const [first, line] = [inner(shown, ".first"), next === null ? "" : lineOf(next)];
+  if (line !== "") first.replaceChildren("then ", ...withCases(line, after.passed));
+  // on a narrow page no cases are shown
+  if (!isNarrow()) first.style.setProperty("--signs", String(first.textContent.length + signsOfCases(after.passed)));
   shown.querySelectorAll(".number").forEach((each, at) => {
-    const count = counts[SIDES[at]];
+    const count = after[SIDES[at]];
     if (count === null) return;
     inner(each, ".times").textContent = `×${count.toLocaleString("en")}`;
     each.setAttribute("aria-label", `${each.getAttribute("aria-label")}, ${counted(count, "solution")}`);
   });
 }
 
+const lineOf = ({ part: reduction }: Next) => bracketed([reduction]);
+
 /** @returns the first of the best reductions, as it follows a row */
-function firstOf({ part: reduction }: Next) {
-  const moves = bracketed([reduction]);
+function firstOf(next: Next) {
+  const moves = lineOf(next);
   const line = moves === "" ? "" : `then ${moves}`;
   const first = element("small", { class: "first moves" }, line);
   first.style.setProperty("--signs", String(line.length));
@@ -74,14 +85,14 @@ function firstOf({ part: reduction }: Next) {
 }
 
 export function bestRow(row: Row, acts: RowActs) {
-  const { total, part: added, state, next, twins, key } = row;
+  const { total, part: added, state, next, twins, key, passed } = row;
   const line = bracketed([added]) || "no moves";
   const kept: [Part[], string | undefined] = [[added], next?.step];
-  const take = takeButton(line, { key, isSeen: acts.isSeen(...kept) }, () => acts.goOn(row));
+  const take = takeButton(line, { key, passed, isSeen: acts.isSeen(...kept) }, () => acts.goOn(row));
   // one orientation has a row, and a star, for each reduction that may follow
   const whole = next ? `${line}, ${next.marks} ${next.case}` : line;
   const star = starButton(whole, () => acts.isStarred(...kept), (button) => acts.star(button, ...kept));
-  const moves = movesCell(take, line, twins, next !== null);
+  const moves = movesCell(take, line, twins, { isBeside: next !== null, cases: signsOfCases(passed) });
   const cells = [cell("th", {}, String(total)), moves, cell("td", { class: "axis" }, state)];
   if (next) {
     moves.append(firstOf(next));

@@ -4,10 +4,13 @@ import { bestRow, type RowActs } from "./best-row.js";
 import { thrownError, present } from "../shared/certain.js";
 import { ShownCounts } from "./counts.js";
 import { announce, announceLater, counted, part, setBusy, tell } from "../shared/element.js";
-import { Filters, NOT_MOVES, filtersOfBest, offerChoices, offerLastTurns, offerMoves } from "./filters.js";
-import { KnownSearches, findAll, type Progress, type Question, type Row } from "./finder.js";
+import {
+  Filters, NOT_MOVES, casesOfBest, filtersOfBest, offerCases, offerChoices, offerLastTurns, offerMoves,
+} from "./filters.js";
+import { KnownSearches, findAll, newAmong, type Progress, type Question, type Row } from "./finder.js";
 import { FurtherSearch, type Further } from "./further-search.js";
 import { GREATEST_SLACK } from "../state/limits.js";
+import { Measure } from "./measure.js";
 import { addRows, roveWithin, showRows, takeNamed } from "../shared/rows.js";
 import { SIDES, isReduced, reducedAfter } from "../shared/offered-steps.js";
 import { isNarrow, withoutMoving } from "../shared/view.js";
@@ -24,13 +27,6 @@ function shownFirst(reached: string[]) {
   return reached.length > 0 ? SHOWN_FIRST.ofReductions : SHOWN_FIRST.wide;
 }
 
-/** How many rows that aren't seen belong before the last one that is. @param seen the keys of those that are seen */
-function newAmong(rows: Row[], seen: string[]) {
-  const known = new Set(seen);
-  const last = rows.findLastIndex(({ key }) => known.has(key));
-  return rows.slice(0, Math.max(0, last)).filter(({ key }) => !known.has(key)).length;
-}
-
 export class BestContinuations {
   #finders: Calls[];
   #acts: RowActs & { shown: () => void };
@@ -42,7 +38,9 @@ export class BestContinuations {
   /** What was found since, if rows of it belong among those that are seen, or none is yet. */
   #newer: Further | null = null;
   #isAsked = false;
+  #isOfReductions = false;
   #further: FurtherSearch;
+  #measure: Measure;
   #found = new KnownSearches();
   #counts: ShownCounts;
   #shown = 0;
@@ -57,8 +55,9 @@ export class BestContinuations {
     this.#finders = finders;
     this.#counts = new ShownCounts(calls, this.#body);
     this.#acts = acts;
-    this.#further = new FurtherSearch(finders, {
-      turned: () => this.#working(this.#isAsked),
+    this.#measure = new Measure(() => this.#turnFurther());
+    this.#further = new FurtherSearch(finders, this.#measure, {
+      turned: () => this.#turned(),
       looked: (done, all) => this.#tellAxes(done, all),
       found: (progress) => this.#foundFurther(progress),
       ended: (fault) => this.#endedFurther(fault),
@@ -67,15 +66,15 @@ export class BestContinuations {
     offerMoves("best-slack", GREATEST_SLACK);
     part("best-stop").addEventListener("click", () => this.#stopped());
     part("best-new").addEventListener("click", () => this.#showNewer());
-    part("best-further").addEventListener("change", () => this.#turnFurther());
     part("best-slack").addEventListener("change", () => this.#ask());
-    part("best-sort").addEventListener("change", () => this.#filtered());
+    part("best-options").addEventListener("toggle", () => this.#opened());
     part("best-more").addEventListener("click", () => this.#more());
   }
 
   /** Takes another cube, or none, and looks for the best of it. */
   reset(cube: { scramble: string; parts: Moves[]; reached: string[] } | null) {
     this.#stop();
+    if (cube?.scramble !== this.#question?.scramble) this.#measure.begin();
     this.#question = cube && { ...cube, slack: 0 };
     [this.#progress, this.#newer] = [null, null];
     this.#seen = [];
@@ -96,10 +95,14 @@ export class BestContinuations {
   #begin(reached: string[]) {
     part("best-unasked").hidden = reached.length > 0;
     part("best-filters").hidden = reached.length > 0;
+    part("best-cases-name").textContent = reached.length > 0 ? "Trigger from" : "Case before DR";
     part("best-turns").hidden = reached.length === 0;
     // those of reductions belong to one cube
+    const cases = reached.length === 0 && !this.#isOfReductions ? part("best-cases").value : "";
+    this.#isOfReductions = reached.length > 0;
     this.#filters.use(this.#kinds.ofReductions);
     this.#filters.clear();
+    part("best-cases").value = cases;
     offerChoices("best-reduction", reducedAfter(reached));
     if (reached.length === 0) this.#filters.use(this.#kinds.ofOrientations);
     this.#ask();
@@ -115,6 +118,13 @@ export class BestContinuations {
   /** Ends the workers; a later search starts others. */
   end() {
     for (const finder of this.#finders) finder.end();
+  }
+
+  /** Offers the cases of all rows once that is seen, which has them found. */
+  #opened() {
+    if (!part("best-options").open || this.#question === null) return;
+    this.#complete();
+    this.#draw();
   }
 
   /** Shows what the filters leave, as many as before, and says whether there are rows. If the head is seen nothing that
@@ -147,8 +157,9 @@ export class BestContinuations {
     for (const finder of this.#finders) finder.stop();
   }
 
-  /** Stops what is looked for, as it is asked to. */
+  /** Stops what is looked for, or goes on with what waits for that. */
   #stopped() {
+    if (!this.#isAsked && this.#further.held() !== "") return this.#further.release();
     const isFurther = this.#further.isOn();
     this.#stop();
     // a search that was asked for says so itself
@@ -171,24 +182,32 @@ export class BestContinuations {
   /** Has all rows found, if the first ones are too few for what is shown, or counted. */
   #complete() {
     if (this.#isAsked || !this.#progress || this.#progress.isWhole) return;
+    // the cases of all are counted
     const isEnough = this.#progress.rows.length >= this.#shown && this.#filters.count === 0;
-    if (isEnough && part("best-sort").value !== "case") return;
+    if (isEnough && !part("best-options").open) return;
     this.#stop();
     this.#find(present(this.#question), this.#progress, true);
   }
 
-  /** Goes on by itself from what was found, if it may. */
+  /** Goes on from what was found, by itself as far as it may. */
   #goFurther() {
     this.#working(false);
     this.#complete();
-    if (this.#isAsked || !part("best-further").checked) return;
-    this.#further.begin({ ...present(this.#question), slack: present(this.#progress).slack });
+    if (this.#isAsked) return;
+    this.#further.begin({ ...present(this.#question), slack: present(this.#newer ?? this.#progress).slack });
   }
 
+  /** Shows whether longer ones are looked for, or wait until they are asked for. */
+  #turned() {
+    this.#working(this.#isAsked);
+    if (!this.#isAsked && this.#progress) this.#tellRows(this.#rows(this.#newer ?? this.#progress));
+  }
+
+  /** Goes on from what was found, as is chosen now. */
   #turnFurther() {
-    if (this.#isAsked || this.#question === null) return;
-    if (!part("best-further").checked) this.#stopped();
-    else if (this.#found.of(this.#question)) this.#ask();
+    if (this.#isAsked || !this.#progress) return;
+    this.#stop();
+    this.#goFurther();
   }
 
   /** Takes what was found without being asked for. Rows that are seen stay where they are: what belongs among them
@@ -292,11 +311,13 @@ export class BestContinuations {
   #working(isAsked: boolean) {
     this.#isAsked = isAsked;
     const isOn = isAsked || this.#further.isOn();
+    const isHeld = !isAsked && this.#further.held() !== "";
     const stop = part("best-stop");
+    stop.textContent = isHeld ? "Go on" : "Stop";
     // what can't be pressed can't keep the focus
-    if (!isOn && document.activeElement === stop) part("best-heading").focus({ preventScroll: true });
+    if (!isOn && !isHeld && document.activeElement === stop) part("best-heading").focus({ preventScroll: true });
     // it stays where it is, and so does all below it
-    stop.disabled = !isOn;
+    stop.disabled = !isOn && !isHeld;
     part("best-progress").hidden = !isOn;
     setBusy("best", isAsked, "");
     // of rows that a stop left too
@@ -313,13 +334,9 @@ export class BestContinuations {
     this.#acts.shown();
   }
 
-  /** The rows that the filters leave, in their order; or null if what is typed isn't moves. */
+  /** The rows that the filters leave, or null if what is typed isn't moves. */
   #rows(progress: Further | null) {
-    const rows = this.#filters.left(progress?.rows ?? []);
-    // after an orientation all have the case of theirs
-    const isByCase = part("best-sort").value === "case" && this.#question?.reached.length === 0;
-    if (isByCase) rows?.sort((one, other) => one.far - other.far || one.rank - other.rank);
-    return rows;
+    return this.#filters.left(progress?.rows ?? []);
   }
 
   #draw() {
@@ -327,6 +344,7 @@ export class BestContinuations {
     const rows = left ?? [];
     const { isWhole = false, rows: all = [] } = this.#progress ?? {};
     this.#filters.show(rows.length === 0 && isWhole && all.length > 0);
+    if (part("best-options").open) offerCases("best-cases", all.map(casesOfBest));
     const shown = rows.slice(0, this.#shown);
     this.#showRows(shown);
     if (this.#progress === null) return;
@@ -349,10 +367,11 @@ export class BestContinuations {
   /** @param left how many rows are left */
   #note(left: number) {
     const { count, tried, slack } = present(this.#newer ?? this.#progress);
-    const longer = slack > present(this.#question).slack ? `Up to ${slack} longer: ` : "";
+    const held = this.#further.held();
+    const longer = slack > present(this.#question).slack && held === "" ? `Up to ${slack} longer: ` : "";
     const some = count < tried ? `the best ${count.toLocaleString("en")} of ` : "";
     const all = some + counted(tried, "row");
-    const words = `${longer}${left === count ? all : `${left.toLocaleString("en")} of ${all}`}.`;
+    const words = `${longer}${left === count ? all : `${left.toLocaleString("en")} of ${all}`}. ${held}`.trim();
     return words[0].toUpperCase() + words.slice(1);
   }
 

@@ -1,21 +1,19 @@
-// How many of the shortest reductions there are on each side after the rows of the best that are seen. They are asked
-// for once a row is seen: thousands never are.
-import { tellCounts } from "./best-row.js";
+// What is told of the reductions after the rows of the best that are seen: how many of the shortest there are on each
+// side, and which cases the first one passes. It is asked for once a row is seen: thousands never are.
+import { tellAfter } from "./best-row.js";
 import { present } from "../shared/certain.js";
 import { setBusy } from "../shared/element.js";
 import { takeNamed } from "../shared/rows.js";
 import type { Calls } from "../shared/questions.js";
-import type { OnSides } from "../../module/shared/sides.js";
+import type { After } from "../answers/examine.js";
 import type { Question, Row } from "./finder.js";
-
-export type Counts = OnSides<number | null>;
 
 export class ShownCounts {
   #calls: Calls;
   #body: HTMLElement;
   #question: Question | null = null;
   /** By the keys of rows; null while it is asked for. */
-  #known = new Map<string, Counts | null>();
+  #known = new Map<string, After | null>();
   /** The rows that may come into view, by their elements. */
   #unseen = new Map<Element, Row>();
   /** the elements of which was told, or is to be */
@@ -47,8 +45,8 @@ export class ShownCounts {
       const element = this.#body.children[at];
       if (this.#told.has(element)) continue;
       this.#told.add(element);
-      const counts = this.#known.get(row.key);
-      if (counts) tellCounts(element, counts);
+      const after = this.#known.get(row.key);
+      if (after) tellAfter(element, row, after);
       if (row.next === null || this.#known.has(row.key)) continue;
       this.#unseen.set(element, row);
       this.#observer.observe(element);
@@ -80,11 +78,12 @@ export class ShownCounts {
     const known = this.#known;
     // what the rows are chosen by is there without it
     const { scramble, parts } = present(this.#question);
-    const asked = { scramble, parts: [...parts, row.part], step: present(row.next).step };
-    const found = await this.#calls.ask("countsAfter", asked).catch(() => null);
+    const { step, part: first } = present(row.next);
+    const asked = { scramble, parts: [...parts, row.part], step, first };
+    const found = await this.#calls.ask("afterRow", asked).catch(() => null);
     if (known !== this.#known || found === null) return;
     known.set(row.key, found);
     const shown = takeNamed(this.#body, row.key)?.closest("tr");
-    if (shown) tellCounts(shown, found);
+    if (shown) tellAfter(shown, row, found);
   }
 }

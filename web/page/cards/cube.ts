@@ -14,7 +14,7 @@ const PLAIN = "none";
 const BEAT = 700;
 
 /** The places of the pieces that a choice marks, and what they are called; a choice is `EO F/B` or `DR U/D`. */
-function marksOf({ badEdges, badCorners, misplacedEdges, cases }: Facts, choice: string) {
+function marksOf({ badEdges, badCorners, misplacedEdges, case: cases }: Facts, choice: string) {
   const [kind, name] = choice.split(" ");
   const axis = present(AXES.find((each) => axisName(each) === name));
   if (kind === "EO") return { pieces: badEdges[axis], words: `${badEdges[axis].length} bad` };

@@ -1,8 +1,8 @@
-// What is left of rows: by what is chosen, by the corners and edges of their cases, by turns that are typed, by the
-// last.
+// What is left of rows: by what is chosen, by the cases that are pressed, by turns that are typed, by the last.
 import { facesOnAxisOf } from "../shared/axes.js";
-import { announce, announceLater, counted, element, part, tell, type PageElement } from "../shared/element.js";
+import { announce, announceLater, counted, element, inner, part, tell, type PageElement } from "../shared/element.js";
 import { ORIENTATIONS, namesOf, reducedAfter, sidesOf, sizeOfCase, stateOf } from "../shared/offered-steps.js";
+import { triggerOf } from "../shared/passage.js";
 import type { Row } from "./finder.js";
 
 /** Of filter: its fields, and what says by the values of these whether a row is left; null if one of them can't be
@@ -12,8 +12,6 @@ export type Kind<Row> = { fields: string[]; test: (...values: string[]) => ((row
 /** What is said of a text that isn't moves. */
 export const NOT_MOVES = "The text in the filter is not moves: type face turns such as F B'.";
 
-/** How many corners and edges of a case may be asked for, beside any number. */
-const MOST_OF_CASE = { corners: ["7", "6", "5", "4", "3", "2", "0"], edges: ["6", "4", "2", "0"] };
 /** How many moves in all the best may be asked to have at most. */
 const TOTALS = ["7", "8", "9", "10", "11", "12", "13"];
 
@@ -42,16 +40,39 @@ export function chosen<Row>(
   return { fields: [field], test: (value) => (row) => value === "" || isLeft(row, value) };
 }
 
-/** The most corners and edges that one of a row's cases may have.
- * @param name with which the ids of both fields begin */
-export function caseAtMost<Row>(name: string, casesOf: (row: Row) => string[]): Kind<Row> {
-  for (const [kind, counts] of Object.entries(MOST_OF_CASE)) offerChoices(`${name}-${kind}`, counts);
-  const test = (...values: string[]) => {
-    if (values.every((value) => value === "")) return () => true;
-    const [corners, edges] = values.map((value) => (value === "" ? Infinity : Number(value)));
-    return (row: Row) => casesOf(row).map(sizeOfCase).some((size) => size.corners <= corners && size.edges <= edges);
+/** @returns the cases that are pressed, which a field without a place of its own holds */
+const pressedIn = (value: string) => value.split(" ").filter(Boolean);
+
+/** Rows with one of the cases that are pressed. @param field beside which their chips stand */
+export function ofCases<Row>(field: string, casesOf: (row: Row) => string[]): Kind<Row> {
+  const test = (value: string) => {
+    const pressed = pressedIn(value);
+    return (row: Row) => pressed.length === 0 || casesOf(row).some((each) => pressed.includes(each));
   };
-  return { fields: [`${name}-corners`, `${name}-edges`], test };
+  return { fields: [field], test };
+}
+
+/** Offers cases as chips, each with how many rows have it, the nearest first; those that are pressed stay.
+ * @param all the cases of each row */
+export function offerCases(name: string, all: string[][]) {
+  const [field, chips] = [part(name), part(`${name}-chips`)];
+  const pressed = pressedIn(field.value);
+  const counts = new Map(pressed.map((each) => [each, 0]));
+  for (const each of all.flatMap((cases) => [...new Set(cases)])) counts.set(each, (counts.get(each) ?? 0) + 1);
+  const names = [...counts.keys()].sort((one, other) => sizeOfCase(one).far - sizeOfCase(other).far);
+  const focused = document.activeElement?.closest(`#${chips.id} button`)?.dataset.case;
+  chips.replaceChildren(...names.map((each) => {
+    const isPressed = pressed.includes(each);
+    const press = () => {
+      field.value = (isPressed ? pressed.filter((other) => other !== each) : [...pressed, each]).join(" ");
+      field.dispatchEvent(new Event("input"));
+    };
+    const about = { class: "quiet chip", "data-case": each, "aria-pressed": String(isPressed), click: press };
+    const count = counts.get(each) ?? 0;
+    return element("button", { type: "button", "aria-label": `${each}, ${counted(count, "row")}`, ...about },
+      element("span", { class: "case" }, each), ` ${count.toLocaleString("en")}`);
+  }));
+  if (focused) inner(chips, `[data-case="${focused}"]`).focus({ preventScroll: true });
 }
 
 /** Turns as the lists have them: those of opposite faces, which may stand in either order, as their axis names them. */
@@ -99,16 +120,21 @@ export const offerLastTurns = (field: string, all: string[]) =>
 const WHERE = ["normal", "inverse", "both sides"];
 const isOn = ({ part: step }: Row, where: string) => sidesOf([step]) === where;
 
+/** The case of a row of the best: before the reduction after an orientation, or from which its own trigger goes. */
+export const casesOfBest = ({ next, passed }: Row) =>
+  (next === null ? [triggerOf(passed)].filter(Boolean) : [next.case]);
+
 /** The filters of the best: of orientations, with their reduction and its case, and of reductions. */
 export const filtersOfBest = () => ({
   ofOrientations: [
-    caseAtMost<Row>("best", ({ next }) => (next === null ? [] : [next.case])),
+    ofCases<Row>("best-cases", casesOfBest),
     chosen<Row>("best-axis", ORIENTATIONS.map(stateOf), ({ state }, axis) => state === axis),
     chosen("best-side", WHERE, isOn),
     chosen<Row>("best-next", reducedAfter(namesOf(ORIENTATIONS)), ({ next }, marks) => next?.marks === marks),
     chosen<Row>("best-total", TOTALS, ({ total }, most) => total <= Number(most)),
   ],
   ofReductions: [
+    ofCases<Row>("best-cases", casesOfBest),
     chosen<Row>("best-reduction", [], ({ state }, wanted) => state === wanted),
     chosen("best-reduction-side", WHERE, isOn),
     withTurns<Row>("best-filter", "best-last", ({ lines }) => lines),

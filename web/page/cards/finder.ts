@@ -9,15 +9,15 @@ export type Lengths = OnSides<number | null>;
 /** The reduction after an orientation: its moves, what it reaches, its case, and its least length on each side
  * alone. */
 export type Next = { step: Step; part: Part; length: number; marks: string; case: string; lengths: Lengths };
-/** `twins`: their last turns; `lines`: the moves on each side of all twins; `far`: how many pieces the case has;
- * `key`: what the row is known by; `rank`: what rows are put in order by. */
+/** `twins`: their last turns; `lines`: the moves on each side of all twins; `passed`: of a reduction the case before
+ * each move; `key`: what the row is known by; `rank`: what rows are put in order by. */
 export type Row = {
   total: number;
   part: Part;
   state: string;
   twins: string[];
   lines: string[];
-  far: number;
+  passed: string[];
   next: Next | null;
   key: string;
   rank: number;
@@ -31,11 +31,19 @@ export type FoundOnAxis = { rows: Row[]; tried: number };
 /** Of all axes; `count`: of all that are kept. */
 export type Found = FoundOnAxis & { count: number; isWhole: boolean };
 
+/** How many rows that aren't seen belong before the last one that is. @param seen the keys of those that are seen */
+export function newAmong(rows: Row[], seen: string[]) {
+  const known = new Set(seen);
+  const last = rows.findLastIndex(({ key }) => known.has(key));
+  return rows.slice(0, Math.max(0, last)).filter(({ key }) => !known.has(key)).length;
+}
+
 /** How many rows are kept, which are all but seldom; of longer ones, of which there are thousands, each takes time. */
 const mostKept = (slack: number) => (slack === 0 ? 5000 : 200);
 
-/** How many rows of each axis are asked for: at first little more than are shown, of reductions alone all. */
-const mostOf = ({ slack, reached, isWhole }: Question) => (isWhole || reached.length > 0 ? mostKept(slack) : 12);
+/** How many rows of each axis are asked for: at first little more than are shown, of reductions all. */
+const AT_FIRST = 8;
+const mostOf = ({ slack, reached, isWhole }: Question) => (isWhole || reached.length > 0 ? mostKept(slack) : AT_FIRST);
 
 /** Of how many searches what was found is kept. */
 const MOST_KEPT_SEARCHES = 8;

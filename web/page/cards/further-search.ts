@@ -1,25 +1,35 @@
 // Longer orientations, which nobody asked for: one move longer, and then two. They are looked for while the page is
-// seen and waits for nothing else, by workers that leave half of the processor to whatever is asked meanwhile.
+// seen and waits for nothing else, by workers that leave half of the processor to whatever is asked meanwhile, as long
+// as a measure allows them, and after that once they are asked for.
 import { thrownError } from "../shared/certain.js";
 import { findOnAxis, together, type Found, type FoundOnAxis, type Question } from "./finder.js";
+import { mostTogether, type Measure } from "./measure.js";
 import { ORIENTATIONS } from "../shared/offered-steps.js";
 import { waitsForAnswers } from "../shared/view.js";
 import type { Calls } from "../shared/questions.js";
+import type { Size } from "../answers/orientations.js";
 
 /** By how many moves longer. */
 export type Further = Found & { slack: number };
-/** `found`: of the axes that were looked through; `left`: those that are still to be looked at. */
-export type Search = { question: Question; found: Map<number, FoundOnAxis>; left: number[]; running: Set<number> };
+/** `sizes`: how many orientations each axis has, once they are counted; `isHeld`: it waits until it is asked for;
+ * `found`: of the axes that were looked through; `left`: those that are still to be looked at. */
+type Search = {
+  question: Question;
+  sizes: Size[];
+  isHeld: boolean;
+  found: Map<number, FoundOnAxis>;
+  left: number[];
+  running: Set<number>;
+};
 
 /** How many moves longer than the shortest are looked for without being asked for. */
 const FURTHEST = 2;
 /** How long nothing is waited for before it begins, in milliseconds. */
 const IDLE_FOR = 600;
 
-/** How many axes are looked at together. */
-const mostTogether = () => Math.min(ORIENTATIONS.length, Math.max(1, (navigator.hardwareConcurrency || 2) >> 1));
+const MILLISECONDS = 1000;
 
-/** `turned`: once it goes on, or no more; `looked`: how many axes are looked through. */
+/** `turned`: once it goes on, or no more, or waits to be asked; `looked`: how many axes are looked through. */
 type FurtherActs = {
   turned: () => void;
   looked: (done: number, all: number) => void;
@@ -30,19 +40,36 @@ type FurtherActs = {
 export class FurtherSearch {
   #finders: Calls[];
   #acts: FurtherActs;
+  #measure: Measure;
   #timer = 0;
   #search: Search | null = null;
 
   /** @param finders one an axis */
-  constructor(finders: Calls[], acts: FurtherActs) {
+  constructor(finders: Calls[], measure: Measure, acts: FurtherActs) {
     this.#finders = finders;
+    this.#measure = measure;
     this.#acts = acts;
     document.addEventListener("visibilitychange", () => (document.hidden ? this.#pause() : this.#wait()));
   }
 
   /** Whether it goes on, or waits for a moment in which it may. */
   isOn() {
-    return this.#search !== null && !document.hidden;
+    return this.#search !== null && !this.#search.isHeld && !document.hidden;
+  }
+
+  /** What it waits with until it is asked for, in words, or "". */
+  held() {
+    if (!this.#search?.isHeld) return "";
+    const { question: { slack }, sizes } = this.#search;
+    return `Up to ${slack} longer: ${this.#measure.words(sizes)}.`;
+  }
+
+  /** Goes on with that. */
+  release() {
+    if (this.#search === null) return;
+    this.#search.isHeld = false;
+    this.#acts.turned();
+    this.#goOn();
   }
 
   /** Goes on from what was found. */
@@ -51,6 +78,8 @@ export class FurtherSearch {
     if (question.reached.length > 0 || question.slack >= FURTHEST) return;
     this.#search = {
       question: { ...question, slack: question.slack + 1, isWhole: true },
+      sizes: [],
+      isHeld: false,
       found: new Map(),
       left: ORIENTATIONS.map((_, at) => at),
       running: new Set(),
@@ -67,7 +96,8 @@ export class FurtherSearch {
   /** Gives up what is looked at until the page is seen again. */
   #pause() {
     clearTimeout(this.#timer);
-    for (const at of this.#search?.running ?? []) this.#finders[at].stop();
+    if (this.#search === null) return;
+    for (const at of this.#search.running) this.#finders[at].stop();
     this.#acts.turned();
   }
 
@@ -83,17 +113,39 @@ export class FurtherSearch {
     if (document.hidden) return;
     if (waitsForAnswers()) return this.#wait();
     const search = this.#search;
-    if (search === null) return;
+    if (search === null || search.isHeld) return;
+    if (search.sizes.length === 0) return void this.#weigh(search);
     const { left, running } = search;
     for (const at of left.splice(0, Math.max(0, mostTogether() - running.size))) this.#look(search, at);
+  }
+
+  /** Has the orientations counted, and goes on with as many as may be. */
+  async #weigh(search: Search) {
+    const isStill = () => search === this.#search;
+    try {
+      const { question } = search;
+      const sizes = await Promise.all(this.#finders.map((finder, axis) =>
+        finder.ask("orientationsOn", { axis, question })));
+      if (!isStill()) return;
+      search.sizes = sizes;
+    } catch (fault) {
+      // after a pause they are counted again
+      if (isStill() && !document.hidden) this.#end(thrownError(fault));
+      return;
+    }
+    search.isHeld = !this.#measure.allows(search.sizes);
+    if (search.isHeld) this.#acts.turned();
+    else this.#goOn();
   }
 
   /** @param at the place of its axis */
   async #look(search: Search, at: number) {
     search.running.add(at);
     const isStill = () => search === this.#search;
+    const begin = performance.now();
     try {
       search.found.set(at, await findOnAxis(this.#finders, at, search.question, () => {}));
+      this.#measure.spend(search.sizes[at], (performance.now() - begin) / MILLISECONDS);
     } catch (fault) {
       if (isStill()) this.#broken(search, at, thrownError(fault));
       return;
@@ -106,12 +158,14 @@ export class FurtherSearch {
   /** @param at the place of an axis
    * @param fault why it isn't looked through */
   #broken(search: Search, at: number, fault: Error) {
-    if (!document.hidden) {
-      this.stop();
-      return this.#acts.ended(fault);
-    }
+    if (!document.hidden) return this.#end(fault);
     // it was given up until the page is seen again
     search.left.unshift(at);
+  }
+
+  #end(fault: Error) {
+    this.stop();
+    this.#acts.ended(fault);
   }
 
   /** Goes on with the next axis, or with one more move, or ends. @param search one of whose axes is looked through */

@@ -10,6 +10,7 @@ import { WayTo } from "../state/history.js";
 import {
   ORIENTATIONS, REDUCTIONS, axisName, bracketed, isReduced, reductionsAfter, sidesOf, stateOf, statesOf, stepNamed,
 } from "../shared/offered-steps.js";
+import { withCases } from "../shared/passage.js";
 import { tellAt, withoutMoving } from "../shared/view.js";
 import { MOST_ARE_KEPT, NO_ROOM, wordsOfFault } from "../shared/words.js";
 import type { Calls } from "../shared/questions.js";
@@ -39,8 +40,8 @@ function wordsOfNext({ next }: KeptWalk): string[] {
   return [`${next.state} ${next.case}: N ${normal} I ${inverse}, ${next.total} in all`, ...then];
 }
 
-/** Some steps, what they reach, and cases after them. */
-export type Stage = { parts: Part[]; states: string[]; cases: string[] };
+/** Some steps, what they reach, cases after them, and those that a reduction passes. */
+type Stage = { parts: Part[]; states: string[]; cases: string[]; passed: string[] };
 
 /** From which beginning on it has held. @param name of a step that is reached in the end */
 const heldFrom = ({ reached }: KeptWalk, name: string) => reached.findLastIndex((each) => !each.includes(name)) + 1;
@@ -51,7 +52,7 @@ const orientationOf = ({ needs }: StepOnAxis) => present(needs);
 /** The stages of a candidate with a reduction: up to the orientation before it, up to itself with the case that was
  * solved, and what came after it. */
 function stagesOfReduced(walk: KeptWalk): Stage[] {
-  const { parts, facts } = walk;
+  const { parts, facts, passed } = walk;
   const reductions = REDUCTIONS.filter(({ name }) => lastOf(walk.reached).includes(name));
   const ways = reductions.map((step) => (
     { step, from: heldFrom(walk, orientationOf(step)), to: heldFrom(walk, step.name) }));
@@ -61,13 +62,13 @@ function stagesOfReduced(walk: KeptWalk): Stage[] {
   const begin = from < to ? from : 0;
   const before = parts.slice(0, begin);
   const oriented = statesOf(first.map(orientationOf)).map((state) => `${state}, ${sidesOf(before)}`);
-  const reduced = first.map((step) => (from < to ? `${stateOf(step)} ${facts[from].cases[step.axis]}` : stateOf(step)));
+  const reduced = first.map((step) => (from < to ? `${stateOf(step)} ${facts[from].case[step.axis]}` : stateOf(step)));
   const others = reductions.filter((step) => !first.some((other) => stateOf(other) === stateOf(step)));
   const later = to === 0 ? reductions : others;
   const stages = [
-    { parts: before, states: oriented, cases: [] },
-    { parts: parts.slice(begin, to), states: [...new Set(reduced)], cases: [] },
-    { parts: parts.slice(to), states: statesOf(later.map(({ name }) => name)), cases: [] },
+    { parts: before, states: oriented, cases: [], passed: [] },
+    { parts: parts.slice(begin, to), states: [...new Set(reduced)], cases: [], passed: passed.slice(begin, to).flat() },
+    { parts: parts.slice(to), states: statesOf(later.map(({ name }) => name)), cases: [], passed: [] },
   ];
   return stages.filter((stage) => stage.parts.length > 0);
 }
@@ -78,17 +79,17 @@ function stagesOf(walk: KeptWalk): Stage[] {
   const reached = lastOf(walk.reached);
   if (isReduced(reached)) return stagesOfReduced(walk);
   const steps = ORIENTATIONS.filter(({ name }) => reached.includes(name)).flatMap(({ name }) => reductionsAfter(name));
-  const cases = [...new Set(steps.map(({ axis }) => `${axisName(axis)} ${lastOf(facts).cases[axis]}`))];
-  return [{ parts, states: statesOf(reached), cases: next === null ? cases : wordsOfNext(walk) }];
+  const cases = [...new Set(steps.map(({ axis }) => `${axisName(axis)} ${lastOf(facts).case[axis]}`))];
+  return [{ parts, states: statesOf(reached), cases: next === null ? cases : wordsOfNext(walk), passed: [] }];
 }
 
 /** What is seen of a candidate: its stages, each together, and the moves in all. */
 function stepOf(parts: Part[], walk: KeptWalk | null) {
-  const stages = walk === null ? [{ parts, states: [], cases: [] }] : stagesOf(walk);
+  const stages = walk === null ? [{ parts, states: [], cases: [], passed: [] }] : stagesOf(walk);
   const total = walk?.totals.at(-1);
   const count = stages.length > 1 ? `${total} in all` : counted(total ?? 0, "move");
   return element("span", { class: "step" }, ...stages.map((stage, at) => element("span", { class: "step" },
-    element("span", { class: "moves" }, bracketed(stage.parts)),
+    element("span", { class: "moves" }, ...withCases(bracketed(stage.parts), stage.passed)),
     ...(at === stages.length - 1 ? [element("span", { class: "total" }, walk === null ? "" : count)] : []),
     ...stage.states.map((state) => element("span", { class: "chip" }, state)),
     ...stage.cases.map((each) => element("span", { class: "case" }, each)))));

@@ -7,6 +7,7 @@ import { announce, button, counted, element, inner, part, spoken, tell, type Pag
 import {
   bracketed, isReduced, lastSideOf, movesOn, newlyReached, otherSide, statesOf, turnsOfStep,
 } from "../shared/offered-steps.js";
+import { withCases } from "../shared/passage.js";
 import { showFault, wordsOfLeftOut } from "../shared/words.js";
 import type { Calls } from "../shared/questions.js";
 import type { Moves as Part, Side } from "../../module/shared/sides.js";
@@ -154,7 +155,8 @@ export class LineSoFar {
       line: bracketed(walk.parts), joined: whole, total: counted(lastOf(walk.totals), "move"), note: noteOfJoined(walk),
       fmc: fmcOf(scramble, walk),
     });
-    this.#words.forEach(({ reaches, lost, count }, index) => {
+    this.#words.forEach(({ moves, reaches, lost, count }, index) => {
+      moves.replaceChildren(...withCases(bracketed([walk.parts[index]]), walk.passed[index]));
       const inAll = index === 0 ? "" : `, ${walk.totals[index + 1]} in all`;
       count.textContent = `${counted(walk.turns[index], "move")}${inAll}`;
       const [fresh, missed] = [newlyReached(walk, index), this.#lost(walk, index)];

@@ -1,16 +1,17 @@
-// The list of a step's solutions: grouped by length or by case, filtered by turns and by case, and cut if it is long. A
-// list that is looked for gives way to another one, and can be stopped.
+// The list of a step's solutions: grouped by length and, of reductions, by trigger, filtered by turns and by case, and
+// cut if it is long. A list that is looked for gives way to another one, and can be stopped.
 import { Stopped } from "../../module/shared/faults.js";
 import { thrownError, present } from "../shared/certain.js";
 import { announce, announceLater, button, counted, element, part, setBusy, spoken, tell } from "../shared/element.js";
 import {
-  Filters, NOT_MOVES, caseAtMost, offerChoices, offerLastTurns, offerMoves, withTurns,
+  Filters, NOT_MOVES, ofCases, offerCases, offerLastTurns, offerMoves, withTurns,
 } from "./filters.js";
 import { GREATEST_SLACK } from "../state/limits.js";
 import { addRows, named, roveWithin, showRows, starButton, takeButton, takeNamed } from "../shared/rows.js";
 import {
-  axisName, bracketed, reductionsAfter, sizeOfCase, stateOf, stepNamed, titleOf,
+  axisName, bracketed, reductionsAfter, stateOf, stepNamed, titleOf,
 } from "../shared/offered-steps.js";
+import { signsOfCases, triggerOf } from "../shared/passage.js";
 import { sidesOfTwins, withTwins } from "../shared/twins.js";
 import { isNarrow } from "../shared/view.js";
 import type { Calls } from "../shared/questions.js";
@@ -45,6 +46,16 @@ function noteOfList({ entries, all, left, whole }: Rows, matching: number, shown
   return sentences.join(" ");
 }
 
+/** What entries that stand together have in common: how long they are, and from which case their trigger goes. */
+function nameOfGroup({ length, total, passed = [] }: Entry) {
+  const trigger = triggerOf(passed);
+  const inAll = total === undefined ? [] : [`${total} in all`];
+  return [counted(length, "move"), ...inAll, ...(trigger === "" ? [] : [`trigger from ${trigger}`])].join(", ");
+}
+
+/** How many signs the moves of an entry are, with their cases. */
+const signsOf = ({ part: own, passed = [] }: Entry) => Math.ceil(bracketed([own]).length + signsOfCases(passed));
+
 /** What is done from a list. */
 type ListActs = {
   take: (parts: Part[], key: string) => void;
@@ -68,7 +79,7 @@ export class SolutionList {
   #filters = new Filters<Entry>("list", part("solutions-note"), [[
     withTurns("filter", "last-turn", ({ moves, others, part: own, twins }) =>
       (twins === undefined ? withTwins(moves, others) : sidesOfTwins(own, twins))),
-    caseAtMost("most", (entry) => this.#casesOf(entry).map(({ name }) => name)),
+    ofCases("list-cases", (entry) => this.#namesOf(entry)),
   ]], () => this.#filtered());
   #groups = part("solutions-groups");
 
@@ -82,7 +93,6 @@ export class SolutionList {
     part("twins").addEventListener("change", () => acts.change({ isAll: part("twins").checked }));
     part("solutions-stop").addEventListener("click", () => calls.stop());
     part("solutions-close").addEventListener("click", () => acts.change(null));
-    part("list-sort").addEventListener("change", () => this.#filtered());
     part("solutions-more").addEventListener("click", () => this.#more());
     roveWithin(this.#groups);
     // so that rows are seen below them
@@ -125,10 +135,7 @@ export class SolutionList {
   #open(list: List | null) {
     const isSame = list?.step === this.#list?.step && list?.side === this.#list?.side;
     // the filters stay for the same list with other rows, and what is typed while it is looked for stays too
-    if (!isSame) {
-      this.#filters.clear();
-      part("list-sort").value = "";
-    }
+    if (!isSame) this.#filters.clear();
     this.#filters.show(false);
     this.#list = list;
     this.#rows = null;
@@ -148,10 +155,7 @@ export class SolutionList {
     part("slack").value = String(slack);
     part("list-side").value = side;
     part("twins").checked = isAll;
-    const hasCases = stepNamed(step).needs === null;
-    part("case-filters").hidden = !hasCases;
-    offerChoices("list-sort", hasCases ? ["case"] : [], "length");
-    part("list-order").hidden = !hasCases;
+    part("list-cases-name").textContent = stepNamed(step).needs === null ? "Cases after it" : "Trigger from";
     tell(part("solutions-note"), LOOKING);
   }
 
@@ -217,10 +221,10 @@ export class SolutionList {
       { state: stateOf(step), axis: axisName(step.axis), name: cases[step.axis] }));
   }
 
-  /** @returns the nearest case of an entry, and how far it is */
-  #nearest(entry: Entry) {
-    const cases = this.#casesOf(entry).map(({ name }) => ({ name, far: sizeOfCase(name).far }));
-    return cases.sort((one, other) => one.far - other.far)[0] ?? { name: "unknown case", far: Infinity };
+  /** @returns by which cases an entry is filtered: those after it, or that from which its trigger goes */
+  #namesOf(entry: Entry) {
+    const trigger = triggerOf(entry.passed ?? []);
+    return trigger === "" ? this.#casesOf(entry).map(({ name }) => name) : [trigger];
   }
 
   /** Puts what the filters leave in its order, and shows its beginning. */
@@ -229,24 +233,20 @@ export class SolutionList {
     this.#ordered = this.#grouped(left ?? []);
     this.#matching = this.#ordered.flatMap(({ entries }) => entries);
     this.#groups.replaceChildren();
+    offerCases("list-cases", present(this.#rows).entries.map((entry) => this.#namesOf(entry)));
     this.#draw();
     if (left === null) tell(part("solutions-note"), NOT_MOVES);
   }
 
   /** @returns in the order of their rows */
   #grouped(matching: Entry[]): Group[] {
-    const byCase = part("list-sort").value === "case";
-    const nearest = new Map(byCase ? matching.map((entry) => [entry, this.#nearest(entry)]) : []);
-    const farOf = (entry: Entry) => nearest.get(entry)?.far ?? 0;
-    if (byCase) matching.sort((one, other) => farOf(one) - farOf(other) || one.length - other.length);
     const groups = new Map<string, Group>();
     for (const entry of matching) {
-      const inAll = entry.total === undefined ? "" : `, ${entry.total} in all`;
-      const name = nearest.get(entry)?.name ?? counted(entry.length, "move") + inAll;
+      const name = nameOfGroup(entry);
       const group = groups.get(name) ?? { name, entries: [], longest: 0, list: null };
       groups.set(name, group);
       group.entries.push(entry);
-      group.longest = Math.max(group.longest, bracketed([entry.part]).length);
+      group.longest = Math.max(group.longest, signsOf(entry));
     }
     return [...groups.values()];
   }
@@ -281,12 +281,12 @@ export class SolutionList {
   }
 
   #item(entry: Entry) {
-    const { moves, others, part: own } = entry;
+    const { moves, others, part: own, passed = [] } = entry;
     if (moves === "") return element("li", { class: "reached" }, "no moves: it is reached");
     const [added, key, cases] = [[own], moves, this.#casesOf(entry)];
     const text = bracketed(added);
     const twins = others.map((other) => `or ${spoken(other)}`);
-    const said = { cases: cases.map(({ axis, name }) => `${axis} ${name}`), twins };
+    const said = { passed, cases: cases.map(({ axis, name }) => `${axis} ${name}`), twins };
     const copy = { class: "copy", ...named(`Copy ${spoken(text)}`, "Copy the covered moves") };
     return element("li", {},
       takeButton(text, { key, isSeen: this.#acts.isSeen(added), ...said }, () => this.#acts.take(added, key)),

@@ -72,6 +72,10 @@ export const movesOn = (parts: readonly Part[], side: Side) => joined(...parts.m
 /** @returns the turns of a step on both sides */
 export const turnsOfStep = (part: Part): string[] => SIDES.flatMap((side) => part[side].split(" ")).filter(Boolean);
 
+/** The moves of some steps, each as a step: of each those on the normal side first. */
+export const singleMoves = (parts: readonly Part[]): Part[] => parts.flatMap((part) =>
+  SIDES.flatMap((side) => turnsOfStep(partOn(side, part[side])).map((turn) => partOn(side, turn))));
+
 /** @returns where some steps have moves */
 export function sidesOf(parts: readonly Part[]): "normal" | "inverse" | "both sides" {
   const [normal, inverse] = SIDES.map((side) => parts.some((each) => each[side] !== ""));
@@ -97,7 +101,7 @@ export function sizeOfCase(name: string) {
 }
 
 /** What solvers choose a step by: bad edges, or the case. */
-export function caseOfStep({ badEdges, cases }: Facts, { axis, needs }: OfferedStep) {
+export function caseOfStep({ badEdges, case: cases }: Facts, { axis, needs }: OfferedStep) {
   if (needs !== null) return cases[axis];
   const count = badEdges[axis].length;
   return `${count} bad edge${count === 1 ? "" : "s"}`;

@@ -78,15 +78,18 @@ export class Calls {
     return value;
   }
 
-  /** Has the tables of some steps built before they are needed, one after another, until questions are given up. */
-  async ready(steps: Step[]) {
+  /** Has the tables of some steps built before they are needed, one after another, until questions are given up.
+   * @param axis of which the best will be asked for */
+  async ready(steps: Step[], axis?: number) {
     const unready = steps.filter((name) => !this.#ready.has(name));
+    const isCold = unready.length > 0;
     this.#unready = unready;
     try {
       for (let step = unready.shift(); unready === this.#unready && step !== undefined; step = unready.shift()) {
         await this.#answer("build", { step });
         this.#ready.add(step);
       }
+      if (isCold && axis !== undefined && unready === this.#unready) await this.#answer("warmUp", { axis });
     } catch {
       // they are built once they are needed
     }
@@ -142,7 +145,8 @@ export class Readiness {
     byHand.ready(["eofb"]);
     list.ready(namesOf(openSteps(reached)));
     // those that have looked for the best have their own
-    if (isBare) ORIENTATIONS.forEach(({ name }, at) => finders[at].ready([name, ...namesOf(reductionsAfter(name))]));
+    const stepsOn = (name: Step) => [name, ...namesOf(reductionsAfter(name))];
+    if (isBare) ORIENTATIONS.forEach(({ name }, at) => finders[at].ready(stepsOn(name), at));
     calls.ready(namesOf([...ORIENTATIONS, ...REDUCTIONS]));
   }
 }

@@ -1,6 +1,7 @@
 // Rows of moves, in a list or a table: what is pressed in each, how they come and go, and one stop of the Tab key for
 // all of them, with the arrow keys, Home and End from row to row, and from button to button within one.
-import { button, inner, part, spoken } from "./element.js";
+import { button, element, inner, part, spoken } from "./element.js";
+import { saidOfCases, withCases } from "./passage.js";
 
 /** The rows that were pressed since moves are covered. */
 const uncovered = new Set<string>();
@@ -11,18 +12,21 @@ const keptBy = new WeakMap<HTMLElement, () => boolean>();
 /** What a button of a row is called, and what while the row's moves are covered: then it says nothing of them. */
 export const named = (open: string, covered: string) => ({ tabindex: -1, "data-open": open, "data-covered": covered });
 
-/** The button that takes the moves of a row.
- * @param text the moves as they are shown
- * @param row what it is known by, what else is said, and whether it was taken */
+/** What a row is known by, what else is said of it, the cases that it passes, and whether it was taken. */
+type AboutRow = { key: string; twins?: string[]; cases?: string[]; passed?: string[]; isSeen: boolean };
+
+/** The button that takes the moves of a row. @param text the moves as they are shown */
 export function takeButton(
   text: string,
-  { key, twins = [], cases = [], isSeen }: { key: string; twins?: string[]; cases?: string[]; isSeen: boolean },
+  { key, twins = [], cases = [], passed = [], isSeen }: AboutRow,
   click: () => void,
 ) {
   const seen = isSeen ? ["seen"] : [];
-  const open = [spoken(text), ...cases, ...twins, ...seen].join(", ");
-  const names = named(open, ["Covered moves", ...cases, ...seen].join(", "));
-  return button(text, { class: ["take moves", ...seen].join(" "), "data-key": key, ...names, click });
+  const told = [...cases, ...saidOfCases(passed)];
+  const open = [spoken(text), ...told, ...twins, ...seen].join(", ");
+  const names = named(open, ["Covered moves", ...told, ...seen].join(", "));
+  const about = { class: ["take moves", ...seen].join(" "), "data-key": key, ...names, click };
+  return element("button", { type: "button", ...about }, ...withCases(text, passed));
 }
 
 /** The button that keeps the moves of a row. */

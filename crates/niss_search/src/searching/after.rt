@@ -1,17 +1,16 @@
 //! The solutions that come after a sequence: so a caller goes through a long list in pieces, and keeps the last solution
 //! of each alone.
 ghost use Rattle.std.specs.Prelude.{◌≡◌, ◌+◌, ◌≤◌, ◌<◌, ◌^◌, [], length, IfOk, OnOk, IfErr, true, Contains};
-ghost use Rattle.std.specs.Prelude.{if◌then◌else◌};
 ghost use Rattle.niss_moves.specs.Places.{Place};
 ghost use Rattle.niss_cube.specs.Steps.{turns_of};
 ghost use Rattle.niss_search.specs.Cubes.{IsPosition, HasPosition};
 ghost use Rattle.niss_search.specs.After.{turn_place, sequences_after, deepening_looks_of};
 ghost use Rattle.niss_search.specs.Delivery.{WentThrough, EndedIn, at_limit};
 ghost use Rattle.niss_search.specs.Budgets.{is_cut_in, HasSpent};
-ghost use Rattle.niss_search.specs.Deepening.{Delivers, Keeps, Makes, turns, below_at, later_at, all_after, later_turn_at};
-ghost use Rattle.niss_search.specs.Deepening.{EndsAt};
+ghost use Rattle.niss_search.specs.Deepening.{Delivers, EndsAt, MayMake, HasMade, turns};
+ghost use Rattle.niss_search.specs.Deepening.{later_at, later_turn_at, goes_on_at, all_after};
 
-use super::depth_first::Descent;
+use super::depth_first::{Descent, Guide};
 use super::{Root, Sink};
 use crate::budget::{Budget, Stopped, UpTo};
 use crate::laws::positions_follow_cubes;
@@ -145,7 +144,11 @@ impl<A: Allocator> Root<'_, A> {
             sink,
             count: 0,
         };
-        let (counted, ended) = descent.pass(self.tables, self.position, after, held, budget);
+        let guide = Guide {
+            tables: self.tables,
+            budget,
+        };
+        let (counted, ended) = descent.pass(guide, self.position, after, held);
         let solutions = descent.count;
         *meter = counted;
         ended?;
@@ -159,45 +162,33 @@ impl<K: Sink> Descent<'_, K> {
     #[cycle(passing)]
     fn pass<A: Allocator, B: Budget<K::Fault>>(
         &mut self,
-        tables: &Tables<A>,
+        guide: Guide<'_, Tables<A>, B>,
         position: &Position,
         after: &[Turn],
         meter: Meter,
-        budget: &B,
     ) -> (Meter, Result<(), B::Stop>)
-        requires position { IsPosition tables.now position.now }
+        requires position { IsPosition guide.tables.now position.now }
         requires few { length after.now ≤ 20 }
-        requires room { length (turns self.old) + length after.now ≤ self.old.path.now.limit }
-        requires meter { meter + (later_at tables.now position.now (turns self.old) after.now).looks < 2 ^ 128 }
-        requires budget { meter ≤ B.bound budget.now }
-        requires count { self.old.count ≤ meter }
-        ensures keeps { Keeps self.old self.new meter result.0 }
-        ensures within { result.0 ≤ B.bound budget.now }
-        ensures spent { HasSpent B.is_cut (B.bound budget.now) tables.now result.0 result.1 }
-        ensures makes { Makes K.took K.refused B.is_cut (B.bound budget.now)
-            (later_at tables.now position.now (turns self.old) after.now)
+        requires asked { MayMake
+            (later_at guide.tables.now position.now (turns self.old) after.now) (length after.now) 0
+            (B.bound guide.budget.now) meter self.old }
+        ensures { HasMade K.took K.refused B.is_cut (B.bound guide.entry.budget.now) guide.entry.tables.now
+            (later_at guide.entry.tables.now position.now (turns self.old) after.now) 0
             meter result.0 self.old self.new result.1 }
     {
         if after.is_empty() {
             return (meter, Ok(()));
         }
         let mut meter = meter;
-        if let Err(stop) = budget.admit(&meter, 1) {
+        if let Err(stop) = guide.budget.admit(&meter, 1) {
             return (meter, Err(stop));
         }
-        if usize::from(tables.look(position, &mut meter)) > after.len() {
+        if usize::from(guide.tables.look(position, &mut meter)) > after.len() {
             return (meter, Ok(()));
         }
-        let turns = tables.step().turns();
+        let turns = guide.tables.step().turns();
         for index in 0..turns.len() {
-            let (counted, below) = self.pass_turn(
-                tables,
-                position,
-                turns[index],
-                after,
-                meter,
-                budget,
-            );
+            let (counted, below) = self.pass_turn(guide, position, turns[index], after, meter);
             meter = counted;
             if let Err(stop) = below {
                 return (meter, Err(stop));
@@ -211,27 +202,21 @@ impl<K: Sink> Descent<'_, K> {
     #[cycle(passing)]
     fn pass_turn<A: Allocator, B: Budget<K::Fault>>(
         &mut self,
-        tables: &Tables<A>,
+        guide: Guide<'_, Tables<A>, B>,
         position: &Position,
         turn: Turn,
         after: &[Turn],
         meter: Meter,
-        budget: &B,
     ) -> (Meter, Result<(), B::Stop>)
-        requires position { IsPosition tables.now position.now }
-        requires of_step { Contains (turns_of tables.now) turn }
+        requires position { IsPosition guide.tables.now position.now }
+        requires of_step { Contains (turns_of guide.tables.now) turn }
         requires some { 0 < length after.now }
         requires few { length after.now ≤ 20 }
-        requires room { length (turns self.old) + length after.now ≤ self.old.path.now.limit }
-        requires meter { meter
-            + (later_turn_at tables.now position.now (turns self.old) after.now turn).looks < 2 ^ 128 }
-        requires budget { meter ≤ B.bound budget.now }
-        requires count { self.old.count ≤ meter }
-        ensures keeps { Keeps self.old self.new meter result.0 }
-        ensures within { result.0 ≤ B.bound budget.now }
-        ensures spent { HasSpent B.is_cut (B.bound budget.now) tables.now result.0 result.1 }
-        ensures makes { Makes K.took K.refused B.is_cut (B.bound budget.now)
-            (later_turn_at tables.now position.now (turns self.old) after.now turn)
+        requires asked { MayMake
+            (later_turn_at guide.tables.now position.now (turns self.old) after.now turn) (length after.now) 0
+            (B.bound guide.budget.now) meter self.old }
+        ensures { HasMade K.took K.refused B.is_cut (B.bound guide.entry.budget.now) guide.entry.tables.now
+            (later_turn_at guide.entry.tables.now position.now (turns self.old) after.now turn) 0
             meter result.0 self.old self.new result.1 }
     {
         let place = turn_place(turn);
@@ -239,16 +224,9 @@ impl<K: Sink> Descent<'_, K> {
         if !allowed(self.path.last(), turn) || place < first {
             return (meter, Ok(()));
         }
-        let position = tables.after(position, turn);
+        let position = guide.tables.after(position, turn);
         self.path.push(turn);
-        let below = self.go_on(
-            tables,
-            &position,
-            place == first,
-            &after[1..],
-            meter,
-            budget,
-        );
+        let below = self.go_on(guide, &position, place == first, &after[1..], meter);
         self.path.pop();
         below
     }
@@ -257,32 +235,25 @@ impl<K: Sink> Descent<'_, K> {
     #[cycle(passing)]
     fn go_on<A: Allocator, B: Budget<K::Fault>>(
         &mut self,
-        tables: &Tables<A>,
+        guide: Guide<'_, Tables<A>, B>,
         position: &Position,
         same: bool,
         rest: &[Turn],
         meter: Meter,
-        budget: &B,
     ) -> (Meter, Result<(), B::Stop>)
-        requires position { IsPosition tables.now position.now }
+        requires position { IsPosition guide.tables.now position.now }
         requires few { length rest.now ≤ 20 }
-        requires room { length (turns self.old) + length rest.now ≤ self.old.path.now.limit }
-        requires meter { meter + (if same then later_at tables.now position.now (turns self.old) rest.now
-            else below_at tables.now position.now (turns self.old) (length rest.now)).looks < 2 ^ 128 }
-        requires budget { meter ≤ B.bound budget.now }
-        requires count { self.old.count ≤ meter }
-        ensures keeps { Keeps self.old self.new meter result.0 }
-        ensures within { result.0 ≤ B.bound budget.now }
-        ensures spent { HasSpent B.is_cut (B.bound budget.now) tables.now result.0 result.1 }
-        ensures makes { Makes K.took K.refused B.is_cut (B.bound budget.now)
-            (if same then later_at tables.now position.now (turns self.old) rest.now
-            else below_at tables.now position.now (turns self.old) (length rest.now))
+        requires asked { MayMake
+            (goes_on_at same guide.tables.now position.now (turns self.old) rest.now) (length rest.now) 0
+            (B.bound guide.budget.now) meter self.old }
+        ensures { HasMade K.took K.refused B.is_cut (B.bound guide.entry.budget.now) guide.entry.tables.now
+            (goes_on_at same guide.entry.tables.now position.now (turns self.old) rest.now) 0
             meter result.0 self.old self.new result.1 }
     {
         if same {
-            self.pass(tables, position, rest, meter, budget)
+            self.pass(guide, position, rest, meter)
         } else {
-            self.begin(tables, position, rest.len() as u8, meter, budget)
+            self.begin(guide, position, rest.len() as u8, meter)
         }
     }
 }

@@ -93,6 +93,13 @@ pub struct PairsWanted {
     pub length: Limit,
 }
 
+/// Where pairs are searched: a step, by its tables, and the cube that it starts on.
+#[derive(Drop)]
+pub struct StepFrom<'a, A: Allocator> {
+    pub tables: &'a Tables<A>,
+    pub cube: &'a Cube,
+}
+
 /// What takes the solutions of a search over both sides, one pair at a time. It states what a pair does to it by two
 /// relations, each between its value before, the pair, and its value after.
 pub trait PairSink {
@@ -118,26 +125,26 @@ pub trait PairSink {
 ///
 /// The step may start on the cube, and the meter is at most at 2^127. The meter rises by one for each look.
 pub fn search_both_within<K: PairSink>(
-    tables: &Tables<impl Allocator>,
-    cube: &Cube,
+    from: &StepFrom<'_, impl Allocator>,
     lengths: Lengths,
     meter: &mut Meter,
     sink: &mut K,
     looks: u128,
 ) -> Result<Outcome, Stopped<K::Fault>>
-    requires starts { IsTrue (may_start tables.now (map_of cube.now)) }
+    requires starts { IsTrue (may_start from.now.tables.now (map_of from.now.cube.now)) }
     requires meter { meter.old ≤ 2 ^ 127 }
-    ensures length { IfOk result (λ o. o.length ≡ least_pair_length tables.now (map_of cube.now) Both lengths.limit) }
+    ensures length { IfOk result (λ o. o.length
+        ≡ least_pair_length from.now.tables.now (map_of from.now.cube.now) Both lengths.limit) }
     ensures solutions { HandsOut K.took K.refused
-        (pair_solutions tables.now (map_of cube.now) Both lengths.limit lengths.slack)
-        (pair_looks tables.now (map_of cube.now) Both lengths.limit lengths.slack)
+        (pair_solutions from.now.tables.now (map_of from.now.cube.now) Both lengths.limit lengths.slack)
+        (pair_looks from.now.tables.now (map_of from.now.cube.now) Both lengths.limit lengths.slack)
         meter.old meter.new sink.old sink.new is_cut_in (meter.old + looks) (λ o. o.solutions) result }
     ensures within { meter.new ≤ meter.old + looks }
-    ensures spent { HasSpent is_cut_in (meter.old + looks) tables.now meter.new result }
+    ensures spent { HasSpent is_cut_in (meter.old + looks) from.now.tables.now meter.new result }
 {
     let search = PairSearch {
-        tables,
-        cube,
+        tables: from.tables,
+        cube: from.cube,
         sides: Sides::Both,
         ends: Ends::Any,
         budget: budget_of(meter, looks),
@@ -151,25 +158,24 @@ pub fn search_both_within<K: PairSink>(
 /// The step may start on the cube, and the meter is at most at 2^127. The meter rises by one for each look, and by at
 /// most `looks`, as in `search_within`.
 pub fn search_pairs_of_length<K: PairSink>(
-    tables: &Tables<impl Allocator>,
-    cube: &Cube,
+    from: &StepFrom<'_, impl Allocator>,
     wanted: PairsWanted,
     meter: &mut Meter,
     sink: &mut K,
     looks: u128,
 ) -> Result<u128, Stopped<K::Fault>>
-    requires starts { IsTrue (may_start tables.now (map_of cube.now)) }
+    requires starts { IsTrue (may_start from.now.tables.now (map_of from.now.cube.now)) }
     requires meter { meter.old ≤ 2 ^ 127 }
     ensures solutions { HandsOut K.took K.refused
-        (pairs_with tables.now (map_of cube.now) wanted.ends wanted.sides wanted.length)
-        (looks_with tables.now (map_of cube.now) wanted.ends wanted.sides wanted.length)
+        (pairs_with from.now.tables.now (map_of from.now.cube.now) wanted.ends wanted.sides wanted.length)
+        (looks_with from.now.tables.now (map_of from.now.cube.now) wanted.ends wanted.sides wanted.length)
         meter.old meter.new sink.old sink.new is_cut_in (meter.old + looks) (λ count. count) result }
     ensures within { meter.new ≤ meter.old + looks }
-    ensures spent { HasSpent is_cut_in (meter.old + looks) tables.now meter.new result }
+    ensures spent { HasSpent is_cut_in (meter.old + looks) from.now.tables.now meter.new result }
 {
     let search = PairSearch {
-        tables,
-        cube,
+        tables: from.tables,
+        cube: from.cube,
         sides: wanted.sides,
         ends: wanted.ends,
         budget: budget_of(meter, looks),

@@ -1,9 +1,8 @@
 //! One length: depth first from a position, with a look before each turn that is put on the path.
-ghost use Rattle.std.specs.Prelude.{◌+◌, ◌≤◌, ◌<◌, ◌^◌, ◌∷◌, length, [], ◌-◌, ◌++◌, All, IfSome, IfNone};
-ghost use Rattle.niss_search.specs.Budgets.{HasSpent};
+ghost use Rattle.std.specs.Prelude.{◌≡◌, ◌+◌, ◌≤◌, ◌<◌, ◌^◌, ◌∷◌, length, [], ◌++◌, All, IfSome, IfNone};
 ghost use Rattle.niss_search.specs.Cubes.{IsPosition};
 ghost use Rattle.niss_search.specs.Positions.{distance_at};
-ghost use Rattle.niss_search.specs.Deepening.{below_at, beyond_at, Keeps, Makes, turns};
+ghost use Rattle.niss_search.specs.Deepening.{below_at, beyond_at, MayMake, HasMade, turns};
 ghost use Rattle.niss_search.specs.Followers.{IsFollower, IsNextNear, AreFar};
 
 use super::Sink;
@@ -11,7 +10,27 @@ use crate::budget::Budget;
 use crate::path::TurnPath;
 use crate::tables::{Follower, Kind, Meter, Position, SearchTables, StateSpace, Tables};
 use niss_moves::Turn;
-use std::alloc::Allocator;
+use std::alloc::{AllocError, Allocator};
+
+/// What guides a descent: the tables that say how far states are from the step, and how often it may look. It goes by
+/// value, as the meter does: where the tables stand is then known in a register.
+pub(super) struct Guide<'a, T, B> {
+    pub tables: &'a T,
+    pub budget: &'a B,
+}
+
+// by hand: a derived one would ask that the tables can be copied
+impl<T, B> Clone for Guide<'_, T, B> {
+    ghost is_clone = { λ x y. y ≡ x };
+
+    ghost is_infallible = { λ _. Unit {0} };
+
+    fn clone(&self) -> Result<Self, AllocError> {
+        Ok(*self)
+    }
+}
+
+impl<T, B> Copy for Guide<'_, T, B> {}
 
 /// A descent: the path that it goes along, the sink that it hands what it finds, and how much that is.
 ///
@@ -28,60 +47,66 @@ impl<K: Sink> Descent<'_, K> {
     /// what it finds to the sink, and counts it.
     pub fn begin<A: Allocator, B: Budget<K::Fault>>(
         &mut self,
-        tables: &Tables<A>,
+        guide: Guide<'_, Tables<A>, B>,
         position: &Position,
         left: u8,
         meter: Meter,
-        budget: &B,
     ) -> (Meter, Result<(), B::Stop>)
-        requires position { IsPosition tables.now position.now }
-        requires room { length (turns self.old) + left ≤ self.old.path.now.limit }
-        requires meter { meter + (below_at tables.now position.now (turns self.old) left).looks < 2 ^ 128 }
-        requires budget { meter ≤ B.bound budget.now }
-        requires count { self.old.count ≤ meter }
-        ensures keeps { Keeps self.old self.new meter result.0 }
-        ensures within { result.0 ≤ B.bound budget.now }
-        ensures spent { HasSpent B.is_cut (B.bound budget.now) tables.now result.0 result.1 }
-        ensures makes { Makes K.took K.refused B.is_cut (B.bound budget.now) (below_at tables.now position.now (turns self.old) left)
+        requires position { IsPosition guide.tables.now position.now }
+        requires asked { MayMake (below_at guide.tables.now position.now (turns self.old) left) left 0
+            (B.bound guide.budget.now) meter self.old }
+        ensures { HasMade K.took K.refused B.is_cut (B.bound guide.entry.budget.now) guide.entry.tables.now
+            (below_at guide.entry.tables.now position.now (turns self.old) left) 0
             meter result.0 self.old self.new result.1 }
     {
-        match tables.kind() {
-            Kind::Edges(kind) => self.begin_with(kind, position, left, meter, budget),
-            Kind::AnyEdges(kind) => self.begin_with(kind, position, left, meter, budget),
-            Kind::Domino(kind) => self.begin_with(kind, position, left, meter, budget),
-            Kind::EitherDomino(kind) => self.begin_with(kind, position, left, meter, budget),
+        let budget = guide.budget;
+        match guide.tables.kind() {
+            Kind::Edges(tables) => self.begin_with(Guide { tables, budget }, position, left, meter),
+            Kind::AnyEdges(tables) => self.begin_with(
+                Guide { tables, budget },
+                position,
+                left,
+                meter,
+            ),
+            Kind::Domino(tables) => self.begin_with(
+                Guide { tables, budget },
+                position,
+                left,
+                meter,
+            ),
+            Kind::EitherDomino(tables) => self.begin_with(
+                Guide { tables, budget },
+                position,
+                left,
+                meter,
+            ),
         }
     }
 
     /// `begin` with tables of one kind.
     fn begin_with<S: StateSpace, B: Budget<K::Fault>>(
         &mut self,
-        tables: &SearchTables<S>,
+        guide: Guide<'_, SearchTables<S>, B>,
         position: &Position,
         left: u8,
         meter: Meter,
-        budget: &B,
     ) -> (Meter, Result<(), B::Stop>)
-        requires position { IsPosition tables.now.step position.now }
-        requires room { length (turns self.old) + left ≤ self.old.path.now.limit }
-        requires meter { meter + (below_at tables.now.step position.now (turns self.old) left).looks < 2 ^ 128 }
-        requires budget { meter ≤ B.bound budget.now }
-        requires count { self.old.count ≤ meter }
-        ensures keeps { Keeps self.old self.new meter result.0 }
-        ensures within { result.0 ≤ B.bound budget.now }
-        ensures spent { HasSpent B.is_cut (B.bound budget.now) tables.now.step result.0 result.1 }
-        ensures makes { Makes K.took K.refused B.is_cut (B.bound budget.now) (below_at tables.now.step position.now (turns self.old) left)
+        requires position { IsPosition guide.tables.now.step position.now }
+        requires asked { MayMake (below_at guide.tables.now.step position.now (turns self.old) left) left 0
+            (B.bound guide.budget.now) meter self.old }
+        ensures { HasMade K.took K.refused B.is_cut (B.bound guide.entry.budget.now) guide.entry.tables.now.step
+            (below_at guide.entry.tables.now.step position.now (turns self.old) left) 0
             meter result.0 self.old self.new result.1 }
     {
         let mut meter = meter;
-        let state = tables.state(position);
-        if let Err(stop) = budget.admit(&meter, 1) {
+        let state = guide.tables.state(position);
+        if let Err(stop) = guide.budget.admit(&meter, 1) {
             return (meter, Err(stop));
         }
-        if tables.look(state, &mut meter) > left {
+        if guide.tables.look(state, &mut meter) > left {
             return (meter, Ok(()));
         }
-        self.extend(tables, state, left, meter, budget)
+        self.extend(guide, state, left, meter)
     }
 
     /// Goes on below the path with `left` turns more, once its state was looked at. So a turn is put on the path only
@@ -90,23 +115,17 @@ impl<K: Sink> Descent<'_, K> {
     #[inline(always)]
     fn extend<S: StateSpace, B: Budget<K::Fault>>(
         &mut self,
-        tables: &SearchTables<S>,
+        guide: Guide<'_, SearchTables<S>, B>,
         state: S::State,
         left: u8,
         meter: Meter,
-        budget: &B,
     ) -> (Meter, Result<(), B::Stop>)
-        requires near { distance_at tables.now.step (S.seen tables.now.space state) ≤ left }
-        requires room { length (turns self.old) + left ≤ self.old.path.now.limit }
-        requires meter { meter
-            + (beyond_at tables.now.step (S.seen tables.now.space state) (turns self.old) left).looks < 2 ^ 128 }
-        requires budget { meter ≤ B.bound budget.now }
-        requires count { self.old.count < meter }
-        ensures keeps { Keeps self.old self.new (meter - 1) result.0 }
-        ensures within { result.0 ≤ B.bound budget.now }
-        ensures spent { HasSpent B.is_cut (B.bound budget.now) tables.now.step result.0 result.1 }
-        ensures makes { Makes K.took K.refused B.is_cut (B.bound budget.now)
-            (beyond_at tables.now.step (S.seen tables.now.space state) (turns self.old) left)
+        requires near { distance_at guide.tables.now.step (S.seen guide.tables.now.space state) ≤ left }
+        requires asked { MayMake
+            (beyond_at guide.tables.now.step (S.seen guide.tables.now.space state) (turns self.old) left) left 1
+            (B.bound guide.budget.now) meter self.old }
+        ensures { HasMade K.took K.refused B.is_cut (B.bound guide.entry.budget.now) guide.entry.tables.now.step
+            (beyond_at guide.entry.tables.now.step (S.seen guide.entry.tables.now.space state) (turns self.old) left) 1
             meter result.0 self.old self.new result.1 }
     {
         if left == 0 {
@@ -114,37 +133,32 @@ impl<K: Sink> Descent<'_, K> {
             self.count += 1;
             return (meter, B::taken(self.sink.take(self.path)));
         }
-        self.try_turns(tables, state, left, meter, budget)
+        self.try_turns(guide, state, left, meter)
     }
 
     /// Tries the turns that may follow the path, with `left` turns more.
     #[cycle(descent)]
     fn try_turns<S: StateSpace, B: Budget<K::Fault>>(
         &mut self,
-        tables: &SearchTables<S>,
+        guide: Guide<'_, SearchTables<S>, B>,
         state: S::State,
         left: u8,
         meter: Meter,
-        budget: &B,
     ) -> (Meter, Result<(), B::Stop>)
         requires some { 0 < left }
-        requires near { distance_at tables.now.step (S.seen tables.now.space state) ≤ left }
-        requires room { length (turns self.old) + left ≤ self.old.path.now.limit }
-        requires meter { meter
-            + (beyond_at tables.now.step (S.seen tables.now.space state) (turns self.old) left).looks < 2 ^ 128 }
-        requires budget { meter ≤ B.bound budget.now }
-        requires count { self.old.count < meter }
-        ensures keeps { Keeps self.old self.new (meter - 1) result.0 }
-        ensures within { result.0 ≤ B.bound budget.now }
-        ensures spent { HasSpent B.is_cut (B.bound budget.now) tables.now.step result.0 result.1 }
-        ensures makes { Makes K.took K.refused B.is_cut (B.bound budget.now)
-            (beyond_at tables.now.step (S.seen tables.now.space state) (turns self.old) left)
+        requires near { distance_at guide.tables.now.step (S.seen guide.tables.now.space state) ≤ left }
+        requires asked { MayMake
+            (beyond_at guide.tables.now.step (S.seen guide.tables.now.space state) (turns self.old) left) left 1
+            (B.bound guide.budget.now) meter self.old }
+        ensures { HasMade K.took K.refused B.is_cut (B.bound guide.entry.budget.now) guide.entry.tables.now.step
+            (beyond_at guide.entry.tables.now.step (S.seen guide.entry.tables.now.space state) (turns self.old) left) 1
             meter result.0 self.old self.new result.1 }
     {
         let mut meter = meter;
+        let tables = guide.tables;
         let mut rest = tables.turns_after(self.path.last());
         loop {
-            if let Err(stop) = budget.admit(&meter, rest.len()) {
+            if let Err(stop) = guide.budget.admit(&meter, rest.len()) {
                 return (meter, Err(stop));
             }
             let Some(index) = next_near(tables, state, rest, left - 1, &mut meter) else {
@@ -153,7 +167,7 @@ impl<K: Sink> Descent<'_, K> {
             let next = rest[index];
             // the state once more: kept from the look, it would be written to memory at each look
             let after = tables.after(state, next);
-            let (counted, below) = self.follow(tables, after, next.turn, left - 1, meter, budget);
+            let (counted, below) = self.follow(guide, after, next.turn, left - 1, meter);
             meter = counted;
             if let Err(stop) = below {
                 return (meter, Err(stop));
@@ -166,29 +180,22 @@ impl<K: Sink> Descent<'_, K> {
     #[cycle(descent)]
     fn follow<S: StateSpace, B: Budget<K::Fault>>(
         &mut self,
-        tables: &SearchTables<S>,
+        guide: Guide<'_, SearchTables<S>, B>,
         state: S::State,
         turn: Turn,
         left: u8,
         meter: Meter,
-        budget: &B,
     ) -> (Meter, Result<(), B::Stop>)
-        requires near { distance_at tables.now.step (S.seen tables.now.space state) ≤ left }
-        requires room { length (turns self.old) + 1 + left ≤ self.old.path.now.limit }
-        requires meter { meter
-            + (beyond_at tables.now.step (S.seen tables.now.space state) (turns self.old ++ turn ∷ []) left).looks
-            < 2 ^ 128 }
-        requires budget { meter ≤ B.bound budget.now }
-        requires count { self.old.count < meter }
-        ensures keeps { Keeps self.old self.new (meter - 1) result.0 }
-        ensures within { result.0 ≤ B.bound budget.now }
-        ensures spent { HasSpent B.is_cut (B.bound budget.now) tables.now.step result.0 result.1 }
-        ensures makes { Makes K.took K.refused B.is_cut (B.bound budget.now)
-            (beyond_at tables.now.step (S.seen tables.now.space state) (turns self.old ++ turn ∷ []) left)
-            meter result.0 self.old self.new result.1 }
+        requires near { distance_at guide.tables.now.step (S.seen guide.tables.now.space state) ≤ left }
+        requires asked { MayMake
+            (beyond_at guide.tables.now.step (S.seen guide.tables.now.space state) (turns self.old ++ turn ∷ []) left)
+            (1 + left) 1 (B.bound guide.budget.now) meter self.old }
+        ensures { HasMade K.took K.refused B.is_cut (B.bound guide.entry.budget.now) guide.entry.tables.now.step
+            (beyond_at guide.entry.tables.now.step (S.seen guide.entry.tables.now.space state) (turns self.old ++ turn ∷ []) left)
+            1 meter result.0 self.old self.new result.1 }
     {
         self.path.push(turn);
-        let below = self.extend(tables, state, left, meter, budget);
+        let below = self.extend(guide, state, left, meter);
         self.path.pop();
         below
     }

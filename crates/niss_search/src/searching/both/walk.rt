@@ -58,11 +58,20 @@ impl Split {
     }
 }
 
-/// Whether no turn comes after this one, and nothing is searched after it: it is left out, or idle.
-fn is_end(ends: Ends, follower: Follower, left: u8) -> bool
-    ensures { result ≡ (left == 0 && (skips ends follower.turn || follower.is_idle)) }
-{
-    left == 0 && (ends.skips(follower.turn) || follower.is_idle)
+/// A turn that a head goes on by, and how many come after it.
+#[derive(Clone, Copy)]
+struct Next {
+    follower: Follower,
+    left: u8,
+}
+
+impl Next {
+    /// Whether no turn comes after it, and nothing is searched after it: it is left out, or idle.
+    fn is_end(self, ends: Ends) -> bool
+        ensures { result ≡ (self.left == 0 && (skips ends self.follower.turn || self.follower.is_idle)) }
+    {
+        self.left == 0 && (ends.skips(self.follower.turn) || self.follower.is_idle)
+    }
 }
 
 /// A walk through heads on a side of a cube, with a search for tails of so many turns after each.
@@ -148,43 +157,46 @@ impl<A: Allocator> Walk<'_, A> {
         }
         let mut count = 0;
         for follower in self.tables.turns_after(head.last()) {
-            count += self.follow(other, *follower, left - 1, head, meter, sink)?;
+            let next = Next {
+                follower: *follower,
+                left: left - 1,
+            };
+            count += self.follow(other, next, head, meter, sink)?;
         }
         Ok(count)
     }
 
-    /// Goes on below a head and one turn more with `left` turns after that. If there are none, it does nothing after an idle
-    /// turn: a pair that reaches the step by it reaches it before.
+    /// Goes on below a head and the next turn. If none come after that, it does nothing after an idle one: a pair that
+    /// reaches the step by it reaches it before.
     #[cycle(heads)]
     fn follow<K: PairSink>(
         &self,
         other: &Cube,
-        follower: Follower,
-        left: u8,
+        next: Next,
         head: &mut TurnPath,
         meter: &mut Meter,
         sink: &mut K,
     ) -> Result<u128, Stopped<K::Fault>>
-        requires follower { IsFollower self.now.tables.now follower }
+        requires follower { IsFollower self.now.tables.now next.follower }
         requires starts { IsTrue (may_start self.now.tables.now (map_of other.now)) }
         requires other { IsOther self.now.tables.now self.now.side (map_of self.now.cube.now)
             head.old.turns (map_of other.now) }
         requires few { self.now.tail ≤ 20 }
-        requires room { length head.old.turns + 1 + left ≤ head.old.limit }
+        requires room { length head.old.turns + 1 + next.left ≤ head.old.limit }
         requires budget { meter.old ≤ self.now.budget.now.bound }
         requires bound { self.now.budget.now.bound ≤ 3 * 2 ^ 126 }
         ensures head { head.new ≡ head.old }
         ensures solutions { HandsOut K.took K.refused
             (after_heads self.now.ends self.now.tables.now (map_of self.now.cube.now) self.now.side self.now.tail
-            (head.old.turns ++ follower.turn ∷ []) left).pairs
+            (head.old.turns ++ next.follower.turn ∷ []) next.left).pairs
             (after_heads self.now.ends self.now.tables.now (map_of self.now.cube.now) self.now.side self.now.tail
-            (head.old.turns ++ follower.turn ∷ []) left).looks
+            (head.old.turns ++ next.follower.turn ∷ []) next.left).looks
             meter.old meter.new sink.old sink.new is_cut_in self.now.budget.now.bound (λ count. count) result }
         ensures counted { IfOk result (λ count. meter.old + count ≤ meter.new) }
         ensures within { meter.new ≤ self.now.budget.now.bound }
         ensures spent { HasSpent is_cut_in self.now.budget.now.bound self.now.tables.now meter.new result }
     {
-        if is_end(self.ends, follower, left) {
+        if next.is_end(self.ends) {
             return Ok(0);
         }
         inverse_undoes();
@@ -193,10 +205,11 @@ impl<A: Allocator> Walk<'_, A> {
         inverses_of_steps();
         steps_see_places();
         places_stay();
-        let mut next = *other;
-        next.turn_before(follower.turn.inverse());
-        head.push(follower.turn);
-        let found = self.go_on(&next, left, head, meter, sink);
+        let turn = next.follower.turn;
+        let mut after = *other;
+        after.turn_before(turn.inverse());
+        head.push(turn);
+        let found = self.go_on(&after, next.left, head, meter, sink);
         head.pop();
         found
     }

@@ -12,6 +12,7 @@ pub loop-line-init : goal.loop-line-init
 loop-line-init c =
     let none : c.new.result.length ≡ 0 = c.new.ensures.0 in
     record {
+      gap = c.gap.ensures;
       joined = λ room. no_line c.args.text.now c.in-Some.of c.args.lines.now (take c.new.result.length c.args.out.now)
           (take c.new.result.length c.args.places.now) c.none.result (ap (λ n. take n c.args.out.now) none) (ap (λ n. take n c.args.places.now) none) c.none.ensures;
       spent = omega arith;
@@ -33,11 +34,12 @@ loop-line-preserved c =
     let same_places : length c.with_line-joined.new.places ≡ length c.loop-line.places = c.with_line-joined.auto.places in
     let most = most_with c.in-Some.of c.loop-line.rest.now c.in-Some-split_first.others.now line is wanted in
     record {
+      gap = more.gap ∙ inv.gap;
       joined = λ room. one_joined c.args.text.now c.in-Some.of c.args.lines.now c.loop-line.rest.now c.in-Some-split_first.others.now line
-          c.loop-line.joined.before c.with_line-joined.result.before
+          c.loop-line.joined.gap c.loop-line.joined.before c.with_line-joined.result.before
           (take c.loop-line.joined.pen.length c.loop-line.out) (take c.with_line-joined.result.pen.length c.with_line-joined.new.out)
           (take c.loop-line.joined.pen.length c.loop-line.places) (take c.with_line-joined.result.pen.length c.with_line-joined.new.places)
-          c.loop-line.joined.left_out c.with_line-joined.result.left_out is wanted (inv.joined (more.had room)) (more.adds room) more.before;
+          c.loop-line.joined.left_out c.with_line-joined.result.left_out inv.gap is wanted (inv.joined (more.had room)) (more.adds room) more.before;
       spent = omega (arith, most, more.further.1, inv.spent);
       room = λ one two. more.room (inv.room (omega (arith, same)) (omega (arith, same_places))) (omega (arith, most, inv.spent, same)) (omega (arith, most, inv.spent, same_places));
       fits = omega (arith, more.within.0, same);

@@ -1,11 +1,12 @@
 use Rattle.std.proofs.Common.{◌≡◌, ◌+◌, ◌≤◌, true, length, take, drop}
 use Rattle.std.specs.List.{filter}
-use Rattle.niss_text.specs.Moves.{is_wanted, most_bytes}
+use Rattle.niss_text.specs.Moves.{is_wanted, gap_of, most_bytes}
 use Rattle.niss_text.proofs.MovesLemmas.{SoMany}
 use Rattle.niss_text.proofs.moves.text_moves.Given as goal
 
 abbrev pub invariant-loop-line : goal.invariant-loop-line
 invariant-loop-line l = record {
+  gap : l.joined.gap ≡ gap_of l.of;
   joined : l.joined.pen.has_room ≡ true → SoMany l.text l.of l.lines l.rest l.joined.before (take l.joined.pen.length l.out)
       (take l.joined.pen.length l.places) l.joined.left_out;
   spent : l.joined.pen.length + most_bytes (filter (is_wanted l.of) l.rest) ≤ most_bytes (filter (is_wanted l.of) l.lines);

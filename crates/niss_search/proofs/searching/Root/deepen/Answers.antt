@@ -1,10 +1,16 @@
-use Rattle.niss_search.proofs.Words.{◌≡◌, arith, sym, ap, err_from_is_err_and, Part}
+use Rattle.niss_search.proofs.Words.{◌≡◌, arith, sym, ap, err_from_is_err_and, length, List, Part, Turn}
 use Rattle.niss_search.proofs.DepthFirst.{below_at-start}
 use Rattle.niss_search.proofs.searching.Root.deepen.Goals as goal
 
-pub begin-after-requires-clause-meter : goal.begin-after-requires-clause-meter
-begin-after-requires-clause-meter g c =
-    rw (c.requires.empty, c.replace-held.ensures.value, ap (λ (q : Part). q.looks) (below_at-start c.args.self.now.tables.now c.args.self.now.position.now c.args.length)) c.requires.meter
+pub begin-after-requires-clause-asked : goal.begin-after-requires-clause-asked
+begin-after-requires-clause-asked g c =
+    let start = below_at-start c.args.self.now.tables.now c.args.self.now.position.now c.args.length in
+    record {
+      room = omega (arith, c.requires.within, ap (λ (p : List Turn). length p) c.requires.empty);
+      countable = rw (c.requires.empty, c.replace-held.ensures.value, ap (λ (q : Part). q.looks) start) c.requires.meter;
+      within = rw c.replace-held.ensures.value c.requires.budget;
+      found = omega arith;
+    }
 
 pub returns-in_err-ended-clause-delivers : goal.returns-in_err-ended-clause-delivers
 returns-in_err-ended-clause-delivers g c =

@@ -9,8 +9,8 @@ use Rattle.niss_search.proofs.searching.both.search_both_within.Goals as goal
 
 pub returns-clause-solutions : goal.returns-clause-solutions
 returns-clause-solutions g c =
-    let step = c.args.tables.now in
-    let e = map_of c.args.cube.now in
+    let step = c.args.from.now.tables.now in
+    let e = map_of c.args.from.now.cube.now in
     let bound = c.budget_of.result.bound in
     hands-bounded g.K.PairSink.took g.K.PairSink.refused (pair_solutions step e Both c.args.lengths.limit c.args.lengths.slack) (pair_looks step e Both c.args.lengths.limit c.args.lengths.slack) c.args.meter.now c.from_least.new.meter c.args.sink.now c.from_least.new.sink is_cut_in bound (λ o. o.solutions)
     (c.args.meter.now + c.args.looks)
@@ -19,8 +19,8 @@ returns-clause-solutions g c =
 
 pub returns-clause-spent : goal.returns-clause-spent
 returns-clause-spent g c =
-    let step = c.args.tables.now in
-    let e = map_of c.args.cube.now in
+    let step = c.args.from.now.tables.now in
+    let e = map_of c.args.from.now.cube.now in
     let bound = c.budget_of.result.bound in
     let within = hands-within g.K.PairSink.took g.K.PairSink.refused (pair_solutions step e Both c.args.lengths.limit c.args.lengths.slack) (pair_looks step e Both c.args.lengths.limit c.args.lengths.slack) c.args.meter.now c.from_least.new.meter c.args.sink.now c.from_least.new.sink is_cut_in bound (λ o. o.solutions) c.from_least.result c.from_least.ensures.solutions in
     spent-looks is_cut_in bound (c.args.meter.now + c.args.looks) step c.from_least.new.meter c.from_least.result

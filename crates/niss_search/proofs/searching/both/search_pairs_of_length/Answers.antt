@@ -8,8 +8,8 @@ use Rattle.niss_search.proofs.searching.both.search_pairs_of_length.Goals as goa
 
 pub returns-clause-solutions : goal.returns-clause-solutions
 returns-clause-solutions g c =
-    let step = c.args.tables.now in
-    let e = map_of c.args.cube.now in
+    let step = c.args.from.now.tables.now in
+    let e = map_of c.args.from.now.cube.now in
     let few : c.args.wanted.length ≤ 20 = omega (arith, c.get.ensures.value, c.get.ensures.in_range) in
     let bound = c.budget_of.result.bound in
     hands-bounded g.K.PairSink.took g.K.PairSink.refused (pairs_with step e c.args.wanted.ends c.args.wanted.sides c.args.wanted.length) (looks_with step e c.args.wanted.ends c.args.wanted.sides c.args.wanted.length) c.args.meter.now c.of_length.new.meter c.args.sink.now c.of_length.new.sink is_cut_in bound (λ count. count)
@@ -19,8 +19,8 @@ returns-clause-solutions g c =
 
 pub returns-clause-spent : goal.returns-clause-spent
 returns-clause-spent g c =
-    let step = c.args.tables.now in
-    let e = map_of c.args.cube.now in
+    let step = c.args.from.now.tables.now in
+    let e = map_of c.args.from.now.cube.now in
     let few : c.args.wanted.length ≤ 20 = omega (arith, c.get.ensures.value, c.get.ensures.in_range) in
     let bound = c.budget_of.result.bound in
     let within = hands-within g.K.PairSink.took g.K.PairSink.refused (pairs_with step e c.args.wanted.ends c.args.wanted.sides c.args.wanted.length) (looks_with step e c.args.wanted.ends c.args.wanted.sides c.args.wanted.length) c.args.meter.now c.of_length.new.meter c.args.sink.now c.of_length.new.sink is_cut_in bound (λ count. count) c.of_length.result (rw c.get.ensures.value at c.of_length.ensures.solutions) in

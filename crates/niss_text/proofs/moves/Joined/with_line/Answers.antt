@@ -8,7 +8,7 @@ pub returns-clause-adds : goal.returns-clause-adds
 returns-clause-adds c room =
     let put : c.put_part.result.0.has_room ≡ true = c.end_line.ensures.had room in
     let begun : c.begin_line-begun.result.has_room ≡ true = c.put_part.ensures.had put in
-    one_line c.args.text.now c.part_of-part.result.now c.args.line.now (record { at = c.args.line.now.moves; place = Among }) c.args.self.before
+    one_line c.args.text.now c.part_of-part.result.now c.args.line.now (record { at = c.args.line.now.moves; place = Among }) c.args.self.gap c.args.self.before
     (take c.args.self.pen.length c.args.out.now) (take c.begin_line-begun.result.length c.begin_line-begun.new.out)
     (take c.put_part.result.0.length c.put_part.new.out) (take c.end_line.result.length c.end_line.new.out)
     (take c.args.self.pen.length c.args.places.now) (take c.begin_line-begun.result.length c.begin_line-begun.new.places)

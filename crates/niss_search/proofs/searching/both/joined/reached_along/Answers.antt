@@ -1,4 +1,4 @@
-use Rattle.niss_search.proofs.Words.{◌≡◌, ◌∙◌, sym, ap, map_of, List, [], Turn}
+use Rattle.niss_search.proofs.Words.{◌≡◌, ◌∙◌, sym, ap, map_of, []}
 use Rattle.std.proofs.lemmas.List.{nil_from_length}
 use Rattle.niss_search.proofs.BeginningLemmas.{along-last}
 use Rattle.niss_search.specs.BothWalk.{reached_along}

@@ -13,9 +13,9 @@ decreases-go_on g l = 3 * length l.rest.now + 3
 
 abbrev pub invariant-pass-loop-index : goal.invariant-pass-loop-index
 invariant-pass-loop-index g l = record {
-  within : l.meter ≤ g.B.Budget.bound l.budget;
+  within : l.meter ≤ g.B.Budget.bound l.guide.budget.now;
   keeps : Keeps l.fn.self l.self l.fn.meter l.meter;
   went : GoesThrough (at_limit g.K.Sink.took l.fn.self.path.now.limit) (at_limit g.K.Sink.refused l.fn.self.path.now.limit)
-      (passed l.tables l.position l.fn.self.path.now.turns l.after l.index)
+      (passed l.guide.tables.now l.position l.fn.self.path.now.turns l.after l.index)
       (progress_of l.fn.meter l.fn.self) (progress_of l.meter l.self);
 }

@@ -1,6 +1,6 @@
 use Rattle.niss_search.proofs.searching.depth_first.Descent.begin.Goals as goal
 
-pub begin_with-requires-in-EitherDomino-clause-meter : goal.begin_with-requires-in-EitherDomino-clause-meter
-begin_with-requires-in-EitherDomino-clause-meter g c =
+pub begin_with-requires-in-EitherDomino-clause-asked : goal.begin_with-requires-in-EitherDomino-clause-asked
+begin_with-requires-in-EitherDomino-clause-asked g c =
     let same = rw c.in-EitherDomino.is at c.kind.ensures in
-    rw same c.requires.meter
+    rw same c.requires.asked

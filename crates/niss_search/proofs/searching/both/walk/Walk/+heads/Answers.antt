@@ -1,4 +1,4 @@
-use Rattle.niss_search.proofs.Words.{◌≡◌, ◌∙◌, ◌+◌, ◌-◌, ◌<◌, ◌≤◌, ◌++◌, ◌∷◌, [], suc, arith, sym, ap, subst, take, take_all, get_or, length, length-append, map_of, Path, false}
+use Rattle.niss_search.proofs.Words.{◌≡◌, ◌∙◌, ◌+◌, ◌-◌, ◌≤◌, ◌++◌, ◌∷◌, [], suc, arith, sym, ap, subst, take, take_all, get_or, length, length-append, map_of, Path, false}
 use Rattle.niss_search.proofs.Words.{err_from_is_err_and, turns_of, Contains, Contains-get_or}
 use Rattle.std.proofs.lemmas.List.{take_more}
 use Rattle.niss_search.proofs.LookLemmas.{starts_before}
@@ -121,8 +121,8 @@ follow-returns-then-is_end-clause-solutions g t c =
     let head = c.args.head.now.turns in
     let e = map_of walk.cube.now in
     same_went g.K.PairSink.took g.K.PairSink.refused
-    (after_heads walk.ends walk.tables.now e walk.side walk.tail (head ++ c.args.follower.turn ∷ []) c.args.left) _
-    (idle_end walk.ends walk.tables.now e walk.side walk.tail head c.args.follower c.args.left c.is_end.result c.requires.follower c.is_end.ensures c.if-is_end.true)
+    (after_heads walk.ends walk.tables.now e walk.side walk.tail (head ++ c.args.next.follower.turn ∷ []) c.args.next.left) _
+    (idle_end walk.ends walk.tables.now e walk.side walk.tail head c.args.next.follower c.args.next.left c.is_end.result c.requires.follower c.is_end.ensures c.if-is_end.true)
     (none_yet g.K.PairSink.took g.K.PairSink.refused c.args.meter.now c.args.sink.now)
 
 pub follow-push-requires : goal.follow-push-requires
@@ -132,17 +132,17 @@ pub follow-go_on-found-requires : goal.follow-go_on-found-requires
 follow-go_on-found-requires g t c κs within =
     let walk = c.args.self.now in
     let step = walk.tables.now in
-    let turn = c.args.follower.turn in
+    let turn = c.args.next.follower.turn in
     let column = c.requires.follower in
-    let of_step : Contains (turns_of step) turn = subst (Contains (turns_of step)) column.1 (Contains-get_or (turns_of step) c.args.follower.column _ column.0) in
+    let of_step : Contains (turns_of step) turn = subst (Contains (turns_of step)) column.1 (Contains-get_or (turns_of step) c.args.next.follower.column _ column.0) in
     let path = c.args.head.now in
     let pushed : Path = record { limit = path.limit; turns = path.turns ++ turn ∷ [] } in
     let is_pushed : c.push.new.self ≡ pushed = c.push.ensures in
-    let Room : Path → Type 0 = λ q. length q.turns + c.args.left ≤ q.limit in
+    let Room : Path → Type 0 = λ q. length q.turns + c.args.next.left ≤ q.limit in
     let Other : Path → Type 0 = λ q. IsOther step walk.side (map_of walk.cube.now) q.turns (map_of c.turn_before.new.self) in
-    let End : Path → Type 0 = λ q. c.args.left ≡ 0 → ends_here walk.ends step q.turns ≡ false in
+    let End : Path → Type 0 = λ q. c.args.next.left ≡ 0 → ends_here walk.ends step q.turns ≡ false in
     let room : Room pushed = omega (arith, c.requires.room, length-append path.turns (turn ∷ [])) in
-    let end : End pushed = live_end walk.ends step path.turns c.args.follower c.args.left c.is_end.result column c.is_end.ensures c.if-is_end.false in
+    let end : End pushed = live_end walk.ends step path.turns c.args.next.follower c.args.next.left c.is_end.result column c.is_end.ensures c.if-is_end.false in
     let other : Other pushed =
     other_next c.cubes_permute_places.ensures (λ t q. c.places_stay.ensures (token.Face t) q) step (λ t q. c.inverse_undoes.ensures (token.Face t ∷ []) q) walk.side walk.cube.now c.args.other.now c.turn_before.new.self path.turns turn c.inverse.result
     c.inverse.ensures c.requires.other c.turn_before.ensures in
@@ -170,7 +170,7 @@ follow-go_on-found-requires g t c κs within =
 
 pub follow-returns-clause-head : goal.follow-returns-clause-head
 follow-returns-clause-head g t c =
-    popped c.args.head.now c.go_on-found.new.head c.pop.new.self c.args.follower.turn c.pop.result
+    popped c.args.head.now c.go_on-found.new.head c.pop.new.self c.args.next.follower.turn c.pop.result
     (c.go_on-found.ensures.head ∙ c.push.ensures) c.pop.ensures.limit c.pop.ensures.some c.pop.ensures.none
 
 pub follow-returns-clause-solutions : goal.follow-returns-clause-solutions

@@ -8,7 +8,7 @@ abbrev pub decreases-go_on : goal.decreases-go_on
 decreases-go_on g l = 2 * l.left
 
 abbrev pub decreases-follow : goal.decreases-follow
-decreases-follow g l = 2 * l.left + 1
+decreases-follow g l = 2 * l.next.left + 1
 
 abbrev pub invariant-go_on-loop-follower : goal.invariant-go_on-loop-follower
 invariant-go_on-loop-follower g l =

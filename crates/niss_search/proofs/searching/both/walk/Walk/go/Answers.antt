@@ -1,4 +1,4 @@
-use Rattle.niss_search.proofs.Words.{◌≡◌, ◌∙◌, ap, Path}
+use Rattle.niss_search.proofs.Words.{◌∙◌, ap, Path}
 use Rattle.niss_search.proofs.BothLemmas.{no_end}
 use Rattle.niss_search.specs.BothWalk.{ends_here}
 use Rattle.niss_search.proofs.searching.both.walk.Walk.go.Goals as goal

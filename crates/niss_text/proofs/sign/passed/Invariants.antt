@@ -1,5 +1,5 @@
 use Rattle.std.proofs.Common.{◌≤◌, length}
-use Rattle.niss_text.proofs.sign.behind.Given as goal
+use Rattle.niss_text.proofs.sign.passed.Given as goal
 
 abbrev pub invariant-loop-class : goal.invariant-loop-class
 invariant-loop-class l = length l.rest ≤ length l.text

@@ -1,0 +1,84 @@
+// A measure for what nobody asked for: up to ten seconds of one processor for a scramble, and nothing on a phone,
+// unless something else is chosen, which the browser keeps.
+import { counted, part } from "../shared/element.js";
+import type { Size } from "../answers/orientations.js";
+import { store, stored } from "../state/storage.js";
+
+const CHOSEN = "nissy-further";
+const CHOICES = ["some", "all", "none"];
+const MOST_SECONDS = 10;
+const MINUTE = 60;
+
+/** The first orientations of an axis are looked at with their reductions, the others only until they can't be among the
+ * best: how many the first are, and how many of each a processor looks at in a second. */
+const FIRST = 4_000;
+const FIRST_IN_SECOND = 8_000;
+const IN_SECOND = 100_000;
+
+/** How many seconds the orientations of an axis take, as long as nothing is measured. */
+const expectedOf = ({ count }: Size) => Math.min(count, FIRST) / FIRST_IN_SECOND + count / IN_SECOND;
+
+/** How many processors there are, as far as the browser says. */
+const processors = () => navigator.hardwareConcurrency || 2;
+
+/** How many of them what nobody asked for may take. */
+export const mostTogether = () => Math.max(1, processors() >> 1);
+
+/** Whether its battery or its processor is small. */
+const isSmall = () => matchMedia("(pointer: coarse)").matches || processors() <= 2;
+
+/** Seconds in words that promise no more than is known. */
+function timeInWords(seconds: number) {
+  if (seconds >= 2 * MINUTE) return `${Math.round(seconds / MINUTE)} min`;
+  return `${seconds < 10 ? Math.max(1, Math.round(seconds)) : 5 * Math.round(seconds / 5)} s`;
+}
+
+export class Measure {
+  /** How many seconds were expected, and taken: at first as if one was. */
+  #expected = 1;
+  #taken = 1;
+  /** For how many seconds of one processor the scramble was looked at. */
+  #spent = 0;
+  #field = part("best-further");
+
+  /** @param changed says that something else is chosen */
+  constructor(changed: () => void) {
+    const kept = stored(CHOSEN);
+    this.#field.value = CHOICES.includes(kept) ? kept : isSmall() ? "none" : "some";
+    this.#field.addEventListener("change", () => {
+      store(CHOSEN, this.#field.value);
+      changed();
+    });
+  }
+
+  /** Begins with another scramble. */
+  begin() {
+    this.#spent = 0;
+  }
+
+  /** Takes down what an axis took. @param seconds of a processor */
+  spend(size: Size, seconds: number) {
+    this.#expected += expectedOf(size);
+    this.#taken += seconds;
+    this.#spent += seconds;
+  }
+
+  /** Whether orientations may be looked at without being asked for. @param sizes of each axis */
+  allows(sizes: Size[]) {
+    const { value } = this.#field;
+    return value === "all" || (value === "some" && this.#spent + this.#secondsOf(sizes) <= MOST_SECONDS);
+  }
+
+  /** How many they are, and how long they take. */
+  words(sizes: Size[]) {
+    const count = sizes.reduce((sum, size) => sum + size.count, 0);
+    const time = timeInWords(this.#secondsOf(sizes) / Math.min(sizes.length, mostTogether()));
+    if (sizes.every((size) => size.counted)) return `${counted(count, "EO")}, about ${time}`;
+    return `about ${counted(Number(count.toPrecision(2)), "EO")}, ${time}`;
+  }
+
+  /** How long a processor takes for them, as far as is known. */
+  #secondsOf(sizes: Size[]) {
+    return sizes.reduce((sum, size) => sum + expectedOf(size), 0) * this.#taken / this.#expected;
+  }
+}
