@@ -70,8 +70,10 @@ def shown(window: Window, page: str, address: str, act: str) -> dict[str, object
     if window.script(GO % json.dumps(address)):
         window.open(page + address)
         window.script(REFUSED)
+        # the page sets its fields once its scripts run, in WebKit after that
+        window.until(DONE)
         # so that none of them is further than another
-        window.script("document.getElementById('best-further').value = 'none'")
+        window.script(FIELD % ("#best-further", "none") + "field.dispatchEvent(new Event('change'))")
     if not window.until(DONE):
         raise TimeoutError(f"no answer at {address}")
     if act != "":

@@ -30,6 +30,8 @@ return [said("", ""), said(tried, ""), said(tried, "120 new rows: 10 moves"), sa
 WIDTHS = (1920, 1440, 1180, 1024, 960, 900, 768, 640, 601, 600, 430, 390, 360, 320)
 # longer than the page waits before it goes on
 LONGER_THAN_REST = 2
+# by itself it would go on only as far as this machine gets in ten seconds
+ALWAYS = "localStorage.setItem('nissy-further', 'all')"
 # it waits until it is asked for, and what was asked of the best
 FORGET = "try { localStorage.removeItem('nissy-further') } catch {}"
 HELD_IS = "part('best-stop').textContent === 'Go on' && !part('best-stop').disabled"
@@ -61,6 +63,8 @@ def goes_on(tally: Tally, browser: Browser) -> None:
     Not while the page isn't seen; then to two moves more, to the same rows as if these had been asked for. Rows that are seen stay until they are
     asked to make room; then the first that is new has the focus, and nothing has moved before.
     """
+    browser.open()
+    browser.script(ALWAYS)
     begins(browser, WORSE)
     note, first, keys, top = browser.text("best-note"), browser.script(ROWS), browser.script(KEYS), browser.script(FIRST_ROW)
     height = "return part('best-head').offsetHeight"
@@ -103,6 +107,8 @@ def shows_found(tally: Tally, browser: Browser, first: list[list[str]], top: int
 def pauses(tally: Tally, browser: Browser) -> None:
     """A page that is left looks for nothing, and goes on once it is seen again; a stop ends it, and a choice keeps it from beginning."""
     script = browser.before_page(LISTEN)
+    browser.open()
+    browser.script(ALWAYS)
     begins(browser, WORSE)
     asked = "return window.asked.filter((each) => each === 'best').length"
     count = browser.script(asked)
@@ -166,6 +172,9 @@ def is_chosen(tally: Tally, browser: Browser) -> None:
     note = browser.text("best-note")
     tally.holds(f"which it says: {note}", re.search(r" Up to 2 longer: about [0-9,]{9,} EOs, [0-9]+ (s|min)\.$", note))
     tally.equal("though it may go on by itself", browser.value("best-further"), "some")
+    begins(browser, "R U F")
+    tally.holds("as it does with few", browser.until(f"return {NOTE}.startsWith('Up to 2 longer: ')") and browser.until(ENDED))
+    begins(browser, FLIPPED)
     browser.choose("best-further", "all")
     tally.holds("it goes on if that is chosen", browser.until("return part('best-stop').textContent === 'Stop' && !part('best-stop').disabled"))
     browser.choose("best-further", "none")

@@ -1,7 +1,7 @@
 //! Input at its limit and above it, as words and from a reader.
 use crate::blocks::BLOCK;
 use crate::devices::{Devices, FAULTLESS};
-use crate::memory::check_heap;
+use crate::refused_growths::check_first_refused;
 use crate::runs::Given::{Input, Words};
 use crate::runs::Run::{Failure, Good};
 use crate::runs::{Outcome, TOO_LONG, repeated, words_of};
@@ -27,7 +27,7 @@ fn words_above_the_limit_are_refused(rt: HostRuntime) -> Result<(), Fail> {
     let spaces = repeated(rt.alloc(), " ", LIMIT, "")?;
     let run = Failure(Words(&["invert", &spaces]), b"", TOO_LONG);
     run.check(&rt, rt.alloc(), FAULTLESS);
-    check_heap(&rt, rt.alloc(), 16, run)?;
+    check_first_refused(&rt, rt.alloc(), run)?;
     Ok(())
 }
 

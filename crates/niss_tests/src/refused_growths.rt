@@ -155,18 +155,18 @@ const WITHOUT_GROWTH: &[Run] = &[
     ),
 ];
 
-/// Makes the runs that ask for no memory with the first growth refused.
-fn check_without_growth(rt: &impl Abort, alloc: Global, heap: &LocalHeap) {
-    for run in WITHOUT_GROWTH {
-        let memory = Refusing::after(heap, 0);
-        run.check(rt, alloc, in_memory(&memory));
-        drop(memory);
-    }
+/// Makes a run with the first growth refused.
+pub fn check_first_refused(rt: &impl Abort, alloc: Global, run: Run<'_>) -> Result<(), AllocError> {
+    let heap = LocalHeap::new(alloc, AMPLE)?;
+    let memory = Refusing::after(&heap, 0);
+    run.check(rt, alloc, in_memory(&memory));
+    Ok(())
 }
 
 #[test]
 fn runs_without_growth_end_well_with_the_first_refused(rt: HostRuntime) -> Result<(), Fail> {
-    let heap = LocalHeap::new(rt.alloc(), AMPLE)?;
-    check_without_growth(&rt, rt.alloc(), &heap);
+    for run in WITHOUT_GROWTH {
+        check_first_refused(&rt, rt.alloc(), *run)?;
+    }
     Ok(())
 }
