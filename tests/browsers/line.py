@@ -8,6 +8,11 @@ from wanted import Position, answer
 # what the page asks of the engine comes late
 SLOW = """const { postMessage } = Worker.prototype;
     Worker.prototype.postMessage = function (...words) { setTimeout(() => postMessage.apply(this, words), 500); }"""
+# until it is let go on
+HELD = """const { postMessage } = Worker.prototype;
+    window.held = [];
+    Worker.prototype.postMessage = function (...words) { window.held.push(() => postMessage.apply(this, words)); };
+    window.goOn = () => { Worker.prototype.postMessage = postMessage; window.held.forEach((each) => each()); }"""
 WRITTEN = "#scramble=" + EXAMPLE.replace(" ", "_").replace("'", "-")
 BLUR = "document.activeElement.blur()"
 # a step of the line is edited
@@ -67,11 +72,12 @@ def takes_away(tally: Tally, browser: Browser) -> None:
 def edits_early(tally: Tally, browser: Browser) -> None:
     """A step may be edited before the engine says what it reaches."""
     browser.open("#scramble=R_U_F")
-    browser.script(SLOW)
+    browser.script(HELD)
     browser.submit("own", "F' L")
     browser.until("return all('#line-list li').length === 1")
     browser.script("document.querySelector('#line-list button').click()")
     tally.equal("its field is there first", browser.texts("#total"), ["\u2026"])
+    browser.script("goOn()")
     browser.walk(tally, "left as it was", ("wait", {"alert": "", "return part('results').inert": False}),
         ("press", Keys.ESCAPE, {"#line-list .count": ["2 moves"]}))
 

@@ -7,7 +7,7 @@ ADDRESS = "#scramble=R_U_F"
 SPOILT = """
     const [Sound, later, addressOf] = [Worker, setTimeout, URL.createObjectURL.bind(URL)];
     URL.createObjectURL = (script) => {
-        window.spoilt = addressOf(new Blob([%r, script]));
+        window.spoilt = addressOf(new Blob(['{' + %r + '}', script]));
         return addressOf(script);
     };
     window.setTimeout = (act, wait, ...words) => later(act, wait >= 20000 ? 3000 : wait, ...words);
