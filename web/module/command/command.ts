@@ -1,14 +1,14 @@
 // The command `nissy` in node: what the program does with its words, its streams and its status, by the module.
 import { hasValue, STATUS } from "../engine/status.js";
-import { textIn } from "../shared/utf8.js";
+import { encoded, textIn } from "../shared/utf8.js";
 import { readFileSync } from "node:fs";
 import process from "node:process";
-import { MOST_INPUT } from "../shared/bytes.js";
+import { LINE_FEED, MOST_INPUT } from "../shared/bytes.js";
 import { Engine } from "../engine/engine.js";
 import { NoWebAssembly } from "../shared/faults.js";
 import { InputLines, split } from "./input-lines.js";
 import { SEARCH_ANSWER, SOLUTION } from "../shared/layout.js";
-import { countRequest, runRequest, solveRequest } from "../calls/requests.js";
+import { MOST_TURNS, countRequest, runRequest, solveRequest } from "../calls/requests.js";
 import { isStep } from "../shared/steps.js";
 import { Stop } from "./stop.js";
 import { readSome, writeAll } from "./streams.js";
@@ -35,7 +35,6 @@ const NOTHING = new Uint8Array(0);
 
 /** How many numbers follow the step. */
 const SEARCHES = { solve: 1, count: 1, near: 2 };
-const MOST_TURNS = 20;
 
 /** The room for the output of a run: none without a search is longer than 10,000 scrambles of 256 turns. */
 const RUN_ROOM = 8 * 1_048_576;
@@ -43,13 +42,10 @@ const RUN_ROOM = 8 * 1_048_576;
 /** So many solutions are asked for at once. */
 const MOST_OF_PIECE = 4_000;
 
-const LINE_FEED = "\n".charCodeAt(0);
 const BRACKET = "(".charCodeAt(0);
 
 /** A piece of a list, and a line feed. */
 const pieceRoom = new Uint8Array(MOST_OF_PIECE * SOLUTION + 1);
-
-const encoder = new TextEncoder();
 
 function write(bytes: Uint8Array) {
   try {
@@ -59,7 +55,7 @@ function write(bytes: Uint8Array) {
   }
 }
 
-const writeText = (text: string) => write(encoder.encode(text));
+const writeText = (text: string) => write(encoded(text));
 
 function read(buffer: Uint8Array) {
   try {
@@ -148,7 +144,7 @@ function searchLines(engine: Engine, search: Search, lines: Uint8Array, first: n
 
 /** The words of a line as an input that has it. */
 function inputOf(words: string[]) {
-  const input = encoder.encode(`${words.join(" ")}\n`);
+  const input = encoded(`${words.join(" ")}\n`);
   if (input.length > MOST_INPUT) throw Stop.tooLong();
   return input;
 }
@@ -197,7 +193,7 @@ async function main(): Promise<number> {
   } catch (error) {
     const stop = stopOf(error);
     try {
-      writeAll(ERRORS, encoder.encode(stop.text));
+      writeAll(ERRORS, encoded(stop.text));
     } catch {
       // nobody reads it
     }

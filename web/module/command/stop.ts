@@ -4,14 +4,9 @@ import { START_FAULT, STATUS } from "../engine/status.js";
 import type { LineFault, StartFault } from "../calls/replies.js";
 
 export class Stop extends Error {
-  status: number;
-  text: string;
-
   /** @param text the line on standard error */
-  constructor(status: number, text: string) {
+  constructor(public status: number, public text: string) {
     super(text);
-    this.status = status;
-    this.text = text;
   }
 
   static cannotRead() {
