@@ -30,8 +30,8 @@ export type SidesRequest = Search & { call: "solveSides"; sides: Sides };
 export type CountSidesRequest = Search & { call: "countSides"; sides: Sides };
 export type FactsRequest = { call: "facts"; line: Text };
 export type CheckRequest = { call: "check"; scramble: Text; solution: Text };
-export type BestWithin = { slack: number; most: number; nodes: number; cut: Telling; axes: readonly number[] };
-export type BestRequest = BestWithin & { call: "best"; scramble: Text; soFar: Text };
+export type BestRequest = Pick<Search, "slack" | "most" | "nodes" | "cut">
+  & { call: "best"; scramble: Text; soFar: Text; axes: readonly number[] };
 export type LineAfterRequest = { call: "lineAfter"; scramble: Text; soFar: Text };
 export type ReadingRequest = { call: "plainLine" | "readAttempts" | "checkAttempts"; text: string };
 /** Of known scrambles. */

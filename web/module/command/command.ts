@@ -10,7 +10,7 @@ import { InputLines, split } from "./input-lines.js";
 import { SEARCH_ANSWER, SOLUTION } from "../shared/layout.js";
 import { MOST_TURNS, countRequest, runRequest, solveRequest } from "../calls/requests.js";
 import { isStep } from "../shared/steps.js";
-import { Stop } from "./stop.js";
+import { OUT_OF_MEMORY, Stop, TOO_LONG } from "./stop.js";
 import { readSome, writeAll } from "./streams.js";
 import type { Answer, LineFault, NoValue, Seen, StartFault } from "../calls/replies.js";
 
@@ -47,23 +47,18 @@ const BRACKET = "(".charCodeAt(0);
 /** A piece of a list, and a line feed. */
 const pieceRoom = new Uint8Array(MOST_OF_PIECE * SOLUTION + 1);
 
-function write(bytes: Uint8Array) {
+/** @param why the command ends if the stream fails */
+function byStream<Done>(why: string, attempt: () => Done): Done {
   try {
-    writeAll(OUTPUT, bytes);
+    return attempt();
   } catch {
-    throw Stop.cannotWrite();
+    throw Stop.because(why);
   }
 }
 
+const write = (bytes: Uint8Array) => byStream("cannot write", () => writeAll(OUTPUT, bytes));
 const writeText = (text: string) => write(encoded(text));
-
-function read(buffer: Uint8Array) {
-  try {
-    return readSome(INPUT, buffer);
-  } catch {
-    throw Stop.cannotRead();
-  }
-}
+const read = (buffer: Uint8Array) => byStream("cannot read", () => readSome(INPUT, buffer));
 
 /** Makes a run without a search, and writes its output.
  * @param first the number of the input's first line
@@ -79,7 +74,7 @@ function run(engine: Engine, words: string[], input: Uint8Array, first = 1): num
  * @param number the line's */
 function found<Found extends Seen>(reply: Found | NoValue, number: number): Found {
   if (reply.status === STATUS.fault) throw Stop.ofLine(number, reply as LineFault | StartFault);
-  if (!hasValue(reply.status)) throw Stop.outOfMemory();
+  if (!hasValue(reply.status)) throw Stop.because(OUT_OF_MEMORY);
   return reply as Found;
 }
 
@@ -145,7 +140,7 @@ function searchLines(engine: Engine, search: Search, lines: Uint8Array, first: n
 /** The words of a line as an input that has it. */
 function inputOf(words: string[]) {
   const input = encoded(`${words.join(" ")}\n`);
-  if (input.length > MOST_INPUT) throw Stop.tooLong();
+  if (input.length > MOST_INPUT) throw Stop.because(TOO_LONG);
   return input;
 }
 
@@ -173,7 +168,7 @@ async function started(): Promise<Engine> {
     const { message } = error as Error;
     const isOfNode = error instanceof NoWebAssembly;
     const why = isOfNode ? "this node runs no WebAssembly" : `nissy.wasm can't be loaded: ${message}`;
-    throw new Stop(STATUS.stopped, `nissy: ${why}\n`);
+    throw Stop.because(why);
   }
 }
 
@@ -181,8 +176,8 @@ async function started(): Promise<Engine> {
 function stopOf(error: unknown): Stop {
   if (error instanceof Stop) return error;
   // what the host has no memory for
-  if (error instanceof RangeError) return Stop.outOfMemory();
-  return new Stop(STATUS.stopped, `nissy: the engine broke off: ${(error as Error).message}\n`);
+  if (error instanceof RangeError) return Stop.because(OUT_OF_MEMORY);
+  return Stop.because(`the engine broke off: ${(error as Error).message}`);
 }
 
 /** @returns the status */

@@ -1,6 +1,6 @@
 // The lines of the command's input, answered as they come.
 import { LINE_FEED, MOST_INPUT, joinedBytes } from "../shared/bytes.js";
-import { Stop } from "./stop.js";
+import { Stop, TOO_LONG } from "./stop.js";
 
 /** At most so many bytes are read before their lines are answered. */
 const BLOCK = 4_096;
@@ -41,7 +41,7 @@ export class InputLines {
     for (let count = this.read(buffer); count > 0; count = this.read(buffer)) {
       const block = buffer.subarray(0, Math.min(count, left));
       this.#take(block, answer);
-      if (count > left) throw Stop.tooLong();
+      if (count > left) throw Stop.because(TOO_LONG);
       left -= count;
     }
     if (this.#open.length > 0) answer(joinedBytes(this.#open), this.#number);
