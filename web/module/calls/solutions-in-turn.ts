@@ -23,7 +23,7 @@ export function* solutionsBy(
 ): Generator<Solution, void, undefined> {
   for (let piece: SolveRequest | null = firstPiece(request); piece !== null; ) {
     const found: Solutions = solutionsIn(ask(piece), piece);
-    yield* found;
+    for (const solution of found) yield solution;
     piece = nextPiece(piece, found);
   }
 }
@@ -34,7 +34,7 @@ export async function* solutionsLaterBy(
 ): AsyncGenerator<Solution, void, undefined> {
   for (let piece: SolveRequest | null = firstPiece(request); piece !== null; ) {
     const found: Solutions = solutionsIn(await ask(piece), piece);
-    yield* found;
+    for (const solution of found) yield solution;
     piece = nextPiece(piece, found);
   }
 }
