@@ -46,7 +46,7 @@ class fault : public std::runtime_error {
 public:
     // by the program's words for it, such as "not a move"; `line` is said before the column
     fault(nissy_fault code, std::size_t column, const std::string &text, const std::string &line = "")
-        : std::runtime_error(place_of(column, line) + text), code_(code), line_(line.empty() ? 0 : line == "scramble, " ? 1 : 2),
+        : std::runtime_error(place_of(column, line) + text), code_(code), line_(line.empty() ? 0 : 1 + (line != "scramble, ")),
           column_(column), place_(place_of(column, line).size()), part_(line.empty() ? 0 : line.size() - 2) {}
 
     nissy_fault code() const noexcept { return code_; }

@@ -155,9 +155,9 @@ if missing qemu-x86_64; then skips "qemu-user isn't installed, so no other proce
 
 if missing python3; then skips "there is no python3 here"; else
     typed tests/library/*.py
-    for trial in processes values module many both_sides written kinds service shown; do part python3 tests/library/$trial.py; done
+    for trial in processes values limits module copies many both_sides written kinds service shown; do part python3 tests/library/$trial.py; done
     if python3.7 -c "import ctypes" 2> /dev/null; then
-        for trial in module many values both_sides written kinds processes shown; do part python3.7 tests/library/$trial.py; done
+        for trial in module copies many values limits both_sides written kinds processes shown; do part python3.7 tests/library/$trial.py; done
     else
         skips "Python 3.7, the oldest that the package is for, isn't installed"
     fi

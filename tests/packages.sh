@@ -151,7 +151,7 @@ else
     holds "its module finds the library that was compiled" test "$(in_venv -c "$says_all")" = "U' R' $version 2 0"
     holds "and prints the best ways on" test "$(in_venv -m nissy "R U F" --most 1 | cut -d , -f 1)" = "2 moves: eofb F"
     library=$(find "$room/venv" -name libnissy.so.2)
-    for trial in module values written; do add env NISSY_LIBRARY="$library" python3 "$top/tests/library/$trial.py"; done
+    for trial in module copies values limits written; do add env NISSY_LIBRARY="$library" python3 "$top/tests/library/$trial.py"; done
     holds "it is taken away" pip uninstall -q -y nissy
     mkdir "$room/none"
     for tool in bash env sh; do ln -s "$(command -v $tool)" "$room/none"; done

@@ -9,8 +9,8 @@ from typing import Protocol
 import wasm_code as code
 from wasm_code import Code, Instruction
 from wasm_module import I32, I64, FunctionType, Refused
-from wasm_values import (CALCULATION, COMPARISON, CONVERSIONS, IS_ZERO, LOAD, STACK, STORE, UNSIGNED, Value, calculated, chosen, compared, converted,
-                         is_zero, literal, loaded, made_of, number_of, stored)
+from wasm_values import CALCULATION, COMPARISON, CONVERSIONS, IS_ZERO, LOAD, STACK, STORE, UNSIGNED, Value
+from wasm_values import calculated, chosen, compared, converted, is_zero, literal, loaded, made_of, number_of, stored
 
 LABEL = re.compile(r" *(L\d+):;")
 

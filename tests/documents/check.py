@@ -48,6 +48,8 @@ ADDED = ("line_command_normal_joins", "in-Normal")
 # most lines of a file, and which have so few
 MOST_LINES_OF_CODE = 400
 OF_CODE = (".rt", ".antt", ".py", ".js", ".mjs", ".ts", ".c", ".cpp", ".h", ".hpp")
+# a line of a script: steps of two blanks, one more before the star of a comment, and none at its end
+OF_SCRIPT = re.compile(r"(?:(?:  )*(?: \*|\S)(?:.*\S)?)?")
 LIST = r"`[^`]+`(?:(?:, | and )`[^`]+`)*"
 # where the examples of crates' first pages stand as programs and tests
 EXAMPLES = ("crates/eo_axes/src/main.rt", "crates/nissy/src/main.rt", "crates/niss_call_tests/src/examples.rt")
@@ -79,7 +81,11 @@ def columns(tally: Tally, pages: list[Page]) -> None:
 def fences(tally: Tally, pages: list[Page]) -> None:
     """A fence names its language, and a file at most: a package's reader sees it as it is."""
     for page in pages:
-        longer = [line for line in page.lines if line.startswith("```") and not re.fullmatch(r"```(\w+( [\w.-]+\.m?js)?)?", line)]
+        longer = [
+            line
+            for line in page.lines
+            if line.startswith("```") and not re.fullmatch(r"```(\w+( [\w.-]+\.m?js)?)?", line)
+        ]
         tally.equal(f"{page.name}: its fences that say more", longer, [])
 
 
@@ -99,7 +105,13 @@ def names_of_code(tally: Tally, code: Code) -> None:
         each(tally, name, "a file or a word of the repository", Page(TOP, name).quoted(CODE_NAME), code.has)
     for name in WITH_PATHS:
         paths = {it.rstrip(".") for it in PATH.findall(Page(TOP, name).text) if "NAME" not in it}
-        each(tally, name, "a file or folder", sorted(paths), lambda path: (TOP / path).exists() or (TOP / re.sub(r"\.js$", ".ts", path)).exists() or code.has(path))
+        each(
+            tally,
+            name,
+            "a file or folder",
+            sorted(paths),
+            lambda path: (TOP / path).exists() or (TOP / re.sub(r"\.js$", ".ts", path)).exists() or code.has(path),
+        )
 
 
 def names_in_proofs(tally: Tally, code: Code) -> None:
@@ -129,23 +141,34 @@ def files_that_are_named(tally: Tally, code: Code) -> None:
 
 
 def lengths(tally: Tally, code: Code) -> None:
-    """No file of code is too long to be read at once, nor a line of the package in Python."""
+    """No file of code is too long to be read at once, nor a line of a script or of the package in Python; a script steps in by two blanks."""
     counted = {path: text.splitlines() for path, text in code.files.items() if path.endswith(OF_CODE)}
     tally.holds("there is code", counted)
     for path, lines in counted.items():
         tally.holds(f"{path} has at most {MOST_LINES_OF_CODE} lines: {len(lines)}", len(lines) <= MOST_LINES_OF_CODE)
-    package = [path for path in counted if path.startswith("python/nissy/")]
-    tally.holds("the package in Python has files", package)
-    for path in package:
+    narrow = [path for path in counted if path.startswith("python/nissy/") or re.match(r"web/.*\.ts$", path)]
+    tally.holds(
+        "the package in Python and the scripts have files", {path.split("/")[0] for path in narrow} == {"python", "web"}
+    )
+    for path in narrow:
         longer = [number for number, line in enumerate(counted[path], 1) if len(line) > MOST_COLUMNS]
         tally.equal(f"{path}: its lines of more than {MOST_COLUMNS} columns", longer, [])
+        if path.endswith(".ts"):
+            torn = [number for number, line in enumerate(counted[path], 1) if not OF_SCRIPT.fullmatch(line)]
+            tally.equal(f"{path}: its lines that begin or end otherwise", torn, [])
 
 
 def map_of_crates(code: Code) -> list[str]:
     """Returns what the map of the crates and their folders don't have in common."""
-    on_map = {name for row in rows(Page(TOP, "docs/ARCHITECTURE.md").section("Where things are")) for name in NAME.findall(row[0])}
+    on_map = {
+        name
+        for row in rows(Page(TOP, "docs/ARCHITECTURE.md").section("Where things are"))
+        for name in NAME.findall(row[0])
+    }
     there = set(code.libraries())
-    return [f"gone: crates/{it}" for it in sorted(on_map - there)] + [f"missing: crates/{it}" for it in sorted(there - on_map)]
+    return [f"gone: crates/{it}" for it in sorted(on_map - there)] + [
+        f"missing: crates/{it}" for it in sorted(there - on_map)
+    ]
 
 
 def head_of(text: str) -> str:
@@ -171,8 +194,14 @@ def heads_of_files(tally: Tally, code: Code) -> None:
 def map_of_scripts(section: str, top: str) -> list[str]:
     """Returns what a table of folders with scripts and the folders don't have in common."""
     on_map = {name for row in rows(Page(TOP, "docs/ARCHITECTURE.md").section(section)) for name in NAME.findall(row[0])}
-    there = {str(path.parent.relative_to(TOP / top.split("/")[0])) for path in (TOP / top).rglob("*.ts") if ".d." not in path.name}
-    return [f"gone: web/{it}" for it in sorted(on_map - there)] + [f"missing: web/{it}" for it in sorted(there - on_map)]
+    there = {
+        str(path.parent.relative_to(TOP / top.split("/")[0]))
+        for path in (TOP / top).rglob("*.ts")
+        if ".d." not in path.name
+    }
+    return [f"gone: web/{it}" for it in sorted(on_map - there)] + [
+        f"missing: web/{it}" for it in sorted(there - on_map)
+    ]
 
 
 def names_of_scripts(tally: Tally) -> None:
@@ -203,7 +232,11 @@ def types_in_comments(tally: Tally) -> None:
     """No type stands in a comment of a script, since tsc reads none there: it may be wrong."""
     for script in scripts():
         comments = re.findall(r"/\*[\s\S]*?\*/", script.read_text(encoding="utf-8"))
-        tally.equal(f"types in comments of {script.relative_to(TOP)}", [it for it in comments if re.search(r"@\w+ \{|@(?:type|typedef|template)\b", it)], [])
+        tally.equal(
+            f"types in comments of {script.relative_to(TOP)}",
+            [it for it in comments if re.search(r"@\w+ \{|@(?:type|typedef|template)\b", it)],
+            [],
+        )
 
 
 def clauses_of_functions(texts: list[str]) -> list[str]:
@@ -277,9 +310,18 @@ def examples(tally: Tally) -> None:
 def main() -> None:
     """All checks, or the maps alone."""
     code = Code(TOP)
-    unlike = map_of_crates(code) + map_of_scripts("The module in JavaScript", "web/module") + map_of_scripts("The page", "web/page")
+    unlike = (
+        map_of_crates(code)
+        + map_of_scripts("The module in JavaScript", "web/module")
+        + map_of_scripts("The page", "web/page")
+    )
     if sys.argv[1:2] == ["map"]:
-        print("".join(f"{line}\n" for line in unlike + [line for name in sys.argv[2:] for line in map_of_files(code, name)]), end="")
+        print(
+            "".join(
+                f"{line}\n" for line in unlike + [line for name in sys.argv[2:] for line in map_of_files(code, name)]
+            ),
+            end="",
+        )
         sys.exit(1 if unlike else 0)
     tally = Tally()
     pages = [Page(TOP, str(path.relative_to(TOP))) for pattern in PAGES for path in sorted(TOP.glob(pattern))]

@@ -33,7 +33,9 @@ def read(path: str) -> str:
 
 def of_header(text: str) -> set[str]:
     """What a header in C++ declares in the namespace: what begins there at a line's begin, with or without a template before it."""
-    text = re.sub(r"^namespace (?:detail|continuing) \{$.*?^\} // namespace (?:detail|continuing)$", "", text, flags=re.S | re.M)
+    text = re.sub(
+        r"^namespace (?:detail|continuing) \{$.*?^\} // namespace (?:detail|continuing)$", "", text, flags=re.S | re.M
+    )
     names = set()
     # one header has nothing but `nissy::detail`
     public = "".join(re.findall(r"^namespace nissy \{$(.*?)^\} // namespace nissy$", text, re.S | re.M))
@@ -58,9 +60,12 @@ def names() -> dict[str, set[str]]:
     assert calls is not None
     return {
         "C++": set().union(*(of_header(path.read_text("utf-8")) for path in (TOP / "include").glob("*.hpp"))),
-        "Python": set(re.findall(r'"(\w+)"', package[package.index("__all__ = ["):package.index("\n]\n")])) | set(re.findall(r"\b(\w+) as \1\b", package)),
-        "JavaScript": set().union(*(of_module(read(f"web/module/{name}.ts")) for name in ("nissy", "browser", "node")),
-                                  re.findall(r"^  (\w+)[<(]", calls[0], re.M)),
+        "Python": set(re.findall(r'"(\w+)"', package[package.index("__all__ = [") : package.index("\n]\n")]))
+        | set(re.findall(r"\b(\w+) as \1\b", package)),
+        "JavaScript": set().union(
+            *(of_module(read(f"web/module/{name}.ts")) for name in ("nissy", "browser", "node")),
+            re.findall(r"^  (\w+)[<(]", calls[0], re.M),
+        ),
     }
 
 
@@ -71,10 +76,16 @@ def main() -> None:
         if sys.argv[1:] == ["list"]:
             print(f"{language}, {len(public)}:", *sorted(public))
         # some that each has, so that none is counted by a text that isn't read any more
-        known = {"C++": {"solve", "tables", "answer", "AXES", "best_found", "check_all"}, "Python": {"Fault", "best", "NET", "Step", "solve"},
-                 "JavaScript": {"Nissy", "NissyPool", "loadNissy", "Facts", "AXES", "solve", "bestAll", "NissyFault"}}[language]
+        known = {
+            "C++": {"solve", "tables", "answer", "AXES", "best_found", "check_all"},
+            "Python": {"Fault", "best", "NET", "Step", "solve"},
+            "JavaScript": {"Nissy", "NissyPool", "loadNissy", "Facts", "AXES", "solve", "bestAll", "NissyFault"},
+        }[language]
         tally.equal(f"public names of {language} that everyone knows", known & public, known)
-        tally.holds(f"at most {MOST[language]} public names in {language}, and there are {len(public)}", len(public) <= MOST[language])
+        tally.holds(
+            f"at most {MOST[language]} public names in {language}, and there are {len(public)}",
+            len(public) <= MOST[language],
+        )
     tally.end()
 
 

@@ -114,11 +114,20 @@ def run_by(shell: str, examples: list[Example], environment: dict[str, str]) -> 
         places = [Path(room, str(at)) for at in range(len(examples))]
         for place in places:
             place.write_text(NOT_REACHED)
-        script.write_text("".join(f"{begin}\n{it.command}\n{end} > {place} 2>&1\n" for it, place in zip(examples, places)))
+        script.write_text(
+            "".join(f"{begin}\n{it.command}\n{end} > {place} 2>&1\n" for it, place in zip(examples, places))
+        )
         try:
-            stray = subprocess.run([shell, script], cwd=home, env=environment | {"HOME": str(home)}, check=False,
-                                   stdin=subprocess.DEVNULL, stdout=subprocess.PIPE, stderr=subprocess.STDOUT,
-                                   timeout=SECONDS).stdout
+            stray = subprocess.run(
+                [shell, script],
+                cwd=home,
+                env=environment | {"HOME": str(home)},
+                check=False,
+                stdin=subprocess.DEVNULL,
+                stdout=subprocess.PIPE,
+                stderr=subprocess.STDOUT,
+                timeout=SECONDS,
+            ).stdout
         except subprocess.TimeoutExpired as late:
             stray = late.stdout or b""
         sys.stdout.write(stray.decode(errors="replace"))
@@ -144,8 +153,15 @@ def run_alone(it: Example, environment: dict[str, str]) -> None:
         next(Path(room, word) for word in words if word.startswith("example.")).write_text(it.command)
         got = b""
         for command in [words, ["./made"]] if "made" in words else [words]:
-            ran = subprocess.run(command, cwd=room, env=environment | {"GOCACHE": f"{room}/cache"}, stdout=subprocess.PIPE, stderr=subprocess.STDOUT,
-                                 check=False, timeout=SECONDS)
+            ran = subprocess.run(
+                command,
+                cwd=room,
+                env=environment | {"GOCACHE": f"{room}/cache"},
+                stdout=subprocess.PIPE,
+                stderr=subprocess.STDOUT,
+                check=False,
+                timeout=SECONDS,
+            )
             got += ran.stdout
             if ran.returncode != 0:
                 break
@@ -196,7 +212,9 @@ def try_page(tally: Tally, page: Path, environment: dict[str, str]) -> None:
         if it.kind in SCRIPTS:
             run_alone(it, environment)
     for it in examples:
-        tally.holds(f"{name}:{it.line}: in {' '.join(it.wrong)} it prints this ('<' the page, '>' the program)", not it.wrong)
+        tally.holds(
+            f"{name}:{it.line}: in {' '.join(it.wrong)} it prints this ('<' the page, '>' the program)", not it.wrong
+        )
         if it.wrong:
             show(it)
 

@@ -76,7 +76,11 @@ class Code:
         """Whether a name is a word of the repository; one with a slash a file of it, or of a crate as src/x.rt."""
         if "/" not in name:
             return name in self.words
-        return (self.top / name).exists() or (self.top / "crates" / name).exists() or any(self.top.glob(f"crates/*/{name}"))
+        return (
+            (self.top / name).exists()
+            or (self.top / "crates" / name).exists()
+            or any(self.top.glob(f"crates/*/{name}"))
+        )
 
     @cached_property
     def declared(self) -> set[str]:
@@ -104,12 +108,19 @@ class Code:
     @cached_property
     def wrong_bodies(self) -> set[str]:
         """The names of the wrong bodies."""
-        lines = (line for path, text in self.texts.items() if path.startswith("tests/wrong-bodies/") for line in text.splitlines())
+        lines = (
+            line
+            for path, text in self.texts.items()
+            if path.startswith("tests/wrong-bodies/")
+            for line in text.splitlines()
+        )
         return {named[2] for line in lines if (named := NAMED.fullmatch(line))}
 
     def exported(self, crate: str) -> set[str]:
         """Returns the functions that a crate exports, but its laws, each behind the name of its type or of its file."""
-        used = re.findall(r"^pub use (?!niss_)[\w:]+::(\w+|\{[^}]*\});", self.texts[f"crates/{crate}/src/lib.rt"], re.MULTILINE)
+        used = re.findall(
+            r"^pub use (?!niss_)[\w:]+::(\w+|\{[^}]*\});", self.texts[f"crates/{crate}/src/lib.rt"], re.MULTILINE
+        )
         names = {name for part in used for name in re.findall(r"\w+", part)}
         found = set()
         for path, text in self.texts.items():

@@ -138,9 +138,10 @@ export async function tryTooLong(nissy) {
     counts: await nissy.countAll("eofb", lines, { faults: "value" }),
     "counts of searches that may be cut": await nissy.countAll("eofb", lines, { nodes: 1_000 }),
     facts: await nissy.factsAll(lines),
+    "the best": await nissy.bestAll(["F", "R q", ...lines.slice(2)], { most: 1 }),
   };
   for (const [what, each] of Object.entries(told)) {
-    const said = each.map((one) => (one instanceof Error ? one.message.replace(/^line 2, /, "") : null));
+    const said = each.map((one) => (one instanceof Error ? one.message.replace(/^line 2, (scramble, )?/, "") : null));
     same(`${what} beside lines of too many bytes`, said, wanted);
     same(`${what}: what stands in their places`, each.slice(1, 4).map(({ name }) => name), ["NissyFault", "RangeError", "RangeError"]);
   }

@@ -4,7 +4,7 @@ import { readFileSync } from "node:fs";
 import * as layout from "../../build/web/module/shared/layout.js";
 import { structOf } from "../../build/web/module/shared/structs.js";
 import * as textLayout from "../../build/web/module/text/text-layout.js";
-import { ended, same } from "./tally.mjs";
+import { ended, moduleBytes, same } from "./tally.mjs";
 
 /** The structs that a caller in JavaScript has otherwise: tables stay in the module's memory. */
 const OTHERWISE = ["nissy_tables"];
@@ -42,4 +42,12 @@ for (const [name, { bytes, alignment, at, width, read }] of Object.entries(OF_SC
   const made = structOf(OF_SCRIPTS[name], numbers);
   same(`${name}: what is read of it`, Object.fromEntries(Object.keys(read).map((field) => [field, read[field](made, 0)])), numbers);
 }
+
+// the exports of the module are the calls of the headers, each with the place of its answer first, but as web/module/ABI.md says
+const { exports } = await WebAssembly.instantiate(await WebAssembly.compile(moduleBytes));
+const OWN = { nissy_run: 10, nissy_build: 5 };
+const declared = [...headers.replace(/\/\*[\s\S]*?\*\//g, "").matchAll(/\b(nissy_\w+)\(([^)]*)\);/g)].filter(([, name]) => name !== "nissy_version");
+same("the calls of the module, each with how many arguments it takes",
+  Object.entries(exports).filter(([name]) => name.startsWith("nissy_")).map(([name, { length }]) => [name, length]).sort(),
+  declared.map(([, name, taken]) => [name, OWN[name] ?? taken.split(",").length + 1]).sort());
 ended();

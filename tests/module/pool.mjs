@@ -121,19 +121,19 @@ function keeping(count) {
   return { pool, workers, sent: () => workers.map((worker) => worker.sent.map(({ request }) => request.line)) };
 }
 
-/** A call on one line goes to the worker that has fewest, or to the first one that has none. */
+/** Calls on one line go to the first worker that has none, in their order. */
 async function tryIdlest() {
   const { pool, workers, sent } = keeping(2);
   const calls = ["R", "U", "F", "L", "B"].map((line) => pool.invert(line));
   same("each worker has one", sent(), [["R"], ["U"]]);
   workers[1].answer({ status: 0, out: "U'" });
   await calls[1];
-  same("then its own next one", sent(), [["R"], ["L"]]);
-  workers[1].answer({ status: 0, out: "L'" });
-  await calls[3];
-  same("then what waits for another worker", sent(), [["R"], ["F"]]);
+  same("then the first that waits", sent(), [["R"], ["F"]]);
   workers[1].answer({ status: 0, out: "F'" });
   await calls[2];
+  same("then the next one", sent(), [["R"], ["L"]]);
+  workers[1].answer({ status: 0, out: "L'" });
+  await calls[3];
   same("one after another", sent(), [["R"], ["B"]]);
   const controller = new AbortController();
   const late = pool.invert("D", { signal: controller.signal });
@@ -148,6 +148,11 @@ async function tryIdlest() {
   workers[0].answer({ status: 0, out: "R'" });
   workers[2].answer({ status: 0, out: "D2" });
   same("each has its answer", await Promise.all([...calls, last]), ["R'", "U'", "F'", "L'", "B'", "D2"]);
+  const [running, waiting] = [[pool.invert("F2"), pool.invert("B2")], thrown(() => pool.invert("L2"))];
+  pool.drop();
+  same("what waits is dropped", await waiting, ["AbortError", "stopped"]);
+  for (const [worker, line] of [[workers[0], "F2"], [workers[2], "B2"]]) worker.answer({ status: 0, out: line });
+  same("what runs goes on", await Promise.all(running), ["F2", "B2"]);
 }
 
 /** A promise of the caller's `onProgress` is waited for, and one that rejects ends the call. */

@@ -39,7 +39,9 @@ def by_page(package: Path) -> tuple[dict[str, str], list[list[str]]]:
 
 def site(folder: Path, script: str) -> None:
     """Writes the page that starts a folder's script."""
-    (folder / "index.html").write_text(f'<!doctype html><meta charset="utf-8"><title>nissy</title><script type="module" src="{script}"></script>\n')
+    (folder / "index.html").write_text(
+        f'<!doctype html><meta charset="utf-8"><title>nissy</title><script type="module" src="{script}"></script>\n'
+    )
 
 
 def with_scripts(package: Path, folder: Path, scripts: dict[str, str]) -> Path:
@@ -84,7 +86,9 @@ def bundle_without(tally: Tally, package: Path, user: Path) -> list[Path]:
 
 def plain(package: Path, user: Path) -> Path:
     """Makes the folder of the page without a bundler, as the package's page has it."""
-    html = "<!doctype html><title>nissy</title>\n" + re.findall(r"^```html\n(.*?)^```$", page_of(package), re.M | re.S)[0]
+    html = (
+        "<!doctype html><title>nissy</title>\n" + re.findall(r"^```html\n(.*?)^```$", page_of(package), re.M | re.S)[0]
+    )
     return with_scripts(package, user / "plain", {"index.html": html})
 
 
@@ -123,10 +127,14 @@ class Trial:
         for folder in self.unmade:
             with served(folder) as address:
                 missing = f"EngineMissing: the worker's script, or one that it imports, can't be loaded from {address}worker.js"
-                tally.equal(f"{browser}: a bundle without the worker's script", seen(window, address + "index.html"), missing)
+                tally.equal(
+                    f"{browser}: a bundle without the worker's script", seen(window, address + "index.html"), missing
+                )
         with served(self.calls) as address:
             window.open(address + "index.html")
-            tally.holds(f"{browser}: the page of calls comes to its end", window.until("return window.seen !== undefined"))
+            tally.holds(
+                f"{browser}: the page of calls comes to its end", window.until("return window.seen !== undefined")
+            )
             for what, got, wanted in window.script("return window.seen"):
                 tally.equal(f"{browser}: {what}", got, wanted)
         with served(self.elsewhere) as address, served(self.package, {"Access-Control-Allow-Origin": "*"}) as server:

@@ -52,8 +52,12 @@ def limits(trial: Trial) -> None:
     """Inputs of 16 MiB and about, and an answer of many solutions."""
     most = model.MOST_INPUT
     filled = (b"R" + b" " * 8190 + b"\n") * (most // 8192)
-    for words, data in ((["count", "eofb", "3"], b" " * most), (["unniss"], filled + b"R"), (["cleanup"], filled[:-2] + b"\nqq"),
-                        (["solve", "eofb", "3"], b"F\n" + b" " * most)):
+    for words, data in (
+        (["count", "eofb", "3"], b" " * most),
+        (["unniss"], filled + b"R"),
+        (["cleanup"], filled[:-2] + b"\nqq"),
+        (["solve", "eofb", "3"], b"F\n" + b" " * most),
+    ):
         trial.compare("input of 16 MiB and about", words, data, True)
     solving.Bounds.looks = None
     for words in (["near", "eofb", "5", "5"], ["near", "eofb", "4", "4", "R U"]):

@@ -3,13 +3,14 @@
 import { allOf, allRequest, pairsRequest, type AllRequest, type ReadOne } from "./many.js";
 import { optionOf } from "./options.js";
 import {
-  attemptChecksIn, bestIn, checkIn, countIn, factsIn, formPlacesIn, lineAfterIn, lineIn, outputLinesIn,
-  solutionsIn, tokensIn,
+  attemptChecksIn, bestIn, checkIn, countIn, factsIn, lineAfterIn, lineIn, outputLinesIn, solutionsIn,
 } from "./replies.js";
 import {
   bestRequest, checkRequest, checksRequest, countRequest, factsRequest, lineAfterRequest, lineRequest, listRequest,
   runRequest, scrambleRequest, scramblesRequest, textRequest, type OfEach, type Request, type Rewriting,
 } from "./requests.js";
+import { asString } from "../shared/utf8.js";
+import { formPlacesOf, tokensOf } from "../text/tokens.js";
 import type { Calls } from "./calls.js";
 
 /** `options`: the names of its own; of many lines each reply is read by `one`; `isFollowed`: one reply may take so long
@@ -46,8 +47,8 @@ export const TABLE: Record<Exclude<keyof Calls<"now">, "solutions">, Row> = {
   cleanup: rewriting("cleanup"),
   facelets: rewriting("facelets"),
   // a line that is no line of moves is refused
-  tokens: rewriting("unniss", (reply, request) => (lineIn(reply), tokensIn(request))),
-  formPlaces: rewriting("unniss", (reply, request) => (lineIn(reply), formPlacesIn(request))),
+  tokens: rewriting("unniss", (reply, { line }) => (lineIn(reply), tokensOf(asString(line)))),
+  formPlaces: rewriting("unniss", (reply, { line }) => (lineIn(reply), formPlacesOf(asString(line)))),
   solve: { takes: 2, options: OF_LISTS, request: listRequest, read: solutionsIn },
   solveAll: manyLines(2, OF_LISTS, (step, _, options) => listRequest(step, "", options), solutionsIn),
   count: { takes: 2, options: OF_COUNTS, request: countRequest, read: countIn },
@@ -55,7 +56,7 @@ export const TABLE: Record<Exclude<keyof Calls<"now">, "solutions">, Row> = {
   facts: { takes: 1, request: factsRequest, read: factsIn },
   factsAll: manyLines(1, [], () => factsRequest(""), factsIn),
   check: { takes: 2, request: checkRequest, read: checkIn },
-  checkAll: many(1, [], (pairs, options) => pairsRequest(checkRequest("", ""), pairs, options), checkIn),
+  checkAll: many(1, [], (pairs, options) => pairsRequest(() => checkRequest("", ""), pairs, options), checkIn),
   plainLine: { takes: 1, request: (text) => textRequest("plainLine", text), read: (reply) => reply },
   readAttempts: { takes: 1, request: (text) => textRequest("readAttempts", text), read: (reply) => reply },
   checkAttempts: { takes: 1, options: ["scrambles"], request: checksRequest, read: attemptChecksIn },

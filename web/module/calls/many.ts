@@ -35,7 +35,10 @@ export type Many<Faults extends OnFaults = OnFaults> = { faults?: Faults };
  * that thrown. */
 export type Told<Value, Faults> = Faults extends "throw" ? Value : Value | NissyFault | RangeError;
 
-/** One of many pairs. @param number from 1 */
+/** One of many lines. @param number from 1 */
+const lineOf = (line: unknown, number: number, take: typeof readableLine) => take(line, `line ${number}`);
+
+/** One of many pairs. */
 function pairOf(pair: unknown, number: number, take: typeof readableLine): Pair {
   if (!Array.isArray(pair) || pair.length !== 2) throw new TypeError(`pair ${number} is no array of two lines`);
   const [scramble, solution] = pair;
@@ -45,22 +48,24 @@ function pairOf(pair: unknown, number: number, take: typeof readableLine): Pair 
   };
 }
 
-/** @param each what is asked of each line */
-export function allRequest(each: () => OfEach, lines: unknown, options: unknown = {}): AllRequest {
-  if (!Array.isArray(lines)) throw new TypeError("the lines are no array");
+/** @param what they are
+ * @param each what is asked of each
+ * @param one takes one of them */
+function requestOfMany(
+  what: "lines" | "pairs", each: () => OfEach, values: unknown, options: unknown, one: typeof lineOf | typeof pairOf,
+): AllRequest {
+  if (!Array.isArray(values)) throw new TypeError(`the ${what} are no array`);
   const asked = each();
   const faults = toldBy(options, "faults", "value");
   const take = faults === "value" ? readableLine : takenLine;
-  return { call: "all", each: asked, faults, lines: eachOf(lines, (line, index) => take(line, `line ${index + 1}`)) };
+  return { call: "all", each: asked, faults, lines: eachOf(values, (value, index) => one(value, index + 1, take)) };
 }
 
-/** The same of pairs. @param each what is asked of each */
-export function pairsRequest(each: OfEach, pairs: unknown, options: unknown = {}): AllRequest {
-  if (!Array.isArray(pairs)) throw new TypeError("the pairs are no array");
-  const faults = toldBy(options, "faults", "value");
-  const take = faults === "value" ? readableLine : takenLine;
-  return { call: "all", each, faults, lines: eachOf(pairs, (pair, index) => pairOf(pair, index + 1, take)) };
-}
+export const allRequest = (each: () => OfEach, lines: unknown, options: unknown = {}) =>
+  requestOfMany("lines", each, lines, options, lineOf);
+
+export const pairsRequest = (each: () => OfEach, pairs: unknown, options: unknown = {}) =>
+  requestOfMany("pairs", each, pairs, options, pairOf);
 
 /** Whether the reply for a line of many ends the call, so that no line behind it is answered. */
 export function endsAll({ each, faults }: AllRequest, { status }: OneReply) {
@@ -98,7 +103,7 @@ export function putTold(
   }
 }
 
-/** @returns what is told of each line */
+/** What is told of each line. */
 export function allOf(reply: AllReply, request: AllRequest, one: ReadOne): unknown[] {
   const told: unknown[] = new Array(reply.count);
   putTold(told, 0, reply, (seen) => one(seen, request.each), (each, index) => toldOf(each, index, request, one));

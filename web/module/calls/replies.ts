@@ -5,12 +5,10 @@ import { textIn } from "../shared/utf8.js";
 import { checkFrom, factsFrom } from "./facts-read.js";
 import { bothSidesIn, waysIn, type BestRow, type BestStep } from "../shared/ways.js";
 import { START_FAULT, STATUS, hasValue } from "../engine/status.js";
-import { formPlacesOf, tokensOf, type FormPlace, type Token } from "../text/tokens.js";
 import type { Check, Facts } from "../shared/facts.js";
 import type { Attempt, AttemptDoubt } from "../text/attempts.js";
 import type { FormInText, SeenAttempt } from "../text/attempt-checks.js";
 import type { Sides, Telling } from "./requests.js";
-import type { Text } from "../shared/bytes.js";
 import type { TextPlace } from "../text/written.js";
 
 /** What a run returns. */
@@ -134,20 +132,11 @@ function withValue<Reply extends { status: number }>(reply: Reply): Exclude<Repl
 
 export const lineIn = (reply: LineReply): string => withValue(reply).out;
 
-/** @param request of a line that was read */
-export const tokensIn = ({ line }: { line: Text }): Token[] => tokensOf(typeof line === "string" ? line : textIn(line));
-
-/** @param request of a line that was read */
-export const formPlacesIn = ({ line }: { line: Text }): FormPlace[] =>
-  formPlacesOf(typeof line === "string" ? line : textIn(line));
-
-/** @returns its lines, each of which a line feed ends */
-const endedLines = (text: string): string[] => text.split("\n").slice(0, -1);
-
 /** @param answer of a run that has no fault, but may have been refused memory */
 export function outputLinesIn({ status, out, err }: Answer): string[] {
   if (status !== STATUS.done) throw new RangeError(textIn(err).trim());
-  return endedLines(textIn(out));
+  // a line feed ends each
+  return textIn(out).split("\n").slice(0, -1);
 }
 
 /** The solutions, of which each has a line such as `F B' (2)`, or `(0)` if no move is needed. There may be millions, so
@@ -233,8 +222,8 @@ export function lineAfterIn(reply: LineReply | OfTwo): string {
   throw errorOfBest(reply as OfTwo);
 }
 
-export function bestIn(reply: BestReply, { cut }: { cut: Telling }): Best {
-  if (!("ways" in reply)) throw errorOfBest(reply);
+export function bestIn(reply: BestReply | NoValue, { cut }: { cut: Telling }): Best {
+  if (!("ways" in reply)) throw "line" in reply ? errorOfBest(reply) : errorIn(reply);
   const best: Best = Object.assign(waysIn(reply.ways), { nodes: reply.nodes });
   return cutOr(reply.status, cut, best, () => cutOfAll(reply.nodes));
 }

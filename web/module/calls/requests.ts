@@ -2,7 +2,7 @@
 import {
   bytesOf, eachOf, joinedWords, stringOf, takenLine, wholeNumber, wideNumber, type Text,
 } from "../shared/bytes.js";
-import { textIn } from "../shared/utf8.js";
+import { asString } from "../shared/utf8.js";
 import { optionOf } from "./options.js";
 import type { AllRequest } from "./many.js";
 
@@ -30,8 +30,8 @@ export type SidesRequest = Search & { call: "solveSides"; sides: Sides };
 export type CountSidesRequest = Search & { call: "countSides"; sides: Sides };
 export type FactsRequest = { call: "facts"; line: Text };
 export type CheckRequest = { call: "check"; scramble: Text; solution: Text };
-export type BestWithin = { slack: number; most: number; nodes: number; cut: Telling; axes: readonly number[] };
-export type BestRequest = BestWithin & { call: "best"; scramble: Text; soFar: Text };
+export type BestRequest = Pick<Search, "slack" | "most" | "nodes" | "cut">
+  & { call: "best"; scramble: Text; soFar: Text; axes: readonly number[] };
 export type LineAfterRequest = { call: "lineAfter"; scramble: Text; soFar: Text };
 export type ReadingRequest = { call: "plainLine" | "readAttempts" | "checkAttempts"; text: string };
 /** Of known scrambles. */
@@ -83,7 +83,7 @@ export type BestWanted = {
 };
 
 /** The most turns of a search. */
-const MOST_TURNS = 20;
+export const MOST_TURNS = 20;
 
 /** How many of the best are told. */
 const MOST_TOLD = 20;
@@ -176,7 +176,7 @@ export const textRequest = (call: ReadingRequest["call"], text: unknown): Readin
 /** A known scramble as the line of an attempt: a byte that is no text is at fault there as what stands for it. */
 function knownScramble(scramble: unknown, index: number) {
   const taken = takenLine(scramble, `scramble ${index + 1}`);
-  return typeof scramble === "string" ? scramble : textIn(taken as Uint8Array);
+  return typeof scramble === "string" ? scramble : asString(taken);
 }
 
 export function checksRequest(text: unknown, options: unknown = {}): TextRequest {

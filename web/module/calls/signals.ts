@@ -12,7 +12,10 @@ export type Followed = { onProgress?: ((done: number, all: number | null) => unk
 
 export type Progress = { done: number; all: number | null };
 
-export function progressOf(options: unknown = {}): (progress: Progress) => unknown {
+/** Is told how far a call is, and gives it up by what it throws; of workers also by a promise that rejects. */
+export type Follow = (progress: Progress) => unknown;
+
+export function progressOf(options: unknown = {}): Follow {
   const onProgress = optionOf(options, "onProgress");
   if (onProgress === undefined) return () => {};
   if (typeof onProgress !== "function") throw new TypeError("what is told of the progress is no function");
@@ -21,10 +24,9 @@ export function progressOf(options: unknown = {}): (progress: Progress) => unkno
 
 /** What a call of workers tells of its progress. It waits for the promises that this returns. */
 export class Telling {
-  #onProgress: (progress: Progress) => unknown;
+  #onProgress: Follow;
   #open = new Set<Promise<unknown>>();
 
-  /** @param options of the call */
   constructor(options?: unknown) {
     this.#onProgress = progressOf(options);
   }
@@ -55,48 +57,31 @@ export function signalOf(options: unknown = {}): AbortSignal | undefined {
 /** @returns why it gives calls up */
 export const reasonOf = (signal: AbortSignal): unknown => signal.reason ?? new Stopped();
 
-/** What hears a signal: it has each of those who have calls of the signal give them up. */
-export type Listened = { callsOf: Map<Signals<any>, Set<any>>; heard: () => void };
+/** What a signal does once it is given: one listener hears it for all who share it. */
+type Heard = { acts: Set<() => void>; hear: () => void };
 
-const heardSignals = new WeakMap<AbortSignal, Listened>();
+const heardSignals = new WeakMap<AbortSignal, Heard>();
 
-/** The calls that each signal gives up. */
-export class Signals<Call> {
-  #giveUp: (calls: Set<Call>, signal: AbortSignal) => void;
+function heardOf(signal: AbortSignal): Heard {
+  const known = heardSignals.get(signal);
+  if (known !== undefined) return known;
+  const acts = new Set<() => void>();
+  const heard = { acts, hear: () => [...acts].forEach((act) => act()) };
+  // one that throws here isn't kept, so that the next call listens to it
+  signal.addEventListener("abort", heard.hear);
+  heardSignals.set(signal, heard);
+  return heard;
+}
 
-  /** @param giveUp gives the calls of a signal up */
-  constructor(giveUp: (calls: Set<Call>, signal: AbortSignal) => void) {
-    this.#giveUp = giveUp;
-  }
-
-  /** Has a signal give up a call, until that has ended. */
-  add(signal: AbortSignal, call: Call) {
-    const { callsOf } = heardSignals.get(signal) ?? Signals.#listen(signal);
-    const calls = callsOf.get(this);
-    if (calls === undefined) callsOf.set(this, new Set([call]));
-    else calls.add(call);
-  }
-
-  /** A call has ended. */
-  remove(signal: AbortSignal, call: Call) {
-    const listened = heardSignals.get(signal);
-    const calls = listened?.callsOf.get(this);
-    if (listened === undefined || !calls?.delete(call) || calls.size > 0) return;
-    listened.callsOf.delete(this);
-    if (listened.callsOf.size > 0) return;
+/** Has a signal do something once it is given.
+ * @returns what has it no longer do so */
+export function onAbort(signal: AbortSignal, act: () => void): () => void {
+  const { acts, hear } = heardOf(signal);
+  acts.add(act);
+  return () => {
+    acts.delete(act);
+    if (acts.size > 0) return;
     heardSignals.delete(signal);
-    signal.removeEventListener("abort", listened.heard);
-  }
-
-  static #listen(signal: AbortSignal): Listened {
-    const callsOf: Listened["callsOf"] = new Map();
-    const heard = () => {
-      for (const [signals, calls] of [...callsOf]) signals.#giveUp(new Set(calls), signal);
-    };
-    // one that throws here isn't kept, so that the next call listens to it
-    signal.addEventListener("abort", heard);
-    const listened = { callsOf, heard };
-    heardSignals.set(signal, listened);
-    return listened;
-  }
+    signal.removeEventListener("abort", hear);
+  };
 }

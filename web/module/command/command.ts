@@ -1,16 +1,16 @@
 // The command `nissy` in node: what the program does with its words, its streams and its status, by the module.
 import { hasValue, STATUS } from "../engine/status.js";
-import { textIn } from "../shared/utf8.js";
+import { encoded, textIn } from "../shared/utf8.js";
 import { readFileSync } from "node:fs";
 import process from "node:process";
-import { MOST_INPUT } from "../shared/bytes.js";
+import { LINE_FEED, MOST_INPUT } from "../shared/bytes.js";
 import { Engine } from "../engine/engine.js";
 import { NoWebAssembly } from "../shared/faults.js";
 import { InputLines, split } from "./input-lines.js";
 import { SEARCH_ANSWER, SOLUTION } from "../shared/layout.js";
-import { countRequest, runRequest, solveRequest } from "../calls/requests.js";
+import { MOST_TURNS, countRequest, runRequest, solveRequest } from "../calls/requests.js";
 import { isStep } from "../shared/steps.js";
-import { Stop } from "./stop.js";
+import { OUT_OF_MEMORY, Stop, TOO_LONG } from "./stop.js";
 import { readSome, writeAll } from "./streams.js";
 import type { Answer, LineFault, NoValue, Seen, StartFault } from "../calls/replies.js";
 
@@ -35,7 +35,6 @@ const NOTHING = new Uint8Array(0);
 
 /** How many numbers follow the step. */
 const SEARCHES = { solve: 1, count: 1, near: 2 };
-const MOST_TURNS = 20;
 
 /** The room for the output of a run: none without a search is longer than 10,000 scrambles of 256 turns. */
 const RUN_ROOM = 8 * 1_048_576;
@@ -43,31 +42,23 @@ const RUN_ROOM = 8 * 1_048_576;
 /** So many solutions are asked for at once. */
 const MOST_OF_PIECE = 4_000;
 
-const LINE_FEED = "\n".charCodeAt(0);
 const BRACKET = "(".charCodeAt(0);
 
 /** A piece of a list, and a line feed. */
 const pieceRoom = new Uint8Array(MOST_OF_PIECE * SOLUTION + 1);
 
-const encoder = new TextEncoder();
-
-function write(bytes: Uint8Array) {
+/** @param why the command ends if the stream fails */
+function byStream<Done>(why: string, attempt: () => Done): Done {
   try {
-    writeAll(OUTPUT, bytes);
+    return attempt();
   } catch {
-    throw Stop.cannotWrite();
+    throw Stop.because(why);
   }
 }
 
-const writeText = (text: string) => write(encoder.encode(text));
-
-function read(buffer: Uint8Array) {
-  try {
-    return readSome(INPUT, buffer);
-  } catch {
-    throw Stop.cannotRead();
-  }
-}
+const write = (bytes: Uint8Array) => byStream("cannot write", () => writeAll(OUTPUT, bytes));
+const writeText = (text: string) => write(encoded(text));
+const read = (buffer: Uint8Array) => byStream("cannot read", () => readSome(INPUT, buffer));
 
 /** Makes a run without a search, and writes its output.
  * @param first the number of the input's first line
@@ -83,7 +74,7 @@ function run(engine: Engine, words: string[], input: Uint8Array, first = 1): num
  * @param number the line's */
 function found<Found extends Seen>(reply: Found | NoValue, number: number): Found {
   if (reply.status === STATUS.fault) throw Stop.ofLine(number, reply as LineFault | StartFault);
-  if (!hasValue(reply.status)) throw Stop.outOfMemory();
+  if (!hasValue(reply.status)) throw Stop.because(OUT_OF_MEMORY);
   return reply as Found;
 }
 
@@ -148,8 +139,8 @@ function searchLines(engine: Engine, search: Search, lines: Uint8Array, first: n
 
 /** The words of a line as an input that has it. */
 function inputOf(words: string[]) {
-  const input = encoder.encode(`${words.join(" ")}\n`);
-  if (input.length > MOST_INPUT) throw Stop.tooLong();
+  const input = encoded(`${words.join(" ")}\n`);
+  if (input.length > MOST_INPUT) throw Stop.because(TOO_LONG);
   return input;
 }
 
@@ -177,7 +168,7 @@ async function started(): Promise<Engine> {
     const { message } = error as Error;
     const isOfNode = error instanceof NoWebAssembly;
     const why = isOfNode ? "this node runs no WebAssembly" : `nissy.wasm can't be loaded: ${message}`;
-    throw new Stop(STATUS.stopped, `nissy: ${why}\n`);
+    throw Stop.because(why);
   }
 }
 
@@ -185,8 +176,8 @@ async function started(): Promise<Engine> {
 function stopOf(error: unknown): Stop {
   if (error instanceof Stop) return error;
   // what the host has no memory for
-  if (error instanceof RangeError) return Stop.outOfMemory();
-  return new Stop(STATUS.stopped, `nissy: the engine broke off: ${(error as Error).message}\n`);
+  if (error instanceof RangeError) return Stop.because(OUT_OF_MEMORY);
+  return Stop.because(`the engine broke off: ${(error as Error).message}`);
 }
 
 /** @returns the status */
@@ -197,7 +188,7 @@ async function main(): Promise<number> {
   } catch (error) {
     const stop = stopOf(error);
     try {
-      writeAll(ERRORS, encoder.encode(stop.text));
+      writeAll(ERRORS, encoded(stop.text));
     } catch {
       // nobody reads it
     }

@@ -1,42 +1,12 @@
 // The lines of the command's input, answered as they come.
-import { MOST_INPUT } from "../shared/bytes.js";
-import { Stop } from "./stop.js";
+import { LINE_FEED, MOST_INPUT, joinedBytes } from "../shared/bytes.js";
+import { Stop, TOO_LONG } from "./stop.js";
 
 /** At most so many bytes are read before their lines are answered. */
 const BLOCK = 4_096;
 
-const LINE_FEED = 10;
-
 /** Answers lines, each with its line feed but the last one of an input, of which the first has this number. */
 export type Answering = (lines: Uint8Array, first: number) => void;
-
-/** Bytes that are put together, in a place that grows. */
-class Gathered {
-  #place = new Uint8Array(2 * BLOCK);
-  #length = 0;
-
-  get isEmpty() {
-    return this.#length === 0;
-  }
-
-  add(bytes: Uint8Array) {
-    const length = this.#length + bytes.length;
-    if (length > this.#place.length) {
-      const wider = new Uint8Array(2 * length);
-      wider.set(this.#place.subarray(0, this.#length));
-      this.#place = wider;
-    }
-    this.#place.set(bytes, this.#length);
-    this.#length = length;
-  }
-
-  /** @returns all of them, up to the next ones that are added */
-  taken(): Uint8Array {
-    const bytes = this.#place.subarray(0, this.#length);
-    this.#length = 0;
-    return bytes;
-  }
-}
 
 /** @returns how many line feeds they have */
 function countOf(lines: Uint8Array): number {
@@ -57,36 +27,35 @@ export function* split(lines: Uint8Array): Iterable<Uint8Array> {
 
 /** The lines of an input that is read once. */
 export class InputLines {
-  #read: (buffer: Uint8Array) => number;
-  #open = new Gathered();
-  /** the number of the line that is open */ #number = 1;
+  /** What there is of the line that is open, and its number. */
+  #open: Uint8Array[] = [];
+  #number = 1;
 
   /** @param read reads some bytes into a buffer, none at the end */
-  constructor(read: (buffer: Uint8Array) => number) {
-    this.#read = read;
-  }
+  constructor(private read: (buffer: Uint8Array) => number) {}
 
   /** Has all lines that have come answered before more is read, up to the end. */
   answer(answer: Answering) {
     const buffer = new Uint8Array(BLOCK);
     let left = MOST_INPUT;
-    for (let count = this.#read(buffer); count > 0; count = this.#read(buffer)) {
+    for (let count = this.read(buffer); count > 0; count = this.read(buffer)) {
       const block = buffer.subarray(0, Math.min(count, left));
       this.#take(block, answer);
-      if (count > left) throw Stop.tooLong();
+      if (count > left) throw Stop.because(TOO_LONG);
       left -= count;
     }
-    if (!this.#open.isEmpty) answer(this.#open.taken(), this.#number);
+    if (this.#open.length > 0) answer(joinedBytes(this.#open), this.#number);
   }
 
   #take(block: Uint8Array, answer: Answering) {
     const end = block.lastIndexOf(LINE_FEED) + 1;
-    this.#open.add(block.subarray(0, end));
     if (end > 0) {
-      const lines = this.#open.taken();
+      const lines = joinedBytes([...this.#open, block.subarray(0, end)]);
+      this.#open = [];
       answer(lines, this.#number);
       this.#number += countOf(lines);
     }
-    this.#open.add(block.subarray(end));
+    // a copy, since the next block takes this one's place
+    if (end < block.length) this.#open.push(block.slice(end));
   }
 }

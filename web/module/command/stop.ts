@@ -3,31 +3,18 @@ import { MOST_INPUT } from "../shared/bytes.js";
 import { START_FAULT, STATUS } from "../engine/status.js";
 import type { LineFault, StartFault } from "../calls/replies.js";
 
+export const OUT_OF_MEMORY = "out of memory";
+export const TOO_LONG = `input longer than ${MOST_INPUT} bytes`;
+
 export class Stop extends Error {
-  status: number;
-  text: string;
-
   /** @param text the line on standard error */
-  constructor(status: number, text: string) {
+  constructor(public status: number, public text: string) {
     super(text);
-    this.status = status;
-    this.text = text;
   }
 
-  static cannotRead() {
-    return new Stop(STATUS.stopped, "nissy: cannot read\n");
-  }
-
-  static cannotWrite() {
-    return new Stop(STATUS.stopped, "nissy: cannot write\n");
-  }
-
-  static outOfMemory() {
-    return new Stop(STATUS.stopped, "nissy: out of memory\n");
-  }
-
-  static tooLong() {
-    return new Stop(STATUS.stopped, `nissy: input longer than ${MOST_INPUT} bytes\n`);
+  /** What no line is at fault of. */
+  static because(why: string) {
+    return new Stop(STATUS.stopped, `nissy: ${why}\n`);
   }
 
   /** A fault of a line.

@@ -8,7 +8,7 @@ import { refusalOfTwo } from "./line-calls.js";
 import { STATUS, hasValue } from "./status.js";
 import type { BestReply, FoundWays, OfTwo } from "../calls/replies.js";
 import type { BestRequest } from "../calls/requests.js";
-import type { Progress } from "../calls/signals.js";
+import type { Follow } from "../calls/signals.js";
 
 /** What was found of a length: `next`, whether there are longer first steps. */
 type PieceFound = FoundWays & { status: 0 | 5; next: boolean };
@@ -71,7 +71,7 @@ function wholePiece(instance: Instance, request: BestRequest, piece: Piece, foun
 
 /** The best ways on: those with shorter first steps on all axes are looked for before those with longer ones.
  * @param tell what it throws ends the search */
-export function bestOf(instance: Instance, request: BestRequest, tell: (progress: Progress) => unknown): BestReply {
+export function bestOf(instance: Instance, request: BestRequest, tell: Follow): BestReply {
   let found = NOTHING;
   let open = request.axes;
   for (let length = 0; open.length > 0; length += 1) {

@@ -14,17 +14,15 @@ import { compiled, type ModuleSource } from "./source.js";
 import type { AllReply } from "../calls/many.js";
 import type { CountOfSides, OneReply, SolveBytesReply } from "../calls/replies.js";
 import type { Request, SolveRequest, TextRequest } from "../calls/requests.js";
-import type { Progress } from "../calls/signals.js";
+import type { Follow } from "../calls/signals.js";
 
 export type Reply = OneReply | CountOfSides | AllReply | PlainLine | Attempt[] | SeenAttempt[];
-/** Is told how far the search for the best is; what it throws ends that. */
-export type TellProgress = (progress: Progress) => unknown;
 /** An engine, or what asks one. */
-export type Answering = { answer: (request: Request, tell?: TellProgress) => any };
+export type Answering = { answer: (request: Request, tell?: Follow) => any };
 
 type AnswersOf<Asked extends Request> = {
   [Call in Asked["call"]]:
-    (instance: Instance, request: Extract<Asked, { call: Call }>, tell: TellProgress) => Reply;
+    (instance: Instance, request: Extract<Asked, { call: Call }>, tell: Follow) => Reply;
 };
 
 const inMemory = (instance: Instance, { text }: TextRequest) => new TextInMemory(instance, new WrittenText(text));
@@ -52,15 +50,13 @@ const REPLIES: AnswersOf<Exclude<Request, { call: "all" }>> = {
   checkSolutions: (instance, request) => seenSolutions(instance, inMemory(instance, request), request.scrambles),
 };
 
-type Answer = (instance: Instance, request: Request, tell: TellProgress) => Reply;
+type Answer = (instance: Instance, request: Request, tell: Follow) => Reply;
 const answerOf = (call: Exclude<Request["call"], "all">) => REPLIES[call] as Answer;
 
 export class Engine {
-  #module: WebAssembly.Module;
   #instance: Instance;
 
-  constructor(module: WebAssembly.Module, instance: WebAssembly.Instance) {
-    this.#module = module;
+  constructor(private module: WebAssembly.Module, instance: WebAssembly.Instance) {
     this.#instance = new Instance(instance);
   }
 
@@ -70,7 +66,7 @@ export class Engine {
   }
 
   /** What the engine returns. */
-  answer(request: Request, tell: TellProgress = () => {}): Reply {
+  answer(request: Request, tell: Follow = () => {}): Reply {
     const instance = this.#ready();
     if (request.call !== "all") return answerOf(request.call)(instance, request, tell);
     const answer = answerOf(request.each.call);
@@ -87,7 +83,7 @@ export class Engine {
   #ready(): Instance {
     if (!this.#instance.isBroken) return this.#instance;
     try {
-      this.#instance = new Instance(new WebAssembly.Instance(this.#module, {}));
+      this.#instance = new Instance(new WebAssembly.Instance(this.module, {}));
       return this.#instance;
     } catch (cause) {
       const { message } = cause as Error;

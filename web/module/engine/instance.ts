@@ -32,7 +32,7 @@ export class Instance {
   /** Where the tables of each step are: no step has what some script gave to all objects. */
   #tables: { [step: string]: number };
   /** Whether a call began that didn't return: what the module has in its memory is then in no order. */
-  #isBroken = false;
+  isBroken = false;
   /** What the module calls faults, by their numbers. */
   faultTexts = new Map<number, string>();
   memory: InstanceMemory;
@@ -50,21 +50,11 @@ export class Instance {
     this.free = aligned(this.answer + ANSWER);
   }
 
-  get isBroken() {
-    return this.#isBroken;
-  }
-
-  /** Says that what the module has in its memory is in no order. */
-  break() {
-    this.#isBroken = true;
-  }
-
-  /** Calls the module. */
   call(call: (exports: Exports) => number | undefined): number | undefined {
     // no handler of this one runs if the host cuts a call off
-    this.#isBroken = true;
+    this.isBroken = true;
     const result = call(this.#exports);
-    this.#isBroken = false;
+    this.isBroken = false;
     return result;
   }
 

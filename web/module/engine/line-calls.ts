@@ -15,7 +15,6 @@ import type { Given, Instance } from "./instance.js";
 /** The rooms for solutions, of which the next one is taken if one was too small: they are searched for again then. */
 const SOLUTION_ROOMS = [65_536, 4 * 1_048_576, 256 * 1_048_576];
 
-
 /** @returns the same for the module */
 const bound = (most: number): bigint => (most === Infinity ? MOST_WIDE : BigInt(most));
 
@@ -58,27 +57,37 @@ export function refusalOfTwo(instance: Instance, first: Text, second: Text): OfT
   return { ...refused, column: null, character: null, line } as unknown as OfTwo;
 }
 
-/** A call that writes a line. @param line which it reads, if it does */
-export function written(instance: Instance, name: string, given: Given[], line?: Text): LineReply {
+/** A call that writes a line.
+ * @param refused why it has none */
+export function written<Refused extends NoValue>(
+  instance: Instance, name: string, given: Given[], refused = (): NoValue | Refused => refusal(instance),
+): LineReply | Refused {
   const places = instance.ask(name, [...given, { room: LINE_ROOM }]);
-  if (instance.status !== STATUS.done) return refusal(instance, line);
+  if (instance.status !== STATUS.done) return refused();
   const length = instance.answered(LINE_ANSWER.read.length);
   return { status: STATUS.done, out: instance.memory.text(places[given.length], length) };
 }
 
 /** A call that reads a line and writes another. */
 export const rewritten = (instance: Instance, name: string, line: Text): LineReply =>
-  written(instance, name, [{ text: line }], line);
-
-/** @returns what an answer has, whose struct is copied */
-const seen = (instance: Instance, { bytes }: Struct, status: number): Seen =>
-  ({ status: status as Seen["status"], answer: instance.memory.copy(instance.answer, bytes), at: 0 });
+  written(instance, name, [{ text: line }], () => refusal(instance, line));
 
 /** The line of the cube after a scramble and the moves so far. */
-export function lineAfterOf(instance: Instance, { scramble, soFar }: LineAfterRequest): LineReply | OfTwo {
-  const places = instance.ask("nissy_line_after", [{ text: scramble }, { text: soFar }, { room: LINE_ROOM }]);
-  if (instance.status !== STATUS.done) return refusalOfTwo(instance, scramble, soFar);
-  return { status: STATUS.done, out: instance.memory.text(places[2], instance.answered(LINE_ANSWER.read.length)) };
+export const lineAfterOf = (instance: Instance, { scramble, soFar }: LineAfterRequest): LineReply | OfTwo =>
+  written(instance, "nissy_line_after", [{ text: scramble }, { text: soFar }],
+    () => refusalOfTwo(instance, scramble, soFar));
+
+/** The struct of an answer, copied. */
+const seen = (instance: Instance, { bytes }: Struct): Seen =>
+  ({ status: instance.status as Seen["status"], answer: instance.memory.copy(instance.answer, bytes), at: 0 });
+
+/** A call whose answer has all that it tells.
+ * @param refused why it has none */
+function answered<Refused>(
+  instance: Instance, name: string, given: Given[], of: Struct, refused: () => Refused,
+): Seen | Refused {
+  instance.ask(name, given);
+  return hasValue(instance.status) ? seen(instance, of) : refused();
 }
 
 /** @param read what was written */
@@ -91,10 +100,9 @@ function solvedIn<Out>(
   const lines = after === undefined ? [{ text: line }] : [{ text: line }, { text: after }];
   const given = [tables, ...lines, ...rest];
   const places = instance.ask(after === undefined ? "nissy_solve" : "nissy_solve_after", given);
-  const { status } = instance;
-  if (!hasValue(status)) return refusal(instance, line, step);
+  if (!hasValue(instance.status)) return refusal(instance, line, step);
   const out = read(places[given.length - 1], instance.answered(SEARCH_ANSWER.read.length));
-  return { ...seen(instance, SEARCH_ANSWER, status), out };
+  return { ...seen(instance, SEARCH_ANSWER), out };
 }
 
 export function solved(instance: Instance, request: SolveRequest): SolveReply {
@@ -115,18 +123,13 @@ export const solvedBytes = (instance: Instance, request: SolveRequest): SolveByt
 
 export function counted(instance: Instance, request: CountRequest): Seen | NoValue {
   const { step, line } = request;
-  instance.ask("nissy_count", [BigInt(instance.tablesOf(step)), { text: line }, ...boundsOf(request)]);
-  const { status } = instance;
-  return hasValue(status) ? seen(instance, SEARCH_ANSWER, status) : refusal(instance, line, step);
+  const given = [BigInt(instance.tablesOf(step)), { text: line }, ...boundsOf(request)];
+  return answered(instance, "nissy_count", given, SEARCH_ANSWER, () => refusal(instance, line, step));
 }
 
-export function factsOf(instance: Instance, { line }: FactsRequest): Seen | NoValue {
-  instance.ask("nissy_facts", [{ text: line }]);
-  return instance.status === STATUS.done ? seen(instance, FACTS_ANSWER, STATUS.done) : refusal(instance, line);
-}
+export const factsOf = (instance: Instance, { line }: FactsRequest): Seen | NoValue =>
+  answered(instance, "nissy_facts", [{ text: line }], FACTS_ANSWER, () => refusal(instance, line));
 
-export function checked(instance: Instance, { scramble, solution }: CheckRequest): Seen | OfTwo {
-  instance.ask("nissy_check", [{ text: scramble }, { text: solution }]);
-  if (instance.status !== STATUS.done) return refusalOfTwo(instance, scramble, solution);
-  return seen(instance, CHECK_ANSWER, STATUS.done);
-}
+export const checked = (instance: Instance, { scramble, solution }: CheckRequest): Seen | OfTwo =>
+  answered(instance, "nissy_check", [{ text: scramble }, { text: solution }], CHECK_ANSWER,
+    () => refusalOfTwo(instance, scramble, solution));

@@ -4,18 +4,16 @@ import { CHECK_ANSWER, FACTS_ANSWER, LINES_ANSWER, SEARCH_ANSWER } from "../shar
 import { boundsOf, refusal } from "./line-calls.js";
 import { roomFor } from "./memory.js";
 import { STATUS, hasValue } from "./status.js";
+import { LINE_FEED, joinedBytes, type Text } from "../shared/bytes.js";
 import { encoded } from "../shared/utf8.js";
 import type { Given, Instance } from "./instance.js";
 import type { OfEach, Pair } from "../calls/requests.js";
 import type { OneReply, Seen } from "../calls/replies.js";
 import type { Struct } from "../shared/structs.js";
-import type { Text } from "../shared/bytes.js";
 
 /** So many lines go to the module at once, of so many bytes unless the first one has more. */
 const MOST_LINES = 256;
 const MOST_OF_TEXT = 262_144;
-
-const LINE_FEED = 10;
 
 /** The struct of an answer that has all that is told. */
 const STRUCTS: Partial<Record<OfEach["call"], Struct>> = {
@@ -44,15 +42,8 @@ function pieceFrom(lines: (Text | null)[], begin: number) {
 /** @returns lines as one text, each with a line feed */
 function joinedLines(lines: Text[]): Text {
   if (lines.every((line) => typeof line === "string")) return `${lines.join("\n")}\n`;
-  const pieces = lines.map((line) => (typeof line === "string" ? encoded(line) : line));
-  const text = new Uint8Array(pieces.reduce((sum, { length }) => sum + length + 1, 0));
-  let at = 0;
-  for (const piece of pieces) {
-    text.set(piece, at);
-    at += piece.length + 1;
-    text[at - 1] = LINE_FEED;
-  }
-  return text;
+  const feed = Uint8Array.of(LINE_FEED);
+  return joinedBytes(lines.flatMap((line) => [typeof line === "string" ? encoded(line) : line, feed]));
 }
 
 /** What is asked of many lines by one call of the module: its name, and what it is given beside lines and answers. */
@@ -65,17 +56,15 @@ class Replies implements AllReply {
   values: Uint8Array;
   others: AllReply["others"] = [];
   isOver = false;
-  #request: AllRequest;
 
-  constructor(request: AllRequest) {
-    this.#request = request;
+  constructor(private request: AllRequest) {
     this.size = STRUCTS[request.each.call]?.bytes ?? 0;
     this.values = new Uint8Array(this.size * request.lines.length);
   }
 
   /** Takes the reply to the next line. */
   take(reply: OneReply) {
-    this.isOver = Boolean(endsAll(this.#request, reply));
+    this.isOver = Boolean(endsAll(this.request, reply));
     const isValue = this.size > 0 && "answer" in reply && !this.isOver;
     if (isValue) this.values.set((reply as Seen).answer, this.count * this.size);
     else this.others.push([this.count, reply]);

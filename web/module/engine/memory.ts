@@ -23,12 +23,10 @@ export const aligned = (place: number): number => place + ((ALIGNMENT - (place %
 export const roomFor = (line: Text): number => (typeof line === "string" ? UNIT : 1) * line.length;
 
 export class InstanceMemory {
-  #memory: WebAssembly.Memory;
   /** All of it, until it grows: one that grew is another one for JavaScript. */
   all: Uint8Array;
 
-  constructor(memory: WebAssembly.Memory) {
-    this.#memory = memory;
+  constructor(private memory: WebAssembly.Memory) {
     this.all = new Uint8Array(memory.buffer);
   }
 
@@ -36,8 +34,8 @@ export class InstanceMemory {
   reach(end: number) {
     if (end > MOST_BYTES) throw new RangeError("no memory has so many bytes");
     const missing = Math.ceil((end - this.all.length) / PAGE);
-    if (missing > 0) this.#memory.grow(missing);
-    if (this.#memory.buffer !== this.all.buffer) this.all = new Uint8Array(this.#memory.buffer);
+    if (missing > 0) this.memory.grow(missing);
+    if (this.memory.buffer !== this.all.buffer) this.all = new Uint8Array(this.memory.buffer);
   }
 
   /** @returns so many numbers of eight bytes, one after another */
@@ -70,8 +68,6 @@ export class InstanceMemory {
 
   /** @returns these bytes, of which nobody else has any */
   copy(at: number, length: number): Uint8Array {
-    const copied = new Uint8Array(length);
-    copied.set(this.bytes(at, length));
-    return copied;
+    return this.all.slice(at, at + length);
   }
 }

@@ -1,4 +1,5 @@
 // The solutions of a step over both sides of a line, by calls of the module on those of one length.
+import { joinedBytes } from "../shared/bytes.js";
 import { SIDES_ANSWER, SIDES_WANTED, WAY_PART } from "../shared/layout.js";
 import { structOf } from "../shared/structs.js";
 import { refusal } from "./line-calls.js";
@@ -15,27 +16,7 @@ const FIRST_PARTS = 4_096;
 const MORE_PARTS = 4;
 
 /** What was found of a list. */
-class PartsFound {
-  #pieces: Uint8Array[] = [];
-  count = 0;
-  nodes = 0;
-
-  add(parts: Uint8Array, nodes: number) {
-    this.#pieces.push(parts);
-    this.count += parts.length / WAY_PART.bytes;
-    this.nodes += nodes;
-  }
-
-  told(status: 0 | 5): FoundParts {
-    const parts = new Uint8Array(this.count * WAY_PART.bytes);
-    let at = 0;
-    for (const piece of this.#pieces) {
-      parts.set(piece, at);
-      at += piece.length;
-    }
-    return { status, parts, nodes: this.nodes };
-  }
-}
+type Found = { pieces: Uint8Array[]; count: number; nodes: number };
 
 /** What is asked of one length. `passed`: how many solutions are passed over; `rows`: how many have place; `nodes`: at
  * how many positions it may look; `counts`: whether those without a place are counted, as 1 or 0. */
@@ -79,18 +60,20 @@ export function countedOverSides(instance: Instance, request: CountSidesRequest)
   return { solutions: instance.answered(solutions), nodes: instance.answered(nodes), isCut };
 }
 
-/** Takes the solutions of a length.
- * @returns 5 if it was cut */
+/** Adds the solutions of a length to those of shorter ones.
+ * @returns how the search for them ended */
 function takeLength(
-  instance: Instance, request: SidesRequest, length: number, found: PartsFound,
-): NoValue | { status: 0 | 5 } {
+  instance: Instance, request: SidesRequest, length: number, found: Found,
+): { status: 0 | 5 } | NoValue {
   const before = found.count;
   for (let rows = FIRST_PARTS; found.count < request.most; rows *= MORE_PARTS) {
     const [passed, nodes] = [found.count - before, request.nodes - found.nodes];
     const place = Math.min(rows, request.most - found.count);
     const reply = partsIn(instance, request, { length, passed, rows: place, nodes });
     if (!("parts" in reply)) return reply;
-    found.add(reply.parts, reply.nodes);
+    found.pieces.push(reply.parts);
+    found.count += reply.parts.length / WAY_PART.bytes;
+    found.nodes += reply.nodes;
     if (reply.status === STATUS.cut || !reply.more) return reply;
   }
   return { status: STATUS.done };
@@ -98,15 +81,15 @@ function takeLength(
 
 /** The solutions of a step over the sides that are asked for, from the shortest on. */
 export function solvedOverSides(instance: Instance, request: SidesRequest): FoundParts | NoValue {
-  const found = new PartsFound();
+  const found: Found = { pieces: [], count: 0, nodes: 0 };
   let longest = request.limit;
-  for (let length = 0; length <= longest; length += 1) {
+  let isCut = false;
+  for (let length = 0; length <= longest && found.count < request.most && !isCut; length += 1) {
     const isFirst = found.count === 0;
     const reply = takeLength(instance, request, length, found);
     if (!hasValue(reply.status)) return reply as NoValue;
-    if (reply.status === STATUS.cut) return found.told(STATUS.cut);
-    if (found.count >= request.most) break;
+    isCut = reply.status === STATUS.cut;
     if (isFirst && found.count > 0) longest = Math.min(longest, length + request.slack);
   }
-  return found.told(STATUS.done);
+  return { status: isCut ? STATUS.cut : STATUS.done, parts: joinedBytes(found.pieces), nodes: found.nodes };
 }

@@ -42,7 +42,7 @@ function runOnce(instance: Instance, { words, input }: RunRequest, room: number,
   const given = [{ lent }, { text: words }, { text: input }, { room }, { room: ERROR_ROOM }];
   const [lending, , , out, err] = instance.ask("nissy_run", given);
   if (ROOM.read.size(memory.all, lending) !== lent) {
-    instance.break();
+    instance.isBroken = true;
     throw new Error("the module kept memory that it was lent");
   }
   return {

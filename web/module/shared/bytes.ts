@@ -12,8 +12,10 @@ const MOST_VALUES = 67_108_864;
 /** The greatest number of 64 bits. */
 export const MOST_WIDE = 0xffff_ffff_ffff_ffffn;
 
-/** A zero byte ends each word. */
-const END = 0;
+export const LINE_FEED = 10;
+
+/** What ends each word. */
+const END = Uint8Array.of(0);
 
 /** A string of so many units isn't worth an array of its own. */
 const SHORT = 4_096;
@@ -71,18 +73,23 @@ export function eachOf<Value, Made>(values: readonly Value[], make: (value: Valu
   return Array.from({ length }, (_, index) => make(values[index], index));
 }
 
-/** @returns the words as the module takes them, each with a zero byte after it */
+/** Some bytes after each other. */
+export function joinedBytes(pieces: readonly Uint8Array[]): Uint8Array {
+  const bytes = new Uint8Array(pieces.reduce((sum, { length }) => sum + length, 0));
+  let at = 0;
+  for (const piece of pieces) {
+    bytes.set(piece, at);
+    at += piece.length;
+  }
+  return bytes;
+}
+
+/** The words as the module takes them, each with a zero byte after it. */
 export function joinedWords(words: unknown): Uint8Array {
   if (!Array.isArray(words)) throw new TypeError("the words are no array");
   const listed = eachOf(words, (word, index) => bytesOf(word, `word ${index + 1}`));
-  const bytes = new Uint8Array(listed.reduce((sum, word) => sum + word.length + 1, 0));
-  let at = 0;
-  listed.forEach((word) => {
-    if (word.includes(END)) throw new RangeError("a word holds a zero byte");
-    bytes.set(word, at);
-    at += word.length + 1;
-  });
-  return bytes;
+  if (listed.some((word) => word.includes(0))) throw new RangeError("a word holds a zero byte");
+  return joinedBytes(listed.flatMap((word) => [word, END]));
 }
 
 /** @param what it is, for the error */

@@ -25,30 +25,13 @@ function placeInWords(line: number | null, column: number | null, name: string) 
 
 /** A line at fault, in the program's words, or a cube at which a step can't begin. */
 export class NissyFault extends Error {
-  text: string;
-  column: number | null;
-  character: number | null;
-  step: string | null;
-  start: string | null;
-  line: number | null;
-  part: string;
-
   /** @param text what is wrong
    * @param place null is what isn't given
    * @param part what the line is called, such as `scramble`: the message says that in place of its number */
-  constructor(
-    text: string, { column = null, character = null, step = null, start = null, line = null }: Partial<FaultPlace>,
-    part = "",
-  ) {
+  constructor(text: string, place: Partial<FaultPlace>, part = "") {
+    const { column = null, character = null, step = null, start = null, line = null } = place;
     super(placeInWords(line, column, part) + text);
-    this.name = "NissyFault";
-    this.text = text;
-    this.column = column;
-    this.character = character;
-    this.step = step;
-    this.start = start;
-    this.line = line;
-    this.part = part;
+    Object.assign(this, { name: "NissyFault", text, column, character, step, start, line, part });
   }
 
   /** The same as a plain value. */
@@ -57,6 +40,8 @@ export class NissyFault extends Error {
     return { text, part, column, character, step, start, line };
   }
 }
+
+export interface NissyFault extends FaultParts {}
 
 /** The same fault in a line of many.
  * @param line from 1
@@ -86,20 +71,13 @@ export function withoutTraces<Made>(make: () => Made): Made {
 
 /** A search that was cut, since it would have looked at more positions than it might. */
 export class SearchCut extends Error {
-  count: Count;
-  found: Solution[] | null;
-  line: number | null;
-
   /** @param count what it had counted until then
    * @param found the solutions that it had found, with which its list begins; null of a count or of the best
    * @param line of many, from 1; null if there was one */
-  constructor(count: Count, found: Solution[] | null, line: number | null = null) {
+  constructor(public count: Count, public found: Solution[] | null, public line: number | null = null) {
     const text = `the search was cut after ${count.nodes} nodes`;
     super(line === null ? text : `line ${line}: ${text}`);
     this.name = "SearchCut";
-    this.count = count;
-    this.found = found;
-    this.line = line;
   }
 }
 
@@ -120,12 +98,9 @@ export class NoWebAssembly extends Error {
 
 /** The engine broke off or couldn't be started, and can't be started again. */
 export class EngineMissing extends Error {
-  cause: unknown;
-
-  constructor(message: string, cause?: unknown) {
+  constructor(message: string, public override cause?: unknown) {
     super(message);
     this.name = "EngineMissing";
-    this.cause = cause;
   }
 }
 

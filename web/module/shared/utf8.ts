@@ -10,3 +10,5 @@ export const encodedInto: (
 ) => { read?: number; written?: number } = encoder.encodeInto.bind(encoder);
 
 export const textIn: (bytes: Uint8Array) => string = decoder.decode.bind(decoder);
+
+export const asString = (text: string | Uint8Array) => (typeof text === "string" ? text : textIn(text));

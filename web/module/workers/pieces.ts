@@ -22,9 +22,6 @@ const PIECES = 2;
 
 /** The pieces of a request. */
 export class Pieces {
-  #request: AllRequest;
-  #one: ReadOne;
-  #workers: number;
   /** Where each piece begins. */ #begins: number[] = [];
   /** What is told of each line. */ #told: unknown[];
   /** Whether each piece is told. */ #isTold: boolean[] = [];
@@ -39,34 +36,31 @@ export class Pieces {
 
   /** @param workers how many share the pieces
    * @param one reads a reply */
-  constructor(request: AllRequest, workers: number, one: ReadOne) {
-    this.#request = request;
-    this.#workers = workers;
-    this.#one = one;
+  constructor(private request: AllRequest, private workers: number, private one: ReadOne) {
     this.#told = new Array(request.lines.length);
   }
 
-  /** How many pieces a worker has: a second one, if they are quick, to go on with while this thread reads the first
-   * one's answer. Behind a slow one it would wait though another worker may be idle. */
-  get ofEach() {
-    return this.#isQuick ? 2 : 1;
+  /** How many pieces the workers have: each a second one, if they are quick, to go on with while this thread reads the
+   * first one's answer. After a slow one it would wait though another worker may be idle. */
+  get atOnce() {
+    return (this.#isQuick ? 2 : 1) * this.workers;
   }
 
   /** @returns the place of a piece that nobody has, or null if there is none */
   next(): number | null {
-    const left = this.#request.lines.length - this.#begun;
+    const left = this.request.lines.length - this.#begun;
     const at = this.#begins.length;
     // a step that isn't there is told though there may be no line
     if (at >= this.#wanted || (left === 0 && at > 0)) return null;
     this.#begins.push(this.#begun);
-    const shared = Math.max(this.#least, Math.ceil(left / (PIECES * this.#workers)));
+    const shared = Math.max(this.#least, Math.ceil(left / (PIECES * this.workers)));
     this.#begun += Math.min(left, shared, this.#size);
     return at;
   }
 
   requestOf(at: number): AllRequest {
-    const lines = this.#request.lines.slice(this.#begins[at], this.#endOf(at));
-    return { ...this.#request, lines, isPiece: true };
+    const lines = this.request.lines.slice(this.#begins[at], this.#endOf(at));
+    return { ...this.request, lines, isPiece: true };
   }
 
   #endOf(at: number) {
@@ -76,7 +70,7 @@ export class Pieces {
   /** Learns from a worker's reply to a piece how many lines the next ones have, and whether any are wanted. Several
    * that were as long make the next ones shorter once. */
   hear(at: number, { others, milliseconds }: PieceReply) {
-    if (others.some(([, reply]) => endsAll(this.#request, reply))) this.#wanted = Math.min(this.#wanted, at + 1);
+    if (others.some(([, reply]) => endsAll(this.request, reply))) this.#wanted = Math.min(this.#wanted, at + 1);
     const lines = this.#endOf(at) - this.#begins[at];
     this.#isQuick = milliseconds <= LONG;
     if (milliseconds > LONG) this.#size = Math.min(this.#size, Math.max(1, Math.floor(lines / 2)));
@@ -89,8 +83,8 @@ export class Pieces {
   /** Takes what a worker's reply to a piece tells. */
   take(at: number, reply: PieceReply) {
     const begin = this.#begins[at];
-    const { each } = this.#request;
-    putTold(this.#told, begin, reply, (seen) => this.#one(seen, each), (other, index) => this.#read(other, index));
+    const { each } = this.request;
+    putTold(this.#told, begin, reply, (seen) => this.one(seen, each), (other, index) => this.#read(other, index));
     this.#done += this.#endOf(at) - begin;
     this.#isTold[at] = true;
     while (this.#isTold[this.#known]) this.#known += 1;
@@ -99,7 +93,7 @@ export class Pieces {
   /** @param index of its line */
   #read(reply: OneReply, index: number) {
     try {
-      return toldOf(reply, index, this.#request, this.#one);
+      return toldOf(reply, index, this.request, this.one);
     } catch (error) {
       if (this.#failed === null || index < this.#failed.index) this.#failed = { index, error };
       return undefined;
@@ -113,7 +107,7 @@ export class Pieces {
 
   /** Whether each line is in a piece. */
   #isBegun() {
-    return this.#begun === this.#request.lines.length && this.#begins.length > 0;
+    return this.#begun === this.request.lines.length && this.#begins.length > 0;
   }
 
   /** @returns what is told of each line, unless that is thrown */
@@ -124,6 +118,6 @@ export class Pieces {
 
   /** @returns how many lines have their reply */
   progress(): Progress {
-    return { done: this.#done, all: this.#request.lines.length };
+    return { done: this.#done, all: this.request.lines.length };
   }
 }

@@ -1,25 +1,19 @@
 // Several workers that share many lines: these go to them in pieces, and the answers come back in the order of the
-// lines. Another call goes to the worker that has least to do, or to the first one that has nothing to do.
-import { LaterCalls } from "../calls/later-calls.js";
+// lines; the axes of the best are shared too. Another call goes to the first worker that has nothing to do.
 import { bestIn, type Best, type BestReply } from "../calls/replies.js";
-import { Signals, Telling, reasonOf, signalOf, type Progress } from "../calls/signals.js";
 import { compiled, type ModuleSource } from "../engine/source.js";
 import { STATUS } from "../engine/status.js";
 import { wholeNumber } from "../shared/bytes.js";
-import { Stopped } from "../shared/faults.js";
 import { byRank } from "../shared/ways.js";
+import { LaterCalls, unshared, type Ask } from "./later-calls.js";
 import { Pieces } from "./pieces.js";
 import { WorkerQueue, type NewWorker, type SentModule } from "./worker-queue.js";
-import type { AllRequest, ReadOne } from "../calls/many.js";
-import { stepsRequest, type BestRequest, type Request } from "../calls/requests.js";
+import type { BestRequest } from "../calls/requests.js";
+import type { Follow, Progress } from "../calls/signals.js";
 import type { PieceReply } from "./serve.js";
-import type { Row } from "../calls/call-table.js";
 
 /** The most workers of a pool. */
 const MOST_WORKERS = 1_024;
-
-/** A call, what gives up its requests, and why it did. */
-export type Going = { stop: AbortController; reason: unknown };
 
 /** How far all of some requests are. */
 const sumOf = (each: Progress[]): Progress => ({
@@ -45,49 +39,59 @@ function joinedBest(replies: BestReply[], request: BestRequest): Best {
   return best;
 }
 
-/** Asks a worker of the next pieces that none has, until there are none.
- * @param ways `whole` is called once all is told that is wanted: what is behind a fault isn't waited for */
-function workOn(
-  queue: WorkerQueue, pieces: Pieces,
-  { signal, tell, whole, failed }: {
-    signal: AbortSignal;
-    tell: Telling["tell"];
-    whole: () => void;
-    failed: (reason: unknown) => void;
-  },
-) {
+async function repliesOfAxes(workers: number, whole: BestRequest, ask: Ask, tell: Follow): Promise<BestReply[]> {
+  const requests = sharesOf(workers, whole).map((axes) => ({ ...whole, axes }));
+  const progress: Progress[] = requests.map(() => ({ done: 0, all: null }));
+  return Promise.all(requests.map((request, at) => ask(request, (told) => {
+    progress[at] = told;
+    return tell(sumOf(progress));
+  })));
+}
+
+/** Asks for pieces of many lines, until all is told that is wanted: what is behind a fault isn't waited for. */
+const askAll = (pieces: Pieces, ask: Ask, tell: Follow) => new Promise<void>((whole, failed) => {
   let asked = 0;
-  const next = () => (asked < pieces.ofEach ? pieces.next() : null);
-  const ask = () => {
+  const next = () => (asked < pieces.atOnce ? pieces.next() : null);
+  const askMore = () => {
     for (let at = next(); at !== null; at = next()) {
       asked += 1;
-      queue.answer(pieces.requestOf(at), { signal }).then(took(at)).catch(failed);
+      ask(pieces.requestOf(at)).then(took(at)).catch(failed);
     }
   };
+  const follow = async () => tell(pieces.progress());
   const took = (at: number) => (reply: PieceReply) => {
     asked -= 1;
     pieces.hear(at, reply);
     // the worker goes on while the reply is read
-    ask();
+    askMore();
     pieces.take(at, reply);
-    tell(pieces.progress())?.catch(failed);
+    follow().catch(failed);
     if (pieces.areWhole()) whole();
   };
-  ask();
-}
+  askMore();
+  // how many lines there are is told once the caller has its promise, before any reply
+  Promise.resolve().then(follow).catch(failed);
+});
 
 /** Engines in several workers. What `Nissy` throws, the promises of their calls are rejected with; so is each whose
  * worker ends. */
 export class WorkerPool extends LaterCalls<"pool"> {
-  #queues: WorkerQueue[];
-  #going = new Set<Going>();
-  #signals: Signals<Going> = new Signals((going, signal) => this.#giveUp(going, reasonOf(signal)));
+  /** How many workers there are. */
+  readonly size: number;
 
   /** Engines whose workers are started by the first calls. */
   constructor(workers: number, module: SentModule, newWorker: NewWorker) {
-    super((request, options) => this.#ask(request, options), (...asked) => this.#tell(...asked), true);
-    const idle = (queue: WorkerQueue) => this.#takeOver(queue);
-    this.#queues = Array.from({ length: workers }, () => new WorkerQueue(module, newWorker, idle));
+    super(new WorkerQueue(module, newWorker, workers), async (row, request, ask, tell) => {
+      if (request.call === "all" && row.one) {
+        const pieces = new Pieces(request, workers, row.one);
+        await askAll(pieces, ask, tell);
+        return () => pieces.told();
+      }
+      if (request.call !== "best") return unshared(row, request, ask, tell);
+      const replies = await repliesOfAxes(workers, request, ask, tell);
+      return () => joinedBest(replies, request);
+    });
+    this.size = workers;
   }
 
   /** Starts engines. Rejects with `NoWebAssembly` if the host runs none, and with `EngineMissing` if the workers can't
@@ -97,102 +101,6 @@ export class WorkerPool extends LaterCalls<"pool"> {
   ): Promise<WorkerPool> {
     const count = wholeNumber(workers, "the number of workers", MOST_WORKERS);
     if (count === 0) throw new RangeError("a pool has one worker at least");
-    const pool = new this(count, await compiled(source), newWorker);
-    // one that isn't answered means that no worker can be started
-    await pool.#ask(stepsRequest(), {});
-    return pool;
-  }
-
-  /** How many workers there are. */
-  get size() {
-    return this.#queues.length;
-  }
-
-  /** A worker without requests has one that waits for another, which may take long. */
-  #takeOver(idle: WorkerQueue) {
-    this.#queues.some((queue) => queue !== idle && idle.takeOver(queue));
-  }
-
-  /** The worker that has the fewest requests, the first of them. */
-  #idlest() {
-    return this.#queues.reduce((least, queue) => (queue.length < least.length ? queue : least));
-  }
-
-  /** What a call tells: of many lines, of the best, shared by all, or by the worker that has least to do. */
-  async #tell({ read, one, isFollowed }: Row, request: Request, options: unknown): Promise<unknown> {
-    if (request.call === "all" && one) return this.#tellAll(request, options, one);
-    if (request.call === "best" && isFollowed) return this.#tellBest(request, options);
-    return read(await this.#ask(request, options), request);
-  }
-
-  #ask(request: Request, options: unknown) {
-    return this.#together(options, (signal) => this.#idlest().answer(request, { signal }));
-  }
-
-  async #tellBest(whole: BestRequest, options: unknown): Promise<Best> {
-    const requests = sharesOf(this.size, whole).map((axes) => ({ ...whole, axes }));
-    const telling = new Telling(options);
-    const progress: Progress[] = requests.map(() => ({ done: 0, all: null }));
-    const follow = (at: number) => (told: Progress) => {
-      progress[at] = told;
-      return telling.tell(sumOf(progress));
-    };
-    const replies = await this.#together(options, (signal) =>
-      Promise.all(requests.map((request, at) => this.#queues[at % this.size].answer(request, { signal }, follow(at)))));
-    await telling.heard();
-    return joinedBest(replies, whole);
-  }
-
-  /** Gives up all calls. */
-  stop() {
-    this.#giveUp(new Set(this.#going), new Stopped());
-  }
-
-  /** Gives up all calls, and ends the workers. A later call starts others. */
-  end() {
-    this.stop();
-    for (const queue of this.#queues) queue.end();
-  }
-
-  /** Asks the workers of many lines, each of the next piece that none has.
-   * @returns what is told in the order of the lines */
-  async #tellAll(request: AllRequest, options: unknown, one: ReadOne): Promise<unknown[]> {
-    const telling = new Telling(options);
-    const pieces = new Pieces(request, this.size, one);
-    await this.#together(options, (signal) => new Promise((resolve, failed) => {
-      const ways = { signal, tell: telling.tell, whole: () => resolve(undefined), failed };
-      for (const queue of this.#queues) workOn(queue, pieces, ways);
-      // how many lines there are is told once the caller has its promise, before any reply
-      Promise.resolve(pieces.progress()).then((none) =>
-        (signal.aborted ? undefined : telling.tell(none))).catch(failed);
-    }));
-    await telling.heard();
-    return pieces.told();
-  }
-
-  /** Makes the requests of a call, which are given up together, if one of them fails too. */
-  async #together<Value>(options: unknown, ask: (signal: AbortSignal) => Promise<Value>): Promise<Value> {
-    const signal = signalOf(options);
-    if (signal?.aborted) throw reasonOf(signal);
-    const going: Going = { stop: new AbortController(), reason: undefined };
-    if (signal) this.#signals.add(signal, going);
-    this.#going.add(going);
-    try {
-      return await ask(going.stop.signal);
-    } catch (error) {
-      // hosts of some years ago keep no reason
-      throw going.reason ?? error;
-    } finally {
-      this.#going.delete(going);
-      if (signal) this.#signals.remove(signal, going);
-      going.stop.abort();
-    }
-  }
-
-  #giveUp(calls: Set<Going>, reason: unknown) {
-    for (const going of calls) {
-      going.reason = reason;
-      going.stop.abort(reason);
-    }
+    return this.begun(new this(count, await compiled(source), newWorker));
   }
 }

@@ -1,8 +1,7 @@
 // The engine's side of a worker: the first message brings the module, and each later one is answered.
-import { Engine } from "../engine/engine.js";
+import { Engine, type Reply } from "../engine/engine.js";
 import type { AllReply } from "../calls/many.js";
 import type { Progress } from "../calls/signals.js";
-import type { Reply } from "../engine/engine.js";
 import type { Request } from "../calls/requests.js";
 
 /** The first message. */

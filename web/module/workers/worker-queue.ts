@@ -1,7 +1,8 @@
-// The queue of a worker: what is asked of it, one after another. What runs is stopped by ending the worker, and the
-// next request starts another. Pieces of one call, which are given up together, are sent two at a time.
+// What is asked of one worker or several: it waits in one queue, from which each worker that is idle has the next
+// request. What runs is stopped by ending its worker, and the next request starts another. Pieces of one call are sent
+// two at a time.
 import { EngineMissing, Stopped } from "../shared/faults.js";
-import { Signals, reasonOf, signalOf, type Progress, type Stoppable } from "../calls/signals.js";
+import type { Follow, Progress } from "../calls/signals.js";
 import type { Answered, Progressed, Unanswered } from "./serve.js";
 import type { Request } from "../calls/requests.js";
 
@@ -16,28 +17,27 @@ export type NewWorker = (
   took: (data: Answered | Unanswered | Progressed) => void, failed: (message: string) => void,
 ) => Sent;
 
-/** Is told how far a call is, and gives it up by what it throws, or by a promise that rejects. */
-export type Follow = (progress: Progress) => unknown;
+/** A call, whose requests are given up together; none is sent once it is over. */
+export type Call = { isOver?: boolean };
 
-/** `queue`: which has it now. */
-export type Call = {
+type Asked = {
   id: number;
   request: Request;
-  signal: AbortSignal | undefined;
-  followed: Follow;
+  call: Call;
+  follow: Follow;
   answered: (reply: any) => void;
   refused: (reason: unknown) => void;
-  queue: WorkerQueue;
 };
+
+/** A worker, if it is started, and what it has, the one that runs first. */
+type Seat = { worker: Sent | null; sent: Asked[] };
 
 /** How many pieces of a call a worker has: it needs not wait for the second one when it ends the first. */
 const MOST_SENT = 2;
 
-const isPiece = (request: Request) => request.call === "all" && request.isPiece === true;
-
 /** Whether a request is sent while another one runs: both are pieces of a call. */
-const followsAtOnce = ({ signal }: Call, next: Call) =>
-  isPiece(next.request) && next.signal !== undefined && next.signal === signal;
+const followsAtOnce = ({ call }: Asked, next: Asked) =>
+  next.request.call === "all" && next.request.isPiece === true && next.call === call;
 
 /** @param error of the worker */
 const errorOf = ({ name, message }: { name: string; message: string }): Error =>
@@ -59,161 +59,127 @@ export function listenedTo(made: () => Worker, place?: () => string): NewWorker 
   };
 }
 
-/** What is asked of a worker, and given up. */
 export class WorkerQueue {
-  #module: SentModule;
-  #newWorker: NewWorker;
-  #worker: Sent | null = null;
-  /** What the worker has, the one that runs first. */ #sent: Call[] = [];
-  #waiting: Call[] = [];
-  #signals: Signals<Call> = new Signals((calls, signal) => this.#giveUp(calls, reasonOf(signal)));
+  #seats: Seat[];
+  #waiting: Asked[] = [];
   #next = 0;
-  #idle: (queue: WorkerQueue) => void;
 
-  /** A worker that is started by the first request.
-   * @param idle is told when all requests are answered */
-  constructor(module: SentModule, newWorker: NewWorker, idle: (queue: WorkerQueue) => void = () => {}) {
-    this.#module = module;
-    this.#newWorker = newWorker;
-    this.#idle = idle;
+  /** @param workers how many, each of which is started by the first request that it has */
+  constructor(private module: SentModule, private newWorker: NewWorker, workers = 1) {
+    this.#seats = Array.from({ length: workers }, () => ({ worker: null, sent: [] }));
   }
 
-  /** How many requests have no answer yet. */
-  get length() {
-    return this.#sent.length + this.#waiting.length;
+  /** What the engine returns. */
+  async answer(request: Request, call: Call = {}, follow: Follow = () => {}): Promise<any> {
+    if (call.isOver) throw new Stopped();
+    return new Promise((answered, refused) => {
+      this.#waiting.push({ id: this.#next++, request, call, follow, answered, refused });
+      this.#sendNext();
+    });
   }
 
-  /** Gives up the requests that wait for their turn; one that runs goes on. */
+  /** Gives up the requests of a call. */
+  giveUp(call: Call, reason: unknown) {
+    call.isOver = true;
+    this.#giveUp((asked) => asked.call === call, reason);
+  }
+
+  /** Gives up the requests that wait for their turn; what runs goes on. */
   drop() {
-    const dropped = this.#waiting;
-    this.#waiting = [];
-    for (const call of dropped) call.refused(new Stopped());
+    for (const { refused } of this.#waiting.splice(0)) refused(new Stopped());
   }
 
   /** Gives up all requests. */
   stop() {
-    this.drop();
-    this.#giveUp(new Set(this.#sent), new Stopped());
+    this.#giveUp(() => true, new Stopped());
   }
 
-  /** Gives up all requests, and ends the worker. A later request starts another one. */
+  /** Gives up all requests, and ends the workers. A later request starts others. */
   end() {
-    this.#end(new Stopped());
+    for (const seat of this.#seats) this.#waiting.push(...this.#ended(seat));
+    this.drop();
   }
 
-  /** What the engine returns. */
-  answer(request: Request, options?: Stoppable, followed: Follow = () => {}): Promise<any> {
-    const signal = signalOf(options);
-    return new Promise((resolve, reject) => {
-      if (signal?.aborted) {
-        reject(reasonOf(signal));
-        return;
-      }
-      const settled: <Value>(settle: (value: Value) => void) => (value: Value) => void = (settle) => (value) => {
-        settle(value);
-        if (signal) call.queue.#signals.remove(signal, call);
-      };
-      const call: Call = {
-        id: 0, request, signal, followed, answered: settled(resolve), refused: settled(reject), queue: this,
-      };
-      this.#take(call);
-    });
+  #giveUp(isGivenUp: (asked: Asked) => boolean, reason: unknown) {
+    const all = this.#seats.map((seat) => (seat.sent.some(isGivenUp) ? this.#ended(seat) : [])).flat();
+    const given = [...all, ...this.#waiting].filter(isGivenUp);
+    this.#waiting = [...all, ...this.#waiting].filter((asked) => !isGivenUp(asked));
+    for (const { refused } of given) refused(reason);
+    // in a moment: what gives this up may give up others too
+    queueMicrotask(() => this.#sendNext());
   }
 
-  /** Has the first request that waits for another worker, if there is one that isn't a piece.
-   * @returns whether there was */
-  takeOver(other: WorkerQueue): boolean {
-    const at = other.#waiting.findIndex(({ request }) => !isPiece(request));
-    if (at < 0) return false;
-    const [call] = other.#waiting.splice(at, 1);
-    if (call.signal) other.#signals.remove(call.signal, call);
-    this.#take(call);
-    return true;
-  }
-
-  /** @param call which nobody has */
-  #take(call: Call) {
-    call.id = this.#next++;
-    call.queue = this;
-    if (call.signal) this.#signals.add(call.signal, call);
-    this.#waiting.push(call);
-    this.#sendNext();
-  }
-
-  /** Whether the worker may have the next request. */
-  #isReady() {
-    if (this.#waiting.length === 0) return false;
-    const sent = this.#sent.length;
-    return sent === 0 || (sent < MOST_SENT && followsAtOnce(this.#sent[0], this.#waiting[0]));
+  /** Ends a worker.
+   * @returns what it had */
+  #ended(seat: Seat): Asked[] {
+    seat.worker?.terminate();
+    seat.worker = null;
+    return seat.sent.splice(0);
   }
 
   #sendNext() {
-    while (this.#isReady()) this.#send(this.#waiting.shift() as Call);
-    if (this.length === 0) this.#idle(this);
+    for (let seat = this.#ready(); seat !== undefined; seat = this.#ready()) {
+      this.#send(seat, this.#waiting.shift() as Asked);
+    }
   }
 
-  #send(call: Call) {
-    this.#sent.push(call);
+  /** @returns the first worker that may have the next request */
+  #ready(): Seat | undefined {
+    const [next] = this.#waiting;
+    if (next === undefined) return undefined;
+    return this.#seats.find(({ sent }) => sent.length === 0)
+      ?? this.#seats.find(({ sent }) => sent.length < MOST_SENT && followsAtOnce(sent[0], next));
+  }
+
+  #send(seat: Seat, asked: Asked) {
+    seat.sent.push(asked);
     try {
-      this.#worker ??= this.#started();
-      this.#worker.postMessage({ id: call.id, request: call.request });
+      seat.worker ??= this.#started(seat);
+      seat.worker.postMessage({ id: asked.id, request: asked.request });
     } catch (error) {
-      this.#end(new EngineMissing((error as Error).message, error));
+      this.#fail(seat, new EngineMissing((error as Error).message, error));
     }
   }
 
   /** @returns a worker that has the module */
-  #started(): Sent {
-    const isThisOne = () => worker === this.#worker;
-    const took = (data: Answered | Unanswered | Progressed) => isThisOne() && this.#hear(data);
+  #started(seat: Seat): Sent {
+    const isThisOne = () => worker === seat.worker;
     // one that was ended while it loaded says nothing of the next one
-    const worker = this.#newWorker(took, (message) => isThisOne() && this.#end(new EngineMissing(message)));
-    worker.postMessage({ module: this.#module });
+    const worker = this.newWorker(
+      (data) => isThisOne() && this.#hear(seat, data),
+      (message) => isThisOne() && this.#fail(seat, new EngineMissing(message)),
+    );
+    worker.postMessage({ module: this.module });
     return worker;
   }
 
-  #hear(data: Answered | Unanswered | Progressed) {
-    const call = this.#sent[0];
-    if (call?.id !== data.id) return;
+  /** Ends a worker that failed, and refuses what it had, and what waits if there is no other worker. */
+  #fail(seat: Seat, reason: Error) {
+    const failed = this.#ended(seat);
+    if (this.#seats.every(({ worker }) => worker === null)) failed.push(...this.#waiting.splice(0));
+    for (const { refused } of failed) refused(reason);
+  }
+
+  #hear(seat: Seat, data: Answered | Unanswered | Progressed) {
+    const [asked] = seat.sent;
+    if (asked?.id !== data.id) return;
     if (Object.hasOwn(data, "progress")) {
-      this.#follow(call, (data as Progressed).progress);
+      this.#follow(asked, (data as Progressed).progress);
       return;
     }
-    this.#sent.shift();
-    if (Object.hasOwn(data, "error")) call.refused(errorOf((data as Unanswered).error));
-    else call.answered((data as Answered).reply);
+    seat.sent.shift();
+    if (Object.hasOwn(data, "error")) asked.refused(errorOf((data as Unanswered).error));
+    else asked.answered((data as Answered).reply);
     this.#sendNext();
   }
 
-  #follow(call: Call, progress: Progress) {
-    const failed = (reason: unknown) => this.#giveUp(new Set([call]), reason);
+  #follow(asked: Asked, progress: Progress) {
+    const failed = (reason: unknown) => this.#giveUp((other) => other === asked, reason);
     try {
-      const told = call.followed(progress);
+      const told = asked.follow(progress);
       if (told instanceof Promise) told.catch(failed);
     } catch (error) {
       failed(error);
     }
-  }
-
-  #giveUp(calls: Set<Call>, reason: unknown) {
-    if (this.#sent.some((call) => calls.has(call))) {
-      this.#worker?.terminate();
-      this.#worker = null;
-      this.#waiting = [...this.#sent, ...this.#waiting];
-      this.#sent = [];
-    }
-    this.#waiting = this.#waiting.filter((call) => !calls.has(call));
-    for (const call of calls) call.refused(reason);
-    this.#sendNext();
-  }
-
-  /** Ends the worker, and refuses all calls. */
-  #end(reason: Error) {
-    const given = [...this.#sent, ...this.#waiting];
-    this.#worker?.terminate();
-    this.#worker = null;
-    this.#sent = [];
-    this.#waiting = [];
-    for (const call of given) call.refused(reason);
   }
 }
