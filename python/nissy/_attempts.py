@@ -1,14 +1,13 @@
 """Reads what solvers write down of their attempts, by the library: scrambles, each with the steps of a solution and
 candidates beside it. Nothing of it is called at fault here: what is no line of moves is at fault where it is used."""
 import ctypes
-from bisect import bisect_left
-from itertools import groupby
-from typing import Any, Dict, Iterator, List, NamedTuple, Optional, Sequence, Tuple
+from itertools import accumulate, groupby
+from typing import Any, Callable, Dict, Iterator, List, NamedTuple, Optional, Sequence, Tuple
 
 from . import _library
 from ._given import Text, bytes_of
-from ._library import TEXT_LINE
-from ._written import AROUND, PlainLine, TextPlace, Written, WrittenLine, left_around, written_by
+from ._library import MOVES_PART, TEXT_LINE
+from ._written import Cuts, PlainLine, TextPlace, Written, WrittenLine, written_by
 
 _BEFORE, SCRAMBLE, STEP, _NOTE = range(1, 5)
 # whose moves the library writes
@@ -16,8 +15,6 @@ _OF_SCRAMBLE, _OF_STEPS, _OF_SOLUTION, _OF_EACH_STEP = range(4)
 # the white space of the web's scripts
 _WHITE = ("\n\t\v\f\r \u00a0\u1680\u2000\u2001\u2002\u2003\u2004\u2005\u2006\u2007\u2008\u2009\u200a\u2028\u2029\u202f"
           "\u205f\u3000\ufeff")
-# which byte of a line says whether it has a head
-_HEADED = 2
 # what makes one doubt a line, by the library's numbers
 _DOUBTS = ("", "another scramble", "several solutions", "side", "letters", "small letters", "comment", "repetition",
            "insertion")
@@ -88,6 +85,37 @@ class TextLine(NamedTuple):
     doubt_at: int
 
 
+class Moves(NamedTuple):
+    """The moves of those lines of a text that are wanted, written one after another."""
+
+    written: WrittenLine
+    cuts: Cuts
+    parts: List[Tuple[int, int, int]]
+    """Where those of each of these lines stand, and the library's number for what it leaves out."""
+    nth: List[int]
+    """How many lines before each line of the text are wanted."""
+
+    def range_of(self, lines: Sequence[TextLine]) -> Tuple[int, int]:
+        """Returns which parts those of some lines are, which stand one after another in the text."""
+        return self.nth[lines[0].at], self.nth[lines[-1].at + 1]
+
+    def of(self, lines: Sequence[TextLine]) -> PlainLine:
+        """Returns the moves of some lines, which stand one after another in the text, as one line."""
+        first, last = self.range_of(lines) if lines else (0, 0)
+        if first == last:
+            return _NOTHING
+        left_out = 0
+        for part in self.parts[first:last]:
+            left_out |= part[2]
+        return self.cuts.cut(self.parts[first][0], self.parts[last - 1][1], left_out)
+
+
+# which lines have moves of each kind
+_WANTED: Dict[int, Callable[[TextLine], bool]] = {
+    _OF_SCRAMBLE: lambda line: line.kind == SCRAMBLE, _OF_STEPS: lambda line: line.kind == STEP,
+    _OF_SOLUTION: lambda line: line.kind == STEP and line.is_solution, _OF_EACH_STEP: lambda line: line.kind == STEP}
+
+
 class Reader:
     """A text that is read by lines, or a part of one: some bytes, with this many of the whole text before them."""
 
@@ -98,61 +126,44 @@ class Reader:
         self._room = bytearray(TEXT_LINE.size * most)
         self._address = ctypes.addressof(ctypes.c_char.from_buffer(self._room))
         self._count = _library.nissy_text_lines(data, len(data), self._address, most).lines
-        # the moves of all lines, by whose they are
-        self._all: Dict[int, WrittenLine] = {}
+        told = TEXT_LINE.iter_unpack(memoryview(self._room)[:TEXT_LINE.size * self._count])
+        self._lines = [TextLine._make((at, *line)) for at, line in enumerate(told)]
+        # by whose they are
+        self._moves: Dict[int, Moves] = {}
         self._steps: Dict[int, PlainLine] = {}
 
     def lines(self) -> List[TextLine]:
         """Returns the lines that aren't blank, or have only a head."""
-        told = TEXT_LINE.iter_unpack(memoryview(self._room)[:TEXT_LINE.size * self._count])
-        return [TextLine._make((at, *line)) for at, line in enumerate(told) if line[0] or line[_HEADED]]
+        return [line for line in self._lines if line.kind or line.is_headed]
 
-    def moves(self, lines: Sequence[TextLine], which: int) -> PlainLine:
-        """Returns the moves of those of some lines that are wanted, one after another."""
-        return self.whole.plain(self._written(lines, which), self._before) if lines else _NOTHING
-
-    def _written(self, lines: Sequence[TextLine], which: int) -> WrittenLine:
-        """Returns the same in bytes, with places in the bytes that are read."""
-        count = lines[-1].at + 1 - lines[0].at
-        return self._written_of(lines[0].at, count, lines[-1].end - lines[0].begin, which)
-
-    def _written_of(self, first: int, count: int, size: int, which: int) -> WrittenLine:
-        """Returns the same of this many lines, which have this many bytes."""
-        place = self._address + TEXT_LINE.size * first
-        return written_by(3 * (size + count), lambda *room: _library.nissy_text_moves(
-            self._data, len(self._data), place, count, which, *room))
-
-    def _of_line(self, line: TextLine, which: int) -> PlainLine:
-        """Returns the moves of one line, cut out of those of all, if these tell what it leaves out: if it is written as
-        it stands, or if none of them leaves out anything among its moves."""
-        if which not in self._all:
-            self._all[which] = self._written_of(0, self._count, len(self._data), which)
-        written, places, left_out = self._all[which]
-        begin, end = bisect_left(places, line.moves), bisect_left(places, line.comment)
-        own, around = written[begin:end], left_around(line.label_begin < line.label_end, line.comment < line.end)
-        if line.is_inverse or self._data[line.head_end:line.label_begin].strip():
-            return self.moves([line], which)
-        if own == self._data[line.moves:line.comment]:
-            return self.whole.cut(own, self._before + line.moves, around)
-        if left_out & ~AROUND:
-            return self.moves([line], which)
-        return self.whole.plain(WrittenLine(own, places[begin:end], around), self._before)
-
-    def _in_one(self, wanted: Sequence[TextLine], lines: Sequence[TextLine], which: int) -> PlainLine:
-        """Returns the moves of those of some lines that are wanted, which are these."""
-        return self._of_line(wanted[0], which) if len(wanted) == 1 else self.moves(lines, which)
+    def moves(self, which: int) -> Moves:
+        """Returns the moves of all lines that are wanted."""
+        if which not in self._moves:
+            nth = [0, *accumulate(map(_WANTED[which], self._lines))]
+            room = bytearray(MOVES_PART.size * nth[-1] + 1)
+            parts = (ctypes.addressof(ctypes.c_char.from_buffer(room)), nth[-1])
+            written = written_by(3 * (len(self._data) + self._count), lambda *rooms: _library.nissy_text_moves(
+                self._data, len(self._data), self._address, self._count, which, *rooms, *parts))
+            if self._before:
+                written = written._replace(places=tuple(map(self._before.__add__, written.places)))
+            told = list(MOVES_PART.iter_unpack(memoryview(room)[:-1]))
+            self._moves[which] = Moves(written, Cuts(self.whole, written), told, nth)
+        return self._moves[which]
 
     def solving_part(self, scramble: str, lines: Sequence[TextLine]) -> Optional[TextPlace]:
         """Returns where a part of the steps of an attempt begins that solves a scramble, or None."""
-        if not lines:
+        moves = self.moves(_OF_EACH_STEP)
+        first, last = moves.range_of(lines) if lines else (0, 0)
+        if first == last:
             return None
-        data, steps = bytes_of(scramble, ""), self._written(lines, _OF_EACH_STEP)
-        part = _library.nissy_solving_part(data, len(data), steps.line, len(steps.line))
-        return self.place(steps.places[part.begin]) if part.how else None
+        data, begin = bytes_of(scramble, ""), moves.parts[first][0]
+        steps = moves.written.line[begin:moves.parts[last - 1][1]]
+        part = _library.nissy_solving_part(data, len(data), steps, len(steps))
+        return self.whole.place(self.whole.at(moves.written.places[begin + part.begin])) if part.how else None
 
     def step(self, line: TextLine) -> PlainLine:
         if line.at not in self._steps:
-            self._steps[line.at] = self._of_line(line, _OF_STEPS)
+            self._steps[line.at] = self.moves(_OF_STEPS).of([line])
         return self._steps[line.at]
 
     def place(self, byte: int) -> TextPlace:
@@ -177,15 +188,15 @@ class Reader:
     def _label(self, line: TextLine) -> str:
         return self._part(line.label_begin, line.label_end)
 
-    def _joined(self, steps: Sequence[TextLine], lines: Sequence[TextLine], which: int) -> PlainLine:
-        """Returns some steps as one line, which are those that are wanted of some lines."""
-        return self.step(steps[0]) if len(steps) == 1 else self.moves(lines, which)
+    def _in_one(self, steps: Sequence[TextLine], which: int) -> PlainLine:
+        """Returns some steps as one line, which are those that are wanted."""
+        return self.step(steps[0]) if len(steps) == 1 else self.moves(which).of(steps)
 
     def _candidate(self, lines: List[TextLine]) -> AttemptCandidate:
         steps = [line for line in lines if line.kind == STEP]
         note = " ".join(self._note(line) for line in lines if line.kind == _NOTE)
         told = next((self._label(line) for line in lines if line.says_solution), "")
-        return AttemptCandidate(tuple(map(self.step, steps)), self._joined(steps, lines, _OF_STEPS), note or told)
+        return AttemptCandidate(tuple(map(self.step, steps)), self._in_one(steps, _OF_STEPS), note or told)
 
     def _candidates(self, lines: Sequence[TextLine]) -> Iterator[AttemptCandidate]:
         """Returns the groups of an attempt that have steps, but the first one."""
@@ -200,8 +211,8 @@ class Reader:
         steps = [line for line in all_steps if line.group == 0] or told
         doubted = next((line for line in lines if line.doubt), None)
         return Attempt(
-            self.name(lines), self._in_one([line for line in lines if line.kind == SCRAMBLE], lines, _OF_SCRAMBLE),
-            tuple(map(self.step, steps)), self._joined(told, lines, _OF_SOLUTION) if told else None,
+            self.name(lines), self.moves(_OF_SCRAMBLE).of(lines), tuple(map(self.step, steps)),
+            self._in_one(told, _OF_SOLUTION) if told else None,
             tuple(self._candidates(lines)) if lines and lines[-1].group > 0 else (),
             sum(line.kind == _BEFORE for line in lines),
             doubted and AttemptDoubt(_DOUBTS[doubted.doubt], self.place(doubted.doubt_at)))

@@ -2,8 +2,8 @@
 from typing import Any, Dict, Iterable, List, NamedTuple, Optional, Tuple
 
 from ._attempts import Attempt, AttemptDoubt, Found, attempts_of
-from ._facts import Check, check
-from ._given import Text, each_of
+from ._facts import Check, told_of
+from ._given import Text, bytes_of, each_of
 from ._known import Part, solutions_of
 from ._lines import facelets
 from ._tokens import places_of
@@ -61,15 +61,15 @@ def _checked(found: Found, whole: Written) -> AttemptCheck:
     """Returns what is said of an attempt of a text."""
     attempt = found.attempt
     scramble, solution = attempt.scramble, attempt.solution
-    try:
-        # the scramble has its fault without a solution too
-        told = check(scramble.line, "" if solution is None else solution.line)
-    except LineFault as fault:
-        faulty = scramble if solution is None or fault.part == "scramble" else solution
+    # the scramble has its fault without a solution too
+    told = told_of((bytes_of(scramble.line, ""), b"" if solution is None else bytes_of(solution.line, "")), "solution")
+    if isinstance(told, LineFault):
+        faulty = scramble if solution is None or told.part == "scramble" else solution
         # a scramble that is known has no place in the text
-        place = whole.place(place_in(fault, faulty)) if faulty.places or faulty is solution else None
-        # the traceback would keep what the calls had, as long as the fault is kept
-        return AttemptCheck(attempt, None, fault.with_traceback(None), place, ())
+        place = whole.place(place_in(told, faulty)) if faulty.places or faulty is solution else None
+        return AttemptCheck(attempt, None, told, place, ())
+    if isinstance(told, Fault):
+        raise told
     if solution is None:
         return AttemptCheck(attempt, None, None, None, (), _doubt_of(found))
     doubt = None if told.solved else _doubt_of(found)

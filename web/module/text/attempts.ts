@@ -81,7 +81,7 @@ export class AttemptReader {
 
   /** @returns each of the steps among them */
   #steps(lines: TextLine[]): PlainLine[] {
-    return lines.filter(isOfStep).map((line) => this.#text.movesOfLine(line, MOVES_OF.steps));
+    return lines.filter(isOfStep).map((line) => this.#text.moves([line], MOVES_OF.steps));
   }
 
   /** @returns the words of its label */
@@ -139,12 +139,10 @@ export class AttemptReader {
     const told = after.filter((line) => isOfStep(line) && line.isSolution);
     const under = after.filter((line) => isOfStep(line) && line.group === 0);
     const steps = this.#steps(under.length > 0 ? under : told);
-    const [first, ...more] = lines.filter(({ kind }) => kind === LINE_KIND.scramble);
     const alike = under.length === 0 || under[0] === told[0] ? steps : [];
     return {
       name: this.name(lines),
-      scramble: first !== undefined && more.length === 0 ? this.#text.movesOfLine(first, MOVES_OF.scramble)
-        : this.#text.moves(lines, MOVES_OF.scramble),
+      scramble: this.#text.moves(lines, MOVES_OF.scramble),
       steps,
       solution: told.length > 0 ? this.#inOne(alike, lines, MOVES_OF.solution) : null,
       candidates: moved.map((group) => this.#candidate(group)),

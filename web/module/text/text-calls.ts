@@ -1,9 +1,9 @@
 // The calls of the module that read text as solvers write it, which stands in its memory meanwhile.
-import { PART_ANSWER, PLAIN_ANSWER, TEXT_ANSWER, TEXT_LINE } from "./text-layout.js";
+import { MOVES_PART, PART_ANSWER, PLAIN_ANSWER, TEXT_ANSWER, TEXT_LINE } from "./text-layout.js";
 import { aligned } from "../engine/memory.js";
 import { STATUS } from "../engine/status.js";
 import type { Exports, Instance } from "../engine/instance.js";
-import { countUpTo, namesAround, type PlainLine, type WrittenLine, type WrittenText } from "./written.js";
+import { Cuts, type PlainLine, type WrittenLine, type WrittenText } from "./written.js";
 
 /** What the module tells of a line of a text, the `nth` from 0: numbers of its kind and its doubt, and places in bytes.
  */
@@ -30,14 +30,19 @@ export type TextLine = {
  */
 export type Writing = (exports: Exports, text: bigint[], rooms: bigint[]) => undefined;
 
-/** The kind of a blank line, or of a head alone, by the module's numbers. */
+/** The kind of a blank line, or of a head alone, of one of the scramble, and of a step, by the module's numbers. */
 const BLANK = 0;
+const OF_SCRAMBLE = 2;
+const OF_STEP = 3;
 
 /** Of which of some lines moves are asked for, by the module's numbers. */
 export const MOVES_OF = { scramble: 0, steps: 1, solution: 2, eachStep: 3 };
 
-/** No moves. */
-const EMPTY_LINE: WrittenLine = { bytes: new Uint8Array(0), places: [], leftOut: 0 };
+/** Which lines have such, in the same order. */
+const IS_WANTED: ((line: TextLine) => boolean)[] = [
+  ({ kind }) => kind === OF_SCRAMBLE, ({ kind }) => kind === OF_STEP,
+  ({ kind, isSolution }) => kind === OF_STEP && isSolution, ({ kind }) => kind === OF_STEP,
+];
 
 /** The bytes that end a line, two of which may end one together. */
 const LINE_ENDS = [0x0a, 0x0d];
@@ -71,6 +76,56 @@ function textLineAt(bytes: Uint8Array, at: number, nth: number): TextLine {
   };
 }
 
+/** @returns what writes moves, by what the module is handed over after the text: the lines, which moves, and where it
+ * tells of each line where they stand, each but `which` by its place and how many there are */
+const writingMoves = ([lines, count, which, parts, most]: number[]): Writing => (exports, text, rooms) =>
+  exports.nissy_text_moves(...text, BigInt(lines), BigInt(count), which, ...rooms, BigInt(parts), BigInt(most));
+
+/** The moves of those lines of a text that are wanted, one after another. */
+class Moves {
+  #written: WrittenLine;
+  #cuts: Cuts;
+  /** where those of each begin and end, and what it leaves out, by the number of the line */
+  #parts = new Map<number, { begin: number; end: number; leftOut: number }>();
+
+  /** @param bytes in which so many parts stand at a place, one for each of the lines */
+  constructor(written: WrittenLine, cuts: Cuts, bytes: Uint8Array, at: number, lines: TextLine[]) {
+    this.#written = written;
+    this.#cuts = cuts;
+    const { begin, end, leftOut } = MOVES_PART.read;
+    lines.forEach(({ nth }, of) => {
+      const from = at + of * MOVES_PART.bytes;
+      this.#parts.set(nth, { begin: begin(bytes, from), end: end(bytes, from), leftOut: leftOut(bytes, from) });
+    });
+  }
+
+  /** @returns where those of some lines of a text begin and end, which follow each other there */
+  #range(lines: TextLine[]) {
+    let range = { begin: 0, end: 0, leftOut: 0 };
+    let isFirst = true;
+    for (const { nth } of lines) {
+      const part = this.#parts.get(nth);
+      if (part === undefined) continue;
+      range = isFirst ? part : { begin: range.begin, end: part.end, leftOut: range.leftOut | part.leftOut };
+      isFirst = false;
+    }
+    return range;
+  }
+
+  /** The same as one line. */
+  of(lines: TextLine[]): PlainLine {
+    const { begin, end, leftOut } = this.#range(lines);
+    return this.#cuts.cut(begin, end, leftOut);
+  }
+
+  /** The same in bytes, with the place of each in the text. */
+  written(lines: TextLine[]): WrittenLine {
+    const { begin, end, leftOut } = this.#range(lines);
+    const { bytes, places } = this.#written;
+    return { bytes: bytes.subarray(begin, end), places: places.slice(begin, end), leftOut };
+  }
+}
+
 /** A text in the memory of an instance, until that is called for anything else. */
 export class TextInMemory {
   #instance: Instance;
@@ -80,7 +135,8 @@ export class TextInMemory {
   /** where other memory begins */ #free: number;
   /** so many bytes have place that are written of it, if it has no odd apostrophes */ #room: number;
   /** how many lines it has */ #count = 0;
-  /** the moves of all lines, by whose they are */ #all = new Map<number, PlainLine>();
+  /** those that aren't blank, or have a head */ #told: TextLine[] = [];
+  /** the moves of all lines, by whose they are */ #moves: Moves[] = [];
 
   constructor(instance: Instance, written: WrittenText) {
     this.#instance = instance;
@@ -118,6 +174,7 @@ export class TextInMemory {
       const line = textLineAt(memory.all, at, nth);
       if (line.kind !== BLANK || line.isHeaded) lines.push(line);
     }
+    this.#told = lines;
     return lines;
   }
 
@@ -140,47 +197,33 @@ export class TextInMemory {
   /** The moves of those of some lines that are wanted, once all lines were told; those between them count too.
    * @param which are wanted, by the module's numbers */
   moves(lines: TextLine[], which: number): PlainLine {
-    return lines.length === 0 ? this.#written.plain(EMPTY_LINE) : this.#plainBy(this.#movesOf(lines, which));
+    return this.#movesOf(which).of(lines);
   }
 
-  /** The moves of one line, which are of those wanted. If they are written as they stand, they are cut out of those of
-   * all. */
-  movesOfLine(line: TextLine, which: number): PlainLine {
-    const { headEnd, labelBegin, labelEnd, moves, comment, end } = line;
-    const all = this.#all.get(which) ?? this.#allOf(which);
-    const own = this.#written.cut(moves, comment);
-    const from = countUpTo(all.places, this.#written.unit(moves) - 1);
-    const to = from + own.length;
-    const isBare = this.#written.part(headEnd, labelBegin) === "";
-    const isAsItStands = all.line.slice(from, to) === own && all.places[to - 1] === this.#written.unit(comment) - 1;
-    if (!isBare || !isAsItStands) return this.moves([line], which);
-    const leftOut = namesAround(labelBegin < labelEnd, comment < end);
-    return { line: own, places: all.places.slice(from, to), leftOut };
+  #movesOf(which: number): Moves {
+    return (this.#moves[which] ??= this.#allMoves(which));
   }
 
-  #allOf(which: number): PlainLine {
-    const all = this.#plainBy(this.#writing(0, this.#count, which));
-    this.#all.set(which, all);
-    return all;
-  }
-
-  /** @returns what writes these moves */
-  #movesOf(lines: TextLine[], which: number): Writing {
-    const { nth } = lines[0];
-    return this.#writing(nth, lines[lines.length - 1].nth + 1 - nth, which);
-  }
-
-  /** @returns what writes the moves of so many lines from one on */
-  #writing(nth: number, count: number, which: number): Writing {
-    const lines = [BigInt(this.#lines + nth * TEXT_LINE.bytes), BigInt(count)];
-    return (exports, text, rooms) => exports.nissy_text_moves(...text, ...lines, which, ...rooms);
+  /** @returns the moves of all lines that are wanted, by the module's numbers */
+  #allMoves(which: number): Moves {
+    const { memory } = this.#instance;
+    const wanted = this.#told.filter(IS_WANTED[which]);
+    // the parts stand before what is written
+    const parts = this.#free;
+    this.#free = aligned(parts + wanted.length * MOVES_PART.bytes);
+    const given = [this.#lines, this.#count, which, parts, wanted.length];
+    const { bytes, places, leftOut } = this.#writtenBy(writingMoves(given));
+    const written = { bytes: bytes.slice(), places, leftOut };
+    const moves = new Moves(written, new Cuts(this.#written, written), memory.all, parts, wanted);
+    this.#free = parts;
+    return moves;
   }
 
   /** Where a part of the steps of an attempt begins that solves a scramble, in bytes, or null if none does. */
   solvingPart(lines: TextLine[], scramble: string): number | null {
-    if (lines.length === 0) return null;
-    const { places, ...steps } = this.#writtenBy(this.#movesOf(lines, MOVES_OF.eachStep));
-    this.#instance.ask("nissy_solving_part", [{ text: scramble }, { text: steps.bytes.slice() }]);
+    const { bytes, places } = this.#movesOf(MOVES_OF.eachStep).written(lines);
+    if (bytes.length === 0) return null;
+    this.#instance.ask("nissy_solving_part", [{ text: scramble }, { text: bytes }]);
     const { how, begin } = PART_ANSWER.read;
     return this.#instance.answered(how) === 0 ? null : places[this.#instance.answered(begin)];
   }
@@ -202,7 +245,8 @@ export class TextInMemory {
   }
 
   #plainBy(write: Writing): PlainLine {
-    return this.#written.plain(this.#writtenBy(write));
+    const written = this.#writtenBy(write);
+    return new Cuts(this.#written, written).cut(0, written.bytes.length, written.leftOut);
   }
 
   /** @returns what the module writes of the text, which stands in its memory until the next call */
