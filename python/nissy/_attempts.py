@@ -2,16 +2,23 @@
 candidates beside it. Nothing of it is called at fault here: what is no line of moves is at fault where it is used."""
 import ctypes
 from itertools import accumulate, groupby
-from typing import Any, Callable, Dict, Iterator, List, NamedTuple, Optional, Sequence, Tuple
+from operator import and_, attrgetter, ne
+from typing import Any, Dict, Iterator, List, NamedTuple, Optional, Sequence, Tuple
 
 from . import _library
 from ._given import Text, bytes_of
+from ._lazily import Lazily
 from ._library import MOVES_PART, TEXT_LINE
 from ._written import Cuts, PlainLine, TextPlace, Written, WrittenLine, written_by
 
 _BEFORE, SCRAMBLE, STEP, _NOTE = range(1, 5)
 # whose moves the library writes
 _OF_SCRAMBLE, _OF_STEPS, _OF_SOLUTION, _OF_EACH_STEP = range(4)
+# 1 for each kind of line whose moves these are
+_IS_OF_SCRAMBLE, _IS_STEP = (bytes(kind == wanted for kind in range(256)) for wanted in (SCRAMBLE, STEP))
+_GROUP = attrgetter("group")
+# the bytes of a line that say what it is, whether it is of the solution, and what its doubt is
+_BYTES = (0, 1, 5)
 # the white space of the web's scripts
 _WHITE = ("\n\t\v\f\r \u00a0\u1680\u2000\u2001\u2002\u2003\u2004\u2005\u2006\u2007\u2008\u2009\u200a\u2028\u2029\u202f"
           "\u205f\u3000\ufeff")
@@ -85,35 +92,32 @@ class TextLine(NamedTuple):
     doubt_at: int
 
 
-class Moves(NamedTuple):
+class Moves:
     """The moves of those lines of a text that are wanted, written one after another."""
 
-    written: WrittenLine
-    cuts: Cuts
-    parts: List[Tuple[int, int, int]]
-    """Where those of each of these lines stand, and the library's number for what it leaves out."""
-    nth: List[int]
-    """How many lines before each line of the text are wanted."""
+    def __init__(self, whole: Written, written: WrittenLine, nth: Sequence[int], parts: List[Tuple[Any, ...]]) -> None:
+        # how many lines before each one of the text are wanted, and where their moves stand, with the library's number
+        # for what each leaves out
+        self._written, self._nth, self._parts = written, nth, parts
+        self._cuts = Cuts(whole, written)
 
-    def range_of(self, lines: Sequence[TextLine]) -> Tuple[int, int]:
-        """Returns which parts those of some lines are, which stand one after another in the text."""
-        return self.nth[lines[0].at], self.nth[lines[-1].at + 1]
-
-    def of(self, lines: Sequence[TextLine]) -> PlainLine:
-        """Returns the moves of some lines, which stand one after another in the text, as one line."""
-        first, last = self.range_of(lines) if lines else (0, 0)
+    def of(self, begin: int, end: int) -> PlainLine:
+        """Returns the moves of the lines from one to another as one line."""
+        first, last = self._nth[begin], self._nth[end]
         if first == last:
             return _NOTHING
-        left_out = 0
-        for part in self.parts[first:last]:
-            left_out |= part[2]
-        return self.cuts.cut(self.parts[first][0], self.parts[last - 1][1], left_out)
+        start, stop, left_out = self._parts[first]
+        for _, stop, more in self._parts[first + 1:last]:
+            left_out |= more
+        return self._cuts.cut(start, stop, left_out)
 
-
-# which lines have moves of each kind
-_WANTED: Dict[int, Callable[[TextLine], bool]] = {
-    _OF_SCRAMBLE: lambda line: line.kind == SCRAMBLE, _OF_STEPS: lambda line: line.kind == STEP,
-    _OF_SOLUTION: lambda line: line.kind == STEP and line.is_solution, _OF_EACH_STEP: lambda line: line.kind == STEP}
+    def written(self, begin: int, end: int) -> Tuple[bytes, Sequence[int]]:
+        """Returns the same in bytes, with the place of each in the text."""
+        first, last = self._nth[begin], self._nth[end]
+        if first == last:
+            return b"", ()
+        start, stop = self._parts[first][0], self._parts[last - 1][1]
+        return self._written.line[start:stop], self._written.places[start:stop]
 
 
 class Reader:
@@ -125,46 +129,51 @@ class Reader:
         # the library reads the lines there again
         self._room = bytearray(TEXT_LINE.size * most)
         self._address = ctypes.addressof(ctypes.c_char.from_buffer(self._room))
-        self._count = _library.nissy_text_lines(data, len(data), self._address, most).lines
-        told = TEXT_LINE.iter_unpack(memoryview(self._room)[:TEXT_LINE.size * self._count])
-        self._lines = [TextLine._make((at, *line)) for at, line in enumerate(told)]
+        self.count = _library.nissy_text_lines(data, len(data), self._address, most).lines
+        self._told = memoryview(self._room)[:TEXT_LINE.size * self.count]
+        self._kinds, self._are_solution, self._doubts = (bytes(self._told[at::TEXT_LINE.size]) for at in _BYTES)
         # by whose they are
         self._moves: Dict[int, Moves] = {}
-        self._steps: Dict[int, PlainLine] = {}
 
-    def lines(self) -> List[TextLine]:
-        """Returns the lines that aren't blank, or have only a head."""
-        return [line for line in self._lines if line.kind or line.is_headed]
+    def lines(self, begin: int, end: int) -> List[TextLine]:
+        """Returns those of the lines from one to another that aren't blank, or have only a head."""
+        told = TEXT_LINE.iter_unpack(self._told[TEXT_LINE.size * begin:TEXT_LINE.size * end])
+        return [TextLine._make((at, *line)) for at, line in enumerate(told, begin) if line[0] or line[2]]
+
+    def attempts(self) -> List[Tuple[int, int]]:
+        """Returns from which line to which each attempt reaches that has a scramble."""
+        numbers = self._told.cast("B").cast("Q")[1::TEXT_LINE.size // 8].tolist()
+        begins = [0, *(at for at, is_first in enumerate(map(ne, numbers, numbers[1:]), 1) if is_first), self.count]
+        return [it for it in zip(begins, begins[1:]) if self._kinds.find(SCRAMBLE, *it) >= 0]
 
     def moves(self, which: int) -> Moves:
         """Returns the moves of all lines that are wanted."""
         if which not in self._moves:
-            nth = [0, *accumulate(map(_WANTED[which], self._lines))]
+            is_of_kind = self._kinds.translate(_IS_OF_SCRAMBLE if which == _OF_SCRAMBLE else _IS_STEP)
+            wanted = map(and_, is_of_kind, self._are_solution) if which == _OF_SOLUTION else is_of_kind
+            nth = [0, *accumulate(wanted)]
             room = bytearray(MOVES_PART.size * nth[-1] + 1)
             parts = (ctypes.addressof(ctypes.c_char.from_buffer(room)), nth[-1])
-            written = written_by(3 * (len(self._data) + self._count), lambda *rooms: _library.nissy_text_moves(
-                self._data, len(self._data), self._address, self._count, which, *rooms, *parts))
+            written = written_by(3 * (len(self._data) + self.count), lambda *rooms: _library.nissy_text_moves(
+                self._data, len(self._data), self._address, self.count, which, *rooms, *parts))
             if self._before:
-                written = written._replace(places=tuple(map(self._before.__add__, written.places)))
-            told = list(MOVES_PART.iter_unpack(memoryview(room)[:-1]))
-            self._moves[which] = Moves(written, Cuts(self.whole, written), told, nth)
+                # what stands before the text isn't cut out
+                written = written._replace(places=tuple(max(self._before + place, 0) for place in written.places))
+            self._moves[which] = Moves(self.whole, written, nth, list(MOVES_PART.iter_unpack(memoryview(room)[:-1])))
         return self._moves[which]
 
-    def solving_part(self, scramble: str, lines: Sequence[TextLine]) -> Optional[TextPlace]:
-        """Returns where a part of the steps of an attempt begins that solves a scramble, or None."""
-        moves = self.moves(_OF_EACH_STEP)
-        first, last = moves.range_of(lines) if lines else (0, 0)
-        if first == last:
+    def solving_part(self, scramble: str, begin: int, end: int) -> Optional[TextPlace]:
+        """Returns where a part of the steps among some lines begins that solves a scramble, or None."""
+        steps, places = self.moves(_OF_EACH_STEP).written(begin, end)
+        if not steps:
             return None
-        data, begin = bytes_of(scramble, ""), moves.parts[first][0]
-        steps = moves.written.line[begin:moves.parts[last - 1][1]]
+        data = bytes_of(scramble, "")
         part = _library.nissy_solving_part(data, len(data), steps, len(steps))
-        return self.whole.place(self.whole.at(moves.written.places[begin + part.begin])) if part.how else None
+        return self.whole.place(self.whole.at(places[part.begin])) if part.how else None
 
-    def step(self, line: TextLine) -> PlainLine:
-        if line.at not in self._steps:
-            self._steps[line.at] = self.moves(_OF_STEPS).of([line])
-        return self._steps[line.at]
+    def _steps(self, lines: Sequence[TextLine]) -> Tuple[PlainLine, ...]:
+        moves = self.moves(_OF_STEPS)
+        return tuple(moves.of(line.at, line.at + 1) for line in lines)
 
     def place(self, byte: int) -> TextPlace:
         """Returns the place of a byte in the whole text."""
@@ -183,47 +192,57 @@ class Reader:
 
     def name(self, lines: Sequence[TextLine]) -> str:
         """Returns the first head of some lines, or nothing."""
-        return next((self._part(line.begin, line.head_end) for line in lines if line.is_headed), "")
+        for line in lines:
+            if line.is_headed:
+                return self._part(line.begin, line.head_end)
+        return ""
 
     def _label(self, line: TextLine) -> str:
         return self._part(line.label_begin, line.label_end)
 
-    def _in_one(self, steps: Sequence[TextLine], which: int) -> PlainLine:
-        """Returns some steps as one line, which are those that are wanted."""
-        return self.step(steps[0]) if len(steps) == 1 else self.moves(which).of(steps)
-
     def _candidate(self, lines: List[TextLine]) -> AttemptCandidate:
-        steps = [line for line in lines if line.kind == STEP]
+        steps = self._steps([line for line in lines if line.kind == STEP])
         note = " ".join(self._note(line) for line in lines if line.kind == _NOTE)
         told = next((self._label(line) for line in lines if line.says_solution), "")
-        return AttemptCandidate(tuple(map(self.step, steps)), self._in_one(steps, _OF_STEPS), note or told)
+        solution = steps[0] if len(steps) == 1 else self.moves(_OF_STEPS).of(lines[0].at, lines[-1].at + 1)
+        return AttemptCandidate(steps, solution, note or told)
 
     def _candidates(self, lines: Sequence[TextLine]) -> Iterator[AttemptCandidate]:
         """Returns the groups of an attempt that have steps, but the first one."""
-        for number, group in groupby((line for line in lines if line.kind >= STEP), lambda line: line.group):
+        for number, group in groupby((line for line in lines if line.kind >= STEP), _GROUP):
             own = list(group)
             if number > 0 and any(line.kind == STEP for line in own):
                 yield self._candidate(own)
 
-    def attempt(self, lines: Sequence[TextLine]) -> Attempt:
+    def attempt(self, begin: int, end: int) -> Attempt:
+        """Returns the attempt that the lines from one to another are."""
+        lines = self.lines(begin, end)
+        made = Attempt(
+            self.name(lines), self.moves(_OF_SCRAMBLE).of(begin, end), (), None, (), self._kinds.count(_BEFORE, begin, end),
+            self._doubt(lines) if any(self._doubts[begin:end]) else None)
+        return made if self._kinds.find(STEP, begin, end) < 0 else self._with_steps(made, lines)
+
+    def _with_steps(self, attempt: Attempt, lines: Sequence[TextLine]) -> Attempt:
         all_steps = [line for line in lines if line.kind == STEP]
         told = [line for line in all_steps if line.is_solution]
-        steps = [line for line in all_steps if line.group == 0] or told
-        doubted = next((line for line in lines if line.doubt), None)
-        return Attempt(
-            self.name(lines), self.moves(_OF_SCRAMBLE).of(lines), tuple(map(self.step, steps)),
-            self._in_one(told, _OF_SOLUTION) if told else None,
-            tuple(self._candidates(lines)) if lines and lines[-1].group > 0 else (),
-            sum(line.kind == _BEFORE for line in lines),
-            doubted and AttemptDoubt(_DOUBTS[doubted.doubt], self.place(doubted.doubt_at)))
+        return attempt._replace(
+            steps=self._steps([line for line in all_steps if line.group == 0] or told),
+            solution=self.moves(_OF_SOLUTION).of(told[0].at, told[-1].at + 1) if told else None,
+            candidates=tuple(self._candidates(lines)) if lines[-1].group > 0 else ())
+
+    def _doubt(self, lines: Sequence[TextLine]) -> AttemptDoubt:
+        """Returns what makes one doubt the first line that is in doubt."""
+        doubted = next(line for line in lines if line.doubt)
+        return AttemptDoubt(_DOUBTS[doubted.doubt], self.place(doubted.doubt_at))
 
 
 class Found(NamedTuple):
-    """An attempt, and its lines among those of a text that was read."""
+    """An attempt, and from which to which line of a text that was read it reaches."""
 
     attempt: Attempt
     reader: Optional[Reader] = None
-    lines: Sequence[TextLine] = ()
+    begin: int = 0
+    end: int = 0
 
     def replaced(self, **fields: Any) -> "Found":
         """Returns the same with other fields of the attempt."""
@@ -231,22 +250,20 @@ class Found(NamedTuple):
 
     def solving_part(self) -> Optional[TextPlace]:
         """Returns where a part of its steps begins that solves, or None."""
-        return self.reader.solving_part(self.attempt.scramble.line, self.lines) if self.reader else None
+        has_steps = self.attempt.steps or self.attempt.candidates
+        return self.reader.solving_part(self.attempt.scramble.line, self.begin, self.end) if has_steps and self.reader else None
 
 
-def by_attempts(lines: List[TextLine]) -> List[List[TextLine]]:
-    return [list(own) for _, own in groupby(lines, lambda line: line.attempt)]
-
-
-def attempts_of(whole: Written) -> List[Found]:
+def attempts_of(whole: Written) -> Lazily[Found]:
     reader = Reader(whole, whole.data)
-    read = [Found(reader.attempt(lines), reader, lines) for lines in by_attempts(reader.lines())
-            if any(line.kind == SCRAMBLE for line in lines)]
-    return read or [Found(Attempt("", _NOTHING, (), None, (), 0))]
+    attempts = reader.attempts()
+    if not attempts:
+        return Lazily(1, lambda at: Found(Attempt("", _NOTHING, (), None, (), 0)))
+    return Lazily(len(attempts), lambda at: Found(reader.attempt(*attempts[at]), reader, *attempts[at]))
 
 
-def read_attempts(text: Text) -> List[Attempt]:
-    """The attempts of a text as solvers write it, at least one: a scramble, then the steps of its solution, each on a
-    line with a comment or a label, and blocks of candidates after blank lines; and the same of several numbered
-    scrambles. A text of another form is one scramble."""
-    return [found.attempt for found in attempts_of(Written(text))]
+def read_attempts(text: Text) -> Sequence[Attempt]:
+    """The attempts of a text as solvers write it, at least one, each made when it is asked for: a scramble, then the
+    steps of its solution, each on a line with a comment or a label, and blocks of candidates after blank lines; and the
+    same of several numbered scrambles. A text of another form is one scramble."""
+    return attempts_of(Written(text)).map(attrgetter("attempt"))

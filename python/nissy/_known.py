@@ -5,7 +5,7 @@ from collections import Counter
 from itertools import groupby
 from typing import List, NamedTuple, Optional
 
-from ._attempts import SCRAMBLE, STEP, Found, Reader, TextLine, by_attempts
+from ._attempts import SCRAMBLE, STEP, Found, Reader, TextLine
 from ._written import Written
 
 # a whole scramble, after which the library reads lines as steps
@@ -69,9 +69,9 @@ def _read(reader: Reader, part: List[TextLine]) -> List[Found]:
     line = next((line for line in part[head:] if line.kind), part[head])
     begin = max(line.begin, part[head].head_end)
     own = Reader(reader.whole, _BEFORE + reader.whole.data[begin:part[-1].end], begin - len(_BEFORE))
-    first, *others = by_attempts(own.lines())
-    behind = [Found(own.attempt(lines), own, lines) for lines in others if any(it.kind == SCRAMBLE for it in lines)]
-    return [Found(own.attempt(first[1:]), own, first[1:]).replaced(name=reader.name(part)), *behind]
+    first, *others = own.attempts()
+    begun = Found(own.attempt(first[0] + 1, first[1]), own, first[0] + 1, first[1]).replaced(name=reader.name(part))
+    return [begun, *(Found(own.attempt(*lines), own, *lines) for lines in others)]
 
 
 def _scrambles_of(names: List[str], count: int) -> List[Optional[int]]:
@@ -87,6 +87,6 @@ def _scrambles_of(names: List[str], count: int) -> List[Optional[int]]:
 def solutions_of(whole: Written, count: int) -> List[Part]:
     """Returns the solutions in a text, of this many scrambles."""
     reader = Reader(whole, whole.data)
-    parts = _parts(reader, reader.lines(), count)
+    parts = _parts(reader, reader.lines(0, reader.count), count)
     of = _scrambles_of([reader.name(part) for part in parts], count)
     return [Part(scramble, whole.at(part[0].begin), _read(reader, part)) for scramble, part in zip(of, parts)]

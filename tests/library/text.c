@@ -150,7 +150,8 @@ static void parts_are(const char *text, const nissy_text_line *lines, size_t cou
     uint64_t places[64];
     guarded room = untouched(sizeof(nissy_moves_part) * most);
     nissy_moves_part *const parts = (nissy_moves_part *)(void *)room.bytes;
-    const nissy_plain_answer got = nissy_text_moves((const uint8_t *)text, strlen(text), lines, count, which, out, sizeof out, places, 64, parts, most);
+    const nissy_plain_answer got =
+        nissy_text_moves((const uint8_t *)text, strlen(text), lines, count, which, out, sizeof out, places, 64, parts, most);
     holds(got.status == NISSY_DONE, "moves with their parts", text);
     for (size_t at = 0; at < most; at++) {
         const int is_same = parts[at].begin == wanted[at].begin && parts[at].end == wanted[at].end && parts[at].left_out == wanted[at].left_out;

@@ -133,6 +133,14 @@ export class AttemptReader {
   }
 
   #attempt(lines: TextLine[]): Attempt {
+    const doubt = this.#doubt(lines);
+    const before = lines.filter(({ kind }) => kind === LINE_KIND.before).length;
+    const begun = { ...attemptOf(this.#text.moves(lines, MOVES_OF.scramble)), name: this.name(lines), before, doubt };
+    return lines.some(isOfStep) ? this.#withSteps(begun, lines) : begun;
+  }
+
+  /** @returns the same with what its lines have */
+  #withSteps(begun: Attempt, lines: TextLine[]): Attempt {
     const after = lines.filter(({ kind }) => kind >= LINE_KIND.step);
     const groups = inRuns(after, ({ group }, before) => group === before.group);
     const moved = groups.filter((group) => group[0].group > 0 && group.some(isOfStep));
@@ -140,15 +148,8 @@ export class AttemptReader {
     const under = after.filter((line) => isOfStep(line) && line.group === 0);
     const steps = this.#steps(under.length > 0 ? under : told);
     const alike = under.length === 0 || under[0] === told[0] ? steps : [];
-    return {
-      name: this.name(lines),
-      scramble: this.#text.moves(lines, MOVES_OF.scramble),
-      steps,
-      solution: told.length > 0 ? this.#inOne(alike, lines, MOVES_OF.solution) : null,
-      candidates: moved.map((group) => this.#candidate(group)),
-      before: lines.filter(({ kind }) => kind === LINE_KIND.before).length,
-      doubt: this.#doubt(lines),
-    };
+    const solution = told.length > 0 ? this.#inOne(alike, lines, MOVES_OF.solution) : null;
+    return { ...begun, steps, solution, candidates: moved.map((group) => this.#candidate(group)) };
   }
 }
 

@@ -5,26 +5,37 @@ import { STATUS } from "../engine/status.js";
 import type { Exports, Instance } from "../engine/instance.js";
 import { Cuts, type PlainLine, type WrittenLine, type WrittenText } from "./written.js";
 
-/** What the module tells of a line of a text, the `nth` from 0: numbers of its kind and its doubt, and places in bytes.
- */
-export type TextLine = {
-  nth: number;
-  kind: number;
-  isSolution: boolean;
-  isHeaded: boolean;
-  isLabelled: boolean;
-  doubt: number;
-  attempt: number;
-  group: number;
-  begin: number;
-  headEnd: number;
-  labelBegin: number;
-  labelEnd: number;
-  moves: number;
-  comment: number;
-  end: number;
-  doubtAt: number;
-};
+const READ = TEXT_LINE.read;
+
+/** What the module tells of a line of a text: numbers of its kind and its doubt, and places in bytes, each read when it
+ * is asked for. */
+export class TextLine {
+  /** which it is, from 0 */ nth: number;
+  #told: Uint8Array;
+  #at: number;
+
+  /** @param told of all lines */
+  constructor(told: Uint8Array, nth: number) {
+    this.nth = nth;
+    this.#told = told;
+    this.#at = nth * TEXT_LINE.bytes;
+  }
+
+  get kind() { return READ.kind(this.#told, this.#at); }
+  get isSolution() { return READ.solution(this.#told, this.#at) === 1; }
+  get isHeaded() { return READ.headed(this.#told, this.#at) === 1; }
+  get isLabelled() { return READ.labelled(this.#told, this.#at) === 1; }
+  get doubt() { return READ.doubt(this.#told, this.#at); }
+  get attempt() { return READ.attempt(this.#told, this.#at); }
+  get group() { return READ.group(this.#told, this.#at); }
+  get begin() { return READ.begin(this.#told, this.#at); }
+  get headEnd() { return READ.headEnd(this.#told, this.#at); }
+  get labelBegin() { return READ.labelBegin(this.#told, this.#at); }
+  get labelEnd() { return READ.labelEnd(this.#told, this.#at); }
+  get moves() { return READ.moves(this.#told, this.#at); }
+  get end() { return READ.end(this.#told, this.#at); }
+  get doubtAt() { return READ.doubtAt(this.#told, this.#at); }
+}
 
 /** Calls the module, which writes a line: what each call is handed over first, and rooms for the line and its places.
  */
@@ -54,28 +65,6 @@ const OF_PLACE = 8;
 const MOST_OF_BYTE = 3;
 const OF_LINE = 3;
 
-function textLineAt(bytes: Uint8Array, at: number, nth: number): TextLine {
-  const { read } = TEXT_LINE;
-  return {
-    nth,
-    kind: read.kind(bytes, at),
-    isSolution: read.solution(bytes, at) === 1,
-    isHeaded: read.headed(bytes, at) === 1,
-    isLabelled: read.labelled(bytes, at) === 1,
-    doubt: read.doubt(bytes, at),
-    attempt: read.attempt(bytes, at),
-    group: read.group(bytes, at),
-    begin: read.begin(bytes, at),
-    headEnd: read.headEnd(bytes, at),
-    labelBegin: read.labelBegin(bytes, at),
-    labelEnd: read.labelEnd(bytes, at),
-    moves: read.moves(bytes, at),
-    comment: read.comment(bytes, at),
-    end: read.end(bytes, at),
-    doubtAt: read.doubtAt(bytes, at),
-  };
-}
-
 /** @returns what writes moves, by what the module is handed over after the text: the lines, which moves, and where it
  * tells of each line where they stand, each but `which` by its place and how many there are */
 const writingMoves = ([lines, count, which, parts, most]: number[]): Writing => (exports, text, rooms) =>
@@ -85,31 +74,29 @@ const writingMoves = ([lines, count, which, parts, most]: number[]): Writing => 
 class Moves {
   #written: WrittenLine;
   #cuts: Cuts;
-  /** where those of each begin and end, and what it leaves out, by the number of the line */
-  #parts = new Map<number, { begin: number; end: number; leftOut: number }>();
+  /** of each of these lines where they stand, as the module has it */ #parts: Uint8Array;
+  /** how many lines before each one of the text are wanted */ #before: Uint32Array;
 
-  /** @param bytes in which so many parts stand at a place, one for each of the lines */
-  constructor(written: WrittenLine, cuts: Cuts, bytes: Uint8Array, at: number, lines: TextLine[]) {
+  constructor(written: WrittenLine, cuts: Cuts, parts: Uint8Array, before: Uint32Array) {
     this.#written = written;
     this.#cuts = cuts;
-    const { begin, end, leftOut } = MOVES_PART.read;
-    lines.forEach(({ nth }, of) => {
-      const from = at + of * MOVES_PART.bytes;
-      this.#parts.set(nth, { begin: begin(bytes, from), end: end(bytes, from), leftOut: leftOut(bytes, from) });
-    });
+    this.#parts = parts;
+    this.#before = before;
   }
 
   /** @returns where those of some lines of a text begin and end, which follow each other there */
   #range(lines: TextLine[]) {
-    let range = { begin: 0, end: 0, leftOut: 0 };
-    let isFirst = true;
-    for (const { nth } of lines) {
-      const part = this.#parts.get(nth);
-      if (part === undefined) continue;
-      range = isFirst ? part : { begin: range.begin, end: part.end, leftOut: range.leftOut | part.leftOut };
-      isFirst = false;
-    }
-    return range;
+    const { begin, end, leftOut } = MOVES_PART.read;
+    const [first, last] = lines.length === 0 ? [0, 0]
+      : [this.#before[lines[0].nth], this.#before[lines[lines.length - 1].nth + 1]];
+    if (first === last) return { begin: 0, end: 0, leftOut: 0 };
+    let left = 0;
+    for (let of = first; of < last; of += 1) left |= leftOut(this.#parts, of * MOVES_PART.bytes);
+    return {
+      begin: begin(this.#parts, first * MOVES_PART.bytes),
+      end: end(this.#parts, (last - 1) * MOVES_PART.bytes),
+      leftOut: left,
+    };
   }
 
   /** The same as one line. */
@@ -168,14 +155,12 @@ export class TextInMemory {
     this.#count = count;
     this.#free = aligned(this.#lines + count * TEXT_LINE.bytes);
     this.#room = this.#written.bytes.length + OF_LINE * count;
-    const lines = [];
-    for (let nth = 0; nth < count; nth += 1) {
-      const at = this.#lines + nth * TEXT_LINE.bytes;
-      const line = textLineAt(memory.all, at, nth);
-      if (line.kind !== BLANK || line.isHeaded) lines.push(line);
+    const told = memory.copy(this.#lines, count * TEXT_LINE.bytes);
+    this.#told = [];
+    for (let nth = 0, at = 0; nth < count; nth += 1, at += TEXT_LINE.bytes) {
+      if (READ.kind(told, at) !== BLANK || READ.headed(told, at) === 1) this.#told.push(new TextLine(told, nth));
     }
-    this.#told = lines;
-    return lines;
+    return this.#told;
   }
 
   /** @returns of how many lines the module tells */
@@ -206,17 +191,24 @@ export class TextInMemory {
 
   /** @returns the moves of all lines that are wanted, by the module's numbers */
   #allMoves(which: number): Moves {
-    const { memory } = this.#instance;
-    const wanted = this.#told.filter(IS_WANTED[which]);
+    const before = this.#before(IS_WANTED[which]);
+    const wanted = before[this.#count];
     // the parts stand before what is written
     const parts = this.#free;
-    this.#free = aligned(parts + wanted.length * MOVES_PART.bytes);
-    const given = [this.#lines, this.#count, which, parts, wanted.length];
-    const { bytes, places, leftOut } = this.#writtenBy(writingMoves(given));
-    const written = { bytes: bytes.slice(), places, leftOut };
-    const moves = new Moves(written, new Cuts(this.#written, written), memory.all, parts, wanted);
+    this.#free = aligned(parts + wanted * MOVES_PART.bytes);
+    const { bytes, ...told } = this.#writtenBy(writingMoves([this.#lines, this.#count, which, parts, wanted]));
+    const written = { bytes: bytes.slice(), ...told };
     this.#free = parts;
-    return moves;
+    const copied = this.#instance.memory.copy(parts, wanted * MOVES_PART.bytes);
+    return new Moves(written, new Cuts(this.#written, written), copied, before);
+  }
+
+  /** @returns how many lines are such before each one, and before the end */
+  #before(isWanted: (line: TextLine) => boolean): Uint32Array {
+    const before = new Uint32Array(this.#count + 1);
+    for (const line of this.#told) if (isWanted(line)) before[line.nth + 1] = 1;
+    for (let nth = 0; nth < this.#count; nth += 1) before[nth + 1] += before[nth];
+    return before;
   }
 
   /** Where a part of the steps of an attempt begins that solves a scramble, in bytes, or null if none does. */

@@ -15,8 +15,9 @@ export type TextPlace = { at: number; line: number; column: number };
 /** What the module leaves out, by its bits. */
 const LEFT_OUT = ["labels", "numbers of moves", "comments", "line numbers", "commas", "signs that aren't seen"];
 
-/** What is left out, by the names of its bits. */
-const leftOutNames = (leftOut: number): string[] => LEFT_OUT.filter((_, bit) => ((leftOut >> bit) & 1) === 1);
+/** What is left out, by the names of its bits, of each number that these make. */
+const NAMES_LEFT_OUT = Array.from({ length: 1 << LEFT_OUT.length }, (_, leftOut) =>
+  LEFT_OUT.filter((__, bit) => ((leftOut >> bit) & 1) === 1));
 
 /** The first bits of a byte that goes on a sign in UTF-8, and the least with which a sign of four bytes begins. */
 const FIRST_BITS = 0xc0;
@@ -203,7 +204,8 @@ export class Cuts {
 
   /** What stands from one byte of it to another. */
   cut(begin: number, end: number, leftOut: number): PlainLine {
-    const [from, to] = this.#units === null ? [begin, end] : [this.#units[begin], this.#units[end]];
-    return { line: this.#line.slice(from, to), places: this.#places.slice(from, to), leftOut: leftOutNames(leftOut) };
+    const from = this.#units === null ? begin : this.#units[begin];
+    const to = this.#units === null ? end : this.#units[end];
+    return { line: this.#line.slice(from, to), places: this.#places.slice(from, to), leftOut: NAMES_LEFT_OUT[leftOut].slice() };
   }
 }
