@@ -17,8 +17,8 @@ _OF_SCRAMBLE, _OF_STEPS, _OF_SOLUTION, _OF_EACH_STEP = range(4)
 # 1 for each kind of line whose moves these are
 _IS_OF_SCRAMBLE, _IS_STEP = (bytes(kind == wanted for kind in range(256)) for wanted in (SCRAMBLE, STEP))
 _GROUP = attrgetter("group")
-# the bytes of a line that say what it is, whether it is of the solution, and what its doubt is
-_BYTES = (0, 1, 5)
+# the bytes of a line that say what it is, whether it is of the solution, whether it has a head, and what its doubt is
+_BYTES = (0, 1, 2, 5)
 # the white space of the web's scripts
 _WHITE = ("\n\t\v\f\r \u00a0\u1680\u2000\u2001\u2002\u2003\u2004\u2005\u2006\u2007\u2008\u2009\u200a\u2028\u2029\u202f"
           "\u205f\u3000\ufeff")
@@ -131,7 +131,8 @@ class Reader:
         self._address = ctypes.addressof(ctypes.c_char.from_buffer(self._room))
         self.count = _library.nissy_text_lines(data, len(data), self._address, most).lines
         self._told = memoryview(self._room)[:TEXT_LINE.size * self.count]
-        self._kinds, self._are_solution, self._doubts = (bytes(self._told[at::TEXT_LINE.size]) for at in _BYTES)
+        self._kinds, self._are_solution, self._are_headed, self._doubts = (
+            bytes(self._told[at::TEXT_LINE.size]) for at in _BYTES)
         # by whose they are
         self._moves: Dict[int, Moves] = {}
 
@@ -139,6 +140,9 @@ class Reader:
         """Returns those of the lines from one to another that aren't blank, or have only a head."""
         told = TEXT_LINE.iter_unpack(self._told[TEXT_LINE.size * begin:TEXT_LINE.size * end])
         return [TextLine._make((at, *line)) for at, line in enumerate(told, begin) if line[0] or line[2]]
+
+    def _line(self, at: int) -> TextLine:
+        return TextLine(at, *TEXT_LINE.unpack_from(self._room, TEXT_LINE.size * at))
 
     def attempts(self) -> List[Tuple[int, int]]:
         """Returns from which line to which each attempt reaches that has a scramble."""
@@ -190,12 +194,13 @@ class Reader:
         said = self._part(line.head_end, line.end)
         return said[2:].strip(_WHITE) if said.startswith("//") else said
 
-    def name(self, lines: Sequence[TextLine]) -> str:
-        """Returns the first head of some lines, or nothing."""
-        for line in lines:
-            if line.is_headed:
-                return self._part(line.begin, line.head_end)
-        return ""
+    def name(self, begin: int, end: int) -> str:
+        """Returns the first head among the lines from one to another, or nothing."""
+        at = self._are_headed.find(1, begin, end)
+        if at < 0:
+            return ""
+        line = self._line(at)
+        return self._part(line.begin, line.head_end)
 
     def _label(self, line: TextLine) -> str:
         return self._part(line.label_begin, line.label_end)
@@ -216,11 +221,9 @@ class Reader:
 
     def attempt(self, begin: int, end: int) -> Attempt:
         """Returns the attempt that the lines from one to another are."""
-        lines = self.lines(begin, end)
-        made = Attempt(
-            self.name(lines), self.moves(_OF_SCRAMBLE).of(begin, end), (), None, (), self._kinds.count(_BEFORE, begin, end),
-            self._doubt(lines) if any(self._doubts[begin:end]) else None)
-        return made if self._kinds.find(STEP, begin, end) < 0 else self._with_steps(made, lines)
+        before, doubt = self._kinds.count(_BEFORE, begin, end), self._doubt(begin, end)
+        made = Attempt(self.name(begin, end), self.moves(_OF_SCRAMBLE).of(begin, end), (), None, (), before, doubt)
+        return made if self._kinds.find(STEP, begin, end) < 0 else self._with_steps(made, self.lines(begin, end))
 
     def _with_steps(self, attempt: Attempt, lines: Sequence[TextLine]) -> Attempt:
         all_steps = [line for line in lines if line.kind == STEP]
@@ -230,10 +233,12 @@ class Reader:
             solution=self.moves(_OF_SOLUTION).of(told[0].at, told[-1].at + 1) if told else None,
             candidates=tuple(self._candidates(lines)) if lines[-1].group > 0 else ())
 
-    def _doubt(self, lines: Sequence[TextLine]) -> AttemptDoubt:
+    def _doubt(self, begin: int, end: int) -> Optional[AttemptDoubt]:
         """Returns what makes one doubt the first line that is in doubt."""
-        doubted = next(line for line in lines if line.doubt)
-        return AttemptDoubt(_DOUBTS[doubted.doubt], self.place(doubted.doubt_at))
+        doubts = self._doubts[begin:end].lstrip(b"\0")
+        if not doubts:
+            return None
+        return AttemptDoubt(_DOUBTS[doubts[0]], self.place(self._line(end - len(doubts)).doubt_at))
 
 
 class Found(NamedTuple):
@@ -250,8 +255,9 @@ class Found(NamedTuple):
 
     def solving_part(self) -> Optional[TextPlace]:
         """Returns where a part of its steps begins that solves, or None."""
-        has_steps = self.attempt.steps or self.attempt.candidates
-        return self.reader.solving_part(self.attempt.scramble.line, self.begin, self.end) if has_steps and self.reader else None
+        if self.reader is None or not (self.attempt.steps or self.attempt.candidates):
+            return None
+        return self.reader.solving_part(self.attempt.scramble.line, self.begin, self.end)
 
 
 def attempts_of(whole: Written) -> Lazily[Found]:

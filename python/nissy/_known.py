@@ -31,12 +31,17 @@ def _number(name: str) -> str:
     return found.group(1) if found else ""
 
 
+def _name(reader: Reader, part: List[TextLine]) -> str:
+    """Returns the first head of a part, or nothing."""
+    return reader.name(part[0].at, part[-1].at + 1)
+
+
 def _under_heads(reader: Reader, lines: List[TextLine]) -> List[List[TextLine]]:
     """Returns lines in parts, each of which begins at a head. Before moves there may be two, but not of two numbers."""
     parts: List[List[TextLine]] = [[]]
     number, has_moves = "", False
     for line in lines:
-        own = _number(reader.name([line]))
+        own = _number(reader.name(line.at, line.at + 1))
         if line.is_headed and (has_moves or (own and number and own != number)):
             parts.append([])
             number, has_moves = "", False
@@ -70,7 +75,7 @@ def _read(reader: Reader, part: List[TextLine]) -> List[Found]:
     begin = max(line.begin, part[head].head_end)
     own = Reader(reader.whole, _BEFORE + reader.whole.data[begin:part[-1].end], begin - len(_BEFORE))
     first, *others = own.attempts()
-    begun = Found(own.attempt(first[0] + 1, first[1]), own, first[0] + 1, first[1]).replaced(name=reader.name(part))
+    begun = Found(own.attempt(first[0] + 1, first[1]), own, first[0] + 1, first[1]).replaced(name=_name(reader, part))
     return [begun, *(Found(own.attempt(*lines), own, *lines) for lines in others)]
 
 
@@ -88,5 +93,5 @@ def solutions_of(whole: Written, count: int) -> List[Part]:
     """Returns the solutions in a text, of this many scrambles."""
     reader = Reader(whole, whole.data)
     parts = _parts(reader, reader.lines(0, reader.count), count)
-    of = _scrambles_of([reader.name(part) for part in parts], count)
+    of = _scrambles_of([_name(reader, part) for part in parts], count)
     return [Part(scramble, whole.at(part[0].begin), _read(reader, part)) for scramble, part in zip(of, parts)]

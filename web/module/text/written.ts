@@ -206,6 +206,7 @@ export class Cuts {
   cut(begin: number, end: number, leftOut: number): PlainLine {
     const from = this.#units === null ? begin : this.#units[begin];
     const to = this.#units === null ? end : this.#units[end];
-    return { line: this.#line.slice(from, to), places: this.#places.slice(from, to), leftOut: NAMES_LEFT_OUT[leftOut].slice() };
+    const [line, places] = [this.#line.slice(from, to), this.#places.slice(from, to)];
+    return { line, places, leftOut: NAMES_LEFT_OUT[leftOut].slice() };
   }
 }
