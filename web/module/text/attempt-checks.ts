@@ -1,7 +1,7 @@
 // What `check` says of each attempt of a text, where faults and forms stand in the text, and what makes one doubt the
 // reading of an attempt that isn't solved.
 import {
-  ANOTHER_SCRAMBLE, A_PART, WHICH_SCRAMBLE, attemptOf, foundIn, withoutPlaces, type Attempt, type AttemptDoubt,
+  ANOTHER_SCRAMBLE, A_PART, WHICH_SCRAMBLE, attemptOf, ofEachAttempt, withoutPlaces, type Attempt, type AttemptDoubt,
   type FoundAttempt,
 } from "./attempts.js";
 import { foundInPart, knownParts, type KnownPart } from "./known.js";
@@ -94,8 +94,8 @@ function seenAttempt(checks: Checks, found: FoundAttempt, text: TextInMemory): S
 
 /** The attempts of a text, each with what the module says of it. */
 export function seenAttempts(instance: Instance, text: TextInMemory): SeenAttempt[] {
-  const [found, checks] = [foundIn(text), new Checks(instance)];
-  return text.kept(() => found.map((each) => seenAttempt(checks, each, text)));
+  const checks = new Checks(instance);
+  return ofEachAttempt(text, (found) => seenAttempt(checks, found, text));
 }
 
 /** Whether two scrambles make the same cube. */

@@ -153,11 +153,13 @@ export class AttemptReader {
   }
 }
 
-/** The attempts of a text as solvers write it, at least one, each with its lines. */
-export function foundIn(text: TextInMemory): FoundAttempt[] {
+/** What is made of each attempt of a text as solvers write it, of which there is at least one. Other calls may be made
+ * on the way: the text stays in the memory. */
+export function ofEachAttempt<Made>(text: TextInMemory, make: (found: FoundAttempt) => Made): Made[] {
   const reader = new AttemptReader(text);
-  const found = byAttempt(text.lines()).filter(hasScramble).map((lines) => reader.found(lines));
-  return found.length > 0 ? found : [{ attempt: attemptOf(withoutPlaces("")), lines: [] }];
+  const attempts = byAttempt(text.lines()).filter(hasScramble);
+  if (attempts.length === 0) return text.kept(() => [make({ attempt: attemptOf(withoutPlaces("")), lines: [] })]);
+  return text.kept(() => attempts.map((lines) => make(reader.found(lines))));
 }
 
-export const attemptsIn = (text: TextInMemory): Attempt[] => foundIn(text).map(({ attempt }) => attempt);
+export const attemptsIn = (text: TextInMemory): Attempt[] => ofEachAttempt(text, ({ attempt }) => attempt);
