@@ -105,8 +105,8 @@ typedef struct nissy_moves_part {
  * place in the text: in the order of the lines, parted by a blank, or a line feed, whose place is the end of the line before. Of each it reads
  * the bytes from `moves` to `comment` as nissy_plain reads moves; those of an `inverse` one stand in brackets, whose places are `moves` and
  * `comment`.
- * `left_out` says what one of these lines has left out, in its label and its comment too. As long as there is room, `parts` tells in turn where the
- * moves of each line stand that is wanted.
+ * `left_out` says what one of these lines has left out, in its label and its comment too. If all is written, `parts` tells in turn where the moves
+ * of each line stand that is wanted, as long as there is room.
  *
  * Three bytes and places for each from `moves` to `comment`, and three for each line, are never too few. NISSY_USAGE: no moves have this
  * number. Any lines may be given: of a `comment` beyond the text what is in the text is read, of a `moves` not before that nothing; what isn't 0
