@@ -5,7 +5,7 @@ import { STATUS } from "../engine/status.js";
 import type { Exports, Instance } from "../engine/instance.js";
 import { Cuts, type PlainLine, type WrittenLine, type WrittenText } from "./written.js";
 
-const READ = TEXT_LINE.read;
+const LINE_READ = TEXT_LINE.read;
 
 /** What the module tells of a line of a text: numbers of its kind and its doubt, and places in bytes, each read when it
  * is asked for. */
@@ -21,20 +21,20 @@ export class TextLine {
     this.#at = nth * TEXT_LINE.bytes;
   }
 
-  get kind() { return READ.kind(this.#told, this.#at); }
-  get isSolution() { return READ.solution(this.#told, this.#at) === 1; }
-  get isHeaded() { return READ.headed(this.#told, this.#at) === 1; }
-  get isLabelled() { return READ.labelled(this.#told, this.#at) === 1; }
-  get doubt() { return READ.doubt(this.#told, this.#at); }
-  get attempt() { return READ.attempt(this.#told, this.#at); }
-  get group() { return READ.group(this.#told, this.#at); }
-  get begin() { return READ.begin(this.#told, this.#at); }
-  get headEnd() { return READ.headEnd(this.#told, this.#at); }
-  get labelBegin() { return READ.labelBegin(this.#told, this.#at); }
-  get labelEnd() { return READ.labelEnd(this.#told, this.#at); }
-  get moves() { return READ.moves(this.#told, this.#at); }
-  get end() { return READ.end(this.#told, this.#at); }
-  get doubtAt() { return READ.doubtAt(this.#told, this.#at); }
+  get kind() { return LINE_READ.kind(this.#told, this.#at); }
+  get isSolution() { return LINE_READ.solution(this.#told, this.#at) === 1; }
+  get isHeaded() { return LINE_READ.headed(this.#told, this.#at) === 1; }
+  get isLabelled() { return LINE_READ.labelled(this.#told, this.#at) === 1; }
+  get doubt() { return LINE_READ.doubt(this.#told, this.#at); }
+  get attempt() { return LINE_READ.attempt(this.#told, this.#at); }
+  get group() { return LINE_READ.group(this.#told, this.#at); }
+  get begin() { return LINE_READ.begin(this.#told, this.#at); }
+  get headEnd() { return LINE_READ.headEnd(this.#told, this.#at); }
+  get labelBegin() { return LINE_READ.labelBegin(this.#told, this.#at); }
+  get labelEnd() { return LINE_READ.labelEnd(this.#told, this.#at); }
+  get moves() { return LINE_READ.moves(this.#told, this.#at); }
+  get end() { return LINE_READ.end(this.#told, this.#at); }
+  get doubtAt() { return LINE_READ.doubtAt(this.#told, this.#at); }
 }
 
 /** Calls the module, which writes a line: what each call is handed over first, and rooms for the line and its places.
@@ -158,7 +158,8 @@ export class TextInMemory {
     const told = memory.copy(this.#lines, count * TEXT_LINE.bytes);
     this.#told = [];
     for (let nth = 0, at = 0; nth < count; nth += 1, at += TEXT_LINE.bytes) {
-      if (READ.kind(told, at) !== BLANK || READ.headed(told, at) === 1) this.#told.push(new TextLine(told, nth));
+      const isTold = LINE_READ.kind(told, at) !== BLANK || LINE_READ.headed(told, at) === 1;
+      if (isTold) this.#told.push(new TextLine(told, nth));
     }
     return this.#told;
   }
