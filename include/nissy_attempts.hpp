@@ -128,7 +128,8 @@ inline plain moves_in(std::string_view text, text_lines lines, nissy_moves_of wh
     for (const nissy_text_line &line : lines) most += line.comment - line.moves + 1;
     const std::size_t room = 3 * most, count = static_cast<std::size_t>(lines.last - lines.first);
     return written_by(room, [=](std::uint8_t *out, std::uint64_t *places) {
-        return nissy_text_moves(text_bytes(text), text.size(), lines.first, count, static_cast<std::uint8_t>(which), out, room, places, room);
+        return nissy_text_moves(text_bytes(text), text.size(), lines.first, count, static_cast<std::uint8_t>(which), out, room, places, room,
+                                nullptr, 0);
     });
 }
 

@@ -94,18 +94,27 @@ enum nissy_moves_of {
     NISSY_OF_EACH_STEP = 3 /* all steps, each a line of its own, as nissy_solving_part takes them */
 };
 
+/* Where the moves of a line stand in what nissy_text_moves writes. */
+typedef struct nissy_moves_part {
+    uint64_t begin; /* with their brackets, in bytes that are written, from 0 */
+    uint64_t end;
+    uint8_t left_out; /* what this line has left out, in its label and its comment too */
+} nissy_moves_part;
+
 /* Writes the moves of those of some lines that are wanted, one of nissy_moves_of, as one line for the other calls, and for each byte of it its
  * place in the text: in the order of the lines, parted by a blank, or a line feed, whose place is the end of the line before. Of each it reads
  * the bytes from `moves` to `comment` as nissy_plain reads moves; those of an `inverse` one stand in brackets, whose places are `moves` and
  * `comment`.
- * `left_out` says what one of these lines has left out, in its label and its comment too.
+ * `left_out` says what one of these lines has left out, in its label and its comment too. If all is written, `parts` tells in turn where the moves
+ * of each line stand that is wanted, as long as there is room.
  *
  * Three bytes and places for each from `moves` to `comment`, and three for each line, are never too few. NISSY_USAGE: no moves have this
  * number. Any lines may be given: of a `comment` beyond the text what is in the text is read, of a `moves` not before that nothing; what isn't 0
  * says yes. It takes no memory. Of nissy.c on a processor with the other order of bytes it takes some for a copy of the lines, and returns
  * NISSY_STOPPED if that is refused. */
 nissy_plain_answer nissy_text_moves(const uint8_t *text, size_t text_length, const nissy_text_line *lines, size_t count, uint8_t which,
-                                    uint8_t *out, size_t out_room, uint64_t *places, size_t places_room);
+                                    uint8_t *out, size_t out_room, uint64_t *places, size_t places_room, nissy_moves_part *parts,
+                                    size_t parts_room);
 
 /* The most bytes of the first eight steps, in which a part is looked for. */
 #define NISSY_MOST_STEPS 65536

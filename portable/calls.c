@@ -215,22 +215,35 @@ static unsigned char *copied_lines(const nissy_text_line *lines, size_t count) {
     }
     return made;
 }
+
+/* Where moves stand, in the form of the engine, and in that of C again: how many of them are written isn't told. */
+static void put_parts(nissy_moves_part *parts, size_t count) {
+    for (size_t at = 0; at < count; at += 1) store8(address(&parts[at].begin), parts[at].begin), store8(address(&parts[at].end), parts[at].end);
+}
+
+static void take_parts(nissy_moves_part *parts, size_t count) {
+    for (size_t at = 0; at < count; at += 1) parts[at].begin = load8(address(&parts[at].begin)), parts[at].end = load8(address(&parts[at].end));
+}
 #endif
 
 nissy_plain_answer nissy_text_moves(const uint8_t *text, size_t text_length, const nissy_text_line *lines, size_t count, uint8_t which,
-                                    uint8_t *out, size_t out_room, uint64_t *places, size_t places_room) {
+                                    uint8_t *out, size_t out_room, uint64_t *places, size_t places_room, nissy_moves_part *parts,
+                                    size_t parts_room) {
     STACK(STACK_OF_nissy_text_moves);
     _Alignas(16) unsigned char answer[16];
+    _Static_assert(sizeof(nissy_moves_part) == 24, "nissy_moves_part has the size that it has in the engine");
 #if NISSY_BYTEWISE
     unsigned char *const from = copied_lines(lines, count);
     if (from == NULL) return (nissy_plain_answer){.status = NISSY_STOPPED};
+    put_parts(parts, parts_room);
 #else
     const nissy_text_line *const from = lines;
 #endif
     w_nissy_text_moves(STACK_END, address(answer), address(text), text_length, address(from), count, which, address(out), out_room,
-                       address(places), places_room);
+                       address(places), places_room, address(parts), parts_room);
 #if NISSY_BYTEWISE
     free(from);
+    take_parts(parts, parts_room);
 #endif
     const nissy_plain_answer said = nissy_plain_answer_at(address(answer));
     take_places(places, said.length);

@@ -1,23 +1,27 @@
 """Reads what solvers write down of their attempts, by the library: scrambles, each with the steps of a solution and
 candidates beside it. Nothing of it is called at fault here: what is no line of moves is at fault where it is used."""
 import ctypes
-from bisect import bisect_left
-from itertools import groupby
+from itertools import accumulate, groupby
+from operator import and_, attrgetter, ne
 from typing import Any, Dict, Iterator, List, NamedTuple, Optional, Sequence, Tuple
 
 from . import _library
 from ._given import Text, bytes_of
-from ._library import TEXT_LINE
-from ._written import AROUND, PlainLine, TextPlace, Written, WrittenLine, left_around, written_by
+from ._lazily import Lazily
+from ._library import MOVES_PART, TEXT_LINE
+from ._written import Cuts, PlainLine, TextPlace, Written, WrittenLine, written_by
 
 _BEFORE, SCRAMBLE, STEP, _NOTE = range(1, 5)
 # whose moves the library writes
 _OF_SCRAMBLE, _OF_STEPS, _OF_SOLUTION, _OF_EACH_STEP = range(4)
+# 1 for each kind of line whose moves these are
+_IS_OF_SCRAMBLE, _IS_STEP = (bytes(kind == wanted for kind in range(256)) for wanted in (SCRAMBLE, STEP))
+_GROUP = attrgetter("group")
+# the bytes of a line that say what it is, whether it is of the solution, whether it has a head, and what its doubt is
+_BYTES = (0, 1, 2, 5)
 # the white space of the web's scripts
 _WHITE = ("\n\t\v\f\r \u00a0\u1680\u2000\u2001\u2002\u2003\u2004\u2005\u2006\u2007\u2008\u2009\u200a\u2028\u2029\u202f"
           "\u205f\u3000\ufeff")
-# which byte of a line says whether it has a head
-_HEADED = 2
 # what makes one doubt a line, by the library's numbers
 _DOUBTS = ("", "another scramble", "several solutions", "side", "letters", "small letters", "comment", "repetition",
            "insertion")
@@ -88,6 +92,34 @@ class TextLine(NamedTuple):
     doubt_at: int
 
 
+class Moves:
+    """The moves of those lines of a text that are wanted, written one after another."""
+
+    def __init__(self, whole: Written, written: WrittenLine, nth: Sequence[int], parts: List[Tuple[Any, ...]]) -> None:
+        # how many lines before each one of the text are wanted, and where their moves stand, with the library's number
+        # for what each leaves out
+        self._written, self._nth, self._parts = written, nth, parts
+        self._cuts = Cuts(whole, written)
+
+    def of(self, begin: int, end: int) -> PlainLine:
+        """Returns the moves of the lines from one to another as one line."""
+        first, last = self._nth[begin], self._nth[end]
+        if first == last:
+            return _NOTHING
+        start, stop, left_out = self._parts[first]
+        for _, stop, more in self._parts[first + 1:last]:
+            left_out |= more
+        return self._cuts.cut(start, stop, left_out)
+
+    def written(self, begin: int, end: int) -> Tuple[bytes, Sequence[int]]:
+        """Returns the same in bytes, with the place of each in the text."""
+        first, last = self._nth[begin], self._nth[end]
+        if first == last:
+            return b"", ()
+        start, stop = self._parts[first][0], self._parts[last - 1][1]
+        return self._written.line[start:stop], self._written.places[start:stop]
+
+
 class Reader:
     """A text that is read by lines, or a part of one: some bytes, with this many of the whole text before them."""
 
@@ -97,63 +129,55 @@ class Reader:
         # the library reads the lines there again
         self._room = bytearray(TEXT_LINE.size * most)
         self._address = ctypes.addressof(ctypes.c_char.from_buffer(self._room))
-        self._count = _library.nissy_text_lines(data, len(data), self._address, most).lines
-        # the moves of all lines, by whose they are
-        self._all: Dict[int, WrittenLine] = {}
-        self._steps: Dict[int, PlainLine] = {}
+        self.count = _library.nissy_text_lines(data, len(data), self._address, most).lines
+        self._told = memoryview(self._room)[:TEXT_LINE.size * self.count]
+        self._kinds, self._are_solution, self._are_headed, self._doubts = (
+            bytes(self._told[at::TEXT_LINE.size]) for at in _BYTES)
+        # by whose they are
+        self._moves: Dict[int, Moves] = {}
 
-    def lines(self) -> List[TextLine]:
-        """Returns the lines that aren't blank, or have only a head."""
-        told = TEXT_LINE.iter_unpack(memoryview(self._room)[:TEXT_LINE.size * self._count])
-        return [TextLine._make((at, *line)) for at, line in enumerate(told) if line[0] or line[_HEADED]]
+    def lines(self, begin: int, end: int) -> List[TextLine]:
+        """Returns those of the lines from one to another that aren't blank, or have only a head."""
+        told = TEXT_LINE.iter_unpack(self._told[TEXT_LINE.size * begin:TEXT_LINE.size * end])
+        return [TextLine._make((at, *line)) for at, line in enumerate(told, begin) if line[0] or line[2]]
 
-    def moves(self, lines: Sequence[TextLine], which: int) -> PlainLine:
-        """Returns the moves of those of some lines that are wanted, one after another."""
-        return self.whole.plain(self._written(lines, which), self._before) if lines else _NOTHING
+    def _line(self, at: int) -> TextLine:
+        return TextLine(at, *TEXT_LINE.unpack_from(self._room, TEXT_LINE.size * at))
 
-    def _written(self, lines: Sequence[TextLine], which: int) -> WrittenLine:
-        """Returns the same in bytes, with places in the bytes that are read."""
-        count = lines[-1].at + 1 - lines[0].at
-        return self._written_of(lines[0].at, count, lines[-1].end - lines[0].begin, which)
+    def attempts(self) -> List[Tuple[int, int]]:
+        """Returns from which line to which each attempt reaches that has a scramble."""
+        numbers = self._told.cast("B").cast("Q")[1::TEXT_LINE.size // 8].tolist()
+        begins = [0, *(at for at, is_first in enumerate(map(ne, numbers, numbers[1:]), 1) if is_first), self.count]
+        return [it for it in zip(begins, begins[1:]) if self._kinds.find(SCRAMBLE, *it) >= 0]
 
-    def _written_of(self, first: int, count: int, size: int, which: int) -> WrittenLine:
-        """Returns the same of this many lines, which have this many bytes."""
-        place = self._address + TEXT_LINE.size * first
-        return written_by(3 * (size + count), lambda *room: _library.nissy_text_moves(
-            self._data, len(self._data), place, count, which, *room))
+    def moves(self, which: int) -> Moves:
+        """Returns the moves of all lines that are wanted."""
+        if which not in self._moves:
+            is_of_kind = self._kinds.translate(_IS_OF_SCRAMBLE if which == _OF_SCRAMBLE else _IS_STEP)
+            wanted = map(and_, is_of_kind, self._are_solution) if which == _OF_SOLUTION else is_of_kind
+            nth = [0, *accumulate(wanted)]
+            room = bytearray(MOVES_PART.size * nth[-1] + 1)
+            parts = (ctypes.addressof(ctypes.c_char.from_buffer(room)), nth[-1])
+            written = written_by(3 * (len(self._data) + self.count), lambda *rooms: _library.nissy_text_moves(
+                self._data, len(self._data), self._address, self.count, which, *rooms, *parts))
+            if self._before:
+                # what stands before the text isn't cut out
+                written = written._replace(places=tuple(max(self._before + place, 0) for place in written.places))
+            self._moves[which] = Moves(self.whole, written, nth, list(MOVES_PART.iter_unpack(memoryview(room)[:-1])))
+        return self._moves[which]
 
-    def _of_line(self, line: TextLine, which: int) -> PlainLine:
-        """Returns the moves of one line, cut out of those of all, if these tell what it leaves out: if it is written as
-        it stands, or if none of them leaves out anything among its moves."""
-        if which not in self._all:
-            self._all[which] = self._written_of(0, self._count, len(self._data), which)
-        written, places, left_out = self._all[which]
-        begin, end = bisect_left(places, line.moves), bisect_left(places, line.comment)
-        own, around = written[begin:end], left_around(line.label_begin < line.label_end, line.comment < line.end)
-        if line.is_inverse or self._data[line.head_end:line.label_begin].strip():
-            return self.moves([line], which)
-        if own == self._data[line.moves:line.comment]:
-            return self.whole.cut(own, self._before + line.moves, around)
-        if left_out & ~AROUND:
-            return self.moves([line], which)
-        return self.whole.plain(WrittenLine(own, places[begin:end], around), self._before)
-
-    def _in_one(self, wanted: Sequence[TextLine], lines: Sequence[TextLine], which: int) -> PlainLine:
-        """Returns the moves of those of some lines that are wanted, which are these."""
-        return self._of_line(wanted[0], which) if len(wanted) == 1 else self.moves(lines, which)
-
-    def solving_part(self, scramble: str, lines: Sequence[TextLine]) -> Optional[TextPlace]:
-        """Returns where a part of the steps of an attempt begins that solves a scramble, or None."""
-        if not lines:
+    def solving_part(self, scramble: str, begin: int, end: int) -> Optional[TextPlace]:
+        """Returns where a part of the steps among some lines begins that solves a scramble, or None."""
+        steps, places = self.moves(_OF_EACH_STEP).written(begin, end)
+        if not steps:
             return None
-        data, steps = bytes_of(scramble, ""), self._written(lines, _OF_EACH_STEP)
-        part = _library.nissy_solving_part(data, len(data), steps.line, len(steps.line))
-        return self.place(steps.places[part.begin]) if part.how else None
+        data = bytes_of(scramble, "")
+        part = _library.nissy_solving_part(data, len(data), steps, len(steps))
+        return self.whole.place(self.whole.at(places[part.begin])) if part.how else None
 
-    def step(self, line: TextLine) -> PlainLine:
-        if line.at not in self._steps:
-            self._steps[line.at] = self._of_line(line, _OF_STEPS)
-        return self._steps[line.at]
+    def _steps(self, lines: Sequence[TextLine]) -> Tuple[PlainLine, ...]:
+        moves = self.moves(_OF_STEPS)
+        return tuple(moves.of(line.at, line.at + 1) for line in lines)
 
     def place(self, byte: int) -> TextPlace:
         """Returns the place of a byte in the whole text."""
@@ -170,49 +194,60 @@ class Reader:
         said = self._part(line.head_end, line.end)
         return said[2:].strip(_WHITE) if said.startswith("//") else said
 
-    def name(self, lines: Sequence[TextLine]) -> str:
-        """Returns the first head of some lines, or nothing."""
-        return next((self._part(line.begin, line.head_end) for line in lines if line.is_headed), "")
+    def name(self, begin: int, end: int) -> str:
+        """Returns the first head among the lines from one to another, or nothing."""
+        at = self._are_headed.find(1, begin, end)
+        if at < 0:
+            return ""
+        line = self._line(at)
+        return self._part(line.begin, line.head_end)
 
     def _label(self, line: TextLine) -> str:
         return self._part(line.label_begin, line.label_end)
 
-    def _joined(self, steps: Sequence[TextLine], lines: Sequence[TextLine], which: int) -> PlainLine:
-        """Returns some steps as one line, which are those that are wanted of some lines."""
-        return self.step(steps[0]) if len(steps) == 1 else self.moves(lines, which)
-
     def _candidate(self, lines: List[TextLine]) -> AttemptCandidate:
-        steps = [line for line in lines if line.kind == STEP]
+        steps = self._steps([line for line in lines if line.kind == STEP])
         note = " ".join(self._note(line) for line in lines if line.kind == _NOTE)
         told = next((self._label(line) for line in lines if line.says_solution), "")
-        return AttemptCandidate(tuple(map(self.step, steps)), self._joined(steps, lines, _OF_STEPS), note or told)
+        solution = steps[0] if len(steps) == 1 else self.moves(_OF_STEPS).of(lines[0].at, lines[-1].at + 1)
+        return AttemptCandidate(steps, solution, note or told)
 
     def _candidates(self, lines: Sequence[TextLine]) -> Iterator[AttemptCandidate]:
         """Returns the groups of an attempt that have steps, but the first one."""
-        for number, group in groupby((line for line in lines if line.kind >= STEP), lambda line: line.group):
+        for number, group in groupby((line for line in lines if line.kind >= STEP), _GROUP):
             own = list(group)
             if number > 0 and any(line.kind == STEP for line in own):
                 yield self._candidate(own)
 
-    def attempt(self, lines: Sequence[TextLine]) -> Attempt:
+    def attempt(self, begin: int, end: int) -> Attempt:
+        """Returns the attempt that the lines from one to another are."""
+        before, doubt = self._kinds.count(_BEFORE, begin, end), self._doubt(begin, end)
+        made = Attempt(self.name(begin, end), self.moves(_OF_SCRAMBLE).of(begin, end), (), None, (), before, doubt)
+        return made if self._kinds.find(STEP, begin, end) < 0 else self._with_steps(made, self.lines(begin, end))
+
+    def _with_steps(self, attempt: Attempt, lines: Sequence[TextLine]) -> Attempt:
         all_steps = [line for line in lines if line.kind == STEP]
         told = [line for line in all_steps if line.is_solution]
-        steps = [line for line in all_steps if line.group == 0] or told
-        doubted = next((line for line in lines if line.doubt), None)
-        return Attempt(
-            self.name(lines), self._in_one([line for line in lines if line.kind == SCRAMBLE], lines, _OF_SCRAMBLE),
-            tuple(map(self.step, steps)), self._joined(told, lines, _OF_SOLUTION) if told else None,
-            tuple(self._candidates(lines)) if lines and lines[-1].group > 0 else (),
-            sum(line.kind == _BEFORE for line in lines),
-            doubted and AttemptDoubt(_DOUBTS[doubted.doubt], self.place(doubted.doubt_at)))
+        return attempt._replace(
+            steps=self._steps([line for line in all_steps if line.group == 0] or told),
+            solution=self.moves(_OF_SOLUTION).of(told[0].at, told[-1].at + 1) if told else None,
+            candidates=tuple(self._candidates(lines)) if lines[-1].group > 0 else ())
+
+    def _doubt(self, begin: int, end: int) -> Optional[AttemptDoubt]:
+        """Returns what makes one doubt the first line that is in doubt."""
+        doubts = self._doubts[begin:end].lstrip(b"\0")
+        if not doubts:
+            return None
+        return AttemptDoubt(_DOUBTS[doubts[0]], self.place(self._line(end - len(doubts)).doubt_at))
 
 
 class Found(NamedTuple):
-    """An attempt, and its lines among those of a text that was read."""
+    """An attempt, and from which to which line of a text that was read it reaches."""
 
     attempt: Attempt
     reader: Optional[Reader] = None
-    lines: Sequence[TextLine] = ()
+    begin: int = 0
+    end: int = 0
 
     def replaced(self, **fields: Any) -> "Found":
         """Returns the same with other fields of the attempt."""
@@ -220,22 +255,21 @@ class Found(NamedTuple):
 
     def solving_part(self) -> Optional[TextPlace]:
         """Returns where a part of its steps begins that solves, or None."""
-        return self.reader.solving_part(self.attempt.scramble.line, self.lines) if self.reader else None
+        if self.reader is None or not (self.attempt.steps or self.attempt.candidates):
+            return None
+        return self.reader.solving_part(self.attempt.scramble.line, self.begin, self.end)
 
 
-def by_attempts(lines: List[TextLine]) -> List[List[TextLine]]:
-    return [list(own) for _, own in groupby(lines, lambda line: line.attempt)]
-
-
-def attempts_of(whole: Written) -> List[Found]:
+def attempts_of(whole: Written) -> Lazily[Found]:
     reader = Reader(whole, whole.data)
-    read = [Found(reader.attempt(lines), reader, lines) for lines in by_attempts(reader.lines())
-            if any(line.kind == SCRAMBLE for line in lines)]
-    return read or [Found(Attempt("", _NOTHING, (), None, (), 0))]
+    attempts = reader.attempts()
+    if not attempts:
+        return Lazily(1, lambda at: Found(Attempt("", _NOTHING, (), None, (), 0)))
+    return Lazily(len(attempts), lambda at: Found(reader.attempt(*attempts[at]), reader, *attempts[at]))
 
 
-def read_attempts(text: Text) -> List[Attempt]:
-    """The attempts of a text as solvers write it, at least one: a scramble, then the steps of its solution, each on a
-    line with a comment or a label, and blocks of candidates after blank lines; and the same of several numbered
-    scrambles. A text of another form is one scramble."""
-    return [found.attempt for found in attempts_of(Written(text))]
+def read_attempts(text: Text) -> Sequence[Attempt]:
+    """The attempts of a text as solvers write it, at least one, each made when it is asked for: a scramble, then the
+    steps of its solution, each on a line with a comment or a label, and blocks of candidates after blank lines; and the
+    same of several numbered scrambles. A text of another form is one scramble."""
+    return attempts_of(Written(text)).map(attrgetter("attempt"))

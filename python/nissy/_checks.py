@@ -1,10 +1,11 @@
 """Checks the attempts of a text as solvers write it, by the calls for one scramble, one solution and one place."""
-from typing import Any, Dict, Iterable, List, NamedTuple, Optional, Tuple
+from typing import Any, Dict, Iterable, List, NamedTuple, Optional, Sequence, Tuple
 
 from ._attempts import Attempt, AttemptDoubt, Found, attempts_of
-from ._facts import Check, check
-from ._given import Text, each_of
+from ._facts import Check, told_of
+from ._given import Text, bytes_of, each_of
 from ._known import Part, solutions_of
+from ._library import MOST_INPUT
 from ._lines import facelets
 from ._tokens import places_of
 from ._values import Fault, LineFault
@@ -61,15 +62,15 @@ def _checked(found: Found, whole: Written) -> AttemptCheck:
     """Returns what is said of an attempt of a text."""
     attempt = found.attempt
     scramble, solution = attempt.scramble, attempt.solution
-    try:
-        # the scramble has its fault without a solution too
-        told = check(scramble.line, "" if solution is None else solution.line)
-    except LineFault as fault:
-        faulty = scramble if solution is None or fault.part == "scramble" else solution
+    # the scramble has its fault without a solution too
+    told = told_of((bytes_of(scramble.line, ""), b"" if solution is None else bytes_of(solution.line, "")), "solution")
+    if isinstance(told, LineFault):
+        faulty = scramble if solution is None or told.part == "scramble" else solution
         # a scramble that is known has no place in the text
-        place = whole.place(place_in(fault, faulty)) if faulty.places or faulty is solution else None
-        # the traceback would keep what the calls had, as long as the fault is kept
-        return AttemptCheck(attempt, None, fault.with_traceback(None), place, ())
+        place = whole.place(place_in(told, faulty)) if faulty.places or faulty is solution else None
+        return AttemptCheck(attempt, None, told, place, ())
+    if isinstance(told, Fault):
+        raise told
     if solution is None:
         return AttemptCheck(attempt, None, None, None, (), _doubt_of(found))
     doubt = None if told.solved else _doubt_of(found)
@@ -114,10 +115,11 @@ def _checked_solutions(whole: Written, scrambles: List[str]) -> List[AttemptChec
     return [of.get(at, it) for at, it in enumerate(nothing)] + [it for at, it in told if at is None]
 
 
-def check_attempts(text: Text, *, scrambles: Optional[Iterable[Text]] = None) -> List[AttemptCheck]:
+def check_attempts(text: Text, *, scrambles: Optional[Iterable[Text]] = None) -> Sequence[AttemptCheck]:
     """The attempts of a text as solvers write it, as `read_attempts` returns them, each with what `check` says of its
     scramble and solution, or the fault of one of them, and where fault and forms stand in the text; and what makes one
-    doubt the reading of one that isn't solved. Raises Fault if one has too many bytes.
+    doubt the reading of one that isn't solved. Each is checked when it is asked for. Raises Fault if one has too many
+    bytes.
 
     With `scrambles` the text has only solutions, each under a head with the number of its scramble in this list, such
     as `2.` or `Attempt 2 of 3`; or as many without numbers, in its order. There is a check for each scramble in its
@@ -125,5 +127,7 @@ def check_attempts(text: Text, *, scrambles: Optional[Iterable[Text]] = None) ->
     in doubt."""
     whole = Written(text)
     if scrambles is None:
-        return [_checked(found, whole) for found in attempts_of(whole)]
+        checks = attempts_of(whole).map(lambda found: _checked(found, whole))
+        # only so long a text may have a line that is too long, which isn't passed over
+        return checks if len(whole.data) <= MOST_INPUT else list(checks)
     return _checked_solutions(whole, [string_of(it) for it in each_of(scrambles, "the scrambles")])

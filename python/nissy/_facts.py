@@ -176,6 +176,11 @@ def _case(corners: int, edges: int) -> Case:
 
 
 @lru_cache(maxsize=None)
+def _forms(mask: int) -> Tuple[str, ...]:
+    return _chosen(mask, _FORMS)
+
+
+@lru_cache(maxsize=None)
 def _steps_of(mask: int) -> Tuple[Step, ...]:
     return _chosen(mask, steps())
 
@@ -234,18 +239,25 @@ def check_all(pairs: Iterable[Iterable[Text]],
     a table: what `check` returns; of a pair for which it raises, what it raises, with the number of the pair, from 1,
     as `line` (`raising` raises it). Takes a pair when its answer is asked for, and `progress` as `solve_all` does."""
     def ask(number: int, pair: Tuple[bytes, bytes]) -> Union[Check, Fault]:
-        try:
-            return checked(pair, "solution")
-        except Fault as fault:
-            return of_pair(fault, number).with_traceback(None)
+        told = told_of(pair, "solution")
+        return of_pair(told, number) if isinstance(told, Fault) else told
 
     return pair_by_pair(pairs, ask, progress)
 
 
 def checked(given: Tuple[bytes, bytes], other: str) -> Check:
     """Returns what `check` says of a scramble and another line, which faults call by this name. Raises LineFault."""
+    told = told_of(given, other)
+    if isinstance(told, Fault):
+        raise told
+    return told
+
+
+def told_of(given: Tuple[bytes, bytes], other: str) -> Union[Check, Fault]:
+    """Returns the same, or what `check` raises."""
     answer = _library.nissy_check(given[0], len(given[0]), given[1], len(given[1]))
     if answer.status:
-        fault = fault_of(answer.status, answer.fault, answer.column, given[answer.line - 1], answer.line)
-        raise named(fault, "scramble" if answer.line == 1 else other)
-    return Check(answer.solved == 1, answer.moves, answer.clean_moves, _chosen(answer.forms, _FORMS))
+        line = answer.line
+        fault = fault_of(answer.status, answer.fault, answer.column, given[line - 1], line)
+        return named(fault, "scramble" if line == 1 else other)
+    return Check(answer.solved == 1, answer.moves, answer.clean_moves, _forms(answer.forms))

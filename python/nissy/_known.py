@@ -5,7 +5,7 @@ from collections import Counter
 from itertools import groupby
 from typing import List, NamedTuple, Optional
 
-from ._attempts import SCRAMBLE, STEP, Found, Reader, TextLine, by_attempts
+from ._attempts import SCRAMBLE, STEP, Found, Reader, TextLine
 from ._written import Written
 
 # a whole scramble, after which the library reads lines as steps
@@ -31,12 +31,17 @@ def _number(name: str) -> str:
     return found.group(1) if found else ""
 
 
+def _name(reader: Reader, part: List[TextLine]) -> str:
+    """Returns the first head of a part, or nothing."""
+    return reader.name(part[0].at, part[-1].at + 1)
+
+
 def _under_heads(reader: Reader, lines: List[TextLine]) -> List[List[TextLine]]:
     """Returns lines in parts, each of which begins at a head. Before moves there may be two, but not of two numbers."""
     parts: List[List[TextLine]] = [[]]
     number, has_moves = "", False
     for line in lines:
-        own = _number(reader.name([line]))
+        own = _number(reader.name(line.at, line.at + 1))
         if line.is_headed and (has_moves or (own and number and own != number)):
             parts.append([])
             number, has_moves = "", False
@@ -69,9 +74,9 @@ def _read(reader: Reader, part: List[TextLine]) -> List[Found]:
     line = next((line for line in part[head:] if line.kind), part[head])
     begin = max(line.begin, part[head].head_end)
     own = Reader(reader.whole, _BEFORE + reader.whole.data[begin:part[-1].end], begin - len(_BEFORE))
-    first, *others = by_attempts(own.lines())
-    behind = [Found(own.attempt(lines), own, lines) for lines in others if any(it.kind == SCRAMBLE for it in lines)]
-    return [Found(own.attempt(first[1:]), own, first[1:]).replaced(name=reader.name(part)), *behind]
+    first, *others = own.attempts()
+    begun = Found(own.attempt(first[0] + 1, first[1]), own, first[0] + 1, first[1]).replaced(name=_name(reader, part))
+    return [begun, *(Found(own.attempt(*lines), own, *lines) for lines in others)]
 
 
 def _scrambles_of(names: List[str], count: int) -> List[Optional[int]]:
@@ -87,6 +92,6 @@ def _scrambles_of(names: List[str], count: int) -> List[Optional[int]]:
 def solutions_of(whole: Written, count: int) -> List[Part]:
     """Returns the solutions in a text, of this many scrambles."""
     reader = Reader(whole, whole.data)
-    parts = _parts(reader, reader.lines(), count)
-    of = _scrambles_of([reader.name(part) for part in parts], count)
+    parts = _parts(reader, reader.lines(0, reader.count), count)
+    of = _scrambles_of([_name(reader, part) for part in parts], count)
     return [Part(scramble, whole.at(part[0].begin), _read(reader, part)) for scramble, part in zip(of, parts)]

@@ -60,6 +60,7 @@ FACTS_ANSWER = struct.Struct("=3BxI3H" + 3 * "3H3Bx")
 PART = struct.Struct("=B" + 2 * "2B20s")
 WAY = struct.Struct("=H4B" + 2 * PART.format[1:])
 TEXT_LINE = struct.Struct("=B4?B2x10Q")
+MOVES_PART = struct.Struct("=2QB7x")
 
 _NAME = {"win32": "nissy.dll", "cygwin": "nissy.dll", "darwin": "libnissy.2.dylib"}.get(sys.platform, "libnissy.so.2")
 """What the library is called on this system."""
@@ -135,7 +136,8 @@ nissy_solve_sides = _call("nissy_solve_sides", SidesAnswer, _PLACE, *_READ, *_RE
 nissy_line_after = _call("nissy_line_after", LineAfterAnswer, *_READ, *_READ, *_WRITTEN)
 nissy_plain = _call("nissy_plain", PlainAnswer, *_READ, *_WRITTEN, *_WRITTEN)
 nissy_text_lines = _call("nissy_text_lines", TextAnswer, *_READ, *_WRITTEN)
-nissy_text_moves = _call("nissy_text_moves", PlainAnswer, *_READ, _PLACE, _NUMBER, _BYTE, *_WRITTEN, *_WRITTEN)
+nissy_text_moves = _call(
+    "nissy_text_moves", PlainAnswer, *_READ, _PLACE, _NUMBER, _BYTE, *_WRITTEN, *_WRITTEN, *_WRITTEN)
 nissy_solving_part = _call("nissy_solving_part", PartAnswer, *_READ, *_READ)
 nissy_scramble = _call("nissy_scramble", LineAnswer, _LONG, _LONG, _HALF, *_WRITTEN)
 nissy_steps = _call("nissy_steps", LineAnswer, *_WRITTEN)

@@ -4,7 +4,7 @@ import re
 import struct
 from bisect import bisect_right
 from itertools import accumulate, chain, compress
-from typing import Any, Callable, List, NamedTuple, Optional, Tuple, Union, overload
+from typing import Any, Callable, List, NamedTuple, Optional, Sequence, Tuple, Union, overload
 
 from . import _library, _rooms
 from ._given import Text, bytes_of, kind_of
@@ -14,8 +14,6 @@ from ._values import Fault, LineFault
 # what the library leaves out, by its bits, and what each number of them says
 _NAMES = ("labels", "numbers of moves", "comments", "line numbers", "commas", "signs that aren't seen")
 _LEFT_OUT = [tuple(name for bit, name in enumerate(_NAMES) if number >> bit & 1) for number in range(1 << len(_NAMES))]
-_LABELS, _COMMENTS = 1, 4
-AROUND = _LABELS + _COMMENTS
 # the apostrophes for which the library writes U+2019, and of these those that have fewer bytes
 _APOSTROPHES = "\u2018\u02bc\u2032\u00b4`"
 _SHORTER = ((b"`", 2), (b"\xc2\xb4", 1), (b"\xca\xbc", 1))
@@ -73,11 +71,6 @@ class WrittenLine(NamedTuple):
     left_out: int
 
 
-def left_around(labels: bool, comments: bool) -> int:
-    """Returns the library's number for what stands around moves."""
-    return _LABELS * labels + _COMMENTS * comments
-
-
 def written_by(most: int, call: Callable[..., Any]) -> WrittenLine:
     """Returns what a call writes into a room of this many bytes and places."""
     size = (1 + _PLACE) * most
@@ -122,23 +115,21 @@ class Written:
     def part(self, begin: int, end: int) -> str:
         return self.text[self.at(begin):self.at(end)]
 
-    def cut(self, line: bytes, begin: int, left_out: int) -> PlainLine:
-        """Returns some bytes of this text, from this one on, which are a line as they stand."""
-        if not line.isascii():
-            return self.plain(WrittenLine(line, tuple(range(begin, begin + len(line))), left_out))
-        at = self.at(begin)
-        return PlainLine(line.decode("ascii"), tuple(range(at, at + len(line))), _LEFT_OUT[left_out])
+    def plain(self, written: WrittenLine) -> PlainLine:
+        """Returns a line that was written of this text."""
+        return Cuts(self, written).cut(0, len(written.line), written.left_out)
 
-    def plain(self, written: WrittenLine, before: int = 0) -> PlainLine:
-        """Returns a line that was written of this text, or of a part that has this many bytes before it here."""
-        line, places, left_out = written.line, written.places, _LEFT_OUT[written.left_out]
-        if before:
-            places = tuple(map(before.__add__, places))
+    def signs(self, line: bytes, places: Sequence[int]) -> Optional[Tuple[str, Tuple[int, ...]]]:
+        """Returns a line that was written of this text, and the character here of each of its own; nothing if the text
+        isn't UTF-8."""
         if self._characters is None and line.isascii():
-            return PlainLine(line.decode("ascii"), places, left_out)
-        if self._is_text:
-            firsts = compress(places, line.translate(_BEGINS))
-            return PlainLine(line.decode(), tuple(map(self.at, firsts)), left_out)
+            return line.decode("ascii"), tuple(places)
+        if not self._is_text:
+            return None
+        return line.decode(), tuple(map(self.at, compress(places, line.translate(_BEGINS))))
+
+    def broken(self, line: bytes, places: Sequence[int], left_out: int) -> PlainLine:
+        """Returns a line that was written of this text, which isn't UTF-8."""
         # of a sign that has several bytes the first one counts; what a line has of its own isn't of the text
         signs, own, last = [], [], -1
         for byte, at in zip(line, map(self.at, places)):
@@ -147,7 +138,28 @@ class Written:
                 signs.append(chr(byte) if byte in _OWN else "\u2019" if sign in _APOSTROPHES else sign)
                 own.append(at)
             last = last if byte in _OWN else at
-        return PlainLine("".join(signs), tuple(own), left_out)
+        return PlainLine("".join(signs), tuple(own), _LEFT_OUT[left_out])
+
+
+class Cuts:
+    """A line that was written of a text, of which parts are lines too."""
+
+    def __init__(self, whole: Written, written: WrittenLine) -> None:
+        self._whole, self._written, self._signs = whole, written, whole.signs(written.line, written.places)
+        # how many signs begin before each byte; as many as bytes if all are ASCII
+        self._counts: Optional[List[int]] = None
+        if self._signs is not None and len(self._signs[0]) < len(written.line):
+            self._counts = [0, *accumulate(written.line.translate(_BEGINS))]
+
+    def cut(self, begin: int, end: int, left_out: int) -> PlainLine:
+        """Returns what stands from one byte of the line to another."""
+        if self._signs is None:
+            written = self._written
+            return self._whole.broken(written.line[begin:end], written.places[begin:end], left_out)
+        if self._counts is not None:
+            begin, end = self._counts[begin], self._counts[end]
+        line, places = self._signs
+        return PlainLine(line[begin:end], places[begin:end], _LEFT_OUT[left_out])
 
 
 def plain_line(text: Text) -> PlainLine:

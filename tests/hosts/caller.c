@@ -103,7 +103,7 @@ static written moves_of(text of, lines those, enum nissy_moves_of which) {
     for (size_t at = 0; at < those.count; at++) most += those.first[at].comment - those.first[at].moves + 1;
     written it = {memory(3 * most), memory(24 * most), 0, 0};
     const nissy_plain_answer told =
-        nissy_text_moves(of.bytes, of.length, those.first, those.count, (uint8_t)which, it.bytes, 3 * most, it.places, 3 * most);
+        nissy_text_moves(of.bytes, of.length, those.first, those.count, (uint8_t)which, it.bytes, 3 * most, it.places, 3 * most, NULL, 0);
     it.length = told.length, it.left_out = told.left_out;
     return it;
 }

@@ -12,7 +12,7 @@ import ctypes
 import os
 import re
 import sys
-from typing import Any, Callable, Iterable, List
+from typing import Any, Callable, Iterable, List, Sequence
 
 TOP = os.path.dirname(os.path.dirname(os.path.dirname(os.path.abspath(__file__))))
 sys.path[:0] = [os.path.join(TOP, folder) for folder in ("python", "tests", os.path.join("tests", "model"))]
@@ -157,12 +157,12 @@ def known_check(it: nissy.AttemptCheck) -> str:
     return "|".join([it.attempt.name, attempt_check(it), attempt_doubt(it)])
 
 
-def each_on_a_line(told: Callable[[nissy.AttemptCheck], str], checks: List[nissy.AttemptCheck]) -> str:
+def each_on_a_line(told: Callable[[nissy.AttemptCheck], str], checks: Sequence[nissy.AttemptCheck]) -> str:
     """Something of each check."""
     return "\n".join(map(told, checks))
 
 
-def text_told(text: str, form: Any, known: List[nissy.AttemptCheck]) -> str:
+def text_told(text: str, form: Any, known: Sequence[nissy.AttemptCheck]) -> str:
     """All that is told of a text, with the checks of known scrambles."""
     checks = nissy.check_attempts(form)
     return PARTED.join([plain_line(nissy.plain_line(form)), each_on_a_line(attempt_check, checks), each_on_a_line(attempt_doubt, checks),

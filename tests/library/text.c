@@ -79,7 +79,8 @@ static void moves_are_of_the_text(guarded text, const char *name) {
     uint64_t places[96 * MOST_PARTS];
     const nissy_text_answer got = nissy_text_lines(text.bytes, text.size, lines, 32 * MOST_PARTS);
     for (uint64_t at = 0; at < got.lines; at++) {
-        const nissy_plain_answer told = nissy_text_moves(text.bytes, text.size, lines + at, 1, NISSY_OF_STEPS, out, sizeof out, places, sizeof out);
+        const nissy_plain_answer told = nissy_text_moves(text.bytes, text.size, lines + at, 1, NISSY_OF_STEPS, out, sizeof out, places, sizeof out,
+                                                         NULL, 0);
         int is_right = told.status == NISSY_DONE && (lines[at].kind == NISSY_STEP_LINE || told.length == 0);
         const uint64_t skipped = lines[at].inverse && told.length > 0;
         for (uint64_t byte = skipped; byte + skipped < told.length; byte++) {
@@ -128,7 +129,7 @@ static void moves_are(const char *text, const nissy_text_line *lines, size_t cou
                       uint8_t left_out) {
     guarded read = copied(text, strlen(text)), out = untouched(strlen(line) + 3), of = guard(8 * (strlen(line) + 3));
     const nissy_plain_answer got = nissy_text_moves(read.bytes, read.size, lines, count, which, out.bytes, out.size, (uint64_t *)(void *)of.bytes,
-                                                    strlen(line) + 3);
+                                                    strlen(line) + 3, NULL, 0);
     holds(got.status == NISSY_DONE && got.length == strlen(line) && memcmp(out.bytes, line, got.length) == 0, "the moves", line);
     holds(memcmp(of.bytes, places, 8 * strlen(line)) == 0, "their places", line);
     holds(got.left_out == left_out, "what they leave out", line);
@@ -136,11 +137,27 @@ static void moves_are(const char *text, const nissy_text_line *lines, size_t cou
     if (got.length > 0) {
         guarded small = guard(got.length - 1);
         const nissy_plain_answer few = nissy_text_moves(read.bytes, read.size, lines, count, which, small.bytes, small.size,
-                                                        (uint64_t *)(void *)of.bytes, strlen(line) + 3);
+                                                        (uint64_t *)(void *)of.bytes, strlen(line) + 3, NULL, 0);
         holds(few.status == NISSY_ROOM && few.length < got.length, "too small a room for them", line);
         let_go(small);
     }
     let_go(read), let_go(out), let_go(of);
+}
+
+/* Whether this is told of where the moves of some lines of a text stand, so many parts at most. */
+static void parts_are(const char *text, const nissy_text_line *lines, size_t count, uint8_t which, const nissy_moves_part *wanted, size_t most) {
+    uint8_t out[64];
+    uint64_t places[64];
+    guarded room = untouched(sizeof(nissy_moves_part) * most);
+    nissy_moves_part *const parts = (nissy_moves_part *)(void *)room.bytes;
+    const nissy_plain_answer got =
+        nissy_text_moves((const uint8_t *)text, strlen(text), lines, count, which, out, sizeof out, places, 64, parts, most);
+    holds(got.status == NISSY_DONE, "moves with their parts", text);
+    for (size_t at = 0; at < most; at++) {
+        const int is_same = parts[at].begin == wanted[at].begin && parts[at].end == wanted[at].end && parts[at].left_out == wanted[at].left_out;
+        holds(is_same, "where the moves of a line stand", text);
+    }
+    let_go(room);
 }
 
 /* The moves of a sheet: of a scramble on two lines, of steps after a blank line, of which one is on the inverse, and of a solution. */
@@ -158,11 +175,19 @@ static void moves_of_a_sheet(void) {
     moves_are(TEXT, lines, 8, NISSY_OF_EACH_STEP, "(R' )\nL \nD\xe2\x80\x99\nB", STEPS,
               NISSY_LABELS | NISSY_COMMENTS | NISSY_NUMBERS_OF_MOVES | NISSY_LINE_NUMBERS);
     moves_are(TEXT, lines, 8, NISSY_OF_SOLUTION, "D\xe2\x80\x99 B", SOLUTION, NISSY_LABELS);
+    static const nissy_moves_part OF_SCRAMBLE[] = {{0, 3, 0}, {4, 6, NISSY_COMMAS}};
+    static const nissy_moves_part OF_STEPS[] = {
+        {0, 5, NISSY_LABELS | NISSY_COMMENTS}, {6, 8, NISSY_LINE_NUMBERS | NISSY_NUMBERS_OF_MOVES}, {9, 13, NISSY_LABELS}, {14, 15, 0}};
+    static const nissy_moves_part OF_SOLUTION[] = {{0, 4, NISSY_LABELS}, {5, 6, 0}};
+    parts_are(TEXT, lines, 8, NISSY_OF_SCRAMBLE, OF_SCRAMBLE, 2);
+    for (size_t most = 0; most <= 4; most++) parts_are(TEXT, lines, 8, NISSY_OF_STEPS, OF_STEPS, most);
+    parts_are(TEXT, lines, 8, NISSY_OF_EACH_STEP, OF_STEPS, 4);
+    parts_are(TEXT, lines, 8, NISSY_OF_SOLUTION, OF_SOLUTION, 2);
     moves_are(TEXT, lines, 0, NISSY_OF_STEPS, "", SOLUTION, 0);
     moves_are(TEXT, lines + 6, 1, NISSY_OF_SCRAMBLE, "", SOLUTION, 0);
     uint8_t byte = UNTOUCHED;
     uint64_t place = 0;
-    const nissy_plain_answer none = nissy_text_moves((const uint8_t *)TEXT, sizeof TEXT - 1, lines, 8, 4, &byte, 1, &place, 1);
+    const nissy_plain_answer none = nissy_text_moves((const uint8_t *)TEXT, sizeof TEXT - 1, lines, 8, 4, &byte, 1, &place, 1, NULL, 0);
     holds(none.status == NISSY_USAGE && none.length == 0 && none.left_out == 0 && byte == UNTOUCHED, "an unknown number", "moves of a sheet");
 }
 
@@ -237,7 +262,8 @@ static void nothing(void) {
         uint8_t one;
         uint64_t other;
     };
-    const int is_whole = sizeof(nissy_text_line) == 88 && sizeof(nissy_text_answer) == 24 && sizeof(nissy_plain_answer) == 16;
+    const int is_whole = sizeof(nissy_text_line) == 88 && sizeof(nissy_text_answer) == 24 && sizeof(nissy_plain_answer) == 16 &&
+                         sizeof(nissy_moves_part) == 24;
     holds(is_whole || offsetof(struct aligned, other) != sizeof(uint64_t), "its size, if numbers are aligned to theirs", "each struct");
 }
 

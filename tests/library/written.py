@@ -79,6 +79,22 @@ def attempts(tally: Tally) -> None:
         tally.equal("a byte that is no text", [it.scramble.line for it in nissy.read_attempts(odd)], ["R \udcff", "U\udcff"])
 
 
+def in_turn(tally: Tally) -> None:
+    """Attempts and checks, each made when it is asked for, are a sequence as a list is; what the text becomes meanwhile changes none."""
+    text = bytearray(b"1. R\n2. U Q\n3. F\n")
+    read, checked = nissy.read_attempts(text), nissy.check_attempts(text)
+    text[:] = b"D" * len(text)
+    tally.equal("the same", [it.attempt for it in checked], read)
+    tally.equal("their names", [it.name for it in read], ["1.", "2.", "3."])
+    tally.equal("the last, a part, and the other way round", (read[-1].name, len(read[1:]), [it.name for it in read[::-1]]),
+                ("3.", 2, ["3.", "2.", "1."]))
+    tally.equal("a check alone, twice", (checked[1].place, checked[1]), (nissy.TextPlace(10, 2, 6), checked[1]))
+    tally.holds("fewer aren't the same", read != read[:2])
+    raised(IndexError, lambda: read[3])
+    copied = pickle.loads(pickle.dumps(checked))
+    tally.holds("a copy is a list of the same", isinstance(copied, list) and copied == checked and repr(copied) == repr(checked))
+
+
 def places(tally: Tally) -> None:
     """Where a fault of a part stands in the whole text."""
     first, _ = nissy.read_attempts(SHEET)
@@ -193,4 +209,4 @@ def times(tally: Tally) -> None:
 
 
 if __name__ == "__main__":
-    tried(line, attempts, places, checks, known, odd_checks, wrong_types, times)
+    tried(line, attempts, in_turn, places, checks, known, odd_checks, wrong_types, times)

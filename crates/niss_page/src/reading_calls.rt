@@ -1,15 +1,15 @@
 //! The calls that read text as solvers write it.
 ghost use Rattle.std.specs.Prelude.{◌≡◌, ◌≤◌, ◌<◌, ◌*◌, length, take, drop};
-ghost use Rattle.niss_text.specs.Pieces.{IsPlain};
-ghost use Rattle.niss_text.specs.Lines.{Covers};
+ghost use Rattle.niss_text.specs.Plain.{IsPlain};
+ghost use Rattle.niss_text.specs.Lines.{Covers, Counts};
 ghost use Rattle.niss_text.specs.Moves.{WritesMoves};
 
-use niss_text::{PlainAnswer, TextAnswer, TextLine, plain_line, text_lines, text_moves};
+use niss_text::{MovesPart, PlainAnswer, TextAnswer, TextLine, plain_line, text_lines, text_moves};
 
 /// Writes a text as one line, with the place of each byte, as `plain_line` of `niss_text`.
 #[unsafe(no_mangle)]
 pub extern "C" fn nissy_plain(text: &[u8], out: &mut [u8], places: &mut [u64]) -> PlainAnswer
-    ensures reads { result.status ≡ 0 → IsPlain text.now (take result.length out.new) (take result.length places.new) }
+    ensures reads { result.status ≡ 0 → IsPlain text.now (take result.length out.new) (take result.length places.new) result.left_out }
     ensures room { 3 * length text.now ≤ length out.old → 3 * length text.now ≤ length places.old → result.status ≡ 0 }
     ensures within { (result.length ≤ length out.old) × (result.length ≤ length places.old) }
     ensures behind { drop result.length out.new ≡ drop result.length out.old }
@@ -22,6 +22,7 @@ pub extern "C" fn nissy_plain(text: &[u8], out: &mut [u8], places: &mut [u64]) -
 #[unsafe(no_mangle)]
 pub extern "C" fn nissy_text_lines(text: &[u8], lines: &mut [TextLine]) -> TextAnswer
     ensures covers { result.lines ≤ length lines.old → Covers text.now 0 (take result.lines lines.new) (length text.now) }
+    ensures counts { Counts text.now 0 result.lines (length text.now) }
     ensures few { result.lines ≤ length text.now }
     ensures done { result.lines ≤ length lines.old → result.status ≡ 0 }
     ensures room { length lines.old < result.lines → result.status ≡ 4 }
@@ -30,7 +31,8 @@ pub extern "C" fn nissy_text_lines(text: &[u8], lines: &mut [TextLine]) -> TextA
     text_lines(text, lines)
 }
 
-/// Writes the moves of some lines of a text as one line, as `text_moves` of `niss_text`.
+/// Writes the moves of some lines of a text as one line, and tells where those of each stand, as `text_moves` of
+/// `niss_text`.
 #[unsafe(no_mangle)]
 pub extern "C" fn nissy_text_moves(
     text: &[u8],
@@ -38,8 +40,9 @@ pub extern "C" fn nissy_text_moves(
     which: u8,
     out: &mut [u8],
     places: &mut [u64],
+    parts: &mut [MovesPart],
 ) -> PlainAnswer
-    ensures { WritesMoves text.now lines.now which out.old out.new places.old places.new result }
+    ensures { WritesMoves text.now lines.now which out.old out.new places.old places.new parts.old parts.new result }
 {
-    text_moves(text, lines, which, out, places)
+    text_moves(text, lines, which, out, places, parts)
 }

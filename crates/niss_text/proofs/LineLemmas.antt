@@ -1,11 +1,11 @@
 -- One more line of a text.
-use Rattle.std.proofs.Common.{◌≡◌, ℕ, ◌+◌, ◌-◌, ◌<◌, ◌≤◌, List, [], ◌∷◌, ◌++◌, length, take, drop, set, get_or, zero-add, refl, sym, subst, ap, ◌∙◌, arith}
-use Rattle.std.proofs.lemmas.List.{take_more_set, drop-set-lt, drop-drop, get_or-drop}
+use Rattle.std.proofs.Common.{◌≡◌, ℕ, zero, suc, ◌+◌, ◌-◌, ◌<◌, ◌≤◌, List, [], ◌∷◌, ◌++◌, length, take, drop, set, get_or, zero-add, refl, sym, subst, ap, ◌∙◌, arith}
+use Rattle.std.proofs.lemmas.List.{take_more_set, drop-set-lt, drop-drop, get_or-drop, length-drop}
 use Rattle.niss_text.specs.declared.text_line.TextLine.{TextLine}
 use Rattle.niss_text.specs.Signs.{ends_line}
 use Rattle.niss_text.specs.Doubts.{IsDoubted}
-use Rattle.niss_text.specs.Lines.{IsLine, IsUnbroken, end_of, end_size}
-unfoldable use Rattle.niss_text.specs.Lines.{Covers}
+use Rattle.niss_text.specs.Lines.{IsLine, IsUnbroken, IsEnd, end_of, end_size}
+unfoldable use Rattle.niss_text.specs.Lines.{Covers, Counts}
 
 pub covers_none : (text : List ℕ) (at : ℕ) → Covers text at [] at
 unfolding Covers
@@ -39,6 +39,34 @@ covers_next text lines count now size whole line room far is told end unbroken a
     let broken : IsUnbroken text now size = λ k lt. ap (λ b. ends_line b) (sym (get_or-drop now text k 0)) ∙ ap (λ n. ends_line (get_or (drop now text) n 0)) (sym (zero-add k)) ∙ unbroken k lt in
     subst (λ (ls : List TextLine). Covers text 0 ls (now + whole)) (sym (take_more_set lines count line room))
     (subst (λ (n : ℕ). Covers text 0 (take count lines ++ line ∷ []) n) there (covers_more text 0 (take count lines) now line size far is told end broken))
+  where
+    sum : now + size + end_size (drop now text) size ≡ now + (size + end_size (drop now text) size)
+    sum = omega arith
+
+pub counts_none : (text : List ℕ) (at : ℕ) → Counts text at 0 at
+unfolding Counts
+counts_none text at = refl
+
+counts_more : (text : List ℕ) (from count to size : ℕ) → Counts text from count to → to < length text → IsUnbroken text to size → IsEnd text (to + size) →
+    Counts text from (suc count) (to + size + end_size text (to + size))
+unfolding Counts
+counts_more text from zero to size same some whole ends =
+    subst (λ (at : ℕ). (at < length text) × ((n : ℕ) × IsUnbroken text at n × IsEnd text (at + n)
+    × (at + n + end_size text (at + n) ≡ to + size + end_size text (to + size)))) (sym same) (some, (size, whole, ends, refl))
+counts_more text from (suc count) to size far some whole ends =
+    (far.0, (far.1.0, far.1.1, far.1.2, counts_more text (from + far.1.0 + end_size text (from + far.1.0)) count to size far.1.3 some whole ends))
+
+-- the same of a line that is cut from the rest of a text
+pub counts_next : (text : List ℕ) (count now size whole : ℕ) → Counts text 0 count now → now < length text → IsUnbroken (drop now text) 0 size →
+    IsEnd (drop now text) size → whole ≡ size + end_size (drop now text) size → Counts text 0 (count + 1) (now + whole)
+counts_next text count now size whole far some unbroken ends all =
+    let there : now + size + end_size text (now + size) ≡ now + whole =
+    ap (λ n. now + size + n) (sym (end_size_at text now size)) ∙ sum ∙ ap (λ n. now + n) (sym all) in
+    let broken : IsUnbroken text now size = λ k lt. ap (λ b. ends_line b) (sym (get_or-drop now text k 0)) ∙ ap (λ n. ends_line (get_or (drop now text) n 0)) (sym (zero-add k)) ∙ unbroken k lt in
+    let ended : IsEnd text (now + size) = λ lt. ap (λ b. ends_line b) (sym (get_or-drop now text size 0)) ∙ ends (omega (arith, lt, length-drop now text)) in
+    let one : suc count ≡ count + 1 = omega arith in
+    subst (λ (n : ℕ). Counts text 0 n (now + whole)) one
+    (subst (λ (n : ℕ). Counts text 0 (suc count) n) there (counts_more text 0 count now size far some broken ended))
   where
     sum : now + size + end_size (drop now text) size ≡ now + (size + end_size (drop now text) size)
     sum = omega arith

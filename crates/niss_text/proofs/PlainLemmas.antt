@@ -6,8 +6,9 @@ use Rattle.niss_text.specs.declared.piece.Piece.{Piece}
 use Rattle.niss_text.specs.declared.piece.Place.TheVariants.{Among}
 use Rattle.niss_text.specs.declared.left_out.LeftOut.{LeftOut}
 use Rattle.niss_text.specs.declared.pen.Beginning.{Beginning}
-use Rattle.niss_text.specs.Pieces.{Part, part, IsPiece, IsFirst, IsPlain, written, is_title}
-use Rattle.niss_text.specs.LeftOut.{left_none, left_of, both}
+use Rattle.niss_text.specs.Pieces.{Part, part, IsPiece, IsFirst, written, is_title}
+use Rattle.niss_text.specs.LeftOut.{left_none, left_of, both, bits_of}
+use Rattle.niss_text.specs.Plain.{IsPlain}
 use Rattle.niss_text.specs.Written.{PutsPart}
 unfoldable use Rattle.niss_text.specs.Pieces.{text_of, line_of, places_of, ArePieces, HasNoTitle}
 unfoldable use Rattle.niss_text.specs.LeftOut.{left_of_all}
@@ -142,13 +143,15 @@ so_far_is text from before places_before rest bytes places rest' bytes' places' 
 }
 
 -- a text that is written at the beginning of a line is read as that line
-pub whole_text : (text : List ℕ) (from : Beginning) (bytes places : List ℕ) (left : LeftOut) → from.at ≡ 0 → PutsPart text from [] bytes [] places left → IsPlain text bytes places
-whole_text text from bytes places left begins puts = record {
+pub whole_text : (text : List ℕ) (from : Beginning) (bytes places : List ℕ) (left : LeftOut) (out : ℕ) → from.at ≡ 0 → PutsPart text from [] bytes [] places left →
+    out ≡ bits_of left → IsPlain text bytes places out
+whole_text text from bytes places left out begins puts told = record {
   parts = puts.parts;
   are_pieces = puts.are_pieces;
   whole = puts.whole;
   line_is = puts.bytes_are;
   places_are = ap (λ at. places_of at puts.parts) (sym begins) ∙ puts.places_are;
+  left_is = ap bits_of puts.left_is ∙ sym told;
 }
 
 -- what is after more of a list that is the same after some

@@ -6,3 +6,4 @@ pub mod Lines
 pub mod LeftOut
 pub mod Moves
 pub mod Written
+pub mod Plain

@@ -1,5 +1,5 @@
 -- The lines of a text, one after another, and where their parts stand.
-use Rattle.std.specs.Prelude.{◌≡◌, ℕ, ◌==◌, ◌+◌, ◌<◌, ◌≤◌, ◌&&◌, false, if◌then◌else◌, List, [], ◌∷◌, slice_index}
+use Rattle.std.specs.Prelude.{◌≡◌, ℕ, zero, suc, ◌==◌, ◌+◌, ◌<◌, ◌≤◌, ◌&&◌, true, false, if◌then◌else◌, List, [], ◌∷◌, length, slice_index}
 use Rattle.niss_text.specs.Signs.{ends_line}
 use Rattle.niss_text.specs.Doubts.{IsDoubted}
 use Rattle.niss_text.specs.declared.text_line.TextLine.{TextLine}
@@ -25,6 +25,16 @@ end_size text at = end_of (slice_index text at) (slice_index text (at + 1))
 -- that many bytes of a text from there on don't end a line
 abbrev pub IsUnbroken : List ℕ → ℕ → ℕ → Type 0
 IsUnbroken text from size = (k : ℕ) → k < size → ends_line (slice_index text (from + k)) ≡ false
+
+-- there a line of a text ends: by what ends lines, or since the text ends
+abbrev pub IsEnd : List ℕ → ℕ → Type 0
+IsEnd text at = at < length text → ends_line (slice_index text at) ≡ true
+
+-- That many lines stand in a text from one place to another: each has a byte at least, if only of what ends it.
+unfoldable pub Counts : List ℕ → ℕ → ℕ → ℕ → Type 0
+Counts text from zero to = from ≡ to
+Counts text from (suc count) to =
+    (from < length text) × ((size : ℕ) × IsUnbroken text from size × IsEnd text (from + size) × Counts text (from + size + end_size text (from + size)) count to)
 
 -- The lines of a text from one place to another: each of bytes that don't end it, and after it what does. What makes
 -- one doubt a line is told of it.

@@ -8,6 +8,7 @@ use Rattle.niss_text.specs.declared.left_out.LeftOut.{LeftOut}
 use Rattle.niss_text.specs.declared.text_line.TextLine.{TextLine}
 use Rattle.niss_text.specs.declared.plain.PlainAnswer.{PlainAnswer}
 use Rattle.niss_text.specs.declared.moves.MovesOf.{MovesOf}
+use Rattle.niss_text.specs.declared.moves.MovesPart.{MovesPart}
 use Rattle.niss_text.specs.declared.moves.MovesOf.TheVariants.{Scramble, Steps, Solution, EachStep}
 
 abbrev pub number_of_moves : MovesOf → ℕ
@@ -99,29 +100,49 @@ unfoldable pub left_of_lines : List ℕ → List LineMoves → LeftOut
 left_of_lines text [] = left_none
 left_of_lines text (m ∷ ms) = both (left_of_moves text m) (left_of_lines text ms)
 
--- The moves of the wanted ones of some lines are this line, in order, with these places, and this is left out.
-pub record AreJoined (text : List ℕ) (of : MovesOf) (lines : List TextLine) (bytes places : List ℕ) (left : LeftOut) : Type 0 where
+-- where the moves of a line stand in what is written, after that many bytes and a line that ends there
+abbrev pub part_of : List ℕ → ℕ → ℕ → Option ℕ → LineMoves → MovesPart
+part_of text gap at before m = record {
+  begin = at + length (gap_after gap before);
+  end = at + length (gap_after gap before ++ bytes_of_moves m);
+  left_out = bits_of (left_of_moves text m);
+}
+
+-- where those of each line stand
+unfoldable pub parts_after : List ℕ → ℕ → ℕ → Option ℕ → List LineMoves → List MovesPart
+parts_after text gap at before [] = []
+parts_after text gap at before (m ∷ ms) =
+    part_of text gap at before m ∷ parts_after text gap (at + length (gap_after gap before ++ bytes_of_moves m)) (Some m.line.end) ms
+
+-- The moves of the wanted ones of some lines are this line, in order, with these places, and this is left out. Where
+-- those of each stand is told, if there is room for all.
+pub record AreJoined (text : List ℕ) (of : MovesOf) (lines : List TextLine) (bytes places : List ℕ) (left : LeftOut) (room : ℕ)
+    (parts : List MovesPart) : Type 0 where
   pub moves : List LineMoves
   pub are_moves : All (AreMoves text) moves
   pub are_wanted : map (λ m. m.line) moves ≡ filter (is_wanted of) lines
   pub bytes_are : bytes_after (gap_of of) None moves ≡ bytes
   pub places_are : places_after None moves ≡ places
   pub left_is : left_of_lines text moves ≡ left
+  pub parts_are : length moves ≤ room → take (length moves) parts ≡ parts_after text (gap_of of) 0 None moves
 
 -- how many bytes the moves of these lines have at most: three for each, and three for what is put around them
 unfoldable pub most_bytes : List TextLine → ℕ
 most_bytes [] = 0
 most_bytes (line ∷ lines) = 3 * (line.comment - line.moves) + 3 + most_bytes lines
 
--- What a call does that writes the moves of some lines, those of a number, in rooms for bytes and for places.
+-- What a call does that writes the moves of some lines, those of a number, in rooms for bytes, for places, and for where
+-- those of each line stand.
 pub record WritesMoves (text : List ℕ) (lines : List TextLine) (which : ℕ) (out_old out_new places_old places_new : List ℕ)
-    (answer : PlainAnswer) : Type 0 where
+    (parts_old parts_new : List MovesPart) (answer : PlainAnswer) : Type 0 where
   pub joins : (of : MovesOf) → number_of_moves of ≡ which → answer.status ≡ 0 → (left : LeftOut) × (bits_of left ≡ answer.left_out)
-      × AreJoined text of lines (take answer.length out_new) (take answer.length places_new) left
+      × AreJoined text of lines (take answer.length out_new) (take answer.length places_new) left (length parts_old) parts_new
   pub room : (of : MovesOf) → number_of_moves of ≡ which → most_bytes (filter (is_wanted of) lines) ≤ length out_old →
       most_bytes (filter (is_wanted of) lines) ≤ length places_old → answer.status ≡ 0
   pub known : which ≤ 3 → (answer.status ≡ 0) ⊎ (answer.status ≡ 4)
-  pub unknown : 3 < which → (answer.status ≡ 2) × (answer.left_out ≡ 0) × (answer.length ≡ 0)
+  pub unknown : 3 < which → (answer.status ≡ 2) × (answer.left_out ≡ 0) × (answer.length ≡ 0) × (parts_new ≡ parts_old)
   pub within : (answer.length ≤ length out_old) × (answer.length ≤ length places_old)
   pub behind : drop answer.length out_new ≡ drop answer.length out_old
   pub behind_places : drop answer.length places_new ≡ drop answer.length places_old
+  pub behind_parts : (of : MovesOf) → number_of_moves of ≡ which →
+      drop (length (filter (is_wanted of) lines)) parts_new ≡ drop (length (filter (is_wanted of) lines)) parts_old

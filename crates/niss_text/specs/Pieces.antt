@@ -86,11 +86,3 @@ is_title Comment = false
 unfoldable pub HasNoTitle : List Part → Type 0
 HasNoTitle [] = Unit {0}
 HasNoTitle (p ∷ ps) = (is_title p.kind ≡ false) × HasNoTitle ps
-
--- A text is read as this line, of which each byte has its place.
-pub record IsPlain (text line places : List ℕ) : Type 0 where
-  pub parts : List Part
-  pub are_pieces : ArePieces parts
-  pub whole : text_of parts ≡ text
-  pub line_is : line_of parts ≡ line
-  pub places_are : places_of 0 parts ≡ places

@@ -1,6 +1,6 @@
 //! The attempts of a text as solvers write it: which of its lines are scrambles, steps and notes.
 ghost use Rattle.std.specs.Prelude.{◌≡◌, ◌≤◌, ◌<◌, ◌+◌, length, take, drop, set};
-ghost use Rattle.niss_text.specs.Lines.{IsLine, Covers};
+ghost use Rattle.niss_text.specs.Lines.{IsLine, Covers, Counts};
 
 use crate::doubts::judged;
 use crate::groups::{Group, Solutions};
@@ -121,6 +121,7 @@ fn put_attempt(
     ensures further { (begin < result.1) × (result.1 ≤ length text.now) }
     ensures covers { Covers text.now 0 (take written lines.old) begin → result.0 ≤ length lines.new →
         Covers text.now 0 (take result.0 lines.new) result.1 }
+    ensures counts { Counts text.now 0 written begin → Counts text.now 0 result.0 result.1 }
     ensures behind { drop result.0 lines.new ≡ drop result.0 lines.old }
 {
     let mut at = 0;
@@ -154,6 +155,7 @@ fn from_place(text: &[u8], at: usize) -> &[u8]
 /// `NoRoom` if these are more than have room. A text has no more lines than bytes. What follows them stays as it is.
 pub fn text_lines(text: &[u8], lines: &mut [TextLine]) -> TextAnswer
     ensures covers { result.lines ≤ length lines.old → Covers text.now 0 (take result.lines lines.new) (length text.now) }
+    ensures counts { Counts text.now 0 result.lines (length text.now) }
     ensures few { result.lines ≤ length text.now }
     ensures done { result.lines ≤ length lines.old → result.status ≡ 0 }
     ensures room { length lines.old < result.lines → result.status ≡ 4 }

@@ -25,6 +25,6 @@ mod word;
 mod words;
 
 pub use attempts::{TextAnswer, text_lines};
-pub use moves::{MovesOf, text_moves};
+pub use moves::{MovesOf, MovesPart, text_moves};
 pub use plain::{PlainAnswer, plain_line};
 pub use text_line::TextLine;

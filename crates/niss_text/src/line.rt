@@ -1,7 +1,7 @@
 //! A line of a text: where its parts are, and what is seen of it.
 ghost use Rattle.std.specs.Prelude.{◌≡◌, ◌≤◌, ◌<◌, ◌+◌, true, length, slice_index};
 ghost use Rattle.niss_text.specs.Signs.{ends_line};
-ghost use Rattle.niss_text.specs.Lines.{IsUnbroken, end_of, end_size};
+ghost use Rattle.niss_text.specs.Lines.{IsUnbroken, IsEnd, end_of, end_size};
 
 use crate::body::{has_frame, is_whole_scramble};
 use crate::forms::{
@@ -299,6 +299,7 @@ pub fn cut_line(text: &[u8], numbers: Numbers) -> (Line, usize)
     ensures fits { result.1 ≤ length text.now }
     ensures whole { IsUnbroken text.now 0 result.0.length }
     ensures ends { result.1 ≡ result.0.length + end_size text.now result.0.length }
+    ensures ended { IsEnd text.now result.0.length }
 {
     let length = line_length(text);
     let line = line_of(&text[..length], numbers);

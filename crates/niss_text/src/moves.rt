@@ -1,5 +1,5 @@
 //! The moves of some lines of a text as one line.
-ghost use Rattle.std.specs.Prelude.{◌≡◌, ◌<◌, ◌≤◌, ◌+◌, ◌*◌, ◌-◌, ◌++◌, true, Some, MatchOption, length, take, drop, slice_range};
+ghost use Rattle.std.specs.Prelude.{◌≡◌, ◌<◌, ◌≤◌, ◌+◌, ◌*◌, ◌-◌, ◌++◌, true, Some, MatchOption, length, take, drop, set, slice_range};
 ghost use Rattle.std.specs.List.{list_any};
 ghost use Rattle.niss_text.specs.Signs.{is_digit};
 ghost use Rattle.niss_text.specs.LeftOut.{left_none};
@@ -58,6 +58,37 @@ impl MovesOf {
             MovesOf::EachStep => b'\n',
             _ => b' ',
         }
+    }
+}
+
+/// Where the moves of a line stand in what is written.
+#[repr(C)]
+#[derive(Clone, Copy, Debug, PartialEq, Eq)]
+pub struct MovesPart {
+    /// Where they begin and end, with their brackets.
+    pub begin: usize,
+    pub end: usize,
+    /// What this line has left out, as the bits of `PlainAnswer`.
+    pub left_out: u8,
+}
+
+impl MovesPart {
+    /// Where nothing is written.
+    fn nothing() -> MovesPart {
+        MovesPart {
+            begin: 0,
+            end: 0,
+            left_out: 0,
+        }
+    }
+}
+
+/// Tells where the moves of a line stand after that many others, if there is room.
+fn put_part(parts: &mut [MovesPart], count: usize, part: MovesPart)
+    ensures { parts.new ≡ set parts.old count part }
+{
+    if count < parts.len() {
+        parts[count] = part;
     }
 }
 
@@ -129,6 +160,8 @@ struct Joined {
     /// Where the last line ends, if there was one.
     before: Option<usize>,
     left_out: LeftOut,
+    /// Where the moves of the last line stand.
+    last: MovesPart,
 }
 
 impl Joined {
@@ -156,6 +189,17 @@ impl Joined {
         }
     }
 
+    /// Where the moves of one more line begin.
+    fn next_begin(self) -> usize
+        requires { self.pen.length < usize.MAX }
+        ensures { result ≡ self.pen.length + length (gap_after self.gap self.before) }
+    {
+        match self.before {
+            Some(_) => self.pen.length + 1,
+            None => self.pen.length,
+        }
+    }
+
     /// Writes the moves of one more line.
     fn with_line(self, text: &[u8], line: &TextLine, out: &mut [u8], places: &mut [u64]) -> Joined
         requires { (self.pen.length ≤ length out.old) × (self.pen.length ≤ length places.old) }
@@ -163,7 +207,7 @@ impl Joined {
         ensures gap { result.gap ≡ self.gap }
         ensures had { result.pen.has_room ≡ true → self.pen.has_room ≡ true }
         ensures adds { result.pen.has_room ≡ true → AddsLine text.now line.now self.gap self.before (take self.pen.length out.old) (take result.pen.length out.new)
-            (take self.pen.length places.old) (take result.pen.length places.new) self.left_out result.left_out }
+            (take self.pen.length places.old) (take result.pen.length places.new) self.left_out result.left_out result.last }
         ensures room { self.pen.has_room ≡ true → self.pen.length + (3 * (line.now.comment - line.now.moves) + 3) ≤ length out.old →
             self.pen.length + (3 * (line.now.comment - line.now.moves) + 3) ≤ length places.old → result.pen.has_room ≡ true }
         ensures further { (self.pen.length ≤ result.pen.length) × (result.pen.length ≤ self.pen.length + (3 * (line.now.comment - line.now.moves) + 3)) }
@@ -178,11 +222,18 @@ impl Joined {
         };
         let begun = self.begin_line(line, out, places);
         let (put, left_out) = begun.put_part(part, from, out, places);
+        let own = left_around(text, line).and(left_out);
+        let pen = end_line(put, line, out, places);
         Joined {
             gap: self.gap,
-            pen: end_line(put, line, out, places),
+            pen,
             before: Some(line.end),
-            left_out: self.left_out.and(left_around(text, line).and(left_out)),
+            left_out: self.left_out.and(own),
+            last: MovesPart {
+                begin: self.next_begin(),
+                end: pen.length,
+                left_out: own.bits(),
+            },
         }
     }
 }
@@ -191,15 +242,17 @@ impl Joined {
 /// inverse: of the lines those of the scramble, all steps, or those of the solution, by the number of `MovesOf`; or each
 /// step as a line of its own. Each byte that is written has its place in the text. Three bytes for each from `moves` to
 /// `comment` of these lines, and three for each line, are room enough; else the answer may say `NoRoom`. It says `Usage`,
-/// with nothing written, if the number is another. What follows the line in both rooms stays as it is.
+/// with nothing written, if the number is another. Of each of these lines it tells where its moves stand, as long as there
+/// is room in `parts`. What follows in the rooms stays as it is.
 pub fn text_moves(
     text: &[u8],
     lines: &[TextLine],
     which: u8,
     out: &mut [u8],
     places: &mut [u64],
+    parts: &mut [MovesPart],
 ) -> PlainAnswer
-    ensures { WritesMoves text.now lines.now which out.old out.new places.old places.new result }
+    ensures { WritesMoves text.now lines.now which out.old out.new places.old places.new parts.old parts.new result }
 {
     let Some(of) = MovesOf::of_number(which) else {
         return PlainAnswer {
@@ -213,7 +266,9 @@ pub fn text_moves(
         pen: Pen::new(),
         before: None,
         left_out: LeftOut::none(),
+        last: MovesPart::nothing(),
     };
+    let mut count = 0;
     let mut rest = lines;
     while let Some((line, others)) = rest.split_first() {
         rest = others;
@@ -221,6 +276,8 @@ pub fn text_moves(
             continue;
         }
         joined = joined.with_line(text, line, out, places);
+        put_part(parts, count, joined.last);
+        count += 1;
     }
     PlainAnswer::written(joined.pen, joined.left_out)
 }

@@ -1,6 +1,6 @@
 //! A text as solvers write it as one line.
 ghost use Rattle.std.specs.Prelude.{◌≡◌, ◌≤◌, ◌*◌, ◌⊎◌, true, length, take, drop};
-ghost use Rattle.niss_text.specs.Pieces.{IsPlain};
+ghost use Rattle.niss_text.specs.Plain.{IsPlain};
 ghost use Rattle.niss_text.specs.LeftOut.{bits_of};
 
 use crate::left_out::LeftOut;
@@ -46,7 +46,7 @@ impl PlainAnswer {
 /// its place in the text. Three bytes for each of the text are room enough; else the answer may say `NoRoom`. What follows
 /// the line in both rooms stays as it is.
 pub fn plain_line(text: &[u8], out: &mut [u8], places: &mut [u64]) -> PlainAnswer
-    ensures reads { result.status ≡ 0 → IsPlain text.now (take result.length out.new) (take result.length places.new) }
+    ensures reads { result.status ≡ 0 → IsPlain text.now (take result.length out.new) (take result.length places.new) result.left_out }
     ensures room { 3 * length text.now ≤ length out.old → 3 * length text.now ≤ length places.old → result.status ≡ 0 }
     ensures within { (result.length ≤ length out.old) × (result.length ≤ length places.old) }
     ensures behind { drop result.length out.new ≡ drop result.length out.old }

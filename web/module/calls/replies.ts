@@ -205,13 +205,15 @@ export function checkIn(reply: Seen | OfTwo): Check {
 }
 
 function attemptCheckIn({ attempt, seen, place, forms, doubt }: SeenAttempt): AttemptCheck {
-  const told = { attempt, place, forms, doubt };
-  if (seen === null) return { ...told, check: null, fault: null };
+  const told: AttemptCheck = { attempt, place, forms, doubt, check: null, fault: null };
+  if (seen === null) return told;
   if ("answer" in seen) {
-    return { ...told, check: attempt.solution === null ? null : checkFrom(seen.answer, seen.at), fault: null };
+    if (attempt.solution !== null) told.check = checkFrom(seen.answer, seen.at);
+    return told;
   }
   if (seen.status !== STATUS.fault) throw errorOfTwo(seen, NAMES_OF_CHECK);
-  return { ...told, check: null, fault: new NissyFault(seen.text, seen, NAMES_OF_CHECK[seen.line - 1]) };
+  told.fault = new NissyFault(seen.text, seen, NAMES_OF_CHECK[seen.line - 1]);
+  return told;
 }
 
 export const attemptChecksIn = (replies: SeenAttempt[]): AttemptCheck[] =>

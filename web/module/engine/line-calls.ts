@@ -53,7 +53,7 @@ export function refusal(
 export function refusalOfTwo(instance: Instance, first: Text, second: Text): OfTwo {
   const [line, column] = [instance.answered(HEAD.read.line), instance.answered(HEAD.read.column)];
   const refused = refusal(instance, line === 1 ? first : second);
-  if (column > 0 || refused.status !== STATUS.fault) return { ...refused, line };
+  if (column > 0 || refused.status !== STATUS.fault) return Object.assign(refused, { line });
   return { ...refused, column: null, character: null, line } as unknown as OfTwo;
 }
 

@@ -1,11 +1,12 @@
 // What `check` says of each attempt of a text, where faults and forms stand in the text, and what makes one doubt the
 // reading of an attempt that isn't solved.
 import {
-  ANOTHER_SCRAMBLE, A_PART, WHICH_SCRAMBLE, attemptOf, foundIn, withoutPlaces, type Attempt, type AttemptDoubt,
+  ANOTHER_SCRAMBLE, A_PART, WHICH_SCRAMBLE, attemptOf, ofEachAttempt, withoutPlaces, type Attempt, type AttemptDoubt,
   type FoundAttempt,
 } from "./attempts.js";
 import { foundInPart, knownParts, type KnownPart } from "./known.js";
-import { checked, rewritten } from "../engine/line-calls.js";
+import { refusalOfTwo, rewritten } from "../engine/line-calls.js";
+import { STATUS } from "../engine/status.js";
 import { CHECK_ANSWER } from "../shared/layout.js";
 import { formPlacesOf, type FormPlace } from "./tokens.js";
 import { unitOf, type PlainLine, type TextPlace, type TextPlaces } from "./written.js";
@@ -29,8 +30,35 @@ export type SeenAttempt = {
 /** An attempt without a solution is read with none, so that a fault of its scramble is told. */
 const NO_SOLUTION = "";
 
-const checkBy = (instance: Instance, scramble: string, solution: string): Seen | OfTwo =>
-  checked(instance, { call: "check", scramble, solution });
+/** So many answers stand in one array. */
+const TOGETHER = 1024;
+
+/** Checks by an instance. What is seen of many stands in one array: an array for each takes longer than its check. */
+class Checks {
+  instance: Instance;
+  #seen = new Uint8Array(0);
+  #next = 0;
+
+  constructor(instance: Instance) {
+    this.instance = instance;
+  }
+
+  of(scramble: string, solution: string): Seen | OfTwo {
+    const { instance } = this;
+    instance.ask("nissy_check", [{ text: scramble }, { text: solution }]);
+    return instance.status === STATUS.done ? this.#take() : refusalOfTwo(instance, scramble, solution);
+  }
+
+  #take(): Seen {
+    const { bytes } = CHECK_ANSWER;
+    if (this.#next === this.#seen.length) [this.#seen, this.#next] = [new Uint8Array(TOGETHER * bytes), 0];
+    const { memory: { all }, answer } = this.instance;
+    const at = this.#next;
+    for (let of = 0; of < bytes; of += 1) this.#seen[at + of] = all[answer + of];
+    this.#next += bytes;
+    return { status: STATUS.done, answer: this.#seen, at };
+  }
+}
 
 /** What makes one doubt an attempt that isn't solved: its reading, or that a part of it solves. */
 function doubtOf({ attempt, lines }: FoundAttempt, text: TextInMemory): AttemptDoubt | null {
@@ -45,11 +73,11 @@ const formsInText = (solution: PlainLine, places: TextPlaces): FormInText[] =>
   ({ text, forms, place: places.of(unitOf(character, solution)) }));
 
 /** @param text which is kept in memory */
-function seenAttempt(instance: Instance, found: FoundAttempt, text: TextInMemory): SeenAttempt {
+function seenAttempt(checks: Checks, found: FoundAttempt, text: TextInMemory): SeenAttempt {
   const { attempt } = found;
   const { scramble, solution } = attempt;
   const { places } = text.written;
-  const seen = checkBy(instance, scramble.line, solution?.line ?? NO_SOLUTION);
+  const seen = checks.of(scramble.line, solution?.line ?? NO_SOLUTION);
   if ("answer" in seen) {
     const { solved, forms: formsOf } = CHECK_ANSWER.read;
     const isSolved = solution !== null && solved(seen.answer, seen.at) === 1;
@@ -66,8 +94,8 @@ function seenAttempt(instance: Instance, found: FoundAttempt, text: TextInMemory
 
 /** The attempts of a text, each with what the module says of it. */
 export function seenAttempts(instance: Instance, text: TextInMemory): SeenAttempt[] {
-  const found = foundIn(text);
-  return text.kept(() => found.map((each) => seenAttempt(instance, each, text)));
+  const checks = new Checks(instance);
+  return ofEachAttempt(text, (found) => seenAttempt(checks, found, text));
 }
 
 /** Whether two scrambles make the same cube. */
@@ -82,7 +110,7 @@ const changed = ({ attempt, lines }: FoundAttempt, fields: Partial<Attempt>): Fo
 
 /** What is told of a part of a text of solutions, which is kept in memory. */
 function seenPart(
-  instance: Instance, { scramble: at, begin, name }: KnownPart, [first, ...others]: FoundAttempt[], scrambles: string[],
+  checks: Checks, { scramble: at, begin, name }: KnownPart, [first, ...others]: FoundAttempt[], scrambles: string[],
   text: TextInMemory,
 ): SeenAttempt {
   const { places } = text.written;
@@ -92,25 +120,26 @@ function seenPart(
   }
   // who writes the scramble too says nothing else by it
   const isWritten = others.length === 1 && first.attempt.solution === null
-    && isSame(instance, scrambles[at], others[0].attempt.scramble.line);
-  if (isWritten) return seenAttempt(instance, changed(others[0], { name }), text);
+    && isSame(checks.instance, scrambles[at], others[0].attempt.scramble.line);
+  if (isWritten) return seenAttempt(checks, changed(others[0], { name }), text);
   const scramble = withoutPlaces(scrambles[at]);
-  if (others.length === 0) return seenAttempt(instance, changed(first, { scramble }), text);
+  if (others.length === 0) return seenAttempt(checks, changed(first, { scramble }), text);
   const doubt: AttemptDoubt = { reason: ANOTHER_SCRAMBLE, place: places.of(others[0].attempt.scramble.places[0]) };
-  return seenAttempt(instance, changed(first, { scramble, doubt }), text);
+  return seenAttempt(checks, changed(first, { scramble, doubt }), text);
 }
 
 /** The solutions in a text of known scrambles, one for each, and then what is no such solution. */
 export function seenSolutions(instance: Instance, text: TextInMemory, scrambles: string[]): SeenAttempt[] {
   // its lines are read before its memory is taken for others
   const parts = knownParts(instance, text, scrambles.length);
+  const checks = new Checks(instance);
   const withoutLines = (scramble: string) => ({ attempt: attemptOf(withoutPlaces(scramble)), lines: [] });
-  const told = scrambles.map((scramble) => seenAttempt(instance, withoutLines(scramble), text));
+  const told = scrambles.map((scramble) => seenAttempt(checks, withoutLines(scramble), text));
   const others: SeenAttempt[] = [];
   for (const part of parts) {
     const own = part.inMemory();
     const found = foundInPart(own, part.name);
-    const seen = own.kept(() => seenPart(instance, part, found, scrambles, own));
+    const seen = own.kept(() => seenPart(checks, part, found, scrambles, own));
     if (part.scramble === null) others.push(seen);
     else told[part.scramble] = seen;
   }

@@ -81,7 +81,7 @@ export class AttemptReader {
 
   /** @returns each of the steps among them */
   #steps(lines: TextLine[]): PlainLine[] {
-    return lines.filter(isOfStep).map((line) => this.#text.movesOfLine(line, MOVES_OF.steps));
+    return lines.filter(isOfStep).map((line) => this.#text.moves([line], MOVES_OF.steps));
   }
 
   /** @returns the words of its label */
@@ -133,32 +133,33 @@ export class AttemptReader {
   }
 
   #attempt(lines: TextLine[]): Attempt {
+    const doubt = this.#doubt(lines);
+    const before = lines.filter(({ kind }) => kind === LINE_KIND.before).length;
+    const begun = { ...attemptOf(this.#text.moves(lines, MOVES_OF.scramble)), name: this.name(lines), before, doubt };
+    return lines.some(isOfStep) ? this.#withSteps(begun, lines) : begun;
+  }
+
+  /** @returns the same with what its lines have */
+  #withSteps(begun: Attempt, lines: TextLine[]): Attempt {
     const after = lines.filter(({ kind }) => kind >= LINE_KIND.step);
     const groups = inRuns(after, ({ group }, before) => group === before.group);
     const moved = groups.filter((group) => group[0].group > 0 && group.some(isOfStep));
     const told = after.filter((line) => isOfStep(line) && line.isSolution);
     const under = after.filter((line) => isOfStep(line) && line.group === 0);
     const steps = this.#steps(under.length > 0 ? under : told);
-    const [first, ...more] = lines.filter(({ kind }) => kind === LINE_KIND.scramble);
     const alike = under.length === 0 || under[0] === told[0] ? steps : [];
-    return {
-      name: this.name(lines),
-      scramble: first !== undefined && more.length === 0 ? this.#text.movesOfLine(first, MOVES_OF.scramble)
-        : this.#text.moves(lines, MOVES_OF.scramble),
-      steps,
-      solution: told.length > 0 ? this.#inOne(alike, lines, MOVES_OF.solution) : null,
-      candidates: moved.map((group) => this.#candidate(group)),
-      before: lines.filter(({ kind }) => kind === LINE_KIND.before).length,
-      doubt: this.#doubt(lines),
-    };
+    const solution = told.length > 0 ? this.#inOne(alike, lines, MOVES_OF.solution) : null;
+    return { ...begun, steps, solution, candidates: moved.map((group) => this.#candidate(group)) };
   }
 }
 
-/** The attempts of a text as solvers write it, at least one, each with its lines. */
-export function foundIn(text: TextInMemory): FoundAttempt[] {
+/** What is made of each attempt of a text as solvers write it, of which there is at least one. Other calls may be made
+ * on the way: the text stays in the memory. */
+export function ofEachAttempt<Made>(text: TextInMemory, make: (found: FoundAttempt) => Made): Made[] {
   const reader = new AttemptReader(text);
-  const found = byAttempt(text.lines()).filter(hasScramble).map((lines) => reader.found(lines));
-  return found.length > 0 ? found : [{ attempt: attemptOf(withoutPlaces("")), lines: [] }];
+  const attempts = byAttempt(text.lines()).filter(hasScramble);
+  if (attempts.length === 0) return text.kept(() => [make({ attempt: attemptOf(withoutPlaces("")), lines: [] })]);
+  return text.kept(() => attempts.map((lines) => make(reader.found(lines))));
 }
 
-export const attemptsIn = (text: TextInMemory): Attempt[] => foundIn(text).map(({ attempt }) => attempt);
+export const attemptsIn = (text: TextInMemory): Attempt[] => ofEachAttempt(text, ({ attempt }) => attempt);

@@ -1,43 +1,59 @@
 // The calls of the module that read text as solvers write it, which stands in its memory meanwhile.
-import { PART_ANSWER, PLAIN_ANSWER, TEXT_ANSWER, TEXT_LINE } from "./text-layout.js";
+import { MOVES_PART, PART_ANSWER, PLAIN_ANSWER, TEXT_ANSWER, TEXT_LINE } from "./text-layout.js";
 import { aligned } from "../engine/memory.js";
 import { STATUS } from "../engine/status.js";
 import type { Exports, Instance } from "../engine/instance.js";
-import { countUpTo, namesAround, type PlainLine, type WrittenLine, type WrittenText } from "./written.js";
+import { Cuts, type PlainLine, type WrittenLine, type WrittenText } from "./written.js";
 
-/** What the module tells of a line of a text, the `nth` from 0: numbers of its kind and its doubt, and places in bytes.
- */
-export type TextLine = {
-  nth: number;
-  kind: number;
-  isSolution: boolean;
-  isHeaded: boolean;
-  isLabelled: boolean;
-  doubt: number;
-  attempt: number;
-  group: number;
-  begin: number;
-  headEnd: number;
-  labelBegin: number;
-  labelEnd: number;
-  moves: number;
-  comment: number;
-  end: number;
-  doubtAt: number;
-};
+const LINE_READ = TEXT_LINE.read;
+
+/** What the module tells of a line of a text: numbers of its kind and its doubt, and places in bytes, each read when it
+ * is asked for. */
+export class TextLine {
+  /** which it is, from 0 */ nth: number;
+  #told: Uint8Array;
+  #at: number;
+
+  /** @param told of all lines */
+  constructor(told: Uint8Array, nth: number) {
+    this.nth = nth;
+    this.#told = told;
+    this.#at = nth * TEXT_LINE.bytes;
+  }
+
+  get kind() { return LINE_READ.kind(this.#told, this.#at); }
+  get isSolution() { return LINE_READ.solution(this.#told, this.#at) === 1; }
+  get isHeaded() { return LINE_READ.headed(this.#told, this.#at) === 1; }
+  get isLabelled() { return LINE_READ.labelled(this.#told, this.#at) === 1; }
+  get doubt() { return LINE_READ.doubt(this.#told, this.#at); }
+  get attempt() { return LINE_READ.attempt(this.#told, this.#at); }
+  get group() { return LINE_READ.group(this.#told, this.#at); }
+  get begin() { return LINE_READ.begin(this.#told, this.#at); }
+  get headEnd() { return LINE_READ.headEnd(this.#told, this.#at); }
+  get labelBegin() { return LINE_READ.labelBegin(this.#told, this.#at); }
+  get labelEnd() { return LINE_READ.labelEnd(this.#told, this.#at); }
+  get moves() { return LINE_READ.moves(this.#told, this.#at); }
+  get end() { return LINE_READ.end(this.#told, this.#at); }
+  get doubtAt() { return LINE_READ.doubtAt(this.#told, this.#at); }
+}
 
 /** Calls the module, which writes a line: what each call is handed over first, and rooms for the line and its places.
  */
 export type Writing = (exports: Exports, text: bigint[], rooms: bigint[]) => undefined;
 
-/** The kind of a blank line, or of a head alone, by the module's numbers. */
+/** The kind of a blank line, or of a head alone, of one of the scramble, and of a step, by the module's numbers. */
 const BLANK = 0;
+const OF_SCRAMBLE = 2;
+const OF_STEP = 3;
 
 /** Of which of some lines moves are asked for, by the module's numbers. */
 export const MOVES_OF = { scramble: 0, steps: 1, solution: 2, eachStep: 3 };
 
-/** No moves. */
-const EMPTY_LINE: WrittenLine = { bytes: new Uint8Array(0), places: [], leftOut: 0 };
+/** Which lines have such, in the same order. */
+const IS_WANTED: ((line: TextLine) => boolean)[] = [
+  ({ kind }) => kind === OF_SCRAMBLE, ({ kind }) => kind === OF_STEP,
+  ({ kind, isSolution }) => kind === OF_STEP && isSolution, ({ kind }) => kind === OF_STEP,
+];
 
 /** The bytes that end a line, two of which may end one together. */
 const LINE_ENDS = [0x0a, 0x0d];
@@ -49,26 +65,52 @@ const OF_PLACE = 8;
 const MOST_OF_BYTE = 3;
 const OF_LINE = 3;
 
-function textLineAt(bytes: Uint8Array, at: number, nth: number): TextLine {
-  const { read } = TEXT_LINE;
-  return {
-    nth,
-    kind: read.kind(bytes, at),
-    isSolution: read.solution(bytes, at) === 1,
-    isHeaded: read.headed(bytes, at) === 1,
-    isLabelled: read.labelled(bytes, at) === 1,
-    doubt: read.doubt(bytes, at),
-    attempt: read.attempt(bytes, at),
-    group: read.group(bytes, at),
-    begin: read.begin(bytes, at),
-    headEnd: read.headEnd(bytes, at),
-    labelBegin: read.labelBegin(bytes, at),
-    labelEnd: read.labelEnd(bytes, at),
-    moves: read.moves(bytes, at),
-    comment: read.comment(bytes, at),
-    end: read.end(bytes, at),
-    doubtAt: read.doubtAt(bytes, at),
-  };
+/** @returns what writes moves, by what the module is handed over after the text: the lines, which moves, and where it
+ * tells of each line where they stand, each but `which` by its place and how many there are */
+const writingMoves = ([lines, count, which, parts, most]: number[]): Writing => (exports, text, rooms) =>
+  exports.nissy_text_moves(...text, BigInt(lines), BigInt(count), which, ...rooms, BigInt(parts), BigInt(most));
+
+/** The moves of those lines of a text that are wanted, one after another. */
+class Moves {
+  #written: WrittenLine;
+  #cuts: Cuts;
+  /** of each of these lines where they stand, as the module has it */ #parts: Uint8Array;
+  /** how many lines before each one of the text are wanted */ #before: Uint32Array;
+
+  constructor(written: WrittenLine, cuts: Cuts, parts: Uint8Array, before: Uint32Array) {
+    this.#written = written;
+    this.#cuts = cuts;
+    this.#parts = parts;
+    this.#before = before;
+  }
+
+  /** @returns where those of some lines of a text begin and end, which follow each other there */
+  #range(lines: TextLine[]) {
+    const { begin, end, leftOut } = MOVES_PART.read;
+    const [first, last] = lines.length === 0 ? [0, 0]
+      : [this.#before[lines[0].nth], this.#before[lines[lines.length - 1].nth + 1]];
+    if (first === last) return { begin: 0, end: 0, leftOut: 0 };
+    let left = 0;
+    for (let of = first; of < last; of += 1) left |= leftOut(this.#parts, of * MOVES_PART.bytes);
+    return {
+      begin: begin(this.#parts, first * MOVES_PART.bytes),
+      end: end(this.#parts, (last - 1) * MOVES_PART.bytes),
+      leftOut: left,
+    };
+  }
+
+  /** The same as one line. */
+  of(lines: TextLine[]): PlainLine {
+    const { begin, end, leftOut } = this.#range(lines);
+    return this.#cuts.cut(begin, end, leftOut);
+  }
+
+  /** The same in bytes, with the place of each in the text. */
+  written(lines: TextLine[]): WrittenLine {
+    const { begin, end, leftOut } = this.#range(lines);
+    const { bytes, places } = this.#written;
+    return { bytes: bytes.subarray(begin, end), places: places.slice(begin, end), leftOut };
+  }
 }
 
 /** A text in the memory of an instance, until that is called for anything else. */
@@ -80,7 +122,8 @@ export class TextInMemory {
   /** where other memory begins */ #free: number;
   /** so many bytes have place that are written of it, if it has no odd apostrophes */ #room: number;
   /** how many lines it has */ #count = 0;
-  /** the moves of all lines, by whose they are */ #all = new Map<number, PlainLine>();
+  /** those that aren't blank, or have a head */ #told: TextLine[] = [];
+  /** the moves of all lines, by whose they are */ #moves: Moves[] = [];
 
   constructor(instance: Instance, written: WrittenText) {
     this.#instance = instance;
@@ -112,13 +155,13 @@ export class TextInMemory {
     this.#count = count;
     this.#free = aligned(this.#lines + count * TEXT_LINE.bytes);
     this.#room = this.#written.bytes.length + OF_LINE * count;
-    const lines = [];
-    for (let nth = 0; nth < count; nth += 1) {
-      const at = this.#lines + nth * TEXT_LINE.bytes;
-      const line = textLineAt(memory.all, at, nth);
-      if (line.kind !== BLANK || line.isHeaded) lines.push(line);
+    const told = memory.copy(this.#lines, count * TEXT_LINE.bytes);
+    this.#told = [];
+    for (let nth = 0, at = 0; nth < count; nth += 1, at += TEXT_LINE.bytes) {
+      const isTold = LINE_READ.kind(told, at) !== BLANK || LINE_READ.headed(told, at) === 1;
+      if (isTold) this.#told.push(new TextLine(told, nth));
     }
-    return lines;
+    return this.#told;
   }
 
   /** @returns of how many lines the module tells */
@@ -140,47 +183,40 @@ export class TextInMemory {
   /** The moves of those of some lines that are wanted, once all lines were told; those between them count too.
    * @param which are wanted, by the module's numbers */
   moves(lines: TextLine[], which: number): PlainLine {
-    return lines.length === 0 ? this.#written.plain(EMPTY_LINE) : this.#plainBy(this.#movesOf(lines, which));
+    return this.#movesOf(which).of(lines);
   }
 
-  /** The moves of one line, which are of those wanted. If they are written as they stand, they are cut out of those of
-   * all. */
-  movesOfLine(line: TextLine, which: number): PlainLine {
-    const { headEnd, labelBegin, labelEnd, moves, comment, end } = line;
-    const all = this.#all.get(which) ?? this.#allOf(which);
-    const own = this.#written.cut(moves, comment);
-    const from = countUpTo(all.places, this.#written.unit(moves) - 1);
-    const to = from + own.length;
-    const isBare = this.#written.part(headEnd, labelBegin) === "";
-    const isAsItStands = all.line.slice(from, to) === own && all.places[to - 1] === this.#written.unit(comment) - 1;
-    if (!isBare || !isAsItStands) return this.moves([line], which);
-    const leftOut = namesAround(labelBegin < labelEnd, comment < end);
-    return { line: own, places: all.places.slice(from, to), leftOut };
+  #movesOf(which: number): Moves {
+    return (this.#moves[which] ??= this.#allMoves(which));
   }
 
-  #allOf(which: number): PlainLine {
-    const all = this.#plainBy(this.#writing(0, this.#count, which));
-    this.#all.set(which, all);
-    return all;
+  /** @returns the moves of all lines that are wanted, by the module's numbers */
+  #allMoves(which: number): Moves {
+    const before = this.#before(IS_WANTED[which]);
+    const wanted = before[this.#count];
+    // the parts stand before what is written
+    const parts = this.#free;
+    this.#free = aligned(parts + wanted * MOVES_PART.bytes);
+    const { bytes, ...told } = this.#writtenBy(writingMoves([this.#lines, this.#count, which, parts, wanted]));
+    const written = { bytes: bytes.slice(), ...told };
+    this.#free = parts;
+    const copied = this.#instance.memory.copy(parts, wanted * MOVES_PART.bytes);
+    return new Moves(written, new Cuts(this.#written, written), copied, before);
   }
 
-  /** @returns what writes these moves */
-  #movesOf(lines: TextLine[], which: number): Writing {
-    const { nth } = lines[0];
-    return this.#writing(nth, lines[lines.length - 1].nth + 1 - nth, which);
-  }
-
-  /** @returns what writes the moves of so many lines from one on */
-  #writing(nth: number, count: number, which: number): Writing {
-    const lines = [BigInt(this.#lines + nth * TEXT_LINE.bytes), BigInt(count)];
-    return (exports, text, rooms) => exports.nissy_text_moves(...text, ...lines, which, ...rooms);
+  /** @returns how many lines are such before each one, and before the end */
+  #before(isWanted: (line: TextLine) => boolean): Uint32Array {
+    const before = new Uint32Array(this.#count + 1);
+    for (const line of this.#told) if (isWanted(line)) before[line.nth + 1] = 1;
+    for (let nth = 0; nth < this.#count; nth += 1) before[nth + 1] += before[nth];
+    return before;
   }
 
   /** Where a part of the steps of an attempt begins that solves a scramble, in bytes, or null if none does. */
   solvingPart(lines: TextLine[], scramble: string): number | null {
-    if (lines.length === 0) return null;
-    const { places, ...steps } = this.#writtenBy(this.#movesOf(lines, MOVES_OF.eachStep));
-    this.#instance.ask("nissy_solving_part", [{ text: scramble }, { text: steps.bytes.slice() }]);
+    const { bytes, places } = this.#movesOf(MOVES_OF.eachStep).written(lines);
+    if (bytes.length === 0) return null;
+    this.#instance.ask("nissy_solving_part", [{ text: scramble }, { text: bytes }]);
     const { how, begin } = PART_ANSWER.read;
     return this.#instance.answered(how) === 0 ? null : places[this.#instance.answered(begin)];
   }
@@ -202,7 +238,8 @@ export class TextInMemory {
   }
 
   #plainBy(write: Writing): PlainLine {
-    return this.#written.plain(this.#writtenBy(write));
+    const written = this.#writtenBy(write);
+    return new Cuts(this.#written, written).cut(0, written.bytes.length, written.leftOut);
   }
 
   /** @returns what the module writes of the text, which stands in its memory until the next call */

@@ -6,5 +6,6 @@ export const TEXT_LINE = struct({
   kind: 1, solution: 1, headed: 1, labelled: 1, inverse: 1, doubt: 1, attempt: 8, group: 8, begin: 8, headEnd: 8,
   labelBegin: 8, labelEnd: 8, moves: 8, comment: 8, end: 8, doubtAt: 8,
 });
+export const MOVES_PART = struct({ begin: 8, end: 8, leftOut: 1 });
 export const TEXT_ANSWER = struct({ status: 1, lines: 8, attempts: 8 });
 export const PART_ANSWER = struct({ status: 1, how: 1, first: 1, last: 1, begin: 8 });

@@ -15,12 +15,9 @@ export type TextPlace = { at: number; line: number; column: number };
 /** What the module leaves out, by its bits. */
 const LEFT_OUT = ["labels", "numbers of moves", "comments", "line numbers", "commas", "signs that aren't seen"];
 
-/** What is left out, by the names of its bits. */
-const leftOutNames = (leftOut: number): string[] => LEFT_OUT.filter((_, bit) => ((leftOut >> bit) & 1) === 1);
-
-/** What stands around moves, by its names. */
-export const namesAround = (hasLabel: boolean, hasComment: boolean): string[] =>
-  leftOutNames(Number(hasLabel) + 4 * Number(hasComment));
+/** What is left out, by the names of its bits, of each number that these make. */
+const NAMES_LEFT_OUT = Array.from({ length: 1 << LEFT_OUT.length }, (_, leftOut) =>
+  LEFT_OUT.filter((__, bit) => ((leftOut >> bit) & 1) === 1));
 
 /** The first bits of a byte that goes on a sign in UTF-8, and the least with which a sign of four bytes begins. */
 const FIRST_BITS = 0xc0;
@@ -82,7 +79,7 @@ function pairEnds(text: string) {
 }
 
 /** How many of some numbers, the least first, are at most as great as another one. */
-export function countUpTo(numbers: number[], most: number) {
+function countUpTo(numbers: number[], most: number) {
   let [least, end] = [0, numbers.length];
   while (least < end) {
     const middle = (least + end) >> 1;
@@ -177,8 +174,8 @@ export class WrittenText {
     return this.cut(begin, end).trim();
   }
 
-  /** The same in units. */
-  plain({ bytes, places, leftOut }: WrittenLine): PlainLine {
+  /** @returns a line that was written of the text in units, and the unit of each of its own */
+  signs({ bytes, places }: WrittenLine): { line: string; places: number[] } {
     const units: number[] = [];
     for (let at = 0; at < bytes.length; at += 1) {
       if (!begins(bytes[at])) continue;
@@ -188,7 +185,28 @@ export class WrittenText {
     }
     // half of a pair stays in the line as it stands in the text
     const asWritten = (_: string, at: number) => this.#text[units[at] - this.#shift];
-    const line = textIn(bytes).replace(NO_CHARACTER, asWritten);
-    return { line, places: units, leftOut: leftOutNames(leftOut) };
+    return { line: textIn(bytes).replace(NO_CHARACTER, asWritten), places: units };
+  }
+}
+
+/** A line that was written of a text, of which parts are lines too. */
+export class Cuts {
+  #line: string;
+  #places: number[];
+  /** The unit of each byte; null if each byte is one. */ #units: Uint32Array | null;
+
+  constructor(whole: WrittenText, written: WrittenLine) {
+    const { line, places } = whole.signs(written);
+    this.#line = line;
+    this.#places = places;
+    this.#units = line.length === written.bytes.length ? null : unitsOf(written.bytes);
+  }
+
+  /** What stands from one byte of it to another. */
+  cut(begin: number, end: number, leftOut: number): PlainLine {
+    const from = this.#units === null ? begin : this.#units[begin];
+    const to = this.#units === null ? end : this.#units[end];
+    const [line, places] = [this.#line.slice(from, to), this.#places.slice(from, to)];
+    return { line, places, leftOut: NAMES_LEFT_OUT[leftOut].slice() };
   }
 }

@@ -1,8 +1,8 @@
 use Rattle.std.proofs.Common.{◌≡◌, ◌+◌, ◌<◌, ℕ, List, length, take, drop, set, sym, ap, ◌∙◌, subst, arith}
 use Rattle.std.proofs.lemmas.List.{length-set, length-drop}
 use Rattle.niss_text.specs.declared.text_line.TextLine.{TextLine}
-use Rattle.niss_text.specs.Lines.{IsLine, IsUnbroken, Covers, end_size}
-use Rattle.niss_text.proofs.LineLemmas.{covers_next, same_behind_line}
+use Rattle.niss_text.specs.Lines.{IsLine, IsUnbroken, IsEnd, Covers, Counts, end_size}
+use Rattle.niss_text.proofs.LineLemmas.{covers_next, counts_next, same_behind_line}
 use Rattle.niss_text.proofs.attempts.put_attempt.Goals as goal
 
 pub loop-at-preserved : goal.loop-at-preserved
@@ -22,6 +22,7 @@ loop-at-preserved c =
     let some : 0 < whole = c.cut_line-whole.ensures.some in
     let unbroken : IsUnbroken (drop now text) 0 size = subst (λ (r : List ℕ). IsUnbroken r 0 size) rest c.cut_line-whole.ensures.whole in
     let all : whole ≡ size + end_size (drop now text) size = subst (λ (r : List ℕ). whole ≡ size + end_size r size) rest c.cut_line-whole.ensures.ends in
+    let ended : IsEnd (drop now text) size = subst (λ (r : List ℕ). IsEnd r size) rest c.cut_line-whole.ensures.ended in
     let there : now + whole ≡ c.args.begin + (c.loop-at.at + whole) = omega arith in
     record {
       within = omega (arith, c.cut_line-whole.ensures.fits, ap length rest, length-drop now text, inv.within);
@@ -32,5 +33,7 @@ loop-at-preserved c =
           (subst (λ (ls : List TextLine). Covers text 0 (take (count + 1) ls) (now + whole)) (sym e)
           (covers_next text lines count now size whole told (omega (arith, room, same)) (inv.covers begun (omega (arith, room, same)))
           begins c.judged-told.ensures.doubt (c.judged-told.ensures.ends ∙ c.told_line-told.ensures.ends) unbroken all));
+      counts = λ begun. subst (λ (n : ℕ). Counts text 0 (count + 1) n) there
+          (counts_next text count now size whole (inv.counts begun) (omega (arith, some, c.cut_line-whole.ensures.fits, ap length rest, length-drop now text)) unbroken ended all);
       behind = ap (λ v. drop (count + 1) v) e ∙ same_behind_line lines c.args.lines.now count told inv.behind;
     }

@@ -1,6 +1,6 @@
 use Rattle.std.proofs.Common.{◌≡◌, length, refl, ◌∙◌, arith}
 use Rattle.std.proofs.lemmas.Grind.{common_steps}
-use Rattle.niss_text.proofs.LineLemmas.{covers_none, more_behind}
+use Rattle.niss_text.proofs.LineLemmas.{covers_none, counts_none, more_behind}
 use Rattle.niss_text.proofs.attempts.text_lines.Goals as goal
 
 pub loop-at-init : goal.loop-at-init
@@ -9,6 +9,7 @@ loop-at-init c = record {
   within = omega arith;
   few = omega arith;
   covers = λ room. covers_none c.args.text.now 0;
+  counts = counts_none c.args.text.now 0;
   behind = refl;
 }
 
@@ -22,5 +23,6 @@ loop-at-preserved c =
       within = grind (arith, common_steps);
       few = told.more.1;
       covers = λ room. told.covers (inv.covers (omega (arith, room, same, told.more.0))) room;
+      counts = told.counts inv.counts;
       behind = told.behind ∙ more_behind c.loop-at.lines c.args.lines.now c.loop-at.count c.put_attempt-more.result.0 told.more.0 inv.behind;
     }

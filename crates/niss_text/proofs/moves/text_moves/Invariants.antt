@@ -8,7 +8,7 @@ abbrev pub invariant-loop-line : goal.invariant-loop-line
 invariant-loop-line l = record {
   gap : l.joined.gap ≡ gap_of l.of;
   joined : l.joined.pen.has_room ≡ true → SoMany l.text l.of l.lines l.rest l.joined.before (take l.joined.pen.length l.out)
-      (take l.joined.pen.length l.places) l.joined.left_out;
+      (take l.joined.pen.length l.places) l.joined.left_out l.count l.parts;
   spent : l.joined.pen.length + most_bytes (filter (is_wanted l.of) l.rest) ≤ most_bytes (filter (is_wanted l.of) l.lines);
   room : most_bytes (filter (is_wanted l.of) l.lines) ≤ length l.out → most_bytes (filter (is_wanted l.of) l.lines) ≤ length l.places →
       l.joined.pen.has_room ≡ true;
@@ -16,6 +16,9 @@ invariant-loop-line l = record {
   fits_places : l.joined.pen.length ≤ length l.places;
   behind : drop l.joined.pen.length l.out ≡ drop l.joined.pen.length l.initial.out;
   behind_places : drop l.joined.pen.length l.places ≡ drop l.joined.pen.length l.initial.places;
+  counted : l.count + length (filter (is_wanted l.of) l.rest) ≡ length (filter (is_wanted l.of) l.lines);
+  few : l.count + length l.rest ≤ length l.lines;
+  behind_parts : drop l.count l.parts ≡ drop l.count l.initial.parts;
 }
 
 abbrev pub decreases-loop-line : goal.decreases-loop-line
