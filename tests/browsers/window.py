@@ -3,7 +3,7 @@ import json
 import time
 from typing import Any
 
-PATIENCE = 90
+PATIENCE = 400
 # kept lines have their totals by a worker of their own, for which nothing else waits; longer ones are counted, and wait until they are asked for
 DONE = """
     const stop = document.getElementById("best-stop");
