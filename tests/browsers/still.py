@@ -66,8 +66,8 @@ FILTERED = """return [all('#best-body tr').length, ...['best-head', 'best-side',
 FIRST_ROW = "return document.querySelector('#best-body .take').getBoundingClientRect().top"
 # until a shift that was would have been told
 QUIET = 0.3
-# how often something is tried that the machine may be too slow for
-TRIALS = 4
+# how often something is tried that the machine may be too slow for; then it is too slow for more of it too
+TRIALS = 2
 
 
 def opens(tally: Tally, browser: Browser, width: int) -> None:

@@ -25,9 +25,9 @@ FAILED = "return !part('failed').hidden"
 MENDED = f"window.sound = true; return part('failed').hidden && (() => {{ {IDLE} }})() && (() => {{ {BEST} }})()"
 SILENCE = "The engine has given no answer for 20 seconds. It may still be at work, or it has ended without a word."
 MUTE = "self.addEventListener('message', (event) => event.stopImmediatePropagation());"
-# what spoils a worker, and what is said of it
+# what spoils a worker, whose own script has names too, and what is said of it
 SCRIPTS = (("throw new Error('spoilt');", "The engine doesn't work here. Uncaught Error: spoilt"), (MUTE, SILENCE),
-    ("let asked = 0; self.addEventListener('message', () => { if (++asked === 4) close(); });", SILENCE),
+    ("{ let asked = 0; self.addEventListener('message', () => { if (++asked === 4) close(); }); }", SILENCE),
     ("WebAssembly.Memory.prototype.grow = () => { throw new RangeError('no memory is left'); };", "There is no answer: no memory is left."),
     ("self.addEventListener('message', () => Promise.reject(new Error('uncaught'))); " + MUTE, "The engine doesn't work here. Uncaught Error: uncaught"))
 UNREADABLE = "made.forEach((each) => each.dispatchEvent(new MessageEvent('messageerror')))"
