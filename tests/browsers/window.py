@@ -10,7 +10,7 @@ DONE = """
     return document.querySelector("#results[aria-busy=false]") !== null && document.querySelector("[aria-busy=true]") === null
         && (stop.disabled || stop.textContent === "Go on")
         && [...document.querySelectorAll("#kept-list .total")].every((each) => each.textContent !== "")"""
-SEEN = "return [...document.querySelectorAll(%s)].filter((each) => each.checkVisibility())"
+SEEN = "return [...document.querySelectorAll(%s)].filter((each) => each.checkVisibility({ visibilityProperty: true }))"
 
 
 class Window:
