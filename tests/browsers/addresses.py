@@ -11,7 +11,7 @@ MARKUP = ("<img src=x onerror=window.hit=1>", "<script>window.hit=1</script>", "
 REFUSED = ("#%", "#scramble=%", "#scramble=%E0%A4%A", "#scramble=%FF", "#scramble", "#scramble=R=U", "#__proto__=R", "#constructor=R",
     "#steps=R", "#steps=normal.", "#steps=normal.R~", "#steps=up.R", "#steps=normal.R.U", "#steps=normal.%3Cb%3E", "#steps=normal.q",
     "#steps=normal.R_2", "#steps=inverse.R)_(U", "#steps=" + "~".join(["normal.R"] * 257), "#steps=normal." + "_".join(["R"] * 257),
-    "#side=__proto__", "#side=Normal", "#list=eofb.normal", "#list=eofb.normal.4", "#list=eofb.normal.-1", "#list=toString.normal.0",
+    "#side=__proto__", "#side=Normal", "#longer=4", "#longer=", "#longer=toString", "#list=eofb.normal", "#list=eofb.normal.4", "#list=eofb.normal.-1", "#list=toString.normal.0",
     "#list=eofb.constructor.0", "#list=eofb.normal.0.0", "#list=eofb.normal.0.all.all", "#kept=R", "#kept=normal.R;a;b",
     "#kept=normal.R;a;eofb", "#kept=normal.R;a;toString", "#kept=normal.R;a;drud-eofb;b", "#kept=normal.R,", "#kept=normal.q",
     "#kept=normal.R;" + "a" * 81, "#kept=" + ",".join(["normal.R"] * 25), "#scramble=" + "R_" * 2100, "#scramble=" + "R_" * 500_000,
@@ -24,7 +24,7 @@ LEFT_OUT = (("#scramble=R_U&", "", "R U", ""), ("#scramble=R_U&utm_source=chat",
     ("#scramble=R&steps=normal.F~normal.q", "steps (not steps)", "R", ""),
     ("#scramble=R&side=up&steps=normal.F", "side (no side)", "R", "F"),
     ("#scramble=R&list=eofb.normal.9&steps=inverse.F", "list (no list)", "R", "(F)"),
-    ("#scramble=R&kept=normal.q", "kept (not steps)", "R", ""),
+    ("#scramble=R&kept=normal.q", "kept (not steps)", "R", ""), ("#scramble=R&longer=9", "longer (no number of moves)", "R", ""),
     ("#scramble=R&" + "&".join(f"a{at}=1" for at in range(9)), ", ".join(f"a{at} (unknown)" for at in range(5)) + " and 4 more", "R", ""),
     ("#scramble=R&" + "x" * 99 + "=1", "x" * 24 + "\u2026 (unknown)", "R", ""))
 ELEMENTS = "return all('*').filter((each) => !each.closest('#steps-body, pre')).length"

@@ -1,5 +1,5 @@
-"""What a candidate leads to: how many reductions follow it on each side, rows with few moves in all, and lists over both sides."""
-from best import DETAILS, LONGER, MORE, ROWS, SCRAMBLE, address_of
+"""What a candidate leads to: how many reductions follow it on each side, and lists over both sides."""
+from best import DETAILS, LONGER, ROWS, SCRAMBLE, address_of
 from browser import Browser
 from program import program_answers, program_lists
 from tally import Tally
@@ -20,21 +20,6 @@ def counts_reductions(tally: Tally, browser: Browser) -> None:
             lists = [program_lists(browser.program, ["solve", way.step, "20"], [lines[side]])[0] for side in SIDES]
             wanted = [(str(len(each[0].split())), f"×{len(each):,}") for each in lists]
             tally.equal(f"{row[1]}, {row[3]}: how many there are", [*zip(row[4:], times)], wanted)
-
-
-def leaves_few(tally: Tally, browser: Browser) -> None:
-    """The rows with at most so many moves in all."""
-    browser.go(address_of(LONGER))
-    browser.wait_best()
-    browser.until(MORE)
-    every = browser.script(ROWS)
-    least = int(every[0][0])
-    browser.choose("best-total", str(least + 1))
-    browser.until(MORE)
-    wanted = [row for row in every if int(row[0]) <= least + 1]
-    tally.holds("some are left, and not all", 0 < len(wanted) < len(every))
-    tally.equal("those with few moves", browser.script(ROWS), wanted)
-    tally.equal("which is said", browser.text("best-on"), "1 on")
 
 
 def beginnings(count: int) -> list[str]:

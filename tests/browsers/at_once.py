@@ -71,6 +71,9 @@ def best_of_many(tally: Tally, browser: Browser) -> None:
     said = re.fullmatch(r"The best ([0-9,]+) of ([0-9,]+) rows\.", browser.text("best-note"))
     kept, every = (int(number.replace(",", "")) for number in said.groups()) if said else (0, 0)
     tally.holds(f"there are more than are kept: {kept} of {every}", kept == CUT < every)
+    browser.script("part('best-options').open = true")
+    tally.holds("so do the chips of cases, which count these alone", browser.comes("best-cases-name", f"Case before DR, of the best {CUT}"))
+    browser.script("part('best-options').open = false")
     while len(rows := browser.script(ROWS)) < SHOWN:
         browser.script("part('best-more').click()")
         browser.wait_best()

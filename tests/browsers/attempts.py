@@ -5,7 +5,7 @@ from tally import Tally
 # as the browser does it, over all that the field has
 PASTE = """const field = part('scramble'); field.focus(); field.select(); field.dispatchEvent(new ClipboardEvent('paste'));
     field.value = arguments[0]; field.dispatchEvent(new InputEvent('input', { inputType: 'insertFromPaste' }))"""
-CHIPS, SHOWN, KEPT = "#desk-chips a", "#desk-chips [aria-current]", "#kept-list .step .moves"
+CHIPS, SHOWN, KEPT = "#desk-chips a", "#desk-chips [aria-current]", "kept lines"
 NOTES = "return all('#kept-list .note-field').map((each) => each.value)"
 # texts of one attempt: the scramble, the line so far, what is kept, and what is said to be left out
 ONE: tuple[tuple[str, str, str, list[str], str], ...] = (("R U F\n\nD L\n", "R U F", "D L", ["D L"], ""),

@@ -104,14 +104,13 @@ def filters_orientations(tally: Tally, browser: Browser, rows: list[tuple[str, .
 
 
 def filters_reductions(tally: Tally, browser: Browser, rows: list[tuple[int, str, str]]) -> None:
-    """The best reductions are filtered by their axis, by turns and by the last turn; those of another cube aren't."""
+    """The best reductions are filtered by their axis, by their side and by turns; those of another cube aren't."""
     tally.equal("cases aren't filtered by, turns are", browser.script(SHOWN_FILTERS), [False, True])
     moves = "return [...document.querySelectorAll('#best-body .take')].map((each) => each.textContent)"
     choices = "return [...document.getElementById(arguments[0]).options].map((each) => each.value).slice(1)"
     tally.equal("the axes", sorted(browser.script(choices, "best-reduction")), sorted({state for _, _, state in rows}))
     # the moves of each side
     plain = [[side.strip() for side in re.split("[()]", line) if side.strip()] for _, line, _ in rows]
-    tally.equal("the last turns", browser.script(choices, "best-last"), sorted({side.split()[-1] for sides in plain for side in sides}))
     for state in sorted({state for _, _, state in rows}):
         browser.choose("best-reduction", state)
         tally.equal(f"those of {state}", (browser.until(MORE), browser.script(moves)), (True, [row[1] for row in rows if row[2] == state]))
@@ -122,7 +121,7 @@ def filters_reductions(tally: Tally, browser: Browser, rows: list[tuple[int, str
         tally.equal(f"those on the {side} side", (browser.until(MORE), browser.script(moves)), (True, wanted))
         tally.holds("are some, and not all", 0 < len(wanted) < len(rows))
     browser.choose("best-reduction-side", "")
-    first, last = " ".join(max(plain[0], key=len).split()[:2]), plain[-1][-1].split()[-1]
+    first = " ".join(max(plain[0], key=len).split()[:2])
     browser.script(TYPE.replace("'filter'", "'best-filter'"), "", first)
     typed = [row[1] for row, sides in zip(rows, plain) if any(f" {first} " in f" {side} " for side in sides)]
     tally.holds(f"those with {first}", browser.until(MORE))
@@ -132,11 +131,7 @@ def filters_reductions(tally: Tally, browser: Browser, rows: list[tuple[int, str
     browser.script(TYPE.replace("'filter'", "'best-filter'"), "", "x")
     tally.equal("no moves", (browser.script(moves), "not moves" in browser.text("best-note")), ([], True))
     browser.script(TYPE.replace("'filter'", "'best-filter'"), "", "")
-    browser.choose("best-last", last)
-    tally.holds(f"those that end with {last}", browser.until(MORE))
-    ended = browser.script(moves)
-    wanted = [row[1] for row, sides in zip(rows, plain) if any(side.split()[-1] == last for side in sides)]
-    tally.holds("are all of them, and twins", set(wanted) <= set(ended) and len(ended) < len(rows))
+    browser.choose("best-reduction-side", "inverse")
     forgets_filters(tally, browser, len(rows))
 
 
@@ -147,7 +142,7 @@ def forgets_filters(tally: Tally, browser: Browser, count: int) -> None:
     tally.equal("before an orientation cases are filtered by", browser.script(SHOWN_FILTERS), [True, False])
     browser.script("history.back()")
     browser.until("return document.getElementById('best-table').classList.contains('of-reductions')")
-    browser.walk(tally, "a filter of another cube is gone, so all are there again", ("wait_best", {"best-last=": "", "best-note": f"{count} rows."}))
+    browser.walk(tally, "a filter of another cube is gone, so all are there again", ("wait_best", {"best-reduction-side=": "", "best-note": f"{count} rows."}))
 
 
 def after_orientation(tally: Tally, browser: Browser) -> None:

@@ -23,6 +23,7 @@ Step = tuple[Any, ...]
 LOOKS = {"hash": "return location.hash", "title": "return document.title",
     "focus": "const at = document.activeElement; return at.id || at.dataset.cell || at.textContent",
     "steps": "return all('#line-list li').length", "kept": "return all('#kept-list li').length",
+    "kept lines": "return all('#kept-list li > .step').map((it) => [...it.querySelectorAll('.moves')].map((one) => one.textContent).join(' '))",
     "said": "return part('status').textContent", "label": "return document.activeElement.ariaLabel ?? document.activeElement.id"}
 # waits in the page until what another script says is true
 UNTIL = """const [words, end] = [[...arguments], performance.now() + %d];

@@ -23,6 +23,8 @@ def stands_beside(tally: Tally, browser: Browser) -> None:
     nothing."""
     browser.walk(tally, "five", ("go", FIVE, {}), ("until", KEPT_SAID, {}), ("wait_best", {}))
     browser.walk(tally, "it is high, and beside the best", *(("resize", width, height, {PLACES: [True, True, 0]}) for width, height in SIZES))
+    tally.equal("on a laptop it takes no column of its own", browser.script("return part('kept').getBoundingClientRect().left < 20"), True)
+    browser.resize(1920, 1080)
     browser.go(ADDRESS)
     browser.wait_best()
     tally.holds("an empty desk says what it is for", "☆" in browser.text("kept-none"))

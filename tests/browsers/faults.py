@@ -106,10 +106,10 @@ def pasted(tally: Tally, browser: Browser) -> None:
 
 def pasted_steps(tally: Tally, browser: Browser) -> None:
     """Text with the steps of a solution is read as far as it can be, and what it has besides is kept, with its notes."""
-    kept = "#kept-list .step .moves"
+    kept = "kept lines"
     browser.walk(tally, "a text of steps", ("go", {}), ("fill", "scramble", FMC, {}),
         ("comes", "kept", 2, {"scramble=": "R' U' F D2", "bracketed": "F R' B B2 (D R)"}))
-    tally.equal("what else it has is kept", sorted(browser.texts(kept)), ["(U F)", "L2 D'"])
+    tally.equal("what else it has is kept", sorted(browser.look(kept)), ["(U F)", "L2 D'"])
     notes = browser.script("return all('#kept-list .note-field').map((each) => each.value).sort()")
     tally.equal("with its notes", notes, ["", "a note"])
     labels = "Scramble: R' U' F\nEO: D R\nDR after it: (L2) F // note: no\nleave: U\n"

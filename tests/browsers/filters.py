@@ -15,11 +15,11 @@ def of_the_best(tally: Tally, browser: Browser) -> None:
     browser.open(address_of(LONGER))
     browser.wait_best()
     first = browser.texts("#best-body tr")
-    every = browser.script("return ['best-axis', 'best-side', 'last-turn'].map((name) => document.getElementById(name).options[0].text)")
+    every = browser.script("return ['best-axis', 'best-side', 'best-next'].map((name) => document.getElementById(name).options[0].text)")
     tally.equal("what leaves any is called so", every, ["any"] * 3)
     tally.equal("without a filter nothing is said", browser.script(SIGNS, "best"), ["", "", ""])
     browser.choose("best-axis", "EO F/B")
-    browser.choose("best-total", "10")
+    browser.choose("best-side", "inverse")
     left = browser.texts("#best-body tr")
     tally.equal("two are on", browser.script(SIGNS, "best"), ["2 on", CLEAR, ""])
     tally.holds("and leave less", left != first)
@@ -27,8 +27,8 @@ def of_the_best(tally: Tally, browser: Browser) -> None:
     browser.wait_best()
     tally.holds("they are folded", not browser.script("return document.getElementById('best-options').open"))
     tally.equal("for the next scramble too", browser.script(SIGNS, "best")[:2], ["2 on", CLEAR])
-    browser.choose("best-total", "7")
-    browser.choose("best-side", "normal")
+    # none goes on to the axis that its EO has
+    browser.choose("best-next", "DR F/B")
     tally.equal("nothing is left", browser.texts("#best-body tr"), [])
     tally.equal("which is said", browser.script(SIGNS, "best"), ["3 on", CLEAR, "No row is left by the filters below."])
     browser.click("#best-clear")
@@ -36,7 +36,7 @@ def of_the_best(tally: Tally, browser: Browser) -> None:
     tally.holds("and all are there", browser.texts("#best-body tr"))
     tally.equal("the focus is at the fold", browser.script("return document.activeElement.closest('#best-options') !== null"), True)
     values = "return [...document.querySelectorAll('#best-filters select, #best-cases')].map((each) => each.value)"
-    tally.equal("no field is set", browser.script(values), [""] * 5)
+    tally.equal("no field is set", browser.script(values), [""] * 4)
 
 
 def of_many(tally: Tally, browser: Browser) -> None:
@@ -76,15 +76,9 @@ def of_a_list(tally: Tally, browser: Browser) -> None:
 
 
 def of_both_sides(tally: Tally, browser: Browser) -> None:
-    """A list over both sides is filtered by the turns of each, and by the last of each."""
+    """A list over both sides is filtered by the turns of each."""
     browser.open(address_of(LONGER) + "&list=eofb.both.1.all")
     every = [re.split(r" ?\(", key.replace(")", "")) for key in browser.listed()]
-    last = next(sides[-1].split()[-1] for sides in every if len(sides) == 2)
-    browser.choose("last-turn", last)
-    wanted = [sides for sides in every if any(side.split()[-1:] == [last] for side in sides)]
-    found = [re.split(r" ?\(", key.replace(")", "")) for key in browser.listed()]
-    tally.holds("those that end so are there, and twins", all(sides in found for sides in wanted) and 0 < len(found) < len(every))
-    browser.choose("last-turn", "")
     turns = " ".join(every[0][0].split()[:2] or every[0][1].split()[:2])
     browser.script(TYPE, "", turns)
     found = [re.split(r" ?\(", key.replace(")", "")) for key in browser.listed()]

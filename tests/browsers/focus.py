@@ -155,11 +155,11 @@ def across(tally: Tally, browser: Browser) -> None:
     browser.script("part('keys-on').checked = false")
     place = """const [holder] = arguments, at = document.activeElement, rows = all(`${holder} :is(tr, li)`);
         return [rows.indexOf(at.closest("tr, li")), at.classList[0], at.ariaPressed]"""
-    for holder, last in (("#best-body", "star"), ("#solutions-groups", "copy")):
+    for holder in ("#best-body", "#solutions-groups"):
         browser.script("document.querySelector(arguments[0]).focus()", f"{holder} .take")
         right, left = (Keys.ARROW_RIGHT,) * 3, (Keys.ARROW_LEFT,) * 2
         for keys, wanted in (((Keys.ARROW_DOWN, Keys.ARROW_RIGHT), [1, "star", "false"]), ((Keys.ENTER,), [1, "star", "true"]),
-                ((Keys.ARROW_UP,), [0, "take"]), (right, [0, last]), (left, [0, "take"])):
+                ((Keys.ARROW_UP,), [0, "take"]), (right, [0, "star"]), (left, [0, "take"])):
             browser.press(*keys)
             browser.settle("return arguments[0] || all('#kept-list .total').length > 0", keys != (Keys.ENTER,))
             tally.equal(f"{holder}, {', '.join(keys)}", browser.script(place, holder)[: len(wanted)], wanted)
@@ -183,8 +183,6 @@ def words(tally: Tally, browser: Browser) -> None:
     wanted = [[f"{side} side alone", f"DR in {counted(int(count), 'move')} on the {side} side alone, {counted(int(number), 'solution')}"]
         for side, count, number in zip(SIDES, lengths, times)]
     tally.equal("what the lengths of a row are", said, wanted)
-    looks = [f"{Position(SCRAMBLE).count(step, side)[2]:,}" for step in ("eofb", "eorl", "eoud") for side in SIDES]
-    tally.equal("the looks have a table of their own", browser.texts("#looks-body td"), looks)
 
 
 def goes_on(tally: Tally, browser: Browser) -> None:

@@ -23,17 +23,17 @@ const said = (text, button) => {
   [note.textContent, found.textContent, found.hidden] = [text, button, button === ""];
   return Math.round(rows.getBoundingClientRect().top);
 };
-const tried = "Up to 2 longer: the best 200 of 1,244,538 rows.", held = "The best 200 of 307,200 rows. Up to 2 longer: about 11,000,000 EOs, 2 min.";
-return [said("", ""), said(tried, ""), said(tried, "120 new rows: 10 moves"), said(`Stopped. ${tried}`, "120 new rows: 10 moves"),
-  said(held, ""), said(held, "120 new rows: 10 moves")];
+const tried = "1,160 rows. Up to 2 longer: 1,244,538 rows, none better.", held = "The best 200 of 307,200 rows. Up to 2 longer: about 11,000,000 EOs, 2 min.";
+return [said("", ""), said(tried, ""), said(tried, "120 better rows, from 10 moves"), said(`Stopped. ${tried}`, "120 better rows, from 10 moves"),
+  said(held, ""), said(held, "120 better rows, from 10 moves")];
 """
 WIDTHS = (1920, 1440, 1180, 1024, 960, 900, 768, 640, 601, 600, 430, 390, 360, 320)
 # longer than the page waits before it goes on
 LONGER_THAN_REST = 2
-# by itself it would go on only as far as this machine gets in ten seconds
-ALWAYS = "localStorage.setItem('nissy-further', 'all')"
 # it waits until it is asked for, and what was asked of the best
 FORGET = "try { localStorage.removeItem('nissy-further') } catch {}"
+# it goes on however slow the machine is
+ALWAYS = "try { localStorage.setItem('nissy-further', 'all') } catch {}"
 HELD_IS = "part('best-stop').textContent === 'Go on' && !part('best-stop').disabled"
 HELD = f"return {HELD_IS}"
 ASKED = "return window.asked.filter((each) => each === 'best').length"
@@ -61,10 +61,9 @@ def shows_all(browser: Browser) -> list[list[str]]:
 def goes_on(tally: Tally, browser: Browser) -> None:
     """
     Not while the page isn't seen; then to two moves more, to the same rows as if these had been asked for. Rows that are seen stay until they are
-    asked to make room; then the first that is new has the focus, and nothing has moved before.
+    asked to make room, and the note tells of these; then the first that is new has the focus, and nothing has moved before.
     """
-    browser.open()
-    browser.script(ALWAYS)
+    script = browser.before_page(ALWAYS)
     begins(browser, WORSE)
     note, first, keys, top = browser.text("best-note"), browser.script(ROWS), browser.script(KEYS), browser.script(FIRST_ROW)
     height = "return part('best-head').offsetHeight"
@@ -73,26 +72,38 @@ def goes_on(tally: Tally, browser: Browser) -> None:
     seen = (browser.text("best-note"), browser.script(ROWS), browser.script(ENDED))
     tally.equal("it waits while the page isn't seen", seen, (note, first, True))
     browser.script(TURN, True)
-    tally.holds("then come those of one move more", browser.until(f"return {NOTE}.startsWith('Up to 1 longer: ')"))
+    tally.holds("then come those of one move more", browser.until(f"return {NOTE}.includes(' Up to 1 longer: ')"))
     tally.holds("more is found", browser.until(IS_NEW))
     tally.equal("the rows stay", (browser.script(KEYS), browser.script(FIRST_ROW)), (keys, top))
-    tally.holds("and those of two", browser.until(f"return {NOTE}.startsWith('Up to 2 longer: ')"))
+    tally.holds("and those of two", browser.until(f"return {NOTE}.includes(' Up to 2 longer: ')"))
     tally.holds("to their end", browser.until(ENDED))
     tally.equal("to the end", (browser.script(KEYS), browser.script(FIRST_ROW), browser.script(height)), (keys, top, before))
+    said = browser.text("best-note")
+    tally.holds(f"of the rows it is said how many they are, and of longer ones that they were found: {said}",
+        re.fullmatch(re.escape(note) + r" Up to 2 longer: [0-9,]+ rows\.", said))
+    # more of the same are no others
+    browser.click("#best-more")
+    browser.wait_best()
+    tally.equal("more rows let none in", (browser.script(KEYS)[: len(keys)], browser.script(IS_NEW), browser.value("best-slack")), (keys, True, "0"))
     shows_found(tally, browser, first, top)
+    browser.no_longer(script)
+    browser.script(FORGET)
 
 
 def shows_found(tally: Tally, browser: Browser, first: list[list[str]], top: int) -> None:
     """What was found is shown once it is asked for, and is what a search of two moves more finds."""
     words = browser.text("best-new")
-    said = re.fullmatch(r"[0-9,]+ new rows?: (\d+) moves", words)
+    said = re.fullmatch(r"[0-9,]+ better rows?, from (\d+) moves", words)
     tally.holds(f"a button says that better ones are there: {words}", said and int(said[1]) < int(first[0][0]))
+    browser.script("scrollTo({ top: 0, behavior: 'instant' })")
     browser.click("#best-new")
     rows = browser.script(ROWS)
     tally.equal("which it shows", (rows[0][0], browser.script(FIRST_ROW), browser.script(IS_NEW)), (said[1] if said else "", top, False))
     tally.equal("the first of them has the focus", browser.script("return document.activeElement.dataset.key"), browser.script(KEYS)[0])
+    tally.equal("and the number of moves says it", (browser.value("best-slack"), "longer" in browser.text("best-note")), ("2", False))
     found = shows_all(browser)
     tally.equal("by all moves", [int(row[0]) for row in found], sorted(int(row[0]) for row in found))
+    stays(tally, browser)
     # by a page that has found none of them yet
     begins(browser, WORSE)
     browser.choose("best-slack", "2")
@@ -104,16 +115,28 @@ def shows_found(tally: Tally, browser: Browser, first: list[list[str]], top: int
     tally.holds("which is more than the shortest", found[: len(first)] != first)
 
 
+def stays(tally: Tally, browser: Browser) -> None:
+    """What was shown stays: once a row is taken and the line is cleared, and once the page is loaded again; another scramble begins without."""
+    shown = (browser.script(KEYS)[:5], False, "2")
+    browser.act("#best-body .take")
+    browser.wait_best()
+    for what, act in (("after Clear", lambda: browser.act("#clear")), ("after a reload", lambda: browser.reopen(browser.hash()))):
+        act()
+        browser.wait_best()
+        tally.equal(what, (browser.script(KEYS)[:5], browser.script(IS_NEW), browser.value("best-slack")), shown)
+    browser.fill("scramble", "R U F")
+    browser.wait_best()
+    tally.equal("of another scramble the shortest are shown", browser.value("best-slack"), "0")
+
+
 def pauses(tally: Tally, browser: Browser) -> None:
     """A page that is left looks for nothing, and goes on once it is seen again; a stop ends it, and a choice keeps it from beginning."""
-    script = browser.before_page(LISTEN)
-    browser.open()
-    browser.script(ALWAYS)
+    scripts = [browser.before_page(each) for each in (LISTEN, ALWAYS)]
     begins(browser, WORSE)
     asked = "return window.asked.filter((each) => each === 'best').length"
     count = browser.script(asked)
     browser.script(TURN, True)
-    browser.until(f"return {NOTE}.startsWith('Up to 1 longer: ')")
+    browser.until(f"return {NOTE}.includes(' Up to 1 longer: ')")
     # those of two moves more
     browser.until(f"return window.asked.filter((each) => each === 'best').length > {count + 3}")
     workers = browser.workers()
@@ -129,13 +152,15 @@ def pauses(tally: Tally, browser: Browser) -> None:
     tally.holds("it goes on", browser.until(f"return window.asked.filter((each) => each === 'best').length > {left[0]}"))
     browser.click("#best-stop")
     note = browser.text("best-note")
-    tally.holds(f"a stop says how far it came: {note}", note.startswith("Stopped. Up to 1 longer: "))
+    tally.holds(f"a stop says how far it came: {note}", re.match(r"Stopped\. [0-9,]+ rows\. Up to 1 longer: ", note))
     count = browser.script(asked)
     time.sleep(LONGER_THAN_REST)
     tally.equal("and ends it", (browser.script(asked), browser.script(ENDED)), (count, True))
     browser.script(TURN, False)
     tally.equal("what it said stays once the page is left", browser.text("best-note"), note)
-    browser.no_longer(script)
+    for each in scripts:
+        browser.no_longer(each)
+    browser.script(FORGET)
     browser.open(address_of(SCRAMBLE))
 
 
@@ -151,8 +176,8 @@ def is_measured(tally: Tally, browser: Browser) -> None:
         for scramble, count in ORIENTATIONS.items():
             begins(browser, scramble)
             tally.holds(f"{of_what}: it waits", browser.until(HELD))
-            note, longer = browser.text("best-note"), f"Up to 1 longer: {count} EOs, about 1 s."
-            tally.holds(f"{of_what}: it says how many there are: {note}", note.endswith(f" rows. {longer}"))
+            note, longer = browser.text("best-note"), rf"[0-9,]+ rows\. Up to 1 longer: {count} EOs, about [0-9]+ s\."
+            tally.holds(f"{of_what}: it says how many there are: {note}", re.fullmatch(longer, note))
             tally.equal(f"{of_what}: and has asked nothing more", (browser.value("best-further"), browser.script(ASKED)), ("none", 3))
         browser.click("#best-stop")
         tally.holds(f"{of_what}: asked, it goes on, and waits with the next ones", browser.until(f"return {NOTE}.includes('Up to 2 longer: ') && {HELD_IS}"))

@@ -121,7 +121,7 @@ def keeps_reductions(tally: Tally, browser: Browser) -> None:
     stars = "return [...document.querySelectorAll('#best-body .star')].map((each) => each.ariaPressed === 'true')"
     case = browser.texts(f"#best-body tr:nth-child({one + 1}) .case")[0]
     total, line, state, reduction, normal, inverse = rows[one]
-    said = f"{reduction} {case}: N {normal} I {inverse}, {total} in all"
+    said = f"{reduction} {case}: {normal} normal, {inverse} inverse, {total} with the line"
     told = """const it = document.querySelectorAll('#best-body .first')[arguments[0]]; it.scrollIntoView({ block: 'center' });
         return it.textContent"""
     browser.until(told, one)
@@ -140,7 +140,7 @@ def keeps_reductions(tally: Tally, browser: Browser) -> None:
     browser.until(KEPT_SAID)
     both = [at in (one, other) for at in range(len(rows))]
     tally.equal("the other row of this orientation is kept by itself", browser.script(stars), both)
-    totals = re.findall(r"(\d+) in all", " ".join(browser.texts("#kept-list .case")))
+    totals = re.findall(r"(\d+) with the line", " ".join(browser.texts("#kept-list .case")))
     tally.equal("they are sorted by all moves", totals, [rows[one][0], rows[other][0]])
     names = browser.script("return [...document.querySelectorAll('#kept-list button')].map((each) => each.ariaLabel)")
     tally.equal("no two buttons have one name", len(set(names)), len(names))
@@ -247,12 +247,12 @@ def keeps_lengths(tally: Tally, browser: Browser) -> None:
     browser.script("document.querySelectorAll('#best-body .star').forEach((star) => star.click())")
     browser.choose("kept-sort", "kept")
     browser.until(KEPT_SAID)
-    said = [[words[0], words[-2].split(" ", 3)[3]] for words in browser.script(KEPT_WORDS)]
-    tally.equal("each as in its row", said, [[row[1], f"N {row[4]} I {row[5]}, {row[0]} in all"] for row in rows])
+    said = [[words[0], words[-2].split(": ")[1]] for words in browser.script(KEPT_WORDS)]
+    tally.equal("each as in its row", said, [[row[1], f"{row[4]} normal, {row[5]} inverse, {row[0]} with the line"] for row in rows])
 
 
 def keeps_stages(tally: Tally, browser: Browser) -> None:
-    """What is kept with a reduction is seen in its stages: an orientation with its side, and then the case that was solved."""
+    """What is kept is seen step by step, each with what it reaches."""
 
     def shown(scramble: str, *lines: str) -> list[list[str]]:
         browser.open(f"{scramble}&kept=" + ",".join(lines))
@@ -261,20 +261,18 @@ def keeps_stages(tally: Tally, browser: Browser) -> None:
         return browser.script(KEPT_WORDS.replace(".moves", ".moves, .total"))
 
     example = ADDRESS_OF_EXAMPLE
-    steps = "inverse.B_D_R_F2_B_D", "normal.R_B-", "normal.D2_R"
-    browser.open(f"{example}&steps={steps[0]}")
-    [case] = [head.split()[2] for head in browser.texts("#steps-body th") if head.startswith("DR F/B")]
-    whole, further = "~".join(steps), "~".join((*steps, "inverse.F2"))
+    whole = "~".join(("inverse.B_D_R_F2_B_D", "normal.R_B-", "normal.D2_R"))
     apart = "inverse.B_D_R~normal.R2~inverse.F2_B_D~normal.R2_R_B-_D2_R"
-    oriented, reduced = ["(B D R F2 B D)", "EO U/D, inverse"], ["R B' D2 R", "10 in all", f"DR F/B {case}"]
-    after = [*reduced[::2], "(F2)", "11 in all"]
-    wanted = [[*oriented, *reduced], [*oriented, *after], ["(B D)", "2 moves"], [*oriented, *reduced]]
-    tally.equal("each stage with what it reaches", shown(example, whole, further, "inverse.B_D", f"{whole};;drrl-eoud"), wanted)
-    tally.equal("an orientation on both sides", shown(example, apart)[0][:2], ["(B D R) R2 (F2 B D)", "EO U/D, both sides"])
-    tally.equal("one that held before", shown("#scramble=U_R", "normal.R-"), [["R'", "1 move", "DR U/D 4c4e"]])
-    every = ["DR U/D", "DR R/L", "DR F/B"]
-    tally.equal("a reduction that held before", shown("#scramble=U2", "normal.U_R2~inverse.U"), [["U R2 (U)", "3 moves", *every]])
-    tally.equal("one that is reached with its orientation", shown("#scramble=F", "normal.F-"), [["F'", "1 move", *every]])
+    oriented, reduced = ["(B D R F2 B D)", "EO U/D"], ["R B'", "D2 R", "DR F/B"]
+    wanted = [[*oriented, *reduced, "10 in all"], [*oriented, *reduced, "(F2)", "11 in all"], ["(B D)", "2 moves"], [*oriented, *reduced, "10 in all"]]
+    tally.equal("each step with what it reaches", shown(example, whole, f"{whole}~inverse.F2", "inverse.B_D", f"{whole};;drrl-eoud"), wanted)
+    both = ["(B D R)", "R2", "(F2 B D)", "EO U/D", "R2 R B' D2 R", "DR F/B"]
+    tally.equal("an orientation on both sides", shown(example, apart)[0][:-1], both)
+    tally.equal("one that held before", shown("#scramble=U_R", "normal.R-"), [["R'", "DR U/D", "1 move"]])
+    # U keeps the DR on its axis, and the other U brings both others back
+    again = ["U R2", "(U)", "DR R/L", "DR F/B", "3 in all"]
+    tally.equal("what held all the time isn't reached", shown("#scramble=U2", "normal.U_R2~inverse.U"), [again])
+    tally.equal("two that are reached at once", shown("#scramble=F", "normal.F-"), [["F'", "DR U/D", "DR R/L", "1 move"]])
 
 
 def leads_to_kept(tally: Tally, browser: Browser) -> None:

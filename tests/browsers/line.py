@@ -125,7 +125,7 @@ def keys_rest(tally: Tally, browser: Browser) -> None:
 
 
 def plays(tally: Tally, browser: Browser) -> None:
-    """The moves of the line are played on the nets; the view is turned. Who wants less motion goes a move a press by Play (see trifles)."""
+    """The moves of the line are played on the nets. Who wants less motion goes a move a press by Play (see trifles)."""
     browser.go("#scramble=R_U&steps=normal.F_D~inverse.L")
     positions = [Position("R U"), Position("R U", "F"), Position("R U", "F D"), Position("R U", "F D", "L")]
     for place in (2, 1, 0):
@@ -133,7 +133,7 @@ def plays(tally: Tally, browser: Browser) -> None:
             f"{place} of 3", {"letters normal": positions[place].letters("normal")}))
     browser.walk(tally, "on, and to its end", ("click", "#play-on", {"played": "1 of 3: F", "letters inverse": positions[1].letters("inverse")}),
         ("click", "#play", {}), ("comes", "played", "3 of 3: (L)", {"play": "Play", "letters normal": positions[3].letters("normal")}),
-        ("go", "#scramble=R_U", {}), ("click", "#view-y", {}), ("click", "#view-x", {"letters normal": answer("print", "R U y x")}))
+        ("go", "#scramble=R_U", {"letters normal": answer("print", "R U")}))
 
 
 def solved(tally: Tally, browser: Browser) -> None:

@@ -7,7 +7,7 @@ from tally import Tally
 
 SCRAMBLE = "#scramble=R-_U-_F_D2_L2_F_R2_U2_R2_B_D2_L_B2_D-_B2_L-_R-_B-_D2_B2_R-_U-_F"
 KEPT = "&kept=inverse.B_D_R_F2_B_D;a_note,normal.R-_U_F-_R_L"
-ADDRESS = SCRAMBLE + "&steps=inverse.B_D_R_F2_B_D~normal.R_B-&side=inverse&list=drfb-eoud.inverse.1" + KEPT
+ADDRESS = SCRAMBLE + "&steps=inverse.B_D_R_F2_B_D~normal.R_B-&side=inverse&list=eofb.inverse.1" + KEPT
 # the least contrast of all text that is seen, with the text; what can't be used meanwhile doesn't count
 CONTRAST = """
     const channels = (text) => text.match(/[\\d.]+/g).map(Number);

@@ -1,4 +1,6 @@
 """Where the page is narrow: what a finger presses, rows on two lines, and what is in view after a step, there and beside a mouse."""
+import re
+
 from browser import Browser
 from looks import ADDRESS, SCRAMBLE
 from tally import Tally
@@ -25,6 +27,7 @@ REACHED = """
         const [back, right, up, down] = [[-1, 0], [1, 0], [0, -1], [0, 1]].map((way) => far(each, left + width / 2, top + height / 2, way));
         return [back + 1 + right, up + 1 + down];
     })"""
+SIZES_OF = "return [...new Set(all(arguments[0]).map((each) => parseFloat(getComputedStyle(each).fontSize)))]"
 HEIGHTS = "return all(arguments[0]).map((each) => each.getBoundingClientRect().height)"
 ROWS_OF_BEST = """
     const areOn = (one, other) => one.left < other.right - 0.5 && other.left < one.right - 0.5
@@ -54,6 +57,39 @@ IN_VIEW = """
 BROKEN = """
     return all("#solutions-groups .take").filter((each) => each.textContent.split(" ").length <= 8
         && each.clientHeight >= 2 * parseFloat(getComputedStyle(each).lineHeight)).map((each) => each.textContent)"""
+
+
+def says_all(tally: Tally, browser: Browser) -> None:
+    """On a phone nothing is called by half of its name; a reduction says from which case its trigger goes, as its label does."""
+    browser.resize(360, 800)
+    browser.open(ADDRESS.split("&list")[0].replace("~normal.R_B-", ""))
+    browser.wait_best()
+    tally.equal("the heading", browser.text("best-heading"), "Best ways on")
+    tally.holds(f"more of them: {browser.text('best-more')}", re.fullmatch(r"Show more of [0-9,]+", browser.text("best-more")))
+    rows = browser.script("""return seen('#best-body tr').map((each) => [getComputedStyle(each.querySelector('.axis'), '::after').content,
+        each.querySelector('.take').ariaLabel])""")
+    tally.equal("the case of each trigger", [re.findall(r"\dc\de", case) for case, _ in rows],
+        [re.findall(r"trigger from (\dc\de)", label) for _, label in rows])
+    tally.holds("of some rows", len(rows) > 2)
+    browser.go(SCRAMBLE)
+    browser.wait_best()
+    browser.script("part('best-more').click()")
+    browser.wait_best()
+    twins = browser.script("return seen('#best-body .twins').map((each) => each.innerText.trim())")
+    tally.holds("some have several twins", any(each.startswith("or ") for each in twins))
+    tally.equal("what several twins are called", [each for each in twins if each.startswith("or ") and not each.endswith(" twins")], [])
+
+
+def says_once(tally: Tally, browser: Browser) -> None:
+    """While reductions are listed the best ones, which are the same, don't stand above them, where the list begins in view; closed, they are back."""
+    for width, height in ((1200, 900), (360, 800)):
+        browser.resize(width, height)
+        browser.open(SCRAMBLE)
+        browser.wait_best()
+        browser.act("#best-body .take")
+        browser.settle("return document.activeElement.closest('#solutions-groups') !== null")
+        browser.walk(tally, f"{width}: a row is taken", ("wait_best", {"best?": False, "solutions?": True}),
+            ("act", "#solutions-close", {"best?": True, "solutions?": False}))
 
 
 def presses(tally: Tally, browser: Browser) -> None:
@@ -118,8 +154,12 @@ def has_rows(tally: Tally, browser: Browser) -> None:
         rows = browser.script(ROWS_OF_BEST)
         longest = max(len(row["moves"]) for row in rows if row["hasTwins"])
         tally.holds(f"{width}: there are long rows with twins: {longest}", longest > 20)
-        sizes = browser.script("""return all('#best-body :is(.take, .twins)').map((each) => parseFloat(getComputedStyle(each).fontSize))""")
-        tally.holds(f"{width}: the least sign: {min(sizes)}", min(sizes) >= LEAST_BESIDE_MOUSE)
+        sizes = {name: browser.script(SIZES_OF, f"#best-body .{name}") for name in ("take", "twins")}
+        tally.holds(f"{width}: one size in a column, and the least sign: {sizes}", all(len(each) == 1 and min(each) >= LEAST_BESIDE_MOUSE
+            for each in sizes.values()))
+        tally.equal(f"{width}: twins on several lines", browser.script("return seen('.twins').filter((each) => each.getClientRects().length > 1).length"), 0)
+        if width >= 1440:
+            tally.equal(f"{width}: as large as other text", sizes["take"], [16])
         # further down a row with several twins is higher; the last row has half of a border less
         heights = [row["height"] for row in rows[:FIRST_ROWS]]
         tally.holds(f"{width}: heights of rows: {min(heights)}, {max(heights)}", max(heights) - min(heights) <= 0.5)
@@ -148,13 +188,16 @@ def places(tally: Tally, browser: Browser) -> None:
         tally.equal(f"{width}: the scramble is folded", browser.look("scramble?"), not is_narrow)
         browser.act("#solutions-groups .take")
         browser.wait_best()
-        in_view("a step", *(("bar-line", "bar-undo") if is_narrow else ("line-list", "whole", "net-normal")))
+        in_view("a step", *(("bar-line", "bar-undo") if is_narrow else ("line-list", "own", "net-normal")))
         top = browser.script(table)
         tally.holds(f"{width}: after a step the table begins at {top}", 0 <= top < (500 if is_narrow else 600))
         browser.act("#steps-body .least")
         tally.holds(f"{width}: there are long solutions", any(len(moves.split()) == 8 for moves in browser.listed()))
         tally.equal(f"{width}: solutions of more than one line", browser.script(BROKEN), [])
         browser.act("#solutions-groups .take")
-        in_view("the last step", "line-list", "finished", "bracketed", "joined", "copy-bracketed", "copy-fmc",
-            *(() if is_narrow else ("net-normal", "net-inverse")))
+        in_view("the last step", "line-list", "finished", "own", "switch", "bracketed", "copy-bracketed",
+            *(() if is_narrow else ("joined", "copy-fmc", "net-normal", "net-inverse")))
+        beside = """const [line, steps] = ['line', 'steps'].map((name) => part(name).getBoundingClientRect());
+            return line.left > steps.right && line.width > steps.width"""
+        tally.equal(f"{width}: the line has the wider column, if there are two", browser.script(beside), not is_narrow)
         tally.equal(f"{width}: parts with a scroll area", browser.script(inner), 0)

@@ -86,6 +86,7 @@ def undoes(tally: Tally, browser: Browser) -> None:
         taken = browser.texts(selector)
         tap(browser, selector)
         tally.holds(f"{taken}: it is taken", browser.comes("steps", 1))
+        browser.wait_best()
         browser.script("document.querySelector(':is(#solutions-groups, #best-body) .star').click()")
         browser.script("scrollTo({ top: document.body.scrollHeight, behavior: 'instant' })")
         tap(browser, "#bar-undo")

@@ -3,7 +3,7 @@ from attempts import CHIPS, PASTE, SHOWN, chip
 from browser import Browser
 from tally import Tally
 
-KEPT = "#kept-list .step .moves"
+KEPT = "kept lines"
 MEAN = "1. R U F\n2. F' L2 U\n3. B2 R D\n"
 # of a session that is pasted the browser has the text at the event alone
 PASTE_ALL = """const field = part('scramble'), clipboardData = new DataTransfer();

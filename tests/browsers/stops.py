@@ -4,7 +4,7 @@ from looks import ADDRESS, SCRAMBLE
 from tally import Tally
 
 STOPS = {"skip", "scramble-edit", "undo-move", "own", "switch", "copy-joined", "eofb.normal", "slack", "filter", "best-more", "copy-fmc", "copy-kept",
-    "marks", "play", "view-y", "keep-line", "copy-link", "theme", "solutions-close", "twins", "last-turn"}
+    "marks", "play", "keep-line", "copy-link", "theme", "solutions-close", "twins"}
 
 
 def shows_focus(tally: Tally, browser: Browser) -> None:

@@ -3,7 +3,9 @@ import re
 
 from browser import Browser, Keys
 from looks import SCRAMBLE
+from steps import EXAMPLE
 from tally import Tally
+from wanted import Position
 
 STICKERS = "all('#net-normal .sticker')"
 BAD = f"return [...{STICKERS}].flatMap((each, at) => each.matches('.bad') ? [at] : [])"
@@ -14,7 +16,7 @@ CHOICES = ("EO F/B", "EO R/L", "EO U/D", "DR U/D", "DR R/L", "DR F/B")
 COVERED = """return seen('.take').map((each) =>
     getComputedStyle(each).color === 'rgba(0, 0, 0, 0)')"""
 
-LABELS = "return all('#choices :is(.take, .star, .copy)').map((each) => each.ariaLabel)"
+LABELS = "return all('#choices :is(.take, .star)').map((each) => each.ariaLabel)"
 # a turn as it is said; the axes of a case, such as F/B, are none
 TURN = r"\b[UDRLFB](?:2|\b(?!/))(?<!/.)"
 
@@ -42,6 +44,12 @@ def tells_why(tally: Tally, browser: Browser) -> None:
     rule = "(U or D tells, else F or B)"
     tally.equal("UF", browser.script(PRESS, 7), f"Normal: FL at UF is bad for EO F/B: its F belongs on U, and is on F {rule}.")
     tally.equal("UR", browser.script(PRESS, 5), f"Normal: UR is good for EO F/B: its U is on U {rule}.")
+    # an edge is in its slice or not by its colours, which is no reason for where it is
+    browser.choose("marks", "DR U/D")
+    why = "since it has U or D"
+    tally.equal("UR in its place", browser.script(PRESS, 5),
+        f"Normal: UR is good for DR U/D: it is outside the slice, and belongs there, {why}.")
+    tally.equal("UF in the slice", browser.script(PRESS, 23), f"Normal: UF at FR is bad for DR U/D: it belongs outside the slice, {why}.")
 
 
 def covers(tally: Tally, browser: Browser) -> None:
@@ -58,7 +66,7 @@ def covers(tally: Tally, browser: Browser) -> None:
     browser.click("#solutions-groups .take")
     tally.equal("the first press shows them", browser.script(COVERED).count(False), 1)
     told = [each for each in browser.script(LABELS) if re.search(TURN, each)]
-    tally.equal(f"and its buttons' labels tell them: {told}", [each.split()[0] for each in told][1:], ["Keep", "Copy"])
+    tally.equal(f"and its buttons' labels tell them: {told}", [each.split()[0] for each in told][1:], ["Keep"])
     tally.equal("and takes nothing", browser.text("line-list"), "")
     line = browser.texts("#solutions-groups .take")[0]
     browser.act("#solutions-groups .take")
@@ -84,3 +92,28 @@ def enlarges(tally: Tally, browser: Browser) -> None:
     tally.holds(f"the nets are larger: {small}, {browser.script(width)}", browser.script(width) > 1.5 * small)
     browser.walk(tally, "Escape brings the page back", ("press", Keys.ESCAPE, {"focus": "cube-large"}))
     tally.equal("as it was", (browser.script(width), browser.listed() != []), (small, True))
+
+
+def shows_a_reduction(tally: Tally, browser: Browser) -> None:
+    """
+    Large nets show a line to a class: its moves with their cases, and at each move what the step that it belongs to has left; a cube that is
+    reduced keeps its colours.
+    """
+    first, second = "B D R F2 B D", "R B' D2 R"
+    browser.go(SCRAMBLE + f"&steps=inverse.{first.replace(' ', '_')}~normal.R_B-_D2_R")
+    browser.choose("marks", "follow")
+    browser.click("#cube-large")
+    line = browser.script("return [part('shown-line').innerText.trim(), all('#shown-line .passed').map((each) => each.dataset.case)]")
+    cases = [Position(EXAMPLE, " ".join(second.split()[:at]), first).case("fb") for at in range(5)]
+    tally.equal("the line, with its cases", line, [f"({first}) {second}", [each for at, each in enumerate(cases[:4]) if at == 0 or each != cases[at - 1]]])
+    marked = "return [part('marked-normal').textContent.replace(' \u00b7 ', ''), document.querySelector('#net-normal .net').matches('.marked')]"
+    tally.equal("the cube in the end", browser.script(marked), [f"DR F/B: {cases[4]}", False])
+    for at in (3, 2, 1, 0):
+        browser.click("#play-back")
+        browser.until("return part('played').textContent.startsWith(arguments[0])", f"{at + 6} of 10")
+        tally.equal(f"before move {at + 1} of the DR", browser.script(marked), [f"DR F/B: {cases[at]}", True])
+    browser.click("#play-back")
+    browser.until("return part('played').textContent.startsWith('5 of 10')")
+    tally.holds("and before the last of the EO", browser.script(marked)[0].startswith("EO U/D: "))
+    browser.press(Keys.ESCAPE)
+    tally.equal("beside the page the line stands by itself", browser.text("shown-line"), "")

@@ -73,7 +73,7 @@ def takes_an_empty_line(tally: Tally, browser: Browser) -> None:
 
 def closes_from_fields(tally: Tally, browser: Browser) -> None:
     """Escape closes the list also from its fields."""
-    for name in ("filter", "last-turn", "slack"):
+    for name in ("filter", "list-side", "slack"):
         browser.walk(tally, name, ("go", SCRAMBLE + "&list=eorl.normal.0", {"solutions?": True}),
             ("script", "part(arguments[0]).focus()", name, {}), ("press", Keys.ESCAPE, {"solutions?": False}))
 

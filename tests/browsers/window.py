@@ -3,14 +3,14 @@ import json
 import time
 from typing import Any
 
-PATIENCE = 90
+PATIENCE = 400
 # kept lines have their totals by a worker of their own, for which nothing else waits; longer ones are counted, and wait until they are asked for
 DONE = """
     const stop = document.getElementById("best-stop");
     return document.querySelector("#results[aria-busy=false]") !== null && document.querySelector("[aria-busy=true]") === null
         && (stop.disabled || stop.textContent === "Go on")
         && [...document.querySelectorAll("#kept-list .total")].every((each) => each.textContent !== "")"""
-SEEN = "return [...document.querySelectorAll(%s)].filter((each) => each.checkVisibility())"
+SEEN = "return [...document.querySelectorAll(%s)].filter((each) => each.checkVisibility({ visibilityProperty: true }))"
 
 
 class Window:

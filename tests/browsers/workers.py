@@ -3,14 +3,16 @@ from browser import BEST, IDLE, Browser
 from tally import Tally
 
 ADDRESS = "#scramble=R_U_F"
-# what is put before the script of each worker until `sound` is set; waits as long as the page's patience are shorter, but for a busy machine
+# what is put before the script of each worker until `sound` is set; waits as long as the page's patience are shorter, but as long as sound workers are
+# waited for, since the machine may be busy
 SPOILT = """
     const [Sound, later, addressOf] = [Worker, setTimeout, URL.createObjectURL.bind(URL)];
     URL.createObjectURL = (script) => {
-        window.spoilt = addressOf(new Blob(['{' + %r + '}', script]));
+        window.spoilt = addressOf(new Blob([%r, script]));
         return addressOf(script);
     };
-    window.setTimeout = (act, wait, ...words) => later(act, wait >= 20000 ? 3000 : wait, ...words);
+    window.setTimeout = (act, wait, ...words) => later(act, wait >= 20000 && !window.isPatient ? 3000 : wait, ...words);
+    window.isPatient = %r === "";
     window.made = [];
     window.Worker = class extends Sound {
         constructor(address, how) {
@@ -23,20 +25,20 @@ FAILED = "return !part('failed').hidden"
 MENDED = f"window.sound = true; return part('failed').hidden && (() => {{ {IDLE} }})() && (() => {{ {BEST} }})()"
 SILENCE = "The engine has given no answer for 20 seconds. It may still be at work, or it has ended without a word."
 MUTE = "self.addEventListener('message', (event) => event.stopImmediatePropagation());"
-# what spoils a worker, and what is said of it
+# what spoils a worker, whose own script has names too, and what is said of it
 SCRIPTS = (("throw new Error('spoilt');", "The engine doesn't work here. Uncaught Error: spoilt"), (MUTE, SILENCE),
-    ("let asked = 0; self.addEventListener('message', () => { if (++asked === 4) close(); });", SILENCE),
+    ("{ let asked = 0; self.addEventListener('message', () => { if (++asked === 4) close(); }); }", SILENCE),
     ("WebAssembly.Memory.prototype.grow = () => { throw new RangeError('no memory is left'); };", "There is no answer: no memory is left."),
     ("self.addEventListener('message', () => Promise.reject(new Error('uncaught'))); " + MUTE, "The engine doesn't work here. Uncaught Error: uncaught"))
 UNREADABLE = "made.forEach((each) => each.dispatchEvent(new MessageEvent('messageerror')))"
 # a worker that has crashed: its page is told nothing
-CRASH = "made.forEach((each) => each.terminate())"
+CRASH = "window.isPatient = false; made.forEach((each) => each.terminate())"
 NO_WORDS = {"failed": "", "alert": "", "seed-fault": "", "own-fault": ""}
 
 
 def opened(browser: Browser, script: str) -> None:
     """Goes to the page with workers that a script spoils."""
-    spoiling = browser.before_page(SPOILT % script)
+    spoiling = browser.before_page(SPOILT % (script, script))
     browser.open(ADDRESS, browser.page)
     browser.no_longer(spoiling)
 
@@ -49,7 +51,7 @@ def fails(tally: Tally, browser: Browser, what: str, said: str) -> None:
 
 def mends(tally: Tally, browser: Browser, what: str) -> None:
     """The button beside the words asks all again, and the page has its answers by other workers."""
-    browser.script("window.sound = true")
+    browser.script("window.sound = window.isPatient = true")
     browser.click("#again")
     tally.holds(f"{what}: it is mended", browser.until(MENDED))
     browser.wait_best()

@@ -4,7 +4,6 @@ import { emptyState, hasLines, readAddress, type List, type State } from "./stat
 import { BestContinuations } from "./cards/best.js";
 import { Readiness, type Calls } from "./shared/questions.js";
 import { lastOf } from "./shared/certain.js";
-import { copy } from "./shared/copying.js";
 import { Nets } from "./cards/cube.js";
 import { announce, announceLater, part, setBusy, spoken, tell } from "./shared/element.js";
 import { NextFocus, type Where } from "./state/next-focus.js";
@@ -17,7 +16,7 @@ import { refreshRows } from "./shared/rows.js";
 import { ScrambleField, type ScrambleChange } from "./cards/scramble.js";
 import { SolutionList } from "./cards/solutions.js";
 import {
-  ORIENTATIONS, bracketed, isReduced, lastSideOf, reductionOf, sideToward, stateOf, stepNamed, turnsOfStep,
+  ORIENTATIONS, bracketed, isReduced, lastSideOf, reductionOf, sideToward, stateOf, stepNamed,
 } from "./shared/offered-steps.js";
 import { StepTable, cubeWithOffers, type Cube } from "./cards/step-table.js";
 import {
@@ -82,12 +81,13 @@ export class Page {
     });
     const list = newCalls();
     this.#list = new SolutionList(list, {
-      ...stars, copy, take: (taken, key) => this.#take(taken, key), change: (change) => this.#changeList(change),
+      ...stars, take: (taken, key) => this.#take(taken, key), change: (change) => this.#changeList(change),
     });
     const finders = ORIENTATIONS.map(newCalls);
     this.#readiness = new Readiness({ calls: this.#calls, byHand: this.#byHand, list, finders });
     this.#best = new BestContinuations(finders, this.#keptCalls, {
       ...stars, goOn: (row) => this.#goOn(row), shown: () => this.#goBack(),
+      lengthen: (longer) => this.#change({ longer }),
     });
     keepInView(part("side-column"));
     part("skip").addEventListener("click", () => this.#table.focus());
@@ -179,7 +179,7 @@ export class Page {
   }
 
   async #setScramble(scramble: string, { isNew, fmc, others, ...how }: ScrambleChange) {
-    this.#change(isNew ? this.#desk.begin(scramble) : { scramble }, how);
+    this.#change(isNew ? this.#desk.begin(scramble) : { scramble, longer: 0 }, how);
     this.#desk.add(others);
     if (!fmc) return;
     const turn = this.#turn;
@@ -231,15 +231,16 @@ export class Page {
   /** @param turn of which the engine's answers are shown as they come
    * @param asked the first of them */
   async #answer(turn: number, asked: ReturnType<typeof cubeWithOffers>) {
-    const { cube, portions } = await asked;
+    const { cube, offers } = await asked;
     if (turn !== this.#turn) return;
     const fault = "unread" in cube ? new NissyFault(cube.unread.text, cube.unread) : null;
     this.#scramble.judge(fault, "read" in cube ? cube.read : null);
     showBeginning(this.#state);
     if ("unread" in cube) return setUsable(false);
     const shown = this.#showCube(cube);
-    await this.#showOffers(turn, shown, portions);
+    const steps = await offers;
     if (turn !== this.#turn) return;
+    this.#showOffers(shown, steps);
     this.#readiness.begin(shown.reached, part("choices").hidden);
     await this.#showAnswered(turn, shown);
   }
@@ -249,8 +250,7 @@ export class Page {
     const reached = lastOf(walk.reached);
     const cube = { scramble, written, parts, reached, facts: views.normal.facts, made: lastOf(walk.totals) };
     this.#cube = cube;
-    const count = parts.reduce((sum, each) => sum + turnsOfStep(each).length, 0);
-    this.#nets.show(views, count, () => this.#byHand.ask("framesOf", { scramble, parts }));
+    this.#nets.show(views, walk, () => this.#byHand.ask("framesOf", { scramble, parts }));
     this.#line.describe(walk, whole, written);
     setUsable(true);
     part("choices").hidden = isBare(this.#state);
@@ -271,21 +271,15 @@ export class Page {
     this.#desk.keep(this.#state, { isStep: false });
   }
 
-  /** Shows the steps that may follow as soon as they are known, and has the best looked for. */
-  async #showOffers(turn: number, cube: CubeOfLine, portions: Promise<Offer[][]>[]) {
+  /** Shows the steps that may follow, and has the best looked for. */
+  #showOffers(cube: CubeOfLine, offers: Offer[]) {
     const { scramble, parts, reached } = cube;
+    const { list, longer } = this.#state;
+    this.#table.show(offers, cube, list);
     // nothing is pressed before the page went on to a list that is to come, or back to a row
-    const isHeld = this.#state.list !== null && (this.#nextFocus.waitsFor("list") || this.#wayBack.isOn());
-    // no row moves once it can be pressed, so all are there before they are counted
-    if (portions.length > 1) this.#table.add([], cube, null);
-    for (const [at, portion] of portions.entries()) {
-      const groups = await portion;
-      if (turn !== this.#turn) return;
-      this.#table.add(groups, cube, this.#state.list);
-      part("choices").inert = isHeld;
-      awaitAnswer(null);
-      if (at === 0) this.#best.reset(part("choices").hidden ? null : { scramble, parts, reached });
-    }
+    part("choices").inert = list !== null && (this.#nextFocus.waitsFor("list") || this.#wayBack.isOn());
+    awaitAnswer(null);
+    this.#best.reset(part("choices").hidden ? null : { scramble, parts, reached, longer });
   }
 
   async #showAnswered(turn: number, { reached }: CubeOfLine) {

@@ -6,7 +6,7 @@ import { casesPassed } from "./cases-passed.js";
 import { positionAfter, totalsWith, type Position } from "./position-after.js";
 import { readScramble, type ReadScramble } from "./read-lines.js";
 import {
-  REDUCTIONS, SIDES, bracketed, inGroups, isReduced, offeredAmong, openSteps, partOn, sideToward, singleMoves, stateOf,
+  REDUCTIONS, SIDES, bracketed, isReduced, offeredAmong, openSteps, partOn, sideToward, singleMoves, stateOf,
   stepNamed,
 } from "../shared/offered-steps.js";
 import type { Candidate } from "../state/address.js";
@@ -119,16 +119,15 @@ function offerOf(nissy: Nissy, step: StepOnAxis, position: Position): Offer {
   return { step, normal, inverse };
 }
 
-/** A scramble with some parts, and then each group of steps that may follow: told one after another, since the
- * tables of a group may still have to be built. */
+/** A scramble with some parts, and then the steps that may follow, whose tables may still have to be built. */
 export function examine(
   nissy: Nissy, typed: { text: string; parts: Part[] }, tell: (told: Examined | Unexamined | Offer[]) => void,
 ) {
   const cube = examined(nissy, typed);
   tell(cube);
-  if ("unread" in cube) return;
+  if ("unread" in cube) return tell([]);
   const { now, reached } = cube.walk;
-  for (const steps of inGroups(openSteps(lastOf(reached)))) tell(steps.map((step) => offerOf(nissy, step, now)));
+  tell(openSteps(lastOf(reached)).map((step) => offerOf(nissy, step, now)));
 }
 
 /** `lengths`: on each side; `total`: the fewest moves in all, over both; `first`: the first with that, if it has

@@ -1,9 +1,8 @@
 // A row of the best: its moves with their twins, what they reach, the reduction that follows with its least length on
 // each side alone and how many of that length there are, and its star.
 import { counted, element, inner, type Attributes } from "../shared/element.js";
-import { signsOfCases, withCases } from "../shared/passage.js";
+import { triggerOf, withCases } from "../shared/passage.js";
 import { starButton, takeButton } from "../shared/rows.js";
-import { isNarrow } from "../shared/view.js";
 import { SIDES, bracketed, sidesOf } from "../shared/offered-steps.js";
 import type { After } from "../answers/examine.js";
 import type { Moves as Part, Side } from "../../module/shared/sides.js";
@@ -18,7 +17,7 @@ export type RowActs = {
 
 /** How many signs the style adds to a row that was seen, and how wide a sign of a twin is beside one of the moves. */
 const SEEN_SIGNS = 2;
-const SIGN_OF_TWIN = 0.7;
+const SIGN_OF_TWIN = 0.9;
 
 /** @returns a cell whose role stays where a narrow page lays the row out as a grid */
 function cell(name: "td" | "th", attributes: Attributes, ...children: (Node | string)[]) {
@@ -26,25 +25,19 @@ function cell(name: "td" | "th", attributes: Attributes, ...children: (Node | st
   return element(name, { ...role, ...attributes }, ...children);
 }
 
-/** The cell of a row's moves and twins, which tells the style how many signs its line has, if the page is narrow or
- * not.
- * @param line what it shows
- * @param isBeside whether they stand beside the moves on a narrow page, where no cases are shown
- * @param cases how many signs these are */
-function movesCell(
-  take: HTMLElement, line: string, twins: string[], { isBeside, cases }: { isBeside: boolean; cases: number },
-) {
+/** The cell of a row's moves and twins, and of the reduction after them; it tells the style of a narrow page how many
+ * signs its line has. */
+function movesCell(take: HTMLElement, line: string, twins: string[], next: Next | null) {
   // as solvers write it: the last turn may be the one or the other
-  const [either, word] = twins.length === 1 ? [` / ${twins[0].replace(/[()]/g, "")}`, ""]
-    : [` or ${twins.length}`, " twins"];
-  const twin = twins.length === 0 ? "" : either + word;
-  const beside = twin === "" ? [] : [element("small", { class: "twins" }, either, element("span", {}, word))];
-  const made = cell("td", {}, element("span", { class: "ends" }, take, ...beside));
+  const words = twins.length === 1 ? ` / ${twins[0].replace(/[()]/g, "")}` : ` or ${twins.length} twins`;
+  const twin = twins.length === 0 ? [] : [element("small", { class: "twins" }, words)];
+  const below = next === null ? [] : [...twin, firstOf(next)];
+  const made = cell("td", {}, element("span", { class: "ends" }, take, ...(next === null ? twin : [])), ...below);
   const seen = take.classList.contains("seen") ? SEEN_SIGNS : 0;
-  const [own, more] = [line.length + seen, SIGN_OF_TWIN * twin.length];
-  made.style.setProperty("--signs", String(own + (isBeside ? more : 0)));
-  made.style.setProperty("--signs-wide", String(own + cases + more));
-  made.style.setProperty("--beside", String(isBeside ? more : 0));
+  // where it is narrow twins stand beside the moves, but for those of a reduction
+  const beside = next !== null && twins.length > 0 ? SIGN_OF_TWIN * words.length : 0;
+  made.style.setProperty("--signs", String(line.length + seen + beside));
+  made.style.setProperty("--beside", String(beside));
   return made;
 }
 
@@ -63,8 +56,6 @@ function lengthCell({ part: reduction, length: best, lengths }: Next, side: Side
 export function tellAfter(shown: Element, { next }: Row, after: After) {
   const [first, line] = [inner(shown, ".first"), next === null ? "" : lineOf(next)];
   if (line !== "") first.replaceChildren("then ", ...withCases(line, after.passed));
-  // on a narrow page no cases are shown
-  if (!isNarrow()) first.style.setProperty("--signs", String(first.textContent.length + signsOfCases(after.passed)));
   shown.querySelectorAll(".number").forEach((each, at) => {
     const count = after[SIDES[at]];
     if (count === null) return;
@@ -92,10 +83,9 @@ export function bestRow(row: Row, acts: RowActs) {
   // one orientation has a row, and a star, for each reduction that may follow
   const whole = next ? `${line}, ${next.marks} ${next.case}` : line;
   const star = starButton(whole, () => acts.isStarred(...kept), (button) => acts.star(button, ...kept));
-  const moves = movesCell(take, line, twins, { isBeside: next !== null, cases: signsOfCases(passed) });
-  const cells = [cell("th", {}, String(total)), moves, cell("td", { class: "axis" }, state)];
+  const axis = cell("td", { class: "axis", "data-trigger": triggerOf(passed) }, state);
+  const cells = [cell("th", {}, String(total)), movesCell(take, line, twins, next), axis];
   if (next) {
-    moves.append(firstOf(next));
     cells.push(cell("td", { class: "axis" }, next.marks, " ", element("span", { class: "case" }, next.case)));
     cells.push(...SIDES.map((side) => lengthCell(next, side)));
   }

@@ -4,15 +4,13 @@ import { bestRow, type RowActs } from "./best-row.js";
 import { thrownError, present } from "../shared/certain.js";
 import { ShownCounts } from "./counts.js";
 import { announce, announceLater, counted, part, setBusy, tell } from "../shared/element.js";
-import {
-  Filters, NOT_MOVES, casesOfBest, filtersOfBest, offerCases, offerChoices, offerLastTurns, offerMoves,
-} from "./filters.js";
-import { KnownSearches, findAll, newAmong, type Progress, type Question, type Row } from "./finder.js";
-import { FurtherSearch, type Further } from "./further-search.js";
+import { Filters, NOT_MOVES, casesOfBest, filtersOfBest, offerCases, offerChoices, offerMoves } from "./filters.js";
+import { KnownSearches, betterThan, findAll, type Progress, type Question, type Row } from "./finder.js";
+import { FURTHEST, FurtherSearch, type Further } from "./further-search.js";
 import { GREATEST_SLACK } from "../state/limits.js";
 import { Measure } from "./measure.js";
 import { addRows, roveWithin, showRows, takeNamed } from "../shared/rows.js";
-import { SIDES, isReduced, reducedAfter } from "../shared/offered-steps.js";
+import { isReduced, reducedAfter } from "../shared/offered-steps.js";
 import { isNarrow, withoutMoving } from "../shared/view.js";
 import type { Calls } from "../shared/questions.js";
 import type { Moves } from "../../module/shared/sides.js";
@@ -27,16 +25,24 @@ function shownFirst(reached: string[]) {
   return reached.length > 0 ? SHOWN_FIRST.ofReductions : SHOWN_FIRST.wide;
 }
 
+/** `longer`: by how many moves orientations may be longer, as it was chosen for the scramble. */
+type CubeOfBest = { scramble: string; parts: Moves[]; reached: string[]; longer: number };
+
+/** `shown`: once rows are found; `lengthen`: once longer orientations are chosen. */
+type BestActs = RowActs & { shown: () => void; lengthen: (longer: number) => void };
+
 export class BestContinuations {
   #finders: Calls[];
-  #acts: RowActs & { shown: () => void };
+  #acts: BestActs;
   #kinds = filtersOfBest();
   #filters = new Filters("best", part("best-note"), Object.values(this.#kinds), () => this.#filtered());
   #question: Question | null = null;
   /** What the rows are shown of. */
   #progress: Further | null = null;
-  /** What was found since, if rows of it belong among those that are seen, or none is yet. */
+  /** Longer ones that were looked at since, if there are some: their rows wait until they are asked for. */
   #newer: Further | null = null;
+  /** By how many moves reductions may be longer. */
+  #longerReductions = "0";
   #isAsked = false;
   #isOfReductions = false;
   #further: FurtherSearch;
@@ -51,7 +57,7 @@ export class BestContinuations {
 
   /** @param finders of its own, one an axis
    * @param calls that tell more of rows that are seen */
-  constructor(finders: Calls[], calls: Calls, acts: RowActs & { shown: () => void }) {
+  constructor(finders: Calls[], calls: Calls, acts: BestActs) {
     this.#finders = finders;
     this.#counts = new ShownCounts(calls, this.#body);
     this.#acts = acts;
@@ -66,13 +72,13 @@ export class BestContinuations {
     offerMoves("best-slack", GREATEST_SLACK);
     part("best-stop").addEventListener("click", () => this.#stopped());
     part("best-new").addEventListener("click", () => this.#showNewer());
-    part("best-slack").addEventListener("change", () => this.#ask());
+    part("best-slack").addEventListener("change", () => this.#lengthened());
     part("best-options").addEventListener("toggle", () => this.#opened());
     part("best-more").addEventListener("click", () => this.#more());
   }
 
   /** Takes another cube, or none, and looks for the best of it. */
-  reset(cube: { scramble: string; parts: Moves[]; reached: string[] } | null) {
+  reset(cube: CubeOfBest | null) {
     this.#stop();
     if (cube?.scramble !== this.#question?.scramble) this.#measure.begin();
     this.#question = cube && { ...cube, slack: 0 };
@@ -83,19 +89,17 @@ export class BestContinuations {
     this.#shown = shownFirst(cube?.reached ?? []);
     // until another cube is known nothing shows or hides the card, or what is read below it would move
     if (cube !== null) this.expect(cube.reached, false);
-    if (cube !== null && !isReduced(cube.reached)) return this.#begin(cube.reached);
+    if (cube !== null && !isReduced(cube.reached)) return this.#begin(cube);
     this.#body.replaceChildren();
     part("best-note").textContent = "";
+    tell(part("best-new"), "");
     part("best-more").hidden = true;
     this.#working(false);
-    this.#takeNewer();
   }
 
-  /** @param reached the orientations that hold */
-  #begin(reached: string[]) {
+  #begin({ reached, longer, ...cube }: CubeOfBest) {
     part("best-unasked").hidden = reached.length > 0;
     part("best-filters").hidden = reached.length > 0;
-    part("best-cases-name").textContent = reached.length > 0 ? "Trigger from" : "Case before DR";
     part("best-turns").hidden = reached.length === 0;
     // those of reductions belong to one cube
     const cases = reached.length === 0 && !this.#isOfReductions ? part("best-cases").value : "";
@@ -105,13 +109,15 @@ export class BestContinuations {
     part("best-cases").value = cases;
     offerChoices("best-reduction", reducedAfter(reached));
     if (reached.length === 0) this.#filters.use(this.#kinds.ofOrientations);
-    this.#ask();
+    part("best-slack").value = reached.length === 0 ? String(longer) : this.#longerReductions;
+    this.#ask(reached.length === 0 ? this.#found.shorter({ ...cube, reached, slack: FURTHEST + 1 }) : null);
   }
 
   /** Shows the card, or hides it, before there are rows: so nothing moves when they come.
    * @param isBare whether no scramble is there yet */
   expect(reached: string[], isBare: boolean) {
     part("best").hidden = isBare || isReduced(reached);
+    document.body.classList.toggle("reduced", !isBare && isReduced(reached));
     part("best-table").classList.toggle("of-reductions", reached.length > 0);
   }
 
@@ -130,7 +136,6 @@ export class BestContinuations {
   /** Shows what the filters leave, as many as before, and says whether there are rows. If the head is seen nothing that
    * is seen moves: the rows keep their room, as far as the window goes. Else they come to the filters. */
   #filtered() {
-    this.#takeNewer();
     const { top, height } = this.#room.getBoundingClientRect();
     const isSeen = part("best-head").getBoundingClientRect().top >= 0;
     this.#room.style.minHeight = isSeen ? `${Math.min(height, Math.max(0, innerHeight - top))}px` : "";
@@ -141,9 +146,7 @@ export class BestContinuations {
 
   /** Makes the row seen that has this name, and returns its button, or null. */
   reveal(key: string) {
-    const placeIn = (progress: Further | null) => (this.#rows(progress) ?? []).findIndex((row) => row.key === key);
-    if (placeIn(this.#progress) < 0) this.#takeNewer();
-    const at = placeIn(this.#progress);
+    const at = (this.#rows(this.#progress) ?? []).findIndex((row) => row.key === key);
     // it may be among those that are still to be found
     if (at < 0 && / dr/.test(key)) this.#shown = Math.max(this.#shown, (this.#progress?.rows.length ?? 0) + 1);
     if (at < 0) return null;
@@ -166,11 +169,21 @@ export class BestContinuations {
     if (isFurther) this.#endedFurther(new Stopped());
   }
 
-  #ask() {
+  /** Asks for what is chosen, which stays chosen: of orientations for this scramble. */
+  #lengthened() {
+    if (this.#question === null) return;
+    const { value } = part("best-slack");
+    if (this.#question.reached.length > 0) this.#longerReductions = value;
+    else this.#acts.lengthen(Number(value));
+    this.#ask();
+  }
+
+  /** @param newer longer ones, if they are known */
+  #ask(newer: Further | null = null) {
     if (this.#question === null) return;
     this.#stop();
-    this.#newer = null;
-    this.#tellNewer(0);
+    this.#newer = newer;
+    tell(part("best-new"), "");
     const question = { ...this.#question, slack: Number(part("best-slack").value) };
     this.#question = question;
     const known = this.#found.of(question);
@@ -194,13 +207,13 @@ export class BestContinuations {
     this.#working(false);
     this.#complete();
     if (this.#isAsked) return;
-    this.#further.begin({ ...present(this.#question), slack: present(this.#newer ?? this.#progress).slack });
+    this.#further.begin({ ...present(this.#question), slack: present(this.#waiting() ?? this.#progress).slack });
   }
 
   /** Shows whether longer ones are looked for, or wait until they are asked for. */
   #turned() {
     this.#working(this.#isAsked);
-    if (!this.#isAsked && this.#progress) this.#tellRows(this.#rows(this.#newer ?? this.#progress));
+    if (!this.#isAsked) this.#tellRows();
   }
 
   /** Goes on from what was found, as is chosen now. */
@@ -210,17 +223,14 @@ export class BestContinuations {
     this.#goFurther();
   }
 
-  /** Takes what was found without being asked for. Rows that are seen stay where they are: what belongs among them
-   * waits until it is asked for. */
+  /** Takes what was found without being asked for, which waits until it is. */
   #foundFurther(progress: Further) {
     this.#found.keep({ ...present(this.#question), slack: progress.slack }, progress);
-    const seen = this.#seen.map(({ key }) => key);
-    const rows = this.#rows(progress) ?? [];
     this.#newer = progress;
-    if (!seen.every((key, at) => rows[at]?.key === key)) this.#tellNewer(newAmong(rows, seen), rows[0]);
-    else this.#takeNewer();
-    if (seen.length < Math.min(rows.length, this.#shown)) this.#draw();
-    this.#tellRows(rows);
+    this.#tellRows();
+    const [first] = this.#better();
+    const { total = 0 } = this.#seen[0] ?? {};
+    if (first && first.total < total) announceLater(part("best-new").textContent);
   }
 
   /** @param fault why no longer ones are looked for, or null if they are found */
@@ -229,41 +239,32 @@ export class BestContinuations {
     this.#working(false);
   }
 
-  /** Takes the rows that were found since into those that are shown, unless they are still looked for. */
-  #takeNewer() {
-    if (this.#isAsked) return;
-    this.#progress = this.#newer ?? this.#progress;
-    this.#newer = null;
-    this.#tellNewer(0);
+  /** What was found of longer ones than are shown, or null. */
+  #waiting() {
+    return this.#newer !== null && this.#newer.slack > (this.#progress?.slack ?? 0) ? this.#newer : null;
   }
 
-  /** Says how many rows belong among those that are seen, and how good the first is, if it is better than all. */
-  #tellNewer(count: number, first?: Row) {
-    const total = first?.total ?? Infinity;
-    const isBest = count > 0 && total < (this.#rows(this.#progress)?.[0]?.total ?? 0);
-    const words = `${counted(count, "new row")}${isBest ? `: ${counted(total, "move")}` : ""}`;
-    tell(part("best-new"), count === 0 ? "" : words);
-    if (isBest) announceLater(words);
+  /** The rows of these that belong among those that are seen. */
+  #better() {
+    return betterThan(this.#seen, this.#rows(this.#waiting()) ?? [], this.#shown);
   }
 
-  /** Shows the rows that were found since in their places, and goes to the first of them. */
+  /** Shows the rows that wait in their places, and goes to the first of them. */
   #showNewer() {
-    const seen = new Set(this.#seen.map(({ key }) => key));
-    this.#takeNewer();
-    this.#draw();
-    const first = this.#seen.find(({ key }) => !seen.has(key));
-    const taken = first ? takeNamed(this.#body, first.key) : null;
-    (taken ?? part("best-heading")).focus({ preventScroll: true });
+    const [first] = this.#better();
+    part("best-slack").value = String(present(this.#waiting()).slack);
+    this.#lengthened();
+    (takeNamed(this.#body, first.key) ?? part("best-heading")).focus({ preventScroll: true });
   }
 
   /** Finds what is asked for. The shortest are shown first, and stay until all are found.
    * @param known what was found before: of fewer moves more, or its first rows
    * @param isWhole whether all rows of that are asked for */
-  async #find(question: Question, known?: Further, isWhole = false) {
+  async #find(question: Question, known: Further | null, isWhole = false) {
     const { slack: wanted } = isWhole && known ? known : question;
     const isStill = () => question === this.#question;
     const tell = (progress: Progress) => isStill() && this.#looked(progress);
-    this.#progress = known ?? null;
+    this.#progress = known;
     if (!known) this.#showRows([]);
     else this.#draw();
     this.#working(true);
@@ -273,7 +274,7 @@ export class BestContinuations {
         const found: Further = { ...await findAll(this.#finders, { ...question, slack, isWhole }, tell), slack };
         if (!isStill()) return;
         this.#found.keep({ ...question, slack }, found);
-        [this.#progress, this.#newer] = [found, null];
+        this.#progress = found;
         this.#draw();
       }
       this.#show(present<Further>(this.#progress));
@@ -281,7 +282,6 @@ export class BestContinuations {
     } catch (fault) {
       if (!isStill()) return;
       this.#working(false);
-      this.#takeNewer();
       this.#draw();
       this.#brokenOff(fault);
     }
@@ -328,8 +328,6 @@ export class BestContinuations {
   #show(progress: Further) {
     this.#progress = progress;
     this.#working(false);
-    const endsOf = (row: Row) => SIDES.map((side) => row.part[side]).filter(Boolean);
-    if (present(this.#question).reached.length > 0) offerLastTurns("best-last", progress.rows.flatMap(endsOf));
     this.#draw();
     this.#acts.shown();
   }
@@ -340,45 +338,49 @@ export class BestContinuations {
   }
 
   #draw() {
-    const left = this.#rows(this.#progress);
-    const rows = left ?? [];
-    const { isWhole = false, rows: all = [] } = this.#progress ?? {};
+    const rows = this.#rows(this.#progress) ?? [];
+    const { isWhole = false, rows: all = [], count = 0, tried = 0 } = this.#progress ?? {};
     this.#filters.show(rows.length === 0 && isWhole && all.length > 0);
     if (part("best-options").open) offerCases("best-cases", all.map(casesOfBest));
+    const ofWhat = this.#isOfReductions ? "Trigger from" : "Case before DR";
+    const some = isWhole && count < tried ? `, of the best ${count.toLocaleString("en")}` : "";
+    part("best-cases-name").textContent = ofWhat + some;
     const shown = rows.slice(0, this.#shown);
     this.#showRows(shown);
     if (this.#progress === null) return;
     if (!this.#isAsked) this.#counts.tell(present(this.#question), shown);
-    this.#tellRows(left);
+    this.#tellRows();
   }
 
-  /** Says how many rows there are, and whether more may be shown.
-   * @param rows what the filters leave; null if what is typed isn't moves */
-  #tellRows(rows: Row[] | null) {
+  /** Says how many rows there are, whether more may be shown, and how many wait among them. */
+  #tellRows() {
+    if (this.#progress === null) return;
+    const rows = this.#rows(this.#progress);
     // with those that are still to be found
-    const { count } = present(this.#newer ?? this.#progress);
-    const left = this.#filters.count > 0 ? rows?.length ?? 0 : count;
+    const left = this.#filters.count > 0 ? rows?.length ?? 0 : this.#progress.count;
     part("best-more").hidden = this.#shown >= left;
-    // on one line with what stands beside it
-    part("best-more").textContent = `${isNarrow() ? "More" : "Show more"} of ${left.toLocaleString("en")}`;
-    part("best-note").textContent = rows === null ? NOT_MOVES : this.#note(left);
+    part("best-more").textContent = `Show more of ${left.toLocaleString("en")}`;
+    const better = this.#better();
+    const kind = better[0]?.rank < (this.#seen.at(-1)?.rank ?? 0) ? "better" : "longer";
+    const words = better.length === 0 ? "" : `${counted(better.length, `${kind} row`)}, from ${better[0].total} moves`;
+    tell(part("best-new"), words);
+    part("best-note").textContent = rows === null ? NOT_MOVES : this.#note(this.#progress, left, better.length > 0);
   }
 
-  /** @param left how many rows are left */
-  #note(left: number) {
-    const { count, tried, slack } = present(this.#newer ?? this.#progress);
-    const held = this.#further.held();
-    const longer = slack > present(this.#question).slack && held === "" ? `Up to ${slack} longer: ` : "";
+  /** What is said of the rows that are shown, and of longer ones. @param left how many the filters leave */
+  #note({ count, tried }: Further, left: number, isBetter: boolean) {
     const some = count < tried ? `the best ${count.toLocaleString("en")} of ` : "";
     const all = some + counted(tried, "row");
-    const words = `${longer}${left === count ? all : `${left.toLocaleString("en")} of ${all}`}. ${held}`.trim();
-    return words[0].toUpperCase() + words.slice(1);
+    const words = left === count ? all : `${left.toLocaleString("en")} of ${all}`;
+    const waiting = this.#waiting();
+    const longer = waiting ? `Up to ${waiting.slack} longer: ${counted(waiting.tried, "row")}` : "";
+    const said = this.#further.held() || (longer && `${longer}${isBetter ? "" : ", none better"}.`);
+    return `${words[0].toUpperCase()}${words.slice(1)}. ${said}`.trim();
   }
 
   #more() {
     const from = this.#body.children.length;
     this.#shown += SHOWN_MORE;
-    this.#takeNewer();
     this.#draw();
     this.#body.querySelectorAll(".take")[from]?.focus();
     this.#complete();

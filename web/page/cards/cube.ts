@@ -1,13 +1,14 @@
-// The card of the cube: the nets of both sides, the pieces marked on them, how they are held, and moves played on them.
+// The card of the cube: the nets of both sides, the pieces marked on them, and moves played on them.
 import { AXES, type Facts } from "../../module/shared/facts.js";
 import { stickersOf } from "../../module/shared/stickers.js";
 import { present } from "../shared/certain.js";
-import { announce, element, part, tell } from "../shared/element.js";
-import { PLACES, emptyNet, showCube, stickerOf, turnedView } from "./net.js";
-import { SIDES, axisName } from "../shared/offered-steps.js";
+import { element, part, tell } from "../shared/element.js";
+import { emptyNet, showCube, stickerOf } from "./net.js";
+import { SIDES, axisName, bracketed, newlyReached, singleMoves } from "../shared/offered-steps.js";
+import { withCases } from "../shared/passage.js";
 import { PIECES, whyOf } from "./why.js";
 import type { Side } from "../../module/shared/sides.js";
-import type { View } from "../answers/examine.js";
+import type { View, Walk } from "../answers/examine.js";
 
 const FOLLOW = "follow";
 const PLAIN = "none";
@@ -21,6 +22,14 @@ function marksOf({ badEdges, badCorners, misplacedEdges, case: cases }: Facts, c
   return { pieces: [...badCorners[axis], ...misplacedEdges[axis]], words: cases[axis] };
 }
 
+/** What each move of a line leads to, as far as it is reached, and last what is reached in the end. */
+function goalsOf(walk: Walk): string[] {
+  const reached = walk.parts.map((_, at) => newlyReached(walk, at)[0] ?? "");
+  const last = reached.filter(Boolean).at(-1) ?? "";
+  const goalOf = (at: number) => reached.slice(at).find(Boolean) ?? last;
+  return [...walk.parts.flatMap((part, at) => singleMoves([part]).map(() => goalOf(at))), last];
+}
+
 /** A cube on both sides after a move. */
 export type Frame = { move: string; views: Record<Side, View> };
 
@@ -28,11 +37,11 @@ export class Nets {
   #nets = { normal: emptyNet(), inverse: emptyNet() };
   #views: Record<Side, View> | null = null;
   #count = 0;
+  #goals: string[] = [];
   #ask: (() => Promise<Frame[]>) | null = null;
   #frames: Frame[] | null = null;
   #frame = 0;
   #timer = 0;
-  #view = PLACES;
   #open = "";
   #pointed = "";
   #choice = part("marks");
@@ -58,7 +67,6 @@ export class Nets {
       if (movementX !== 0 || movementY !== 0) this.#point(target instanceof Element ? target : null);
     });
     for (const kind of ["pointerleave", "focusout"]) choices.addEventListener(kind, () => this.#point(null));
-    for (const turn of ["x", "y"] as const) part(`view-${turn}`).addEventListener("click", () => this.#turn(turn));
     this.#play.addEventListener("click", () => (this.#timer === 0 ? this.#begin() : this.stop()));
     // a sheet has the whole line
     addEventListener("beforeprint", () => {
@@ -69,14 +77,17 @@ export class Nets {
     part("play-on").addEventListener("click", () => this.#step(1));
   }
 
-  /** Shows a cube.
-   * @param count how many moves lead to it from the scramble
-   * @param ask for the cube after each of them */
-  show(views: Record<Side, View>, count: number, ask: () => Promise<Frame[]>) {
+  /** Shows a cube, and the line that leads to it from the scramble.
+   * @param ask for the cube after each of its moves */
+  show(views: Record<Side, View>, walk: Walk, ask: () => Promise<Frame[]>) {
     this.stop();
     this.#pointed = "";
     this.#views = views;
+    this.#goals = goalsOf(walk);
+    const count = this.#goals.length - 1;
     [this.#count, this.#frame] = [count, count];
+    part("shown-line").replaceChildren(...walk.parts.flatMap((each, at) =>
+      [...withCases(bracketed([each]), walk.passed[at]), " "]));
     [this.#ask, this.#frames] = [ask, null];
     part("cube").hidden = false;
     part("player").hidden = count === 0;
@@ -89,7 +100,7 @@ export class Nets {
   #press(side: Side, sticker: number) {
     if (sticker < 0) return;
     // a centre is no piece of these
-    const at = PIECES.findIndex((name) => stickersOf([name]).includes(this.#view[sticker]));
+    const at = PIECES.findIndex((name) => stickersOf([name]).includes(sticker));
     part("piece").selectedIndex = at + 1;
     this.#tellWhy([side]);
   }
@@ -140,12 +151,6 @@ export class Nets {
     queueMicrotask(() => this.#draw());
   }
 
-  #turn(turn: "x" | "y") {
-    this.#view = turnedView(this.#view, turn);
-    this.#draw();
-    announce(`The view is turned by ${turn}.`);
-  }
-
   /** Has the cube after each move, and says whether it is still the same line. */
   async #load() {
     const ask = this.#ask;
@@ -190,7 +195,8 @@ export class Nets {
 
   /** The cube that is seen, and what is marked on it. */
   #shown() {
-    const choice = this.#choice.value === FOLLOW ? this.#pointed || this.#open || PLAIN : this.#choice.value;
+    const followed = this.#pointed || this.#open || this.#goals[this.#frame] || PLAIN;
+    const choice = this.#choice.value === FOLLOW ? followed : this.#choice.value;
     const frame = this.#frame === this.#count ? null : this.#frames?.[this.#frame];
     return { views: present(frame?.views ?? this.#views), choice };
   }
@@ -200,8 +206,10 @@ export class Nets {
     const words = marks === null ? "" : `${choice}: ${marks.words}`;
     const names = marks === null ? "" : `, ${marks.pieces.join(" ") || "none"}`;
     const title = `The cube on the ${side} side${words === "" ? "" : `; ${words}${names}`}`;
-    const places = marks === null ? null : new Set(stickersOf(marks.pieces));
-    showCube(this.#nets[side], letters, title, { places, view: this.#view });
+    // what the line reached hides no colour
+    const isReached = marks?.pieces.length === 0 && choice === this.#goals[this.#count];
+    const places = marks === null || isReached ? null : new Set(stickersOf(marks.pieces));
+    showCube(this.#nets[side], letters, title, places);
     part(`marked-${side}`).textContent = words === "" ? "" : ` · ${words}`;
   }
 }

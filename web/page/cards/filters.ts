@@ -5,15 +5,11 @@ import { ORIENTATIONS, namesOf, reducedAfter, sidesOf, sizeOfCase, stateOf } fro
 import { triggerOf } from "../shared/passage.js";
 import type { Row } from "./finder.js";
 
-/** Of filter: its fields, and what says by the values of these whether a row is left; null if one of them can't be
- * read. */
-export type Kind<Row> = { fields: string[]; test: (...values: string[]) => ((row: Row) => boolean) | null };
+/** Of a filter: its field, and what says by the value of that whether a row is left; null if it can't be read. */
+export type Kind<Row> = { field: string; test: (value: string) => ((row: Row) => boolean) | null };
 
 /** What is said of a text that isn't moves. */
 export const NOT_MOVES = "The text in the filter is not moves: type face turns such as F B'.";
-
-/** How many moves in all the best may be asked to have at most. */
-const TOTALS = ["7", "8", "9", "10", "11", "12", "13"];
 
 /** Offers choices, of which the first leaves all; the one that is chosen stays, if it is among them.
  * @param name of the field
@@ -37,7 +33,7 @@ export function chosen<Row>(
   field: string, choices: string[], isLeft: (row: Row, choice: string) => boolean,
 ): Kind<Row> {
   offerChoices(field, choices);
-  return { fields: [field], test: (value) => (row) => value === "" || isLeft(row, value) };
+  return { field, test: (value) => (row) => value === "" || isLeft(row, value) };
 }
 
 /** @returns the cases that are pressed, which a field without a place of its own holds */
@@ -49,7 +45,7 @@ export function ofCases<Row>(field: string, casesOf: (row: Row) => string[]): Ki
     const pressed = pressedIn(value);
     return (row: Row) => pressed.length === 0 || casesOf(row).some((each) => pressed.includes(each));
   };
-  return { fields: [field], test };
+  return { field, test };
 }
 
 /** Offers cases as chips, each with how many rows have it, the nearest first; those that are pressed stay.
@@ -92,29 +88,19 @@ function turnsOf(text: string): string[] | null {
   return inListOrder((plain.match(/[UDRLFB][2']*/g) ?? []).map((turn) => turn.replace("2'", "2")));
 }
 
-/** @returns the last turn of some moves, "" where there is none */
-const lastTurn = (moves: string) => moves.slice(moves.lastIndexOf(" ") + 1);
-
-/** Turns that stand one after another on a side, and the last turn, of a row's moves or of one of their twins.
- * @param typed its field
- * @param last the other one
+/** Turns that stand one after another on a side of a row's moves or of one of their twins.
+ * @param field in which they are typed
  * @param movesOf the moves of each side and twin */
-export function withTurns<Row>(typed: string, last: string, movesOf: (row: Row) => string[]): Kind<Row> {
-  offerChoices(last, []);
-  const test = (text: string, end: string) => {
+export function withTurns<Row>(field: string, movesOf: (row: Row) => string[]): Kind<Row> {
+  const test = (text: string) => {
     const wanted = turnsOf(text);
-    part(typed).setAttribute("aria-invalid", String(wanted === null));
+    part(field).setAttribute("aria-invalid", String(wanted === null));
     if (wanted === null) return null;
     const turns = wanted.length === 0 ? "" : ` ${wanted.join(" ")} `;
-    const isLeft = (each: string) => ` ${each} `.includes(turns) && (end === "" || lastTurn(each) === end);
-    return (row: Row) => movesOf(row).some(isLeft);
+    return (row: Row) => movesOf(row).some((each) => ` ${each} `.includes(turns));
   };
-  return { fields: [typed, last], test };
+  return { field, test };
 }
-
-/** Offers the last turns of some moves. @param all the moves of each row */
-export const offerLastTurns = (field: string, all: string[]) =>
-  offerChoices(field, [...new Set(all.map(lastTurn).filter(Boolean))].sort());
 
 /** On which sides a step may have moves. */
 const WHERE = ["normal", "inverse", "both sides"];
@@ -131,13 +117,12 @@ export const filtersOfBest = () => ({
     chosen<Row>("best-axis", ORIENTATIONS.map(stateOf), ({ state }, axis) => state === axis),
     chosen("best-side", WHERE, isOn),
     chosen<Row>("best-next", reducedAfter(namesOf(ORIENTATIONS)), ({ next }, marks) => next?.marks === marks),
-    chosen<Row>("best-total", TOTALS, ({ total }, most) => total <= Number(most)),
   ],
   ofReductions: [
     ofCases<Row>("best-cases", casesOfBest),
     chosen<Row>("best-reduction", [], ({ state }, wanted) => state === wanted),
     chosen("best-reduction-side", WHERE, isOn),
-    withTurns<Row>("best-filter", "best-last", ({ lines }) => lines),
+    withTurns<Row>("best-filter", ({ lines }) => lines),
   ],
 });
 
@@ -157,7 +142,7 @@ export class Filters<Row> {
     this.#badge = part(`${name}-on`);
     this.#button = part(`${name}-clear`);
     this.#none = part(`${name}-none`);
-    for (const field of sets.flat().flatMap(({ fields }) => fields).map(part)) {
+    for (const field of sets.flat().map((kind) => part(kind.field))) {
       if (!field.matches("input")) field.addEventListener("change", changed);
       // once nothing more is typed it is said what is left
       else field.addEventListener("input", () => changed() && announceLater(note.textContent));
@@ -182,7 +167,7 @@ export class Filters<Row> {
 
   /** What is left of rows, or null if a field can't be read. */
   left(rows: Row[]): Row[] | null {
-    const tests = this.#kinds.map(({ fields, test }) => test(...fields.map((name) => part(name).value)));
+    const tests = this.#kinds.map(({ field, test }) => test(part(field).value));
     const read = tests.flatMap((test) => test ?? []);
     return read.length < tests.length ? null : rows.filter((row) => read.every((test) => test(row)));
   }
@@ -201,6 +186,6 @@ export class Filters<Row> {
   }
 
   #fields() {
-    return this.#kinds.flatMap(({ fields }) => fields).map(part);
+    return this.#kinds.map(({ field }) => part(field));
   }
 }

@@ -31,11 +31,12 @@ export type FoundOnAxis = { rows: Row[]; tried: number };
 /** Of all axes; `count`: of all that are kept. */
 export type Found = FoundOnAxis & { count: number; isWhole: boolean };
 
-/** How many rows that aren't seen belong before the last one that is. @param seen the keys of those that are seen */
-export function newAmong(rows: Row[], seen: string[]) {
-  const known = new Set(seen);
-  const last = rows.findLastIndex(({ key }) => known.has(key));
-  return rows.slice(0, Math.max(0, last)).filter(({ key }) => !known.has(key)).length;
+/** The rows that aren't seen and are better than the last one that is, or have room below it.
+ * @param room for how many rows there is */
+export function betterThan(seen: Row[], rows: Row[], room: number) {
+  const known = new Set(seen.map(({ key }) => key));
+  const belongs = ({ rank }: Row, at: number) => (seen.length < room ? at < room : rank < lastOf(seen).rank);
+  return rows.filter((row, at) => !known.has(row.key) && belongs(row, at));
 }
 
 /** How many rows are kept, which are all but seldom; of longer ones, of which there are thousands, each takes time. */
@@ -62,7 +63,7 @@ export class KnownSearches {
   /** What was found of fewer moves more, as far as it was wanted; or nothing. */
   shorter({ slack, ...question }: Question) {
     const found = Array.from({ length: slack }, (_, more) => this.of({ ...question, slack: slack - 1 - more }));
-    return found.find((each) => each !== undefined);
+    return found.find((each) => each !== undefined) ?? null;
   }
 
   /** Keeps what was found, in place of what was kept longest. */

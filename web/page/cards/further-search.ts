@@ -23,7 +23,7 @@ type Search = {
 };
 
 /** How many moves longer than the shortest are looked for without being asked for. */
-const FURTHEST = 2;
+export const FURTHEST = 2;
 /** How long nothing is waited for before it begins, in milliseconds. */
 const IDLE_FOR = 600;
 

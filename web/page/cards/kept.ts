@@ -8,7 +8,7 @@ import { announce, button, counted, element, part, spoken, tell, type PageElemen
 import { LONGEST_NOTE, MOST_CANDIDATES } from "../state/limits.js";
 import { WayTo } from "../state/history.js";
 import {
-  ORIENTATIONS, REDUCTIONS, axisName, bracketed, isReduced, reductionsAfter, sidesOf, stateOf, statesOf, stepNamed,
+  axisName, bracketed, isReduced, newlyReached, reductionsAfter, stateOf, stepNamed,
 } from "../shared/offered-steps.js";
 import { withCases } from "../shared/passage.js";
 import { tellAt, withoutMoving } from "../shared/view.js";
@@ -16,7 +16,6 @@ import { MOST_ARE_KEPT, NO_ROOM, wordsOfFault } from "../shared/words.js";
 import type { Calls } from "../shared/questions.js";
 import type { KeptWalk } from "../answers/examine.js";
 import type { Moves as Part } from "../../module/shared/sides.js";
-import type { StepOnAxis } from "../shared/axes.js";
 
 /** @returns what a candidate is called where it is said */
 const saidOf = ({ parts, next }: Candidate) =>
@@ -31,68 +30,36 @@ function stageOf({ reached, next }: KeptWalk) {
 /** @returns how many moves a candidate has, with the reduction that it was kept with */
 const totalOf = ({ totals, next }: KeptWalk) => next?.total ?? lastOf(totals);
 
-/** The reduction that a candidate was kept with, as its row says it: `DR F/B 6c4e: N 4 I 7, 9 in all`, and the first.
+/** The reduction that a candidate was kept with, as its row says it, and the first:
+ * `DR F/B 6c4e: 4 normal, 7 inverse, 9 with the line`.
  * @returns none without one */
 function wordsOfNext({ next }: KeptWalk): string[] {
   if (next === null) return [];
   const [normal, inverse] = next.lengths.map((length) => length ?? "–");
   const then = next.first === null ? [] : [`then ${bracketed([next.first])}`];
-  return [`${next.state} ${next.case}: N ${normal} I ${inverse}, ${next.total} in all`, ...then];
+  return [`${next.state} ${next.case}: ${normal} normal, ${inverse} inverse, ${next.total} with the line`, ...then];
 }
 
-/** Some steps, what they reach, cases after them, and those that a reduction passes. */
-type Stage = { parts: Part[]; states: string[]; cases: string[]; passed: string[] };
-
-/** From which beginning on it has held. @param name of a step that is reached in the end */
-const heldFrom = ({ reached }: KeptWalk, name: string) => reached.findLastIndex((each) => !each.includes(name)) + 1;
-
-/** @returns the orientation that a reduction keeps */
-const orientationOf = ({ needs }: StepOnAxis) => present(needs);
-
-/** The stages of a candidate with a reduction: up to the orientation before it, up to itself with the case that was
- * solved, and what came after it. */
-function stagesOfReduced(walk: KeptWalk): Stage[] {
-  const { parts, facts, passed } = walk;
-  const reductions = REDUCTIONS.filter(({ name }) => lastOf(walk.reached).includes(name));
-  const ways = reductions.map((step) => (
-    { step, from: heldFrom(walk, orientationOf(step)), to: heldFrom(walk, step.name) }));
-  const [{ from, to }] = ways.sort((one, other) => one.to - other.to || one.from - other.from);
-  const first = ways.filter((way) => way.from === from && way.to === to).map(({ step }) => step);
-  // one that is reached together with its orientation has no case
-  const begin = from < to ? from : 0;
-  const before = parts.slice(0, begin);
-  const oriented = statesOf(first.map(orientationOf)).map((state) => `${state}, ${sidesOf(before)}`);
-  const reduced = first.map((step) => (from < to ? `${stateOf(step)} ${facts[from].case[step.axis]}` : stateOf(step)));
-  const others = reductions.filter((step) => !first.some((other) => stateOf(other) === stateOf(step)));
-  const later = to === 0 ? reductions : others;
-  const stages = [
-    { parts: before, states: oriented, cases: [], passed: [] },
-    { parts: parts.slice(begin, to), states: [...new Set(reduced)], cases: [], passed: passed.slice(begin, to).flat() },
-    { parts: parts.slice(to), states: statesOf(later.map(({ name }) => name)), cases: [], passed: [] },
-  ];
-  return stages.filter((stage) => stage.parts.length > 0);
-}
-
-/** The stages of a candidate; before a reduction one, with the cases that may follow. */
-function stagesOf(walk: KeptWalk): Stage[] {
-  const { parts, facts, next } = walk;
+/** What follows a line that isn't reduced: the reduction that it was kept with, or the case of each that may follow. */
+function casesAfter(walk: KeptWalk): string[] {
   const reached = lastOf(walk.reached);
-  if (isReduced(reached)) return stagesOfReduced(walk);
-  const steps = ORIENTATIONS.filter(({ name }) => reached.includes(name)).flatMap(({ name }) => reductionsAfter(name));
-  const cases = [...new Set(steps.map(({ axis }) => `${axisName(axis)} ${lastOf(facts).case[axis]}`))];
-  return [{ parts, states: statesOf(reached), cases: next === null ? cases : wordsOfNext(walk), passed: [] }];
+  if (walk.next !== null || isReduced(reached)) return wordsOfNext(walk);
+  const { case: cases } = lastOf(walk.facts);
+  return [...new Set(reached.flatMap(reductionsAfter).map(({ axis }) => `${axisName(axis)} ${cases[axis]}`))];
 }
 
-/** What is seen of a candidate: its stages, each together, and the moves in all. */
+/** What is seen of a candidate: its steps, each with the cases that it passes and what it reaches, all moves, and what
+ * follows. */
 function stepOf(parts: Part[], walk: KeptWalk | null) {
-  const stages = walk === null ? [{ parts, states: [], cases: [], passed: [] }] : stagesOf(walk);
-  const total = walk?.totals.at(-1);
-  const count = stages.length > 1 ? `${total} in all` : counted(total ?? 0, "move");
-  return element("span", { class: "step" }, ...stages.map((stage, at) => element("span", { class: "step" },
-    element("span", { class: "moves" }, ...withCases(bracketed(stage.parts), stage.passed)),
-    ...(at === stages.length - 1 ? [element("span", { class: "total" }, walk === null ? "" : count)] : []),
-    ...stage.states.map((state) => element("span", { class: "chip" }, state)),
-    ...stage.cases.map((each) => element("span", { class: "case" }, each)))));
+  const count = lastOf(walk?.totals ?? [0]);
+  const total = parts.length > 1 ? `${count} in all` : counted(count, "move");
+  const steps = parts.map((part, at) => element("span", { class: "step" },
+    element("span", { class: "moves" }, ...withCases(bracketed([part]), walk?.passed[at] ?? [])),
+    ...(walk === null ? [] : newlyReached(walk, at)).map((state) => element("span", { class: "chip" }, state))));
+  const cases = walk === null ? [] : casesAfter(walk);
+  return element("span", { class: "step" }, ...steps,
+    element("span", { class: "total" }, walk === null ? "" : total),
+    ...cases.map((each) => element("span", { class: "case" }, each)));
 }
 
 /** A candidate with its walk, if that is known, and its place. */

@@ -1,7 +1,6 @@
 // Draws a cube as a net, as SVG. Each sticker has its colour and its letter, and if pieces are marked a ring and a dot,
-// or a grey. The view may be turned by y and x, which changes no letter.
+// or a grey.
 import { NET, type NetPlace } from "../../module/shared/stickers.js";
-import { present } from "../shared/certain.js";
 import { inner } from "../shared/element.js";
 
 const SVG = "http://www.w3.org/2000/svg";
@@ -48,48 +47,15 @@ function inWords(letters: string) {
   }).join("; ");
 }
 
-/** Shows the engine's 54 letters on a net.
- * @param drawing the places that are marked, or null; and which place is seen at each of the net */
-export function showCube(
-  net: SVGElement, letters: string, title: string, { places, view }: { places: Set<number> | null; view: number[] },
-) {
-  const seen = view.map((place) => letters[place]).join("");
-  net.setAttribute("aria-label", `${title}; ${inWords(seen)}`);
-  net.classList.toggle("marked", places !== null);
+/** Shows the engine's 54 letters on a net. @param marked the places that are marked, or null */
+export function showCube(net: SVGElement, letters: string, title: string, marked: Set<number> | null) {
+  net.setAttribute("aria-label", `${title}; ${inWords(letters)}`);
+  net.classList.toggle("marked", marked !== null);
   net.querySelectorAll(".sticker").forEach((sticker, at) => {
-    sticker.classList.toggle("bad", places !== null && places.has(view[at]));
+    sticker.classList.toggle("bad", marked !== null && marked.has(at));
     // a text that is put in again is laid out again
-    if (sticker.dataset.colour === seen[at]) return;
-    sticker.dataset.colour = seen[at];
-    inner(sticker, "text").textContent = seen[at];
+    if (sticker.dataset.colour === letters[at]) return;
+    sticker.dataset.colour = letters[at];
+    inner(sticker, "text").textContent = letters[at];
   });
-}
-
-/** Which place is seen at each of the net, where nothing is turned. */
-export const PLACES = Array.from({ length: 54 }, (_, place) => place);
-
-/** Where the sticker of a place is, in space: U is up, R is right, F is towards the eye. */
-function pointOf(place: number): number[] {
-  const [row, column] = [NET[place].row % 3, NET[place].column % 3];
-  const points = [
-    [column - 1, 2, row - 1], [2, 1 - row, 1 - column], [column - 1, 1 - row, 2],
-    [column - 1, -2, 1 - row], [-2, 1 - row, column - 1], [1 - column, 1 - row, -2],
-  ];
-  return points[Math.floor(place / 9)];
-}
-
-/** Where each turn of the whole cube takes a point. */
-const TURNS_OF_VIEW: Record<"x" | "y", (point: number[]) => number[]> = {
-  y: ([across, up, near]) => [-near, up, across],
-  x: ([across, up, near]) => [across, near, -up],
-};
-
-export function turnedView(view: number[], turn: "x" | "y") {
-  const nameOfPoint = (point: number[]) => point.join();
-  const places = new Map(PLACES.map((place) => [nameOfPoint(pointOf(place)), place]));
-  const turned: number[] = [];
-  for (const place of PLACES) {
-    turned[present(places.get(nameOfPoint(TURNS_OF_VIEW[turn](pointOf(place)))))] = view[place];
-  }
-  return turned;
 }

@@ -2,12 +2,10 @@
 // cut if it is long. A list that is looked for gives way to another one, and can be stopped.
 import { Stopped } from "../../module/shared/faults.js";
 import { thrownError, present } from "../shared/certain.js";
-import { announce, announceLater, button, counted, element, part, setBusy, spoken, tell } from "../shared/element.js";
-import {
-  Filters, NOT_MOVES, ofCases, offerCases, offerLastTurns, offerMoves, withTurns,
-} from "./filters.js";
+import { announce, announceLater, counted, element, part, setBusy, spoken, tell } from "../shared/element.js";
+import { Filters, NOT_MOVES, ofCases, offerCases, offerMoves, withTurns } from "./filters.js";
 import { GREATEST_SLACK } from "../state/limits.js";
-import { addRows, named, roveWithin, showRows, starButton, takeButton, takeNamed } from "../shared/rows.js";
+import { addRows, roveWithin, showRows, starButton, takeButton, takeNamed } from "../shared/rows.js";
 import {
   axisName, bracketed, reductionsAfter, stateOf, stepNamed, titleOf,
 } from "../shared/offered-steps.js";
@@ -63,7 +61,6 @@ type ListActs = {
   star: (button: HTMLElement, parts: Part[]) => void;
   isStarred: (parts: Part[]) => boolean;
   isSeen: (parts: Part[]) => boolean;
-  copy: (text: string, button: HTMLElement) => void;
 };
 
 export class SolutionList {
@@ -77,7 +74,7 @@ export class SolutionList {
   #ordered: Group[] = [];
   #shown = MOST_SHOWN;
   #filters = new Filters<Entry>("list", part("solutions-note"), [[
-    withTurns("filter", "last-turn", ({ moves, others, part: own, twins }) =>
+    withTurns("filter", ({ moves, others, part: own, twins }) =>
       (twins === undefined ? withTwins(moves, others) : sidesOfTwins(own, twins))),
     ofCases("list-cases", (entry) => this.#namesOf(entry)),
   ]], () => this.#filtered());
@@ -144,6 +141,8 @@ export class SolutionList {
     announceLater("");
     this.#groups.replaceChildren();
     part("solutions").hidden = list === null;
+    // the best reductions are among those of the list
+    part("choices").classList.toggle("lists-reductions", list !== null && stepNamed(list.step).needs !== null);
     this.#setWorking(list !== null);
     if (list !== null) this.#describe(list);
   }
@@ -162,7 +161,6 @@ export class SolutionList {
   /** @param rows of the open list */
   #take(rows: Rows) {
     this.#rows = rows;
-    offerLastTurns("last-turn", rows.entries.flatMap(({ part: { normal, inverse } }) => [normal, inverse]));
     this.#setWorking(false);
     this.#order();
     const all = `${rows.whole ? "" : "more than "}${counted(rows.all, "solution")}`;
@@ -287,14 +285,12 @@ export class SolutionList {
     const text = bracketed(added);
     const twins = others.map((other) => `or ${spoken(other)}`);
     const said = { passed, cases: cases.map(({ axis, name }) => `${axis} ${name}`), twins };
-    const copy = { class: "copy", ...named(`Copy ${spoken(text)}`, "Copy the covered moves") };
     return element("li", {},
       takeButton(text, { key, isSeen: this.#acts.isSeen(added), ...said }, () => this.#acts.take(added, key)),
       ...(others.length === 0 ? [] : [element("small", { class: "twins" }, `/ ${others.join(" / ")}`)]),
       ...(cases.length === 0 ? [] : [element("span", { class: "cases" }, ...cases.map(({ axis, name, state }) =>
         element("span", { class: "case", "data-marks": state }, `${axis} ${name}`)))]),
       element("span", { class: "acts" },
-        starButton(text, () => this.#acts.isStarred(added), (star) => this.#acts.star(star, added)),
-        button("Copy", { ...copy, click: (event) => this.#acts.copy(text, event.currentTarget) })));
+        starButton(text, () => this.#acts.isStarred(added), (star) => this.#acts.star(star, added))));
   }
 }

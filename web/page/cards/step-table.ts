@@ -1,9 +1,8 @@
 // The table of the steps that may follow: a row for each, with what solvers choose by, and a cell for each side with
-// the least length, all moves, and how many solutions there are; what is reached; and the looks, in a table of theirs.
-import { lastOf } from "../shared/certain.js";
+// the least length, all moves, and how many solutions there are; and what is reached.
 import { counted, element, part } from "../shared/element.js";
 import {
-  SIDES, caseOfStep, inGroups, isReduced, openSteps, stateOf, statesOf, titleOf,
+  SIDES, caseOfStep, isReduced, stateOf, statesOf, titleOf,
 } from "../shared/offered-steps.js";
 import type { Calls } from "../shared/questions.js";
 import type { Counted, Examined, Offer, Unexamined } from "../answers/examine.js";
@@ -28,38 +27,21 @@ function wordsOfRow({ length, total, solutions, best }: Counted, made: number): 
 /** How long the page waits for all offers, to show them together with the cube. */
 const SOON = 50;
 
-/** Asks for a cube, which is told first, and for the groups of steps that may follow: two at most. */
-function askedOf(calls: Calls, typed: { text: string; parts: Moves[] }): [Promise<Told>, ...Promise<Offer[]>[]] {
+/** The cube, and the steps that may follow, each with its counts on both sides: by one question, so that none waits for
+ * the page. They are waited for a moment, since what is shown by itself is laid out and painted by itself. */
+export async function cubeWithOffers(
+  calls: Calls, typed: { text: string; parts: Moves[] },
+): Promise<{ cube: Told; offers: Promise<Offer[]> }> {
   const acts: { settle: (told: Told | Offer[]) => void; refuse: (fault: unknown) => void }[] = [];
-  const told = [0, 1, 2].map(() => new Promise<Told | Offer[]>((settle, refuse) => acts.push({ settle, refuse })));
-  // what is wrong is said where it is waited for
-  for (const each of told) each.catch(() => {});
+  const told = [0, 1].map(() => new Promise<Told | Offer[]>((settle, refuse) => acts.push({ settle, refuse })));
+  const [cube, offers] = told as [Promise<Told>, Promise<Offer[]>];
   let at = 0;
   calls.ask("examine", typed, (each) => acts[at++].settle(each))
     .catch((fault) => acts.forEach(({ refuse }) => refuse(fault)));
-  return told as [Promise<Told>, ...Promise<Offer[]>[]];
+  // what is wrong is said where it is waited for
+  await Promise.race([offers.catch(() => {}), new Promise((late) => setTimeout(late, SOON))]);
+  return { cube: await cube, offers };
 }
-
-/** The cube, and the steps that may follow, each with its counts on both sides, in portions: all groups in one if
- * they are there soon, since what is shown by itself is laid out and painted by itself, at more than most counts;
- * else each. They come by one question, so that none waits for the page. */
-export async function cubeWithOffers(
-  ...asked: Parameters<typeof askedOf>
-): Promise<{ cube: Told; portions: Promise<Offer[][]>[] }> {
-  const [first, ...groups] = askedOf(...asked);
-  const cube = await first;
-  const count = "unread" in cube ? 0 : inGroups(openSteps(lastOf(cube.walk.reached))).length;
-  const offers = groups.slice(0, count);
-  const all = Promise.all(offers);
-  const late = new Promise((tell) => setTimeout(tell, SOON, false));
-  const isSoon = await Promise.race([all.then(() => true, () => false), late]);
-  const portions = isSoon ? [all] : offers.map((group) => group.then((each) => [each]));
-  for (const portion of portions) portion.catch(() => {});
-  return { cube, portions };
-}
-
-/** A step that is still to be counted. */
-const UNCOUNTED = { length: null, total: Infinity, solutions: 0, nodes: 0, best: 0 };
 
 /** @returns whether offers are reductions */
 const areReductions = ([{ step }]: Offer[]) => step.needs !== null;
@@ -75,9 +57,7 @@ const leastOf = (offers: Offer[]) =>
 export class StepTable {
   #chosen: (step: Step, side: Side) => void;
   #focused: HTMLElement | null = null;
-  #groups: Offer[][] = [];
   #body = part("steps-body");
-  #looks = part("looks-body");
 
   constructor(chosen: (step: Step, side: Side) => void) {
     this.#chosen = chosen;
@@ -92,39 +72,25 @@ export class StepTable {
     part("choices").inert = true;
   }
 
-  /** Begins with another cube, of which no step is known. */
+  /** Begins with another cube, of which is told what it reaches. */
   begin({ reached }: Cube) {
-    this.#groups = [];
     const states = statesOf(reached);
     part("reached").hidden = states.length === 0;
     part("reached").replaceChildren(...(states.length === 0 ? [] : ["Reached: "]), ...states.flatMap((state) =>
       [element("span", { class: "chip", "data-marks": state }, state), " "]));
   }
 
-  /** The groups of offers, a reduction before an orientation; one that is still to be counted stands in its place. */
-  #inOrder({ reached }: Cube): Offer[][] {
-    return inGroups(openSteps(reached)).reverse().map((steps) => {
-      const blank = steps.map((step) => ({ step, normal: UNCOUNTED, inverse: UNCOUNTED }));
-      return this.#groups.find((group) => areReductions(group) === areReductions(blank)) ?? blank;
-    });
-  }
-
-  /** Adds groups of offers; of all that are shown a reduction comes before an orientation. */
-  add(added: Offer[][], cube: Cube, list: List | null) {
-    this.#groups.push(...added);
-    const groups = this.#inOrder(cube);
+  /** Shows offers, a reduction before an orientation. */
+  show(offers: Offer[], cube: Cube, list: List | null) {
+    const groups = [true, false].map((isReduction) => offers.filter((offer) => isReduction === areReductions([offer])))
+      .filter((group) => group.length > 0);
     const { activeElement } = document;
     const focused = this.#body.contains(activeElement) ? activeElement?.dataset.cell : null;
     const anew = groups.find((group) => !keepsReached(group, cube.reached));
     this.#body.replaceChildren(...groups.flatMap((group) =>
       [...(group === anew ? [this.#anew(cube)] : []), ...this.#rows(group, cube, list)]));
-    this.#looks.replaceChildren(...groups.flat().map((offer) => element("tr", {},
-      element("th", { scope: "row" }, titleOf(offer.step)),
-      ...SIDES.map((side) => element("td", { class: "number" }, offer[side].nodes.toLocaleString("en"))))));
-    const all = groups.flat();
     part("no-reduction").hidden = cube.reached.length > 0;
-    part("steps-table").hidden = all.length === 0;
-    part("looks").hidden = all.length === 0;
+    part("steps-table").hidden = groups.length === 0;
     if (focused) this.cell(focused)?.focus({ preventScroll: true });
   }
 
@@ -203,13 +169,7 @@ export class StepTable {
     const name = `${step.name}.${side}`;
     const isLeast = least !== null && count.length === least;
     const shortest = isLeast ? ", shortest" : "";
-    const about = { "data-side": side === "normal" ? "Normal" : "Inverse" };
-    // as high as one that is counted
-    const inAll = made > 0 ? "10 in all, " : "";
-    const room = element("small", { class: "room" }, inAll, element("span", { class: "together" }, "10 solutions"));
-    const blank = [element("strong", {}, "…"), room];
-    if (count === UNCOUNTED) return element("td", about, element("span", { class: "cell" }, ...blank));
-    return element("td", about, element("button", {
+    return element("td", { "data-side": side === "normal" ? "Normal" : "Inverse" }, element("button", {
       type: "button",
       class: isLeast ? "cell least" : "cell",
       "data-cell": name,

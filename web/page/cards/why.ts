@@ -30,10 +30,10 @@ function edgeOriented(faces: string[], colours: string[], axis: string) {
 /** Whether an edge is on its side of a slice. @param axis of the reduction */
 function edgePlaced(faces: string[], colours: string[], axis: string) {
   const isIn = (letters: string[]) => !letters.some((each) => axis.includes(each));
-  const where = isIn(colours) ? "in the slice, since it has no" : "outside the slice, since it has";
-  const belongs = `${where} ${eitherOf(axis)}`;
-  if (isIn(colours) === isIn(faces)) return `good for DR ${axis}: it is ${belongs}`;
-  return `bad for DR ${axis}: it belongs ${belongs}`;
+  const [where, has] = isIn(colours) ? ["in the slice", "has no"] : ["outside the slice", "has"];
+  const why = `since it ${has} ${eitherOf(axis)}`;
+  if (isIn(colours) === isIn(faces)) return `good for DR ${axis}: it is ${where}, and belongs there, ${why}`;
+  return `bad for DR ${axis}: it belongs ${where}, ${why}`;
 }
 
 /** Whether a corner is oriented on an axis. */

@@ -34,11 +34,6 @@ export const titleOf = (step: OfferedStep) =>
 export const openSteps = (reached: string[]) => [...ORIENTATIONS, ...REDUCTIONS]
   .filter(({ name, needs }) => !reached.includes(name) && (needs === null || reached.includes(needs)));
 
-/** Steps in groups: orientations, and then reductions, if there are any. */
-export const inGroups = (steps: OfferedStep[]) => [false, true]
-  .map((isReduction) => steps.filter(({ needs }) => (needs !== null) === isReduction))
-  .filter((group) => group.length > 0);
-
 /** The steps that the page offers among those that hold. */
 export const offeredAmong = (held: readonly Step[]) => held.filter(isOnAxis);
 

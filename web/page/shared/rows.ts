@@ -10,7 +10,7 @@ const uncovered = new Set<string>();
 const keptBy = new WeakMap<HTMLElement, () => boolean>();
 
 /** What a button of a row is called, and what while the row's moves are covered: then it says nothing of them. */
-export const named = (open: string, covered: string) => ({ tabindex: -1, "data-open": open, "data-covered": covered });
+const named = (open: string, covered: string) => ({ tabindex: -1, "data-open": open, "data-covered": covered });
 
 /** What a row is known by, what else is said of it, the cases that it passes, and whether it was taken. */
 type AboutRow = { key: string; twins?: string[]; cases?: string[]; passed?: string[]; isSeen: boolean };

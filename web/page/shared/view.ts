@@ -71,8 +71,8 @@ export function setUsable(usable: boolean) {
 function scrollToNext(isFinished: boolean) {
   if (!areBeside()) return part(isFinished ? "line" : "results").scrollIntoView({ block: "start" });
   scrollTo({ top: 0, behavior: "instant" });
-  // no further than to its end, so that what is beside it stays in view
-  if (isFinished) part("whole").scrollIntoView({ block: "nearest" });
+  // no further than that, so that the nets stay in view
+  if (isFinished) part("copy-fmc").scrollIntoView({ block: "nearest" });
 }
 
 /** Has what follows a step come into view and have the focus.

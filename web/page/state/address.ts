@@ -9,7 +9,10 @@ import type { Step } from "../../module/shared/steps.js";
 export type List = { step: Step; side: Side | "both"; slack: number; isAll: boolean };
 /** `next`: the reduction it was kept with, or "". */
 export type Candidate = { parts: Part[]; note: string; next: string };
-export type State = { scramble: string; parts: Part[]; side: Side; list: List | null; kept: Candidate[] };
+/** `longer`: by how many moves more than the shortest the orientations among the best may have. */
+export type State = {
+  scramble: string; parts: Part[]; side: Side; list: List | null; kept: Candidate[]; longer: number;
+};
 
 const LONGEST_ADDRESS = 20000;
 const MOST_PARTS = 256;
@@ -18,7 +21,7 @@ const LONGEST_NAME = 24;
 const MOVES = /^[UDRLFBMESxyzw2']+( [UDRLFBMESxyzw2']+)*$/;
 const ALL_ROWS = "all";
 
-export const emptyState = (): State => ({ scramble: "", parts: [], side: "normal", list: null, kept: [] });
+export const emptyState = (): State => ({ scramble: "", parts: [], side: "normal", list: null, kept: [], longer: 0 });
 
 /** A text in which signs stand for lone halves of pairs, which no address has. */
 const wellFormed = (text: string) => text.replace(/[\uD800-\uDFFF]/gu, "\uFFFD");
@@ -48,12 +51,13 @@ const writtenCandidate = ({ parts, note, next }: Candidate) =>
 
 const writtenList = ({ step, side, slack, isAll }: List) => [step, side, slack, ...(isAll ? [ALL_ROWS] : [])].join(".");
 
-export function addressOf({ scramble, parts, side, list, kept }: State) {
+export function addressOf({ scramble, parts, side, list, kept, longer }: State) {
   const fields = [];
   if (scramble !== "") fields.push(`scramble=${escaped(scramble)}`);
   if (parts.length > 0) fields.push(`steps=${writtenParts(parts)}`);
   if (side !== "normal") fields.push(`side=${side}`);
   if (list) fields.push(`list=${writtenList(list)}`);
+  if (longer > 0) fields.push(`longer=${longer}`);
   if (kept.length > 0) fields.push(`kept=${kept.map(writtenCandidate).join(",")}`);
   return `#${fields.join("&")}`;
 }
@@ -84,9 +88,17 @@ function split(text: string, sign: string, most: number) {
 
 const readParts = (text: string): Part[] => split(text, "~", MOST_PARTS).map(readPart);
 
+/** How many moves longer something may be. */
+const isSlack = (text: string) => /^[0-9]$/.test(text) && Number(text) <= GREATEST_SLACK;
+
+function readLonger(text: string) {
+  if (!isSlack(text)) throw new Error("no number of moves");
+  return Number(text);
+}
+
 function readList(text: string): List {
   const [step, side, slack, all, ...rest] = text.split(".");
-  const isRead = /^[0-9]$/.test(slack) && Number(slack) <= GREATEST_SLACK && (all === undefined || all === ALL_ROWS);
+  const isRead = isSlack(slack) && (all === undefined || all === ALL_ROWS);
   const isKnown = isOnAxis(step) && (isSide(side) || side === "both");
   if (!isRead || !isKnown || rest.length > 0) throw new Error("no list");
   return { step, side, slack: Number(slack), isAll: all === ALL_ROWS };
@@ -119,6 +131,7 @@ const FIELDS: Record<string, (value: string) => Partial<State>> = {
   steps: (value) => ({ parts: readParts(value) }),
   side: (value) => ({ side: readSide(value) }),
   list: (value) => ({ list: readList(value) }),
+  longer: (value) => ({ longer: readLonger(value) }),
   kept: (value) => ({ kept: readCandidates(value) }),
 };
 

@@ -27,5 +27,6 @@ export function joinedStates(own: State, other: State): State {
   const shown = other.parts.length > 0 ? other : own;
   const isLeft = own.parts.length > 0 && bracketed(own.parts) !== bracketed(shown.parts);
   const line = isLeft ? [{ parts: own.parts, note: "", next: "" }] : [];
-  return { ...shown, list: shown.list ?? other.list, kept: withOthers(own.kept, [...other.kept, ...line]).kept };
+  const { kept } = withOthers(own.kept, [...other.kept, ...line]);
+  return { ...shown, list: shown.list ?? other.list, kept, longer: Math.max(own.longer, other.longer) };
 }
