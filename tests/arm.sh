@@ -64,9 +64,9 @@ compiled() { # NAME
     $cross-gcc "${strict[@]}" -Iinclude -Itests/library -I"$room/rows" -pthread $(wraps "$1") -o "$room/$1" "tests/library/$1.c" "$folder/libnissy.a"
 }
 # emulated, each byte takes many times as long
-declare -A fewer=([calls]=few [threads]="1 40" [fuzz]="1 5")
+declare -A fewer=([calls]=few [ways]=few [sides]=few [threads]="1 40" [fuzz]="1 5")
 rows_in_c "$room/rows"
-for name in calls facts memory threads handlers fuzz; do
+for name in calls facts ways sides text memory threads handlers fuzz; do
     holds "$name.c compiles for ARM" compiled "$name"
     # shellcheck disable=SC2086 # words
     add "${by_qemu[@]}" "$room/$name" ${fewer[$name]-}

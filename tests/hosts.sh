@@ -44,9 +44,9 @@ part python3 tests/hosts/mutated.py 1 1000 python "${others[@]}" "${in_c[@]}"
 part python3 tests/hosts/net.py python "${others[@]}"
 if missing g++; then skips "the best ways on, since there is no g++ for their model"; else
     holds "the model of the best ways on compiles" g++ -std=c++17 -O3 -Wall -Wextra -Werror -o "$room/ways" tests/model/ways.cpp
-    part python3 tests/hosts/best.py 1 30 0 "$room/ways" 6 "${others[@]}"
-    part python3 tests/hosts/best.py 2 5 1 "$room/ways" 2 "${others[@]}"
-    part python3 tests/hosts/best.py 3 2 2 "$room/ways" 0 "${others[@]}"
+    part python3 tests/hosts/best.py 1 30 0 "$room/ways" 30 "${others[@]}"
+    part python3 tests/hosts/best.py 2 5 1 "$room/ways" 5 "${others[@]}"
+    part python3 tests/hosts/best.py 3 3 2 "$room/ways" 3 "${others[@]}"
 fi
 parts_end
 ended

@@ -1,11 +1,12 @@
 #!/usr/bin/env python3
-"""Drawn questions to `best`: what Python and each host answer beside C's own calls, byte for byte; the first rows of those without a bound beside the
-independent model, which knows the definition alone; and whether rows go on as they say.
+"""Drawn questions to `best`: what Python and each host answer beside C's own calls, byte for byte; the rows beside the independent model, which knows
+the definition alone; and whether rows go on as they say.
 
     tests/hosts/best.py SEED COUNT SLACK MODEL COUNTED HOST..
 
-SLACK is that of the questions. MODEL is what was compiled of tests/model/ways.cpp, which counts the first COUNTED of them again. A host is one of
-hosts.py, with the library of NISSY_LIBRARY. The last line is `N passed, M failed`, and the status is 1 if M isn't 0.
+SLACK is that of the questions. MODEL is what was compiled of tests/model/ways.cpp, which has the first COUNTED of them again that aren't cut, and
+the rows of the first COUNTED that are. A host is one of hosts.py, with the library of NISSY_LIBRARY. The last line is `N passed, M failed`, and the
+status is 1 if M isn't 0.
 
 A question comes to a host as `best SCRAMBLE SO_FAR SLACK MOST NODES PARTIAL ASKS`: PARTIAL is 1 if what was found until a cut is wanted, ASKS how
 often `stop` is asked before it ends the search, 2^64 - 1 if it never does. The answer has a line for each row, and then `cut` if it was cut:
@@ -19,16 +20,16 @@ U D, as long as it has longer ones, with the rows before in the room and the nod
 from __future__ import annotations
 
 import sys
-from typing import List
+from typing import List, Tuple
 
 from hosts import Host, Python, fault_of, hosts_of, told  # isort: skip
 
 import nissy
 
 from goes_on import goes_on
-from questions import ALL, Question, drawn
+from questions import Question, drawn
 from tally import Tally, side_by_side
-from ways import C, as_model, by_model
+from ways import MOST_ROWS, Asked, C, as_model, by_model
 
 CUT = fault_of(0, 0, "cut")
 # of so many rows of a question it is tried that they go on
@@ -40,6 +41,10 @@ FIXED = (Question("R' B U2 R' U' L' B' D F2 L D' L2 R2 U B F2 D R2 L F R' F L' D
 NO_STOP = 10**9
 # questions of the model at once, of which each process builds its tables
 CHUNK = 8
+# the last line of an answer that was cut
+CUT_LINE = "cut"
+# by the slack: up to so many moves in all the rows of a cut answer are looked for
+MOST_OF_CUT = (20, 11, 10)
 
 
 def answers(host: Host, questions: List[Question]) -> List[str]:
@@ -60,14 +65,30 @@ def of_c(c: C, question: Question) -> str:
     return fault_of(2, 0, "more than 256 moves")
 
 
-def counted(tally: Tally, program: str, questions: List[Question], wanted: List[str]) -> None:
-    """The first rows of questions without a bound by the model."""
-    most = max((question.most for question in questions), default=0)
-    chunks = [questions[at:at + CHUNK] for at in range(0, len(questions), CHUNK)]
-    rows = [each for part in side_by_side(tally, 2, lambda some: by_model(program, some, most), chunks) for each in part]
-    for question, ours, said in zip(questions, rows, wanted):
-        tally.equal(f"{question} by the model", [as_model(row) for row in said.splitlines()], ours[:question.most])
-    tally.equal("all are counted", len(rows), len(questions))
+def asked_of(question: Question, said: str) -> Asked:
+    """What the model is asked beside an answer: its rows, or if it was cut all with at most as many moves in all, as far as the model has them in a
+    moment."""
+    rows = said.splitlines()
+    if CUT_LINE not in rows:
+        return Asked(question, question.most)
+    return Asked(question, MOST_ROWS, min([total_of(row) for row in rows[:-1]][-1], MOST_OF_CUT[question.slack]))
+
+
+def total_of(row: str) -> int:
+    """The moves in all of a row."""
+    return int(row.split(";")[0])
+
+
+def counted(tally: Tally, program: str, answered: List[Tuple[Question, str]]) -> None:
+    """Answers beside the model: all rows, or those of one that was cut among the model's."""
+    asked = [asked_of(*each) for each in answered]
+    chunks = [asked[at:at + CHUNK] for at in range(0, len(asked), CHUNK)]
+    rows = [each for part in side_by_side(tally, 2, lambda some: by_model(program, some), chunks) for each in part]
+    for (question, said), it, ours in zip(answered, asked, rows):
+        theirs = [as_model(row) for row in said.splitlines() if row != CUT_LINE and total_of(row) <= it.total]
+        of_cut = [row for row in ours if row in theirs]
+        tally.equal(f"{question} by the model", theirs, of_cut if CUT_LINE in said else ours)
+    tally.equal("all are counted", len(rows), len(answered))
 
 
 def stopped(tally: Tally, hosts: List[Host], python: Host, slack: int) -> None:
@@ -90,13 +111,14 @@ def main() -> None:
     for host in [python, *hosts]:
         for question, ours, theirs in zip(questions, wanted, answers(host, questions)):
             tally.equal(f"{question} in {host.name}", theirs, ours)
-    whole = [(question, said) for question, said in zip(questions, wanted) if question.nodes == ALL and not said.startswith("fault")]
+    answered = [each for each in zip(questions, wanted) if not each[1].startswith("fault")]
+    whole, cut = ([each for each in answered if (CUT_LINE in each[1]) == is_cut] for is_cut in (False, True))
     for question, said in whole:
         tally.equal(f"{question} by one call of C", c.whole(question), said)
         rows = nissy.best(question.scramble, question.so_far, slack=slack, most=GONE_ON)
         tally.holds(f"{question}: rows go on so", all(goes_on(question, row) for row in rows))
-    some = whole[:int(sys.argv[5])]
-    counted(tally, sys.argv[4], [question for question, _ in some], [said for _, said in some])
+    most = int(sys.argv[5])
+    counted(tally, sys.argv[4], [*whole[:most], *[each for each in cut if ";" in each[1]][:most]])
     stopped(tally, [host for host in hosts if host.name != "JavaScript"], python, slack)
     for host in hosts:
         tally.equal(f"{host.name} ends, and has said no more", host.end(), 0)

@@ -5,7 +5,7 @@ import ctypes
 import os
 import subprocess
 from itertools import product
-from typing import Dict, List, Sequence, Tuple
+from typing import Dict, List, NamedTuple, Sequence, Tuple
 
 from cube import inverse_of
 from notation import clean, read, to_faces, words_of
@@ -18,6 +18,8 @@ AXES = (1, 2, 4)
 NO_STEP, MOST_TURNS = 255, 20
 # rows that a room of one call has place for
 MOST_ROWS = 100_000
+# more moves in all than a row has
+MOST_TOTAL = 1000
 
 
 class Side(ctypes.Structure):
@@ -128,26 +130,34 @@ class C:
         return "".join(way.said() + "\n" for way in room[:wanted.there])
 
 
-def asked_of_model(question: Question) -> Tuple[str, Dict[str, str]]:
-    """A question as the model reads it, by the names of the centres, and what each of these faces is called as the cube is held."""
-    (outer, inner), (outside, inside) = read(question.scramble.encode()), read(question.so_far.encode())
-    scramble = outer + inverse_of(inner)
-    turned = to_faces(scramble + outside)[1]
-    before = clean(to_faces(turned + inverse_of(inside))[0])
-    normal = clean(to_faces(to_faces(scramble)[1] + outside)[0])
-    line = before + to_faces(scramble)[0] + normal
-    names = {to_faces([*turned, (face, 1)])[0][0][0]: face for face in "UDRLFB"}
-    return ";".join([str(question.slack), *map(words_of, (line, normal, inverse_of(before)))]), names
+class Asked(NamedTuple):
+    """A question to the model: so many of its first rows at most, of those with at most so many moves in all."""
+
+    question: Question
+    rows: int
+    total: int = MOST_TOTAL
+
+    def line(self) -> Tuple[str, Dict[str, str]]:
+        """It as the model reads it, by the names of the centres, and what each of these faces is called as the cube is held."""
+        (outer, inner), (outside, inside) = read(self.question.scramble.encode()), read(self.question.so_far.encode())
+        scramble = outer + inverse_of(inner)
+        turned = to_faces(scramble + outside)[1]
+        before = clean(to_faces(turned + inverse_of(inside))[0])
+        normal = clean(to_faces(to_faces(scramble)[1] + outside)[0])
+        line = before + to_faces(scramble)[0] + normal
+        names = {to_faces([*turned, (face, 1)])[0][0][0]: face for face in "UDRLFB"}
+        sides = map(words_of, (line, normal, inverse_of(before)))
+        return ";".join([str(self.question.slack), *sides, str(self.rows), str(self.total)]), names
 
 
-def by_model(program: str, questions: Sequence[Question], most: int) -> List[List[str]]:
-    """The first rows of each question by the model, as `as_model` writes them."""
-    asked = [asked_of_model(question) for question in questions]
-    text = "".join(line + "\n" for line, _ in asked)
-    out = subprocess.run([program, str(most)], input=text, stdout=subprocess.PIPE, check=True, encoding="utf-8").stdout
+def by_model(program: str, asked: Sequence[Asked]) -> List[List[str]]:
+    """The rows of each question by the model, as `as_model` writes them."""
+    lines = [each.line() for each in asked]
+    text = "".join(line + "\n" for line, _ in lines)
+    out = subprocess.run([program], input=text, stdout=subprocess.PIPE, check=True, encoding="utf-8").stdout
     # an empty line ends the rows of a question
     rows = iter(out.splitlines())
-    return [[renamed(row, names) for row in iter(rows.__next__, "")] for _, names in asked]
+    return [[renamed(row, names) for row in iter(rows.__next__, "")] for _, names in lines]
 
 
 def renamed(row: str, names: Dict[str, str]) -> str:

@@ -3,6 +3,7 @@
 #define STEPS_HPP
 
 #include <array>
+#include <bitset>
 #include <cstdint>
 #include <map>
 #include <string>
@@ -121,6 +122,16 @@ bool is_reached(const Step &step, const Cube &cube) {
     return is_oriented(cube) && (step.axis < 0 || (bad_corners(cube) == 0 && misplaced_edges(cube) == 0));
 }
 
+// numbers of the sets of four places
+std::array<int, 4096> numbers_of_sets() {
+    std::array<int, 4096> numbers{};
+    int next = 0;
+    for (size_t set = 0; set < numbers.size(); set++)
+        if (std::bitset<12>(set).count() == 4) numbers[set] = next++;
+    return numbers;
+}
+const std::array<int, 4096> NUMBER_OF_SET = numbers_of_sets();
+
 // What is seen of a cube by a step: its flips; or its twists and where the slice's edges are.
 int seen(const Step &step, const Cube &cube) {
     int number = 0;
@@ -129,15 +140,9 @@ int seen(const Step &step, const Cube &cube) {
         return number;
     }
     for (int at = 0; at < 7; at++) number = 3 * number + cube.twist[at];
-    int place = 0, left = 4;
-    for (int at = 11; at >= 0 && left > 0; at--)
-        if (cube.edge[at] >= 8) {
-            int choose = 1;
-            for (int k = 0; k < left; k++) choose = choose * (at - k) / (k + 1);
-            if (at < left) choose = 0;
-            place += choose, left--;
-        }
-    return 495 * number + place;
+    size_t set = 0;
+    for (size_t at = 0; at < 12; at++) set |= size_t(cube.edge[at] >= 8) << at;
+    return 495 * number + NUMBER_OF_SET[set];
 }
 
 // how many turns away each of these is, by a search from the solved cube; it cuts what can't be reached in the turns that are left

@@ -1,10 +1,11 @@
 // The best ways on by their definition alone: each class of orientations over both sides, each reduction after it, all members, all kinds.
 // It reads questions, one a line, and writes their rows:
 //
-//     slack ; turns that lead to the cube ; clean turns made on the normal side ; clean turns made on the inverse
+//     slack ; turns that lead to the cube ; clean turns made on the normal side ; clean turns made on the inverse ; rows ; moves in all
 //
 // Turns are face turns, named by the centres. A row is `total length corners edges axis reduction | A | B | D | E`, and a question ends with
-// an empty line. With an argument N it writes the first N rows of each.
+// an empty line. The first rows are written, so many at most, of those with at most so many moves in all; a reduction that is too long for these
+// isn't looked for.
 #include <algorithm>
 #include <array>
 #include <cstdint>
@@ -105,10 +106,18 @@ std::vector<Pair> first_pairs(const Step &step, const Cube &cube, Kind kind, int
     return found;
 }
 
+// the shortest pairs of a kind, if they have at most so many turns
+std::vector<Pair> shortest(const Step &step, const Cube &cube, Kind kind, int most) {
+    for (int length = 0; length <= most; length++) {
+        const std::vector<Pair> found = reaching(step, cube, kind, length);
+        if (!found.empty()) return found;
+    }
+    return {};
+}
+
 int least_length(const Step &step, const Cube &cube, Kind kind) {
-    for (int length = 0; length <= MOST; length++)
-        if (!reaching(step, cube, kind, length).empty()) return length;
-    return MOST + 1;
+    const std::vector<Pair> found = shortest(step, cube, kind, MOST);
+    return found.empty() ? MOST + 1 : found[0].length();
 }
 
 // those that are let in by a slack
@@ -157,23 +166,31 @@ std::vector<Pair> members(const Pair &pair, int axis) {
     return every;
 }
 
-// how many turns are left of some, once those of one face with nothing but their opposite between them are one
-int clean_count(const Turns &turns) {
-    std::vector<std::array<int, 3>> runs; // an axis, and the quarter turns of its two faces
+// an axis, and the quarter turns of its two faces
+using Run = std::array<int, 3>;
+
+// some turns, once those of one face with nothing but their opposite between them are one
+std::vector<Run> clean_runs(const Turns &turns) {
+    std::vector<Run> runs;
     for (int turn : turns) {
         if (runs.empty() || runs.back()[0] != axis_of(turn)) runs.push_back({axis_of(turn), 0, 0});
         auto &quarters = runs.back()[size_t(1 + face_of(turn) % 2)];
         quarters = (quarters + turn % 3 + 1) % 4;
         if (runs.back()[1] == 0 && runs.back()[2] == 0) runs.pop_back();
     }
+    return runs;
+}
+int clean_count(const Turns &turns) {
     int count = 0;
-    for (const auto &run : runs) count += (run[1] != 0) + (run[2] != 0);
+    for (const Run &run : clean_runs(turns)) count += (run[1] != 0) + (run[2] != 0);
     return count;
 }
 
 struct Question {
     int slack;
     Turns cube, normal, inverse;
+    size_t rows;
+    int total;
 };
 
 Turns joined(const Turns &first, const Turns &second, const Turns &third) {
@@ -182,6 +199,9 @@ Turns joined(const Turns &first, const Turns &second, const Turns &third) {
     all.insert(all.end(), third.begin(), third.end());
     return all;
 }
+
+// more moves than a row has
+constexpr int NO_TOTAL = 1000;
 
 struct Row {
     int total, length, corners, edges, axis, reduction;
@@ -200,39 +220,100 @@ int total_of(const Question &question, const Pair &eo, const Pair &dr) {
 // a turn of the second merges with one of the first
 bool merges(const Turns &first, const Turns &second) { return clean_count(joined(first, second, {})) != int(first.size() + second.size()); }
 
-// the reductions that may come after a member
-std::vector<Pair> reductions_after(const Step &step, const Cube &cube, const Pair &eo) {
-    std::vector<Pair> found;
-    for (Kind kind : {NORMAL, INVERSE, BOTH}) {
-        const int length = least_length(step, cube, kind);
-        if (length > MOST) continue;
-        for (const Pair &dr : reaching(step, cube, kind, length)) {
-            if (!merges(eo.normal, dr.normal) && !merges(eo.inverse, dr.inverse)) found.push_back(dr);
+// At most so many moves a reduction saves on a side, since it merges with what is made there. It merges with nothing of the orientation; so if
+// that merged with nothing either and turns about two axes, all stay. Else the reduction takes back whole runs at the end, if they are of its own
+// turns, two moves for each turn; of the run before it takes back half turns, and joins quarter turns.
+int saving(const Step &step, const Turns &so_far, const Turns &eo) {
+    const bool is_apart = !merges(so_far, eo) && clean_runs(eo).size() > 1;
+    if (so_far.empty() || is_apart) return 0;
+    std::vector<Run> runs = clean_runs(joined(so_far, eo, {}));
+    int most = 0;
+    for (bool is_own = true; is_own && !runs.empty(); runs.pop_back())
+        for (int quarters : {runs.back()[1], runs.back()[2]}) {
+            const bool has = step.edges != runs.back()[0] || quarters == 2;
+            most += quarters == 0 ? 0 : has ? 2 : 1;
+            is_own = is_own && (has || quarters == 0);
         }
-    }
+    return most;
+}
+
+// at least so many moves there are in all with a reduction of no turns
+int least_made(const Question &question, const Step &step, const Pair &eo) {
+    return total_of(question, eo, {}) - saving(step, question.normal, eo.normal) - saving(step, question.inverse, eo.inverse);
+}
+
+// the reductions of at most so many turns that may come after a member
+std::vector<Pair> reductions_after(const Step &step, const Cube &cube, const Pair &eo, int most) {
+    std::vector<Pair> found;
+    for (Kind kind : {NORMAL, INVERSE, BOTH})
+        for (const Pair &dr : shortest(step, cube, kind, most))
+            if (!merges(eo.normal, dr.normal) && !merges(eo.inverse, dr.inverse)) found.push_back(dr);
     return found;
 }
 
-std::vector<Row> oriented(const Question &question) {
-    std::vector<Row> rows;
+// A member of a class, the cube after it, and how many moves there are in all at least with a reduction of no turns.
+struct Member {
+    Pair eo;
+    Cube cube;
+    int least;
+};
+
+// A class of orientations with a reduction, of which the row isn't known yet, or none.
+struct Candidate {
+    Step step;
+    std::vector<Member> members;
+    Row row;
+    bool is_open = true, has_row = false;
+
+    // looks for the row, if it has at most so many moves in all; there is none if no reduction was found though all were tried
+    void look(const Question &question, int most) {
+        bool is_done = true;
+        row.total = NO_TOTAL;
+        for (const auto &[eo, cube, least] : members) {
+            is_done = is_done && most - least >= MOST;
+            for (const Pair &dr : reductions_after(step, cube, eo, std::min(MOST, most - least))) {
+                const int total = total_of(question, eo, dr);
+                if (total < row.total) row.total = total, row.eo = eo, row.dr = dr;
+            }
+        }
+        has_row = row.total <= most;
+        is_open = !has_row && (!is_done || row.total < NO_TOTAL);
+    }
+};
+
+Candidate candidate(const Question &question, int edges, int axis, const Pair &pair) {
+    const Step step = step_of(edges, axis);
+    const Cube start = after_normal(step, solved(), question.cube), shown = after(step, start, pair);
+    Candidate it{step, {}, {0, pair.length(), bad_corners(shown), misplaced_edges(shown), edges, axis, {}, {}}};
+    for (const Pair &eo : members(pair, edges)) it.members.push_back({eo, after(step, start, eo), least_made(question, step, eo)});
+    return it;
+}
+
+std::vector<Candidate> candidates(const Question &question) {
+    std::vector<Candidate> every;
     for (int edges : ORIENTATIONS) {
         const Step orientation = step_of(edges, -1);
         for (const Pair &pair : solutions(orientation, after_normal(orientation, solved(), question.cube), question.slack)) {
             if (!stands(pair, edges)) continue;
-            for (int axis : REDUCTIONS[size_t(edges)]) {
-                const Step step = step_of(edges, axis);
-                const Cube start = after_normal(step, solved(), question.cube);
-                const Cube shown = after(step, start, pair);
-                Row best{1000, pair.length(), bad_corners(shown), misplaced_edges(shown), edges, axis, {}, {}};
-                for (const Pair &eo : members(pair, edges))
-                    for (const Pair &dr : reductions_after(step, after(step, start, eo), eo)) {
-                        const int total = total_of(question, eo, dr);
-                        if (total < best.total) best.total = total, best.eo = eo, best.dr = dr;
-                    }
-                if (best.total < 1000) rows.push_back(best);
-            }
+            for (int axis : REDUCTIONS[size_t(edges)]) every.push_back(candidate(question, edges, axis, pair));
         }
     }
+    return every;
+}
+
+// Those with the fewest moves in all, until so many are known: others have more.
+std::vector<Row> oriented(const Question &question) {
+    std::vector<Candidate> every = candidates(question);
+    const auto is_open = [](const Candidate &it) { return it.is_open; };
+    const auto has_row = [](const Candidate &it) { return it.has_row; };
+    for (int total = 0; total <= question.total && std::any_of(every.begin(), every.end(), is_open); total++) {
+        for (Candidate &candidate : every)
+            if (candidate.is_open) candidate.look(question, total);
+        if (size_t(std::count_if(every.begin(), every.end(), has_row)) >= question.rows) break;
+    }
+    std::vector<Row> rows;
+    for (const Candidate &candidate : every)
+        if (candidate.has_row) rows.push_back(candidate.row);
     return rows;
 }
 
@@ -250,7 +331,7 @@ std::vector<Row> reduced(const Question &question, const std::vector<int> &held)
                 if (!stands(pair, step.last_axis())) continue;
                 const bool is_earlier = std::any_of(held.begin(), held.begin() + long(at), [&](int edges) { return keeps(pair.normal, edges) && keeps(pair.inverse, edges); });
                 if (is_earlier) continue;
-                Row best{1000, pair.length(), bad_corners(start), misplaced_edges(start), held[at], axis, {}, {}};
+                Row best{NO_TOTAL, pair.length(), bad_corners(start), misplaced_edges(start), held[at], axis, {}, {}};
                 for (const Pair &dr : members(pair, step.last_axis())) {
                     const int total = total_of(question, {}, dr);
                     if (total < best.total) best.total = total, best.dr = dr;
@@ -295,17 +376,16 @@ std::string written(const Turns &turns) {
 
 } // namespace
 
-int main(int count, char **words) {
-    const size_t most = count > 1 ? size_t(std::atoi(words[1])) : SIZE_MAX;
+int main() {
     const std::array<std::string, 3> names = {"ud", "rl", "fb"};
     for (std::string line; std::getline(std::cin, line);) {
-        std::array<std::string, 4> parts;
+        std::array<std::string, 6> parts;
         std::istringstream text(line);
         for (std::string &part : parts) std::getline(text, part, ';');
-        const Question question{std::atoi(parts[0].c_str()), read(parts[1]), read(parts[2]), read(parts[3])};
+        const Question question{std::stoi(parts[0]), read(parts[1]), read(parts[2]), read(parts[3]), std::stoul(parts[4]), std::stoi(parts[5])};
         size_t number = 0;
         for (const Row &row : rows_of(question)) {
-            if (number++ == most) break;
+            if (number++ == question.rows || row.total > question.total) break;
             std::cout << row.total << ' ' << row.length << ' ' << row.corners << ' ' << row.edges << ' ' << names[size_t(row.axis)] << ' ' << names[size_t(row.reduction)]
                       << " | " << written(row.eo.normal) << " | " << written(row.eo.inverse) << " | " << written(row.dr.normal) << " | " << written(row.dr.inverse) << '\n';
         }
