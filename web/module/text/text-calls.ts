@@ -70,6 +70,9 @@ const OF_LINE = 3;
 const writingMoves = ([lines, count, which, parts, most]: number[]): Writing => (exports, text, rooms) =>
   exports.nissy_text_moves(...text, BigInt(lines), BigInt(count), which, ...rooms, BigInt(parts), BigInt(most));
 
+const PART_READ = MOVES_PART.read;
+const NO_PARTS = [0, 0];
+
 /** The moves of those lines of a text that are wanted, one after another. */
 class Moves {
   #written: WrittenLine;
@@ -84,32 +87,36 @@ class Moves {
     this.#before = before;
   }
 
-  /** @returns where those of some lines of a text begin and end, which follow each other there */
-  #range(lines: TextLine[]) {
-    const { begin, end, leftOut } = MOVES_PART.read;
-    const [first, last] = lines.length === 0 ? [0, 0]
-      : [this.#before[lines[0].nth], this.#before[lines[lines.length - 1].nth + 1]];
-    if (first === last) return { begin: 0, end: 0, leftOut: 0 };
-    let left = 0;
-    for (let of = first; of < last; of += 1) left |= leftOut(this.#parts, of * MOVES_PART.bytes);
-    return {
-      begin: begin(this.#parts, first * MOVES_PART.bytes),
-      end: end(this.#parts, (last - 1) * MOVES_PART.bytes),
-      leftOut: left,
-    };
-  }
-
-  /** The same as one line. */
+  /** The moves of some lines of a text, which follow each other there, as one line. */
   of(lines: TextLine[]): PlainLine {
-    const { begin, end, leftOut } = this.#range(lines);
-    return this.#cuts.cut(begin, end, leftOut);
+    const [first, last] = this.#range(lines);
+    if (first === last) return this.#cuts.cut(0, 0, 0);
+    let left = 0;
+    for (let of = first; of < last; of += 1) left |= PART_READ.leftOut(this.#parts, of * MOVES_PART.bytes);
+    return this.#cuts.cut(this.#begin(first), this.#end(last), left);
   }
 
-  /** The same in bytes, with the place of each in the text. */
-  written(lines: TextLine[]): WrittenLine {
-    const { begin, end, leftOut } = this.#range(lines);
-    const { bytes, places } = this.#written;
-    return { bytes: bytes.subarray(begin, end), places: places.slice(begin, end), leftOut };
+  /** The same in bytes, with the place of each in the text; null if there are none. */
+  written(lines: TextLine[]): Pick<WrittenLine, "bytes" | "places"> | null {
+    const [first, last] = this.#range(lines);
+    if (first === last) return null;
+    const [begin, end] = [this.#begin(first), this.#end(last)];
+    return { bytes: this.#written.bytes.subarray(begin, end), places: this.#written.places.slice(begin, end) };
+  }
+
+  /** @returns which parts those of some lines are */
+  #range(lines: TextLine[]) {
+    if (lines.length === 0) return NO_PARTS;
+    return [this.#before[lines[0].nth], this.#before[lines[lines.length - 1].nth + 1]];
+  }
+
+  #begin(part: number) {
+    return PART_READ.begin(this.#parts, part * MOVES_PART.bytes);
+  }
+
+  /** @param behind the last part */
+  #end(behind: number) {
+    return PART_READ.end(this.#parts, (behind - 1) * MOVES_PART.bytes);
   }
 }
 
@@ -214,11 +221,11 @@ export class TextInMemory {
 
   /** Where a part of the steps of an attempt begins that solves a scramble, in bytes, or null if none does. */
   solvingPart(lines: TextLine[], scramble: string): number | null {
-    const { bytes, places } = this.#movesOf(MOVES_OF.eachStep).written(lines);
-    if (bytes.length === 0) return null;
-    this.#instance.ask("nissy_solving_part", [{ text: scramble }, { text: bytes }]);
+    const steps = this.#movesOf(MOVES_OF.eachStep).written(lines);
+    if (steps === null) return null;
+    this.#instance.ask("nissy_solving_part", [{ text: scramble }, { text: steps.bytes }]);
     const { how, begin } = PART_ANSWER.read;
-    return this.#instance.answered(how) === 0 ? null : places[this.#instance.answered(begin)];
+    return this.#instance.answered(how) === 0 ? null : steps.places[this.#instance.answered(begin)];
   }
 
   /** Makes other calls while the text stays in the memory. */
