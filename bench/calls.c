@@ -123,9 +123,7 @@ static void run_first_each(size_t count) {
     for (size_t at = 0; at < count; at++) run_on(input + begins[at], begins[at + 1] - begins[at]);
 }
 
-static void run_first(size_t count) {
-    run_on(input, begins[count]);
-}
+static void run_first(size_t count) { run_on(input, begins[count]); }
 
 /* The nanoseconds of the quickest of so many rounds on the first lines. */
 static double quickest(void (*round)(size_t), size_t count, int rounds) {
@@ -163,9 +161,7 @@ static void time_lines(void) {
     for (size_t at = 0; at < 4; at++) printf("%.0f%c", quickest(ROUNDS_OF[at], lines, TABLE_ROUNDS) / (double)lines, at < 3 ? ' ' : '\n');
 }
 
-static size_t at_most(size_t count) {
-    return lines < count ? lines : count;
-}
+static size_t at_most(size_t count) { return lines < count ? lines : count; }
 
 /* A search with tables that are there, and the same by runs. */
 static void time_tables(const char *name) {
@@ -175,8 +171,7 @@ static void time_tables(const char *name) {
     double built = quickest(build, 0, ROUNDS), each = quickest(is_count ? count_each : solve_each, lines, TABLE_ROUNDS);
     double alone = quickest(run_first_each, few, ROUNDS), together = quickest(run_first, thousand, ROUNDS);
     double none = quickest(run_first, 0, TABLE_ROUNDS), all = quickest(run_first, lines, TABLE_ROUNDS);
-    printf("%.0f %.0f %.0f %.0f %.0f\n", built, each / (double)lines, alone / (double)few, together / (double)thousand,
-           (all - none) / (double)lines);
+    printf("%.0f %.0f %.0f %.0f %.0f\n", built, each / (double)lines, alone / (double)few, together / (double)thousand, (all - none) / (double)lines);
 }
 
 int main(int count, char **arguments) {

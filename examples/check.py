@@ -31,7 +31,9 @@ def main() -> None:
     if len(sys.argv) != 3:
         sys.exit(__doc__)
     with open(sys.argv[1], "rb") as scrambles, open(sys.argv[2], "rb") as solutions:
-        rows = [f"{number}\t{what}" for number, what in faults(itertools.zip_longest(scrambles, solutions, fillvalue=b""))]
+        rows = [
+            f"{number}\t{what}" for number, what in faults(itertools.zip_longest(scrambles, solutions, fillvalue=b""))
+        ]
     print(*rows, sep="\n", end="\n" if rows else "")
     sys.exit(1 if rows else 0)
 

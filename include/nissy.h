@@ -157,8 +157,8 @@ typedef struct nissy_run_answer {
  *
  * It takes memory for the words, and for the tables of a step, from the program's malloc, realloc and free, and has given all of it
  * back when it returns. Where a program brings its own, they must align a block to each power of two up to 16 that divides its size. */
-nissy_run_answer nissy_run(const uint8_t *words, size_t words_length, const uint8_t *input, size_t input_length, uint8_t *out,
-                           size_t out_room, uint8_t *err, size_t err_room);
+nissy_run_answer nissy_run(const uint8_t *words, size_t words_length, const uint8_t *input, size_t input_length, uint8_t *out, size_t out_room,
+                           uint8_t *err, size_t err_room);
 
 /* The tables of a step, or none. Its fields are the library's: begin with NISSY_NO_TABLES (all bytes 0 is the same), let only nissy_build
  * write to it, and copy it as you like: a copy has the same tables. Any threads may ask it and its copies at the same time. While
@@ -173,7 +173,8 @@ typedef struct nissy_tables {
     uint8_t built;
 } nissy_tables;
 
-#define NISSY_NO_TABLES {NULL, 0}
+#define NISSY_NO_TABLES                                                                                                                              \
+    { NULL, 0 }
 
 /* Builds the tables of the step of this name, such as "dr-eofb" (7 bytes; nissy_steps writes all names). It takes memory from the
  * program's malloc, as nissy_run does.
@@ -212,8 +213,8 @@ typedef struct nissy_search_answer {
  *
  * NISSY_USAGE: the struct has no tables, or `limit` or `slack` is above 20. NISSY_STOPPED: the line has more than NISSY_MOST_INPUT
  * bytes. NISSY_FAULT: the line has a fault, or NISSY_START. The first of these that holds is reported, in this order. */
-nissy_search_answer nissy_solve(const nissy_tables *tables, const uint8_t *line, size_t line_length, uint8_t limit, uint8_t slack,
-                                uint64_t most, uint64_t most_nodes, uint8_t *out, size_t out_room);
+nissy_search_answer nissy_solve(const nissy_tables *tables, const uint8_t *line, size_t line_length, uint8_t limit, uint8_t slack, uint64_t most,
+                                uint64_t most_nodes, uint8_t *out, size_t out_room);
 
 /* Goes on after a solution: writes of the list of nissy_solve only those that come after `after`, by length and then in turn order, and
  * no more than `most` of them. `after` is the moves of a solution as they stand in its line before the count: "F B'" of "F B' (2)", nothing
@@ -227,15 +228,14 @@ nissy_search_answer nissy_solve(const nissy_tables *tables, const uint8_t *line,
  *
  * `after` may be any sequence of turns of one face each, also one that is no solution, or is longer than `limit`. NISSY_USAGE, as from
  * nissy_solve, also if it isn't one: it can't be read, or has moves in brackets, a wide turn, a slice turn or a rotation. */
-nissy_search_answer nissy_solve_after(const nissy_tables *tables, const uint8_t *line, size_t line_length, const uint8_t *after,
-                                      size_t after_length, uint8_t limit, uint8_t slack, uint64_t most, uint64_t most_nodes, uint8_t *out,
-                                      size_t out_room);
+nissy_search_answer nissy_solve_after(const nissy_tables *tables, const uint8_t *line, size_t line_length, const uint8_t *after, size_t after_length,
+                                      uint8_t limit, uint8_t slack, uint64_t most, uint64_t most_nodes, uint8_t *out, size_t out_room);
 
 /* Does what nissy_solve does with room enough, but writes nothing: it counts the solutions, and no more than `most` of them. With `most`
  * 0 it ends at the first one, and so finds the least length soonest: `more` is 1 then if there is one. With NISSY_ALL twice and the slack
  * 0 these are the numbers of the program's `count`. It takes no memory. */
-nissy_search_answer nissy_count(const nissy_tables *tables, const uint8_t *line, size_t line_length, uint8_t limit, uint8_t slack,
-                                uint64_t most, uint64_t most_nodes);
+nissy_search_answer nissy_count(const nissy_tables *tables, const uint8_t *line, size_t line_length, uint8_t limit, uint8_t slack, uint64_t most,
+                                uint64_t most_nodes);
 
 /* What a call on many lines returns. It takes the lines of a text, those that a line feed ends and a last one without it if it has a
  * byte, one after another, as long as there is room for an answer to each. A line's fault is in its answer, and ends nothing. Behind the
@@ -248,8 +248,8 @@ typedef struct nissy_lines_answer {
 
 /* What nissy_count returns of each line of a text; `most` and `most_nodes` are for each line anew, and `room` counts answers. It takes no
  * memory. */
-nissy_lines_answer nissy_count_lines(const nissy_tables *tables, const uint8_t *text, size_t text_length, uint8_t limit, uint8_t slack,
-                                     uint64_t most, uint64_t most_nodes, nissy_search_answer *answers, size_t room);
+nissy_lines_answer nissy_count_lines(const nissy_tables *tables, const uint8_t *text, size_t text_length, uint8_t limit, uint8_t slack, uint64_t most,
+                                     uint64_t most_nodes, nissy_search_answer *answers, size_t room);
 
 /* What nissy_facts returns of each line of a text. It takes no memory. */
 nissy_lines_answer nissy_facts_lines(const uint8_t *text, size_t text_length, nissy_facts_answer *answers, size_t room);
@@ -273,8 +273,8 @@ typedef struct nissy_way_part {
 
 /* A way on to a domino reduction. */
 typedef struct nissy_way {
-    uint16_t total;     /* all moves, those so far too: the turns of both sides, once each is cleaned */
-    uint8_t corners;    /* the case of the reduction before its moves: 4 and 4 are 4c4e */
+    uint16_t total;  /* all moves, those so far too: the turns of both sides, once each is cleaned */
+    uint8_t corners; /* the case of the reduction before its moves: 4 and 4 are 4c4e */
     uint8_t edges;
     uint8_t on_normal;  /* the least length of the reduction there on the scramble, and on the inverse, without the other; 21 if above */
     uint8_t on_inverse; /* 20 */
@@ -287,10 +287,10 @@ typedef struct nissy_way {
 
 /* What is asked of nissy_best. */
 typedef struct nissy_ways_wanted {
-    uint8_t slack;       /* by how many turns, 0 to 20, the first step may be longer than the shortest on its axis: on the scramble, on the
-                            inverse, or over both */
-    uint8_t axes;        /* on which axes the orientation is: 1 F and B, 2 R and L, 4 U and D, added; NISSY_ALL_AXES are all */
-    uint8_t from;        /* how many turns the first step has on both sides together, from and to, each 0 to 20: 0 and 20 are all */
+    uint8_t slack; /* by how many turns, 0 to 20, the first step may be longer than the shortest on its axis: on the scramble, on the
+                      inverse, or over both */
+    uint8_t axes;  /* on which axes the orientation is: 1 F and B, 2 R and L, 4 U and D, added; NISSY_ALL_AXES are all */
+    uint8_t from;  /* how many turns the first step has on both sides together, from and to, each 0 to 20: 0 and 20 are all */
     uint8_t to;
     uint64_t most_nodes; /* at how many positions it may look */
     uint64_t there;      /* how many ways stand in the room already, in order, from an earlier call */
@@ -323,8 +323,8 @@ typedef struct nissy_ways_answer {
  * `there` is more than the room. NISSY_STOPPED, NISSY_FAULT: as of nissy_check; NISSY_TOO_LONG of line 2 without a column if both lines
  * have too many moves together: those so far more than 200 face turns on a side, or all more than 512. After these three the room is as
  * it was. */
-nissy_ways_answer nissy_best(const nissy_tables *tables, const uint8_t *scramble, size_t scramble_length, const uint8_t *so_far,
-                             size_t so_far_length, const nissy_ways_wanted *wanted, nissy_way *room, size_t room_length);
+nissy_ways_answer nissy_best(const nissy_tables *tables, const uint8_t *scramble, size_t scramble_length, const uint8_t *so_far, size_t so_far_length,
+                             const nissy_ways_wanted *wanted, nissy_way *room, size_t room_length);
 
 /* On which sides the moves of a solution are: on the scramble, on its inverse, or on both or either. */
 enum nissy_sides { NISSY_NORMAL = 1, NISSY_INVERSE = 2, NISSY_BOTH = 3 };
@@ -373,8 +373,8 @@ typedef struct nissy_line_after_answer {
  * named by the centres, with the moves in brackets inverted before the scramble. nissy_invert makes it that of the inverse side.
  * NISSY_LINE_ROOM is enough. It takes no memory; 64 KiB of stack. Both lines have too many moves together also if the line, before it is
  * cleaned, would have more than 256. */
-nissy_line_after_answer nissy_line_after(const uint8_t *scramble, size_t scramble_length, const uint8_t *so_far, size_t so_far_length,
-                                         uint8_t *out, size_t out_room);
+nissy_line_after_answer nissy_line_after(const uint8_t *scramble, size_t scramble_length, const uint8_t *so_far, size_t so_far_length, uint8_t *out,
+                                         size_t out_room);
 
 /* The calls below write to `out` as those on one line do, and take no memory. They return NISSY_DONE or NISSY_ROOM, or NISSY_USAGE with a
  * length of 0; NISSY_LINE_ROOM is enough for each. */

@@ -46,8 +46,8 @@ class fault : public std::runtime_error {
 public:
     // by the program's words for it, such as "not a move"; `line` is said before the column
     fault(nissy_fault code, std::size_t column, const std::string &text, const std::string &line = "")
-        : std::runtime_error(place_of(column, line) + text), code_(code), line_(line.empty() ? 0 : 1 + (line != "scramble, ")),
-          column_(column), place_(place_of(column, line).size()), part_(line.empty() ? 0 : line.size() - 2) {}
+        : std::runtime_error(place_of(column, line) + text), code_(code), line_(line.empty() ? 0 : 1 + (line != "scramble, ")), column_(column),
+          place_(place_of(column, line).size()), part_(line.empty() ? 0 : line.size() - 2) {}
 
     nissy_fault code() const noexcept { return code_; }
     int line() const noexcept { return line_; } // of a call on two lines which one has it: 1 the scramble, 2 the other; else 0
@@ -86,9 +86,9 @@ struct solution {
 struct count {
     std::optional<int> length; // that of the shortest, if one is known
     std::uint64_t solutions;
-    std::uint64_t nodes;       // the positions that the search looked at
-    bool more = false;         // there are others beyond `most`; if it was cut, there may be
-    bool is_cut = false;       // it would have looked at more positions than it may: what it says is a beginning
+    std::uint64_t nodes; // the positions that the search looked at
+    bool more = false;   // there are others beyond `most`; if it was cut, there may be
+    bool is_cut = false; // it would have looked at more positions than it may: what it says is a beginning
     friend bool operator==(const count &one, const count &other) {
         return one.length == other.length && one.solutions == other.solutions && one.nodes == other.nodes && one.more == other.more &&
                one.is_cut == other.is_cut;
@@ -210,8 +210,7 @@ inline const kept_tables::value_type &kept(std::string_view step) {
 // The lines of a text in which a line feed ends each.
 inline std::vector<std::string> lines_of(std::string_view text) {
     std::vector<std::string> lines;
-    for (std::size_t end; (end = text.find('\n')) != std::string_view::npos; text.remove_prefix(end + 1))
-        lines.emplace_back(text.substr(0, end));
+    for (std::size_t end; (end = text.find('\n')) != std::string_view::npos; text.remove_prefix(end + 1)) lines.emplace_back(text.substr(0, end));
     return lines;
 }
 
@@ -363,8 +362,8 @@ public:
         // a search that a room stopped is made again with eight times as much
         for (std::uint64_t room = 64;; room *= 8) {
             std::string out(std::min(which.most, room) * MOST_OF_ONE, '\0');
-            const nissy_search_answer answer = nissy_solve(&kept_->second, detail::bytes(line), line.size(), limit, slack, which.most,
-                                                           which.nodes, detail::bytes(out), out.size());
+            const nissy_search_answer answer =
+                nissy_solve(&kept_->second, detail::bytes(line), line.size(), limit, slack, which.most, which.nodes, detail::bytes(out), out.size());
             if (answer.status == NISSY_ROOM) continue;
             detail::end_unless_read(answer.status, answer.fault, answer.column, step());
             const std::string_view text = std::string_view(out).substr(0, answer.length);
@@ -392,7 +391,7 @@ public:
 
 private:
     static constexpr std::uint64_t MOST_OF_ONE = 65; // bytes of a solution
-    const detail::kept_tables::value_type *kept_; // never null
+    const detail::kept_tables::value_type *kept_;    // never null
 };
 
 } // namespace nissy

@@ -36,8 +36,9 @@ struct attempt_doubt {
 
     // the reason as the library for Python names it, such as "another scramble"
     std::string name() const {
-        static constexpr std::array<const char *, 11> NAMES = {"",        "another scramble", "several solutions", "side",   "letters",       "small letters",
-                                                               "comment", "repetition",       "insertion",         "a part", "which scramble"};
+        static constexpr std::array<const char *, 11> NAMES = {"",          "another scramble", "several solutions", "side",
+                                                               "letters",   "small letters",    "comment",           "repetition",
+                                                               "insertion", "a part",           "which scramble"};
         return NAMES[static_cast<std::size_t>(reason)];
     }
 };
@@ -46,8 +47,8 @@ struct attempt_doubt {
 struct attempt {
     std::string name; // what tells the scramble from others, such as "2.", or empty
     plain scramble;
-    std::vector<plain> steps;      // the lines of the solution, each of which a comment or a label may describe
-    std::optional<plain> solution; // the block whose label says that it is the solution, else the steps in one; none if it can't be seen
+    std::vector<plain> steps;                  // the lines of the solution, each of which a comment or a label may describe
+    std::optional<plain> solution;             // the block whose label says that it is the solution, else the steps in one; none if it can't be seen
     std::vector<attempt_candidate> candidates; // the blocks after a blank line
     std::size_t before = 0;                    // how many lines of prose stand before the scramble
     std::optional<attempt_doubt> doubt;        // of the reading, if the solution doesn't solve the scramble
@@ -86,10 +87,31 @@ inline std::vector<nissy_text_line> lines_in(std::string_view text) {
 }
 
 // Signs that are blanks.
-inline constexpr std::array<std::string_view, 25> BLANKS = {
-    " ", "\t", "\v", "\f", "\r", "\n", "\xc2\xa0", "\xe1\x9a\x80", "\xe2\x80\x80", "\xe2\x80\x81", "\xe2\x80\x82", "\xe2\x80\x83", "\xe2\x80\x84",
-    "\xe2\x80\x85", "\xe2\x80\x86", "\xe2\x80\x87", "\xe2\x80\x88", "\xe2\x80\x89", "\xe2\x80\x8a", "\xe2\x80\xa8", "\xe2\x80\xa9", "\xe2\x80\xaf",
-    "\xe2\x81\x9f", "\xe3\x80\x80", "\xef\xbb\xbf"};
+inline constexpr std::array<std::string_view, 25> BLANKS = {" ",
+                                                            "\t",
+                                                            "\v",
+                                                            "\f",
+                                                            "\r",
+                                                            "\n",
+                                                            "\xc2\xa0",
+                                                            "\xe1\x9a\x80",
+                                                            "\xe2\x80\x80",
+                                                            "\xe2\x80\x81",
+                                                            "\xe2\x80\x82",
+                                                            "\xe2\x80\x83",
+                                                            "\xe2\x80\x84",
+                                                            "\xe2\x80\x85",
+                                                            "\xe2\x80\x86",
+                                                            "\xe2\x80\x87",
+                                                            "\xe2\x80\x88",
+                                                            "\xe2\x80\x89",
+                                                            "\xe2\x80\x8a",
+                                                            "\xe2\x80\xa8",
+                                                            "\xe2\x80\xa9",
+                                                            "\xe2\x80\xaf",
+                                                            "\xe2\x81\x9f",
+                                                            "\xe3\x80\x80",
+                                                            "\xef\xbb\xbf"};
 
 // A text without the blanks around it.
 inline std::string trimmed(std::string_view text) {
@@ -100,7 +122,8 @@ inline std::string trimmed(std::string_view text) {
         if (is_last) text.remove_suffix(blank.size());
         return is_first || is_last;
     };
-    while (std::any_of(BLANKS.begin(), BLANKS.end(), cut)) {}
+    while (std::any_of(BLANKS.begin(), BLANKS.end(), cut)) {
+    }
     return std::string(text);
 }
 
@@ -128,8 +151,8 @@ inline plain moves_in(std::string_view text, text_lines lines, nissy_moves_of wh
     for (const nissy_text_line &line : lines) most += line.comment - line.moves + 1;
     const std::size_t room = 3 * most, count = static_cast<std::size_t>(lines.last - lines.first);
     return written_by(room, [=](std::uint8_t *out, std::uint64_t *places) {
-        return nissy_text_moves(text_bytes(text), text.size(), lines.first, count, static_cast<std::uint8_t>(which), out, room, places, room,
-                                nullptr, 0);
+        return nissy_text_moves(text_bytes(text), text.size(), lines.first, count, static_cast<std::uint8_t>(which), out, room, places, room, nullptr,
+                                0);
     });
 }
 

@@ -38,7 +38,7 @@ struct continuation {
     std::string line;              // what a solver writes after the moves so far: moves on the inverse side stand in brackets
     std::optional<orientation> eo; // none if one holds already
     reduction dr;
-    std::string dr_case;           // that of the reduction before its moves, such as "4c4e"
+    std::string dr_case; // that of the reduction before its moves, such as "4c4e"
 };
 
 // How `best` searches: `slack` and `most` as it says, and at how many positions it looks at most. It goes in pieces, of one length of the first
@@ -193,8 +193,8 @@ template <typename Said> void end_unless_read(const Said &said) {
 // reads them. Its inverse is the line of the inverse side.
 inline std::string line_after(std::string_view scramble, std::string_view so_far = {}) {
     std::string out(NISSY_LINE_ROOM, '\0');
-    const nissy_line_after_answer said = nissy_line_after(detail::bytes(scramble), scramble.size(), detail::bytes(so_far), so_far.size(),
-                                                          detail::bytes(out), out.size());
+    const nissy_line_after_answer said =
+        nissy_line_after(detail::bytes(scramble), scramble.size(), detail::bytes(so_far), so_far.size(), detail::bytes(out), out.size());
     continuing::end_unless_read(said);
     out.resize(said.length);
     return out;
@@ -222,8 +222,7 @@ inline std::vector<continuation> best(std::string_view scramble, std::string_vie
 }
 
 // The same without a bound.
-inline std::vector<continuation> best(std::string_view scramble, std::string_view so_far = {}, std::int64_t slack = 0,
-                                      std::uint64_t most = 20) {
+inline std::vector<continuation> best(std::string_view scramble, std::string_view so_far = {}, std::int64_t slack = 0, std::uint64_t most = 20) {
     best_search which;
     which.slack = slack, which.most = most;
     return best(scramble, so_far, which);

@@ -102,8 +102,10 @@ inline void assign(std::vector<known_part> &parts, std::size_t count) {
     for (std::size_t at = 0; at < parts.size(); at++) {
         const std::string number = number_in(parts[at].name);
         const std::size_t known = number.empty() || number.size() > 9 ? 0 : std::stoul(number);
-        if (is_in_order) parts[at].scramble = at;
-        else if (known > 0 && known <= count && counts[number] == 1) parts[at].scramble = known - 1;
+        if (is_in_order)
+            parts[at].scramble = at;
+        else if (known > 0 && known <= count && counts[number] == 1)
+            parts[at].scramble = known - 1;
     }
 }
 

@@ -19,8 +19,7 @@ struct form_place {
 namespace detail {
 
 // The names whose bits are set.
-template <std::size_t Size>
-std::vector<std::string> chosen(const std::bitset<Size> &bits, const std::array<const char *, Size> &names) {
+template <std::size_t Size> std::vector<std::string> chosen(const std::bitset<Size> &bits, const std::array<const char *, Size> &names) {
     std::vector<std::string> those;
     for (std::size_t at = 0; at < Size; at++)
         if (bits[at]) those.emplace_back(names[at]);
@@ -30,14 +29,10 @@ std::vector<std::string> chosen(const std::bitset<Size> &bits, const std::array<
 } // namespace detail
 
 // The places of edges, such as "UF", in the order of EDGE_PLACES.
-inline std::vector<std::string> place_names(const std::bitset<12> &places) {
-    return detail::chosen(places, EDGE_PLACES);
-}
+inline std::vector<std::string> place_names(const std::bitset<12> &places) { return detail::chosen(places, EDGE_PLACES); }
 
 // The places of corners, such as "URF", in the order of CORNER_PLACES.
-inline std::vector<std::string> place_names(const std::bitset<8> &places) {
-    return detail::chosen(places, CORNER_PLACES);
-}
+inline std::vector<std::string> place_names(const std::bitset<8> &places) { return detail::chosen(places, CORNER_PLACES); }
 
 // The forms of a verdict, as the library for Python names them.
 inline std::vector<std::string> form_names(unsigned forms) {

@@ -39,8 +39,7 @@ constexpr std::array<net_place, 54> places_in_net() {
     // where each face begins, in the order of the letters: U, R, F, D, L, B
     constexpr net_place FACES[] = {{0, 3}, {3, 6}, {3, 3}, {6, 3}, {3, 0}, {3, 9}};
     std::array<net_place, 54> places = {};
-    for (std::size_t at = 0; at < places.size(); at++)
-        places[at] = {FACES[at / 9].row + at % 9 / 3, FACES[at / 9].column + at % 3};
+    for (std::size_t at = 0; at < places.size(); at++) places[at] = {FACES[at / 9].row + at % 9 / 3, FACES[at / 9].column + at % 3};
     return places;
 }
 
@@ -94,8 +93,10 @@ inline std::vector<std::size_t> stickers_by(const std::vector<std::string> &plac
         if (!is_edge && place_in(CORNER_PLACES, place, false) == CORNER_PLACES.size())
             throw std::invalid_argument("nissy: no place has this name: " + place);
         const std::string name = unturned(place, centres);
-        if (is_edge) add_stickers(stickers, name, EDGE_PLACES, STICKERS_OF_EDGES);
-        else add_stickers(stickers, name, CORNER_PLACES, STICKERS_OF_CORNERS);
+        if (is_edge)
+            add_stickers(stickers, name, EDGE_PLACES, STICKERS_OF_EDGES);
+        else
+            add_stickers(stickers, name, CORNER_PLACES, STICKERS_OF_CORNERS);
     }
     return stickers;
 }

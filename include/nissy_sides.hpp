@@ -60,8 +60,9 @@ inline found find(const tables &by, std::string_view line, nissy_sides sides, co
             last = static_cast<std::uint8_t>(std::min<int>(limit, wanted.length + slack));
         }
         for (std::size_t at = 0; at < said.rows; at++)
-            all.solutions.push_back({continuing::written(continuing::written(room[at].normal, 0, false)[0],
-                                                         continuing::written(room[at].inverse, 0, false)[0]), wanted.length});
+            all.solutions.push_back(
+                {continuing::written(continuing::written(room[at].normal, 0, false)[0], continuing::written(room[at].inverse, 0, false)[0]),
+                 wanted.length});
         all.count.nodes += said.nodes;
         wanted.most_nodes -= said.nodes;
         all.count.is_cut = said.status == NISSY_CUT;

@@ -65,13 +65,13 @@ typedef struct nissy_text_line {
                        * the solution doesn't solve the scramble: what does was read as it was meant */
     uint64_t attempt; /* which attempt, from 0 */
     uint64_t group;   /* of a step or a note: 0 directly under the scramble, and then the blocks after blank lines */
-    uint64_t begin; /* of the line */
+    uint64_t begin;   /* of the line */
     uint64_t head_end;
     uint64_t label_begin;
     uint64_t label_end;
     uint64_t moves;
-    uint64_t comment; /* where its moves end */
-    uint64_t end;     /* of the line */
+    uint64_t comment;  /* where its moves end */
+    uint64_t end;      /* of the line */
     uint64_t doubt_at; /* where the first sign of the doubt stands; `end` if there is none */
 } nissy_text_line;
 
@@ -112,9 +112,8 @@ typedef struct nissy_moves_part {
  * number. Any lines may be given: of a `comment` beyond the text what is in the text is read, of a `moves` not before that nothing; what isn't 0
  * says yes. It takes no memory. Of nissy.c on a processor with the other order of bytes it takes some for a copy of the lines, and returns
  * NISSY_STOPPED if that is refused. */
-nissy_plain_answer nissy_text_moves(const uint8_t *text, size_t text_length, const nissy_text_line *lines, size_t count, uint8_t which,
-                                    uint8_t *out, size_t out_room, uint64_t *places, size_t places_room, nissy_moves_part *parts,
-                                    size_t parts_room);
+nissy_plain_answer nissy_text_moves(const uint8_t *text, size_t text_length, const nissy_text_line *lines, size_t count, uint8_t which, uint8_t *out,
+                                    size_t out_room, uint64_t *places, size_t places_room, nissy_moves_part *parts, size_t parts_room);
 
 /* The most bytes of the first eight steps, in which a part is looked for. */
 #define NISSY_MOST_STEPS 65536

@@ -75,8 +75,10 @@ public:
         for (; place_.at < at && place_.at < text_.size(); place_.at++) {
             const char byte = text_[place_.at];
             const bool is_inner = byte == '\n' && place_.at > 0 && text_[place_.at - 1] == '\r';
-            if (byte == '\r' || byte == '\n') place_ = {place_.at, place_.line + !is_inner, 1};
-            else place_.column += begins_sign(byte);
+            if (byte == '\r' || byte == '\n')
+                place_ = {place_.at, place_.line + !is_inner, 1};
+            else
+                place_.column += begins_sign(byte);
         }
         return {at, place_.line, place_.column};
     }
@@ -96,8 +98,10 @@ inline std::size_t place_in(const plain &line, std::size_t at, std::string_view 
 
 // The column of a fault, or of a form, whose is a member.
 template <typename Found> std::size_t column_of(const Found &found) {
-    if constexpr (std::is_member_object_pointer_v<decltype(&Found::column)>) return found.column;
-    else return found.column();
+    if constexpr (std::is_member_object_pointer_v<decltype(&Found::column)>)
+        return found.column;
+    else
+        return found.column();
 }
 
 } // namespace detail

@@ -24,14 +24,17 @@
 union word {
     unsigned char bytes[8];
 };
-#define POINTER(at) {{(at) & 255, (at) >> 8 & 255, (at) >> 16 & 255, (at) >> 24 & 255, 0, 0, 0, 128}}
+#define POINTER(at)                                                                                                                                  \
+    {                                                                                                                                                \
+        { (at) & 255, (at) >> 8 & 255, (at) >> 16 & 255, (at) >> 24 & 255, 0, 0, 0, 128 }                                                            \
+    }
 #define CONSTANT(at) (0x8000000000000000ull + (at))
 #else
 union word {
     unsigned char bytes[8];
     const unsigned char *pointer;
 };
-#define POINTER(at) {.pointer = (const unsigned char *)constants + (at)}
+#define POINTER(at)                                                                                                                                  \
+    { .pointer = (const unsigned char *)constants + (at) }
 #define CONSTANT(at) ((uint64_t)(uintptr_t)constants + (at))
 #endif
-

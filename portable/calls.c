@@ -111,8 +111,8 @@ static bool was_refused_memory(const struct run *run, const nissy_run_answer *sa
     return said->err_length == sizeof text - 1 && memcmp(run->err, text, (size_t)said->err_length) == 0;
 }
 
-nissy_run_answer nissy_run(const uint8_t *words, size_t words_length, const uint8_t *input, size_t input_length, uint8_t *out,
-                           size_t out_room, uint8_t *err, size_t err_room) {
+nissy_run_answer nissy_run(const uint8_t *words, size_t words_length, const uint8_t *input, size_t input_length, uint8_t *out, size_t out_room,
+                           uint8_t *err, size_t err_room) {
     struct run run = {address(words), words_length, address(input), input_length, address(out), out_room, {0}};
     nissy_run_answer said;
     size_t lent = 0;
@@ -144,8 +144,8 @@ static void take_totals(nissy_way *ways, uint64_t count) {
     for (uint64_t at = 0; at < count; at += 1) ways[at].total = (uint16_t)load2(address(&ways[at].total));
 }
 
-nissy_ways_answer nissy_best(const nissy_tables *tables, const uint8_t *scramble, size_t scramble_length, const uint8_t *so_far,
-                             size_t so_far_length, const nissy_ways_wanted *wanted, nissy_way *room, size_t room_length) {
+nissy_ways_answer nissy_best(const nissy_tables *tables, const uint8_t *scramble, size_t scramble_length, const uint8_t *so_far, size_t so_far_length,
+                             const nissy_ways_wanted *wanted, nissy_way *room, size_t room_length) {
     STACK(STACK_OF_nissy_best);
     _Alignas(16) unsigned char answer[32], asked[24], held[WAY_TABLES][16];
     _Static_assert(sizeof(nissy_way) == 96, "nissy_way has the size that it has in the engine");
@@ -226,9 +226,8 @@ static void take_parts(nissy_moves_part *parts, size_t count) {
 }
 #endif
 
-nissy_plain_answer nissy_text_moves(const uint8_t *text, size_t text_length, const nissy_text_line *lines, size_t count, uint8_t which,
-                                    uint8_t *out, size_t out_room, uint64_t *places, size_t places_room, nissy_moves_part *parts,
-                                    size_t parts_room) {
+nissy_plain_answer nissy_text_moves(const uint8_t *text, size_t text_length, const nissy_text_line *lines, size_t count, uint8_t which, uint8_t *out,
+                                    size_t out_room, uint64_t *places, size_t places_room, nissy_moves_part *parts, size_t parts_room) {
     STACK(STACK_OF_nissy_text_moves);
     _Alignas(16) unsigned char answer[16];
     _Static_assert(sizeof(nissy_moves_part) == 24, "nissy_moves_part has the size that it has in the engine");
@@ -239,8 +238,8 @@ nissy_plain_answer nissy_text_moves(const uint8_t *text, size_t text_length, con
 #else
     const nissy_text_line *const from = lines;
 #endif
-    w_nissy_text_moves(STACK_END, address(answer), address(text), text_length, address(from), count, which, address(out), out_room,
-                       address(places), places_room, address(parts), parts_room);
+    w_nissy_text_moves(STACK_END, address(answer), address(text), text_length, address(from), count, which, address(out), out_room, address(places),
+                       places_room, address(parts), parts_room);
 #if NISSY_BYTEWISE
     free(from);
     take_parts(parts, parts_room);
@@ -251,4 +250,3 @@ nissy_plain_answer nissy_text_moves(const uint8_t *text, size_t text_length, con
 }
 
 /* --- the calls that the engine has as they are --- */
-

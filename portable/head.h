@@ -15,4 +15,3 @@
 #include <stdbool.h>
 #include <stdlib.h>
 #include <string.h>
-

@@ -159,16 +159,14 @@ static bool solve(const uint8_t *line, size_t length, uint32_t number) {
     static uint8_t found[FOUND_ROOM];
     const nissy_tables *tables = &command.tables;
     uint8_t limit = command.limit, slack = command.slack, last[MOVES_ROOM];
-    nissy_search_answer answer =
-        nissy_solve(tables, line, length, limit, slack, NISSY_ALL, NISSY_ALL, found, sizeof found);
+    nissy_search_answer answer = nissy_solve(tables, line, length, limit, slack, NISSY_ALL, NISSY_ALL, found, sizeof found);
     if (answer.status == NISSY_FAULT) return stop_at(number, answer.fault, answer.column);
     if (answer.status != NISSY_DONE && answer.status != NISSY_ROOM) return too_long();
     if (answer.solutions == 0) return tell_none();
     while (put(found, (size_t)answer.length)) {
         if (!answer.more) return put_text("\n");
         size_t moves = moves_of_last(found, (size_t)answer.length, last);
-        answer = nissy_solve_after(tables, line, length, last, moves, limit, slack, NISSY_ALL, NISSY_ALL, found,
-                                   sizeof found);
+        answer = nissy_solve_after(tables, line, length, last, moves, limit, slack, NISSY_ALL, NISSY_ALL, found, sizeof found);
     }
     return false;
 }
@@ -270,8 +268,10 @@ static bool turns_of(const char *word, uint8_t *turns) {
 
 /* How many words say a command on lines, or 0 if they say none. */
 static int command_of(int count, char **words) {
-    static const struct { const char *name; rewriting *does; } rewritings[] = {
-        {"invert", nissy_invert}, {"unniss", nissy_unniss}, {"cleanup", nissy_cleanup}, {"print", nissy_facelets}};
+    static const struct {
+        const char *name;
+        rewriting *does;
+    } rewritings[] = {{"invert", nissy_invert}, {"unniss", nissy_unniss}, {"cleanup", nissy_cleanup}, {"print", nissy_facelets}};
     if (count == 0) return 0;
     for (size_t at = 0; at < sizeof rewritings / sizeof *rewritings; at += 1) {
         if (strcmp(words[0], rewritings[at].name) != 0) continue;
@@ -308,9 +308,7 @@ static uint8_t *joined(int count, char **words, char behind) {
     return text;
 }
 
-static bool build(void) {
-    return nissy_build(&command.tables, (const uint8_t *)command.step, strlen(command.step)) == NISSY_DONE || out_of_memory();
-}
+static bool build(void) { return nissy_build(&command.tables, (const uint8_t *)command.step, strlen(command.step)) == NISSY_DONE || out_of_memory(); }
 
 static bool answer_words(int count, char **words) {
     size_t length = joined_length(count, words);

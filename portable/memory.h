@@ -88,4 +88,3 @@ static inline void copy(uint64_t to, uint64_t from, uint64_t size) {
 static inline void fill(uint64_t to, uint32_t byte, uint64_t size) {
     if (size > 0) memset(at_own(to), (int)(byte & 255), (size_t)size);
 }
-

@@ -4,7 +4,10 @@
 #if defined(__GNUC__)
 __attribute__((noreturn, cold))
 #endif
-static void impossible(void) { abort(); }
+static void
+impossible(void) {
+    abort();
+}
 
 static inline uint32_t clz32(uint32_t x) {
 #if defined(__GNUC__)
@@ -117,4 +120,3 @@ static inline uint64_t rem_s64(uint64_t x, uint64_t y) {
     if (y == 0) impossible();
     return (int64_t)y == -1 ? 0 : (uint64_t)((int64_t)x % (int64_t)y);
 }
-

@@ -23,7 +23,9 @@ def library() -> Path:
     for place in (HERE / "nissy" / LIBRARY, HERE.parent / "build" / LIBRARY):
         if place.is_file():
             return place
-    raise SystemExit(f"nissy: there is no {LIBRARY}: `make lib` of the repository builds it, or take a wheel that has it")
+    raise SystemExit(
+        f"nissy: there is no {LIBRARY}: `make lib` of the repository builds it, or take a wheel that has it"
+    )
 
 
 def machine() -> str:

@@ -48,7 +48,9 @@ def main() -> None:
     tally.equal("the short list", short, answered(program, SHORT)[0])
     tally.equal("the long list", long, answered(program, LONG)[0])
     tally.holds(f"it is long: {length} bytes", length > LONG_BYTES)
-    tally.holds(f"{of_long} kB for the long one, {of_short} for the short one", 0 < of_short and of_long <= of_short + MOST_MORE)
+    tally.holds(
+        f"{of_long} kB for the long one, {of_short} for the short one", 0 < of_short and of_long <= of_short + MOST_MORE
+    )
     tally.end()
 
 

@@ -34,16 +34,28 @@ def runs() -> Iterator[Run]:
     for line in FILE.read_text(encoding="ascii").splitlines():
         if not line.startswith("#"):
             status, words, data, out, err, _ = line.split("\t")
-            yield Run([bytes_of(word) for word in words.split("|")] if words else [], bytes_of(data), int(status), bytes_of(out), bytes_of(err))
+            yield Run(
+                [bytes_of(word) for word in words.split("|")] if words else [],
+                bytes_of(data),
+                int(status),
+                bytes_of(out),
+                bytes_of(err),
+            )
 
 
 def main() -> None:
     """Makes each run by the program of the command line."""
     tally = Tally()
     for run in runs():
-        done = subprocess.run([*map(str.encode, sys.argv[1:]), *run.words], input=run.data, capture_output=True, check=False)
+        done = subprocess.run(
+            [*map(str.encode, sys.argv[1:]), *run.words], input=run.data, capture_output=True, check=False
+        )
         what = b" ".join(run.words).decode("utf-8", "replace")
-        tally.equal(f"output, error text and status of {what}", (done.stdout, done.stderr, done.returncode), (run.out, run.err, run.status))
+        tally.equal(
+            f"output, error text and status of {what}",
+            (done.stdout, done.stderr, done.returncode),
+            (run.out, run.err, run.status),
+        )
     tally.end()
 
 

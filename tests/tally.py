@@ -8,6 +8,7 @@ from typing import Any, Callable, Iterable, Iterator, List, Type, TypeVar
 Item = TypeVar("Item")
 Found = TypeVar("Found")
 
+
 class Tally:
     """What passed and what failed."""
 

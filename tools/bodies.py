@@ -65,7 +65,9 @@ def function_at(lines: list[str], at: int) -> Span | None:
         if not head:
             continue
         indent = head[1]
-        last = next((k for k in range(first, len(lines)) if lines[k].startswith((f"{indent}}}", f"{indent}{{}}"))), first)
+        last = next(
+            (k for k in range(first, len(lines)) if lines[k].startswith((f"{indent}}}", f"{indent}{{}}"))), first
+        )
         if lines[first].endswith(("}", ";")):
             last = first
         if last < at:

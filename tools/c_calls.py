@@ -37,7 +37,10 @@ class Header:
         for name, body in STRUCT.findall(text):
             if "*" not in body:
                 self.structs[name] = self.fields(body)
-        self.calls = {name: (result, [" ".join(it.split()) for it in words.split(",")]) for result, name, words in DECLARED.findall(text)}
+        self.calls = {
+            name: (result, [" ".join(it.split()) for it in words.split(",")])
+            for result, name, words in DECLARED.findall(text)
+        }
         unread = set(re.findall(r"\b(nissy_\w+)\(", text)) - set(self.calls)
         if unread:
             raise Refused(f"calls that aren't declared in one form with the others: {', '.join(sorted(unread))}")
@@ -123,8 +126,13 @@ class Header:
 
     def read_again(self, kind: str, name: str) -> list[str]:
         """Returns the statements that give an array that the module filled the form that it has in C."""
-        same = f'    _Static_assert(sizeof({kind}) == {self.size(kind)}, "{kind} has the size that it has in the engine");'
-        return [same, f"    for (uint64_t at = 0; at < said.lines; at += 1) {name}[at] = {kind}_at(address({name} + at));"]
+        same = (
+            f'    _Static_assert(sizeof({kind}) == {self.size(kind)}, "{kind} has the size that it has in the engine");'
+        )
+        return [
+            same,
+            f"    for (uint64_t at = 0; at < said.lines; at += 1) {name}[at] = {kind}_at(address({name} + at));",
+        ]
 
     def call(self, name: str, of: FunctionType) -> list[str]:
         """Returns a call over the module's function, which has this type."""
@@ -143,7 +151,15 @@ class Header:
         again = [line for kind, parameter in self.filled(name).values() for line in self.read_again(kind, parameter)]
         if not again:
             return [*lines, f"    {said};", f"    return {result}_at(address(answer));", "}", ""]
-        return [*lines, f"    {said};", f"    {result} said = {result}_at(address(answer));", *again, "    return said;", "}", ""]
+        return [
+            *lines,
+            f"    {said};",
+            f"    {result} said = {result}_at(address(answer));",
+            *again,
+            "    return said;",
+            "}",
+            "",
+        ]
 
 
 def calls(header: str, by_hand: str, types: dict[str, FunctionType]) -> str:
@@ -157,4 +173,15 @@ def calls(header: str, by_hand: str, types: dict[str, FunctionType]) -> str:
     returned = [of.calls[name][0] for name in made] + [name for name in of.structs if f"{name}_at(" in by_hand]
     returned += [kind for name in made for kind, _ in of.filled(name).values()]
     readers = of.readers([name for name in returned if name in of.structs])
-    return "\n".join(["/* --- answers, where the engine wrote them --- */", "", *readers, by_hand, *(line for name in made for line in of.call(name, types[name]))]).rstrip("\n") + "\n"
+    return (
+        "\n".join(
+            [
+                "/* --- answers, where the engine wrote them --- */",
+                "",
+                *readers,
+                by_hand,
+                *(line for name in made for line in of.call(name, types[name])),
+            ]
+        ).rstrip("\n")
+        + "\n"
+    )

@@ -33,7 +33,11 @@ def crates() -> dict[str, list[str]]:
 @lru_cache(None)
 def below(crate: str) -> list[str]:
     """Returns the repository's crates that a crate stands on, the lowest first."""
-    return [name for name in crates() if any(name == use or name in below(use) for use in crates()[crate] if use in crates())]
+    return [
+        name
+        for name in crates()
+        if any(name == use or name in below(use) for use in crates()[crate] if use in crates())
+    ]
 
 
 @lru_cache(None)
@@ -78,7 +82,9 @@ def run_or_end(words: list[str], folder: str, why: str) -> None:
     """Runs a command in a folder, and tells the error stream which crates it proved as soon as it says so. If it fails, this process shows all that
     it said, and ends."""
     said = []
-    with subprocess.Popen(words, cwd=folder, stdin=subprocess.DEVNULL, stdout=subprocess.PIPE, stderr=subprocess.STDOUT, text=True) as ran:
+    with subprocess.Popen(
+        words, cwd=folder, stdin=subprocess.DEVNULL, stdout=subprocess.PIPE, stderr=subprocess.STDOUT, text=True
+    ) as ran:
         for line in ran.stdout or ():
             said.append(line)
             if line.startswith("rt: ") and line.endswith(" proved\n"):
@@ -113,13 +119,27 @@ def words_on(crate: str, top: str, folder_of_kit: str) -> list[str]:
     for name in below(crate):
         words += ["--extern", f"{name}={built(name, top)}"] if name in crates()[crate] else []
         words += ["-L", f"dependency={os.path.dirname(built(name, top))}"]
-    words += ["--antt-project", f"{folder_of_kit}/rattle/logic/antt-project.json", "--logic-built", f"{folder_of_kit}/logic_built"]
+    words += [
+        "--antt-project",
+        f"{folder_of_kit}/rattle/logic/antt-project.json",
+        "--logic-built",
+        f"{folder_of_kit}/logic_built",
+    ]
     return words + ["--links", f"{crate}="]
 
 
 def check_words(crate: str, kept: str, functions: list[str]) -> list[str]:
     """Returns the words that check functions of a crate, to be run in a folder with its sources, over the work kept in another folder."""
-    words = [f"{kit()}/bin/rattle", "check", *words_on(crate, build_below(crate), kit()), "--jobs", "1", "--incremental", kept, "--allow-holes"]
+    words = [
+        f"{kit()}/bin/rattle",
+        "check",
+        *words_on(crate, build_below(crate), kit()),
+        "--jobs",
+        "1",
+        "--incremental",
+        kept,
+        "--allow-holes",
+    ]
     return words + [word for function in functions for word in ("--only", function)]
 
 
@@ -137,11 +157,24 @@ def build_for(crate: str, made: str, target: str, *kind: str) -> None:
     """Proves a crate for a target, and compiles it."""
     # RT_JOBS has `rt ci` make as many proofs at once, each by one job
     jobs = "1" if "RT_JOBS" in os.environ else "2"
-    words = [f"{kit()}/bin/rattle", "build", *words_on(crate, build_below(crate), kit()), "--jobs", jobs, *kind, "--target", target]
+    words = [
+        f"{kit()}/bin/rattle",
+        "build",
+        *words_on(crate, build_below(crate), kit()),
+        "--jobs",
+        jobs,
+        *kind,
+        "--target",
+        target,
+    ]
     words += ["--toolchain", f"{kit()}/toolchain", "--backend", "llvm", "-o", made]
     with tempfile.TemporaryDirectory() as kept:
         words += ["--incremental", kept]
-        ran = subprocess.run(words, cwd=f"{TOP}/crates/{crate}", stdout=subprocess.PIPE, stderr=subprocess.STDOUT, text=True, check=False)
-    proved = [line for line in ran.stdout.splitlines() if line.startswith("logic=proved ") and f" target={target} " in line]
+        ran = subprocess.run(
+            words, cwd=f"{TOP}/crates/{crate}", stdout=subprocess.PIPE, stderr=subprocess.STDOUT, text=True, check=False
+        )
+    proved = [
+        line for line in ran.stdout.splitlines() if line.startswith("logic=proved ") and f" target={target} " in line
+    ]
     if ran.returncode or len(proved) != 1:
         sys.exit(f"{ran.stdout}{crate} is not proved")

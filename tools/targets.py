@@ -25,7 +25,11 @@ class Target:
 
     def missing(self) -> list[str]:
         """Returns the tools for it that aren't here."""
-        return [tool for tool in (self.compiler, *(self.prefix + name for name in ("ld", "objcopy", "ar"))) if not shutil.which(tool)]
+        return [
+            tool
+            for tool in (self.compiler, *(self.prefix + name for name in ("ld", "objcopy", "ar")))
+            if not shutil.which(tool)
+        ]
 
     def c_part(self, names: tuple[str, ...], room: str) -> list[str]:
         """Returns what to link with: the kit's archives, or objects, which are compiled into a folder."""
@@ -39,7 +43,9 @@ class Target:
 
 # The kit's compiler builds for x86-64-v2, which is a mark in the library by which the system refuses to load it on a processor that lacks it.
 X86_64 = Target("x86_64-unknown-linux-gnu", "cc", "", words=("-z", "x86-64-v2"))
-AARCH64 = Target("aarch64-unknown-linux-gnu", "aarch64-linux-gnu-gcc", "aarch64-linux-gnu-", c_folder="packaging/aarch64")
+AARCH64 = Target(
+    "aarch64-unknown-linux-gnu", "aarch64-linux-gnu-gcc", "aarch64-linux-gnu-", c_folder="packaging/aarch64"
+)
 TARGETS = {"x86_64": X86_64, "aarch64": AARCH64}
 
 

@@ -40,7 +40,10 @@ def placed(body: WrongBody) -> list[tuple[Change, Span | None]]:
 def in_copy(folder: str, body: WrongBody) -> WrongBody:
     """Returns a body as it is made in a copy of its crate: each change in its function, whatever else has such lines."""
     ends = {file: text.count("\n") + 1 for file, text in sources(body.folder, body.files).items()}
-    changes = [replace(it, among=range(span.first, span.last + 1) if span else range(ends[it.file])) for it, span in placed(body)]
+    changes = [
+        replace(it, among=range(span.first, span.last + 1) if span else range(ends[it.file]))
+        for it, span in placed(body)
+    ]
     return replace(body, folder=folder, changes=changes)
 
 
@@ -62,14 +65,22 @@ def of_twin(folder: str, body: WrongBody, number: int) -> WrongBody | None:
     copy_proofs(folder, path[1:], name, twin)
     first = before.count("\n") + 1
     among = range(first, first + len(added))
-    changes = [replace(it, among=among) if of else copied for (it, of), copied in zip(placed(body), in_copy(folder, body).changes)]
+    changes = [
+        replace(it, among=among) if of else copied
+        for (it, of), copied in zip(placed(body), in_copy(folder, body).changes)
+    ]
     return replace(body, folder=folder, refused="::".join([*path, twin]), changes=changes)
 
 
 def start_of(lines: list[str], span: Span) -> int:
     """Returns where a function begins with its attributes, below what is written of it."""
     first = span.first
-    while first and lines[first - 1].strip() and not re.match(r"\s*//", lines[first - 1]) and not lines[first - 1].endswith(("{", "}")):
+    while (
+        first
+        and lines[first - 1].strip()
+        and not re.match(r"\s*//", lines[first - 1])
+        and not lines[first - 1].endswith(("{", "}"))
+    ):
         first -= 1
     return first
 
@@ -80,7 +91,10 @@ def header_above(lines: list[str], span: Span) -> list[str]:
         return []
     first = max(at for at in range(span.first) if re.match(r"(?:unsafe )?impl\b", lines[at]))
     last = next(at for at in range(first, span.first) if lines[at].endswith("{"))
-    return [*lines[first : last + 1], *(line for line in lines[last + 1 : span.first] if line.startswith("    ghost use "))]
+    return [
+        *lines[first : last + 1],
+        *(line for line in lines[last + 1 : span.first] if line.startswith("    ghost use ")),
+    ]
 
 
 def copy_proofs(folder: str, path: list[str], name: str, twin: str) -> None:

@@ -5,7 +5,9 @@ import re
 from bodies import WrongBody, function_at, sources
 
 # of a proof that names what isn't there any more, and of one that rests on it (a goal may be shown with a remark on what `is not in scope here`)
-NAME_IS_GONE = re.compile(r"has no field|is not in scope(?! here, so what)|has no `|write one of its constructors|was not admitted|which was rejected")
+NAME_IS_GONE = re.compile(
+    r"has no field|is not in scope(?! here, so what)|has no `|write one of its constructors|was not admitted|which was rejected"
+)
 # of one that names a goal or a branch that has another name now; what begins with `After-` is the type of a state
 GOAL_IS_GONE = re.compile(r"proofs\..*\.Goals` has no `(?!After-)")
 REFUSED, WAITS, UNTOLD, LEMMA = "refused", "waits", "untold", "by a lemma"
@@ -24,12 +26,18 @@ def errors_of(function: str, said: str) -> list[str]:
 def notes_of(body: WrongBody, said: str) -> list[str]:
     """Returns what is said to be unproved in the named function, as it stands in the texts that the body turns. No change moves a line."""
     found, touched = [], body.touched()
-    for note, file, line in re.findall(r"^(note: (src/\S+\.rt):(\d+):\d+: it is not proved that .*)", said, re.MULTILINE):
+    for note, file, line in re.findall(
+        r"^(note: (src/\S+\.rt):(\d+):\d+: it is not proved that .*)", said, re.MULTILINE
+    ):
         lines = sources(body.folder, {file})[file].split("\n")
         # of a contract the note may name an attribute above the head
         at = next(k for k in range(int(line) - 1, len(lines)) if not lines[k].lstrip().startswith("#["))
         span = function_at(lines, at)
-        if span and is_named(body.refused, lines[span.first]) and (touched is None or f"{file}:{span.first}" in touched):
+        if (
+            span
+            and is_named(body.refused, lines[span.first])
+            and (touched is None or f"{file}:{span.first}" in touched)
+        ):
             found.append(note)
     return found
 
@@ -44,7 +52,12 @@ def by_compiler(body: WrongBody, said: str) -> str:
     spans = [(file, span) for file, span, _ in body.turned() if span]
     if not errors:
         return f"it compiles, or the check tells nothing: {said.strip()[-200:]}"
-    own = [it for it in errors if it[2] == body.error and any(file == it[0] and span.first < int(it[1]) <= span.last + 1 for file, span in spans)]
+    own = [
+        it
+        for it in errors
+        if it[2] == body.error
+        and any(file == it[0] and span.first < int(it[1]) <= span.last + 1 for file, span in spans)
+    ]
     return REFUSED if own == errors else fault(said)
 
 
@@ -53,7 +66,12 @@ def verdict(body: WrongBody, said: str) -> str:
     if body.error:
         return by_compiler(body, said)
     line = re.search(rf"^fn {re.escape(body.refused)}: (.*)", said, re.MULTILINE)
-    if not re.search(r"^only=\d+ holes=", said, re.MULTILINE) or not line or "could not tell" in line[1] or is_misread(body, said):
+    if (
+        not re.search(r"^only=\d+ holes=", said, re.MULTILINE)
+        or not line
+        or "could not tell" in line[1]
+        or is_misread(body, said)
+    ):
         return UNTOLD
     if line[1] in ("no holes", "proved"):
         return "the prover accepts it"
@@ -94,7 +112,11 @@ def fault(said: str) -> str:
     """Returns why a check of one body tells nothing."""
     errors = re.findall(r"^.*error.*", said, re.MULTILINE) or said.strip().split("\n")[-1:]
     fits_none = [it for it in errors if " has no function `" in it]
-    return f"no such function: {fits_none[0][:200]}" if fits_none else f"it doesn't compile, or the check tells nothing: {errors[0][:300]}"
+    return (
+        f"no such function: {fits_none[0][:200]}"
+        if fits_none
+        else f"it doesn't compile, or the check tells nothing: {errors[0][:300]}"
+    )
 
 
 class Count:

@@ -17,7 +17,21 @@ NO_RESULT = 0x40
 # a bit beside the alignment of an access says that a memory is named
 NAMES_MEMORY = 0x40
 
-BARE = {UNREACHABLE, NOP, ELSE, END, RETURN, DROP, SELECT, *range(0x45, 0x5B), *range(0x67, 0x8B), 0xA7, 0xAC, 0xAD, *range(0xC0, 0xC5)}
+BARE = {
+    UNREACHABLE,
+    NOP,
+    ELSE,
+    END,
+    RETURN,
+    DROP,
+    SELECT,
+    *range(0x45, 0x5B),
+    *range(0x67, 0x8B),
+    0xA7,
+    0xAC,
+    0xAD,
+    *range(0xC0, 0xC5),
+}
 ONE_NUMBER = {BRANCH, BRANCH_IF, CALL, LOCAL_GET, LOCAL_SET, LOCAL_TEE, GLOBAL_GET, GLOBAL_SET}
 OPENING = {BLOCK, LOOP, IF}
 LOADS_AND_STORES = {0x28, 0x29, *range(0x2C, 0x38), *range(0x3A, 0x3F)}
@@ -28,7 +42,10 @@ NAMES_OF_REFUSED = {
     **{code: "a call in the place of the caller" for code in (0x12, 0x13, 0x14, 0x15)},
     0x1C: "a choice between references",
     **{code: "a table" for code in (0x25, 0x26)},
-    **{code: "a number with a fraction" for code in (0x2A, 0x2B, 0x38, 0x39, 0x43, 0x44, *range(0x5B, 0x67), *range(0x8B, 0xA7))},
+    **{
+        code: "a number with a fraction"
+        for code in (0x2A, 0x2B, 0x38, 0x39, 0x43, 0x44, *range(0x5B, 0x67), *range(0x8B, 0xA7))
+    },
     **{code: "a number with a fraction" for code in (*range(0xA8, 0xAC), *range(0xAE, 0xC0), *range(0xFC00, 0xFC08))},
     0x3F: "the size of a memory of its own",
     0x40: "a memory that grows",

@@ -76,7 +76,11 @@ class Function:
         lines += [f"  (void)l{at};" for at in range(count) if at not in self.used]
         if self.program.needs_stack(self.index) and not any(re.search(r"\bsp\b", line) for line in self.lines):
             lines.append("  (void)sp;")
-        return lines + [line for line in self.lines if not (label := LABEL.fullmatch(line)) or label[1] in self.jumps] + ["}", ""]
+        return (
+            lines
+            + [line for line in self.lines if not (label := LABEL.fullmatch(line)) or label[1] in self.jumps]
+            + ["}", ""]
+        )
 
     # --- lines and values ---
 
@@ -128,7 +132,11 @@ class Function:
             WRITERS[it.code](self, it)
         elif it.code in CALCULATION or it.code in COMPARISON:
             other, one = self.pop(), self.pop()
-            made = calculated(*CALCULATION[it.code], one, other) if it.code in CALCULATION else compared(*COMPARISON[it.code], one, other)
+            made = (
+                calculated(*CALCULATION[it.code], one, other)
+                if it.code in CALCULATION
+                else compared(*COMPARISON[it.code], one, other)
+            )
             # one that calls no other writes below the stack pointer without moving it
             self.frame = max(self.frame, made.below or 0)
             self.push(made)
@@ -372,4 +380,3 @@ WRITERS: dict[int, Callable[[Function, Instruction], None]] = {
     code.COPY: Function.copy,
     code.FILL: Function.copy,
 }
-

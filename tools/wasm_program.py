@@ -48,7 +48,11 @@ class Program:
 
     def exported(self) -> dict[int, str]:
         """Returns the functions that C calls, with their names."""
-        behind = {index: name.removeprefix(BEHIND_GUARD) for index, name in self.module.names.items() if name.startswith(BEHIND_GUARD)}
+        behind = {
+            index: name.removeprefix(BEHIND_GUARD)
+            for index, name in self.module.names.items()
+            if name.startswith(BEHIND_GUARD)
+        }
         if behind and set(behind.values()) != set(self.module.exports):
             raise Refused("an export without a function behind its guard")
         return behind or {index: name for name, index in self.module.exports.items()}
@@ -126,8 +130,12 @@ class Program:
         # that call one another
         for index in sorted(self.codes, key=lambda it: (len(below[it]), it not in below[it])):
             circle = {it for it in below[index] if index in below[it]} or {index}
-            most = max((known[it] for member in circle for it in self.codes[member].calls() if it not in circle), default=0)
-            known[index] = most + sum(self.functions[it].frame for it in circle) * (self.level(circle) if index in below[index] else 1)
+            most = max(
+                (known[it] for member in circle for it in self.codes[member].calls() if it not in circle), default=0
+            )
+            known[index] = most + sum(self.functions[it].frame for it in circle) * (
+                self.level(circle) if index in below[index] else 1
+            )
         return {name: known[index] for index, name in self.exports.items()}
 
     def level(self, circle: set[int]) -> int:
@@ -146,7 +154,9 @@ class Program:
         if len(data) != len(moved):
             raise Refused("two modules that differ in more than the addresses of constants")
         data, moved = (it + bytes(-len(it) % WORD) for it in (data, moved))
-        words = [self.word(data[at : at + WORD], moved[at : at + WORD], len(data)) for at in range(0, len(data), WORD)] or ["{{0}}"]
+        words = [
+            self.word(data[at : at + WORD], moved[at : at + WORD], len(data)) for at in range(0, len(data), WORD)
+        ] or ["{{0}}"]
         lines = [f"  {', '.join(words[at : at + 4])}," for at in range(0, len(words), 4)]
         return "\n".join([f"static _Alignas(16) const union word constants[{len(words)}] = {{", *lines, "};", ""])
 
@@ -166,9 +176,15 @@ class Program:
             name = self.module.names.get(index, "")
             lines += [f"/* {name} */"] if name and "*/" not in name else []
             lines += function.text()
-        sizes = [f"#define STACK_OF_{name} {max(ALIGNMENT, size + -size % ALIGNMENT)}" for name, size in sorted(self.depths().items())]
+        sizes = [
+            f"#define STACK_OF_{name} {max(ALIGNMENT, size + -size % ALIGNMENT)}"
+            for name, size in sorted(self.depths().items())
+        ]
         functions = "\n".join(lines + sizes) + "\n"
-        memory, numbers = (with_used((PORTABLE / name).read_text(encoding="utf-8"), functions + calls) for name in ("memory.h", "numbers.h"))
+        memory, numbers = (
+            with_used((PORTABLE / name).read_text(encoding="utf-8"), functions + calls)
+            for name in ("memory.h", "numbers.h")
+        )
         addresses = (PORTABLE / "addresses.h").read_text(encoding="utf-8")
         return "\n".join([addresses, self.constants(), memory, numbers, functions, calls])
 

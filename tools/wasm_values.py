@@ -13,30 +13,76 @@ STACK = -1
 # the greatest number that is written with decimal digits
 MOST_DECIMAL = 4095
 
-CALCULATIONS = ("add", "sub", "mul", "div_s", "div_u", "rem_s", "rem_u", "and", "or", "xor", "shl", "shr_s", "shr_u", "rotl", "rotr")
+CALCULATIONS = (
+    "add",
+    "sub",
+    "mul",
+    "div_s",
+    "div_u",
+    "rem_s",
+    "rem_u",
+    "and",
+    "or",
+    "xor",
+    "shl",
+    "shr_s",
+    "shr_u",
+    "rotl",
+    "rotr",
+)
 COMPARISONS = ("eq", "ne", "lt_s", "lt_u", "gt_s", "gt_u", "le_s", "le_u", "ge_s", "ge_u")
 COUNTS = ("clz", "ctz", "popcnt")
 SHIFTS = ("shl", "shr_s", "shr_u")
-SIGNS = {"add": "+", "sub": "-", "mul": "*", "and": "&", "or": "|", "xor": "^", "shl": "<<", "shr": ">>", "div": "/", "rem": "%"}
+SIGNS = {
+    "add": "+",
+    "sub": "-",
+    "mul": "*",
+    "and": "&",
+    "or": "|",
+    "xor": "^",
+    "shl": "<<",
+    "shr": ">>",
+    "div": "/",
+    "rem": "%",
+}
 SIGNS |= {"eq": "==", "ne": "!=", "lt": "<", "gt": ">", "le": "<=", "ge": ">="}
 # the codes of the first of each, which the others follow
-CALCULATION = {first + at: (name, kind) for first, kind in ((0x6A, I32), (0x7C, I64)) for at, name in enumerate(CALCULATIONS)}
-COMPARISON = {first + at: (name, kind) for first, kind in ((0x46, I32), (0x51, I64)) for at, name in enumerate(COMPARISONS)}
+CALCULATION = {
+    first + at: (name, kind) for first, kind in ((0x6A, I32), (0x7C, I64)) for at, name in enumerate(CALCULATIONS)
+}
+COMPARISON = {
+    first + at: (name, kind) for first, kind in ((0x46, I32), (0x51, I64)) for at, name in enumerate(COMPARISONS)
+}
 COUNT = {first + at: (name, kind) for first, kind in ((0x67, I32), (0x79, I64)) for at, name in enumerate(COUNTS)}
 IS_ZERO = {0x45: I32, 0x50: I64}
 WRAP, EXTEND_SIGNED, EXTEND_UNSIGNED = 0xA7, 0xAC, 0xAD
 # a number whose lowest bits alone count, with their sign: its kind and how many
 EXTEND = {0xC0: (I32, 8), 0xC1: (I32, 16), 0xC2: (I64, 8), 0xC3: (I64, 16), 0xC4: (I64, 32)}
 # kind, bytes, and whether their sign counts
-LOAD = {0x28: (I32, 4, False), 0x29: (I64, 8, False), 0x2C: (I32, 1, True), 0x2D: (I32, 1, False), 0x2E: (I32, 2, True), 0x2F: (I32, 2, False)}
-LOAD |= {0x30: (I64, 1, True), 0x31: (I64, 1, False), 0x32: (I64, 2, True), 0x33: (I64, 2, False), 0x34: (I64, 4, True), 0x35: (I64, 4, False)}
+LOAD = {
+    0x28: (I32, 4, False),
+    0x29: (I64, 8, False),
+    0x2C: (I32, 1, True),
+    0x2D: (I32, 1, False),
+    0x2E: (I32, 2, True),
+    0x2F: (I32, 2, False),
+}
+LOAD |= {
+    0x30: (I64, 1, True),
+    0x31: (I64, 1, False),
+    0x32: (I64, 2, True),
+    0x33: (I64, 2, False),
+    0x34: (I64, 4, True),
+    0x35: (I64, 4, False),
+}
 STORE = {0x36: (I32, 4), 0x37: (I64, 8), 0x3A: (I32, 1), 0x3B: (I32, 2), 0x3C: (I64, 1), 0x3D: (I64, 2), 0x3E: (I64, 4)}
 
 
 @dataclass(frozen=True)
 class Value:
     """An expression: its text and kind; the locals that it reads, and whether it reads memory, since a change of these changes it; its number if it
-    is a literal; its text as a condition if it is one; and how many bytes below the stack pointer that the function was handed, if it is so."""
+    is a literal; its text as a condition if it is one; and how many bytes below the stack pointer that the function was handed, if it is so.
+    """
 
     text: str
     kind: int
@@ -79,7 +125,10 @@ def condition(text: str, *values: Value) -> Value:
 def calculated(name: str, kind: int, one: Value, other: Value) -> Value:
     """Returns what is calculated of two numbers."""
     word, _, how = name.partition("_")
-    plain, sign = f"{one.text} {SIGNS.get(word, '')} {other.text}", f"({UNSIGNED[kind]})(({SIGNED[kind]}){one.text} {SIGNS.get(word, '')} "
+    plain, sign = (
+        f"{one.text} {SIGNS.get(word, '')} {other.text}",
+        f"({UNSIGNED[kind]})(({SIGNED[kind]}){one.text} {SIGNS.get(word, '')} ",
+    )
     if name in SHIFTS:
         by = f"({other.text} & {BITS[kind] - 1})" if other.number is None else str(other.number % BITS[kind])
         text = f"{sign}{by})" if how == "s" else f"({one.text} {SIGNS[word]} {by})"
@@ -116,7 +165,9 @@ def converted(code: int, one: Value) -> Value:
         name, kind = COUNT[code]
         return made_of(f"{name}{BITS[kind]}({one.text})", kind, one)
     if code == WRAP:
-        return replace(made_of(f"(uint32_t){one.text}", I32, one), number=None if one.number is None else one.number & 0xFFFFFFFF)
+        return replace(
+            made_of(f"(uint32_t){one.text}", I32, one), number=None if one.number is None else one.number & 0xFFFFFFFF
+        )
     if code == EXTEND_UNSIGNED:
         return made_of(f"(uint64_t){one.text}", I64, one)
     if code == EXTEND_SIGNED:

@@ -19,7 +19,9 @@ static struct tried tried(void *at) {
 }
 
 /* malloc may return a null pointer for a size of 0, so that is one of `align` bytes; all alignments divide malloc's. */
-struct tried rattle_alloc(size_t size, size_t align) { return tried(malloc(size != 0 ? size : align)); }
+struct tried rattle_alloc(size_t size, size_t align) {
+    return tried(malloc(size != 0 ? size : align));
+}
 
 struct tried rattle_realloc(void *at, size_t kept, size_t size, size_t align) {
     (void)kept;

@@ -17,12 +17,20 @@ _REACHED = "A domino reduction is reached already."
 
 def _words() -> argparse.ArgumentParser:
     """Returns what reads the words of the command line."""
-    words = argparse.ArgumentParser("python3 -m nissy", description="Prints the best ways on to a domino reduction. "
-                                    "Moves in brackets are on the inverse.")
+    words = argparse.ArgumentParser(
+        "python3 -m nissy",
+        description="Prints the best ways on to a domino reduction. " "Moves in brackets are on the inverse.",
+    )
     words.add_argument("scramble", metavar="SCRAMBLE", help="its moves, between quotation marks")
     words.add_argument("so_far", metavar="MOVES_SO_FAR", nargs="?", default="", help="those that are made already")
-    words.add_argument("--slack", type=int, default=1, metavar="N", help="by how many moves a first step may be longer "
-                       "than the shortest, 0 to 20, else 1; each takes some six times as long")
+    words.add_argument(
+        "--slack",
+        type=int,
+        default=1,
+        metavar="N",
+        help="by how many moves a first step may be longer "
+        "than the shortest, 0 to 20, else 1; each takes some six times as long",
+    )
     words.add_argument("--most", type=int, default=10, metavar="N", help="how many ways are shown, else 10")
     return words
 

@@ -20,11 +20,22 @@ _GROUP = attrgetter("group")
 # the bytes of a line that say what it is, whether it is of the solution, whether it has a head, and what its doubt is
 _BYTES = (0, 1, 2, 5)
 # the white space of the web's scripts
-_WHITE = ("\n\t\v\f\r \u00a0\u1680\u2000\u2001\u2002\u2003\u2004\u2005\u2006\u2007\u2008\u2009\u200a\u2028\u2029\u202f"
-          "\u205f\u3000\ufeff")
+_WHITE = (
+    "\n\t\v\f\r \u00a0\u1680\u2000\u2001\u2002\u2003\u2004\u2005\u2006\u2007\u2008\u2009\u200a\u2028\u2029\u202f"
+    "\u205f\u3000\ufeff"
+)
 # what makes one doubt a line, by the library's numbers
-_DOUBTS = ("", "another scramble", "several solutions", "side", "letters", "small letters", "comment", "repetition",
-           "insertion")
+_DOUBTS = (
+    "",
+    "another scramble",
+    "several solutions",
+    "side",
+    "letters",
+    "small letters",
+    "comment",
+    "repetition",
+    "insertion",
+)
 
 
 class AttemptDoubt(NamedTuple):
@@ -107,7 +118,7 @@ class Moves:
         if first == last:
             return _NOTHING
         start, stop, left_out = self._parts[first]
-        for _, stop, more in self._parts[first + 1:last]:
+        for _, stop, more in self._parts[first + 1 : last]:
             left_out |= more
         return self._cuts.cut(start, stop, left_out)
 
@@ -130,15 +141,16 @@ class Reader:
         self._room = bytearray(TEXT_LINE.size * most)
         self._address = ctypes.addressof(ctypes.c_char.from_buffer(self._room))
         self.count = _library.nissy_text_lines(data, len(data), self._address, most).lines
-        self._told = memoryview(self._room)[:TEXT_LINE.size * self.count]
+        self._told = memoryview(self._room)[: TEXT_LINE.size * self.count]
         self._kinds, self._are_solution, self._are_headed, self._doubts = (
-            bytes(self._told[at::TEXT_LINE.size]) for at in _BYTES)
+            bytes(self._told[at :: TEXT_LINE.size]) for at in _BYTES
+        )
         # by whose they are
         self._moves: Dict[int, Moves] = {}
 
     def lines(self, begin: int, end: int) -> List[TextLine]:
         """Returns those of the lines from one to another that aren't blank, or have only a head."""
-        told = TEXT_LINE.iter_unpack(self._told[TEXT_LINE.size * begin:TEXT_LINE.size * end])
+        told = TEXT_LINE.iter_unpack(self._told[TEXT_LINE.size * begin : TEXT_LINE.size * end])
         return [TextLine._make((at, *line)) for at, line in enumerate(told, begin) if line[0] or line[2]]
 
     def _line(self, at: int) -> TextLine:
@@ -146,7 +158,7 @@ class Reader:
 
     def attempts(self) -> List[Tuple[int, int]]:
         """Returns from which line to which each attempt reaches that has a scramble."""
-        numbers = self._told.cast("B").cast("Q")[1::TEXT_LINE.size // 8].tolist()
+        numbers = self._told.cast("B").cast("Q")[1 :: TEXT_LINE.size // 8].tolist()
         begins = [0, *(at for at, is_first in enumerate(map(ne, numbers, numbers[1:]), 1) if is_first), self.count]
         return [it for it in zip(begins, begins[1:]) if self._kinds.find(SCRAMBLE, *it) >= 0]
 
@@ -158,8 +170,12 @@ class Reader:
             nth = [0, *accumulate(wanted)]
             room = bytearray(MOVES_PART.size * nth[-1] + 1)
             parts = (ctypes.addressof(ctypes.c_char.from_buffer(room)), nth[-1])
-            written = written_by(3 * (len(self._data) + self.count), lambda *rooms: _library.nissy_text_moves(
-                self._data, len(self._data), self._address, self.count, which, *rooms, *parts))
+            written = written_by(
+                3 * (len(self._data) + self.count),
+                lambda *rooms: _library.nissy_text_moves(
+                    self._data, len(self._data), self._address, self.count, which, *rooms, *parts
+                ),
+            )
             if self._before:
                 # what stands before the text isn't cut out
                 written = written._replace(places=tuple(max(self._before + place, 0) for place in written.places))
@@ -231,7 +247,8 @@ class Reader:
         return attempt._replace(
             steps=self._steps([line for line in all_steps if line.group == 0] or told),
             solution=self.moves(_OF_SOLUTION).of(told[0].at, told[-1].at + 1) if told else None,
-            candidates=tuple(self._candidates(lines)) if lines[-1].group > 0 else ())
+            candidates=tuple(self._candidates(lines)) if lines[-1].group > 0 else (),
+        )
 
     def _doubt(self, begin: int, end: int) -> Optional[AttemptDoubt]:
         """Returns what makes one doubt the first line that is in doubt."""

@@ -16,9 +16,11 @@ from ._ways import MOST_TURNS, Wanted, fault_on, found
 
 def _wanted(slack: int, most: Optional[int], nodes: Optional[int]) -> Wanted:
     """Returns the numbers of a search, checked."""
-    return Wanted(number_of(slack, "the slack", MOST_TURNS),
-                  MOST_WORD if most is None else number_of(most, "most", MOST_WORD),
-                  MOST_WORD if nodes is None else number_of(nodes, "nodes", MOST_WORD))
+    return Wanted(
+        number_of(slack, "the slack", MOST_TURNS),
+        MOST_WORD if most is None else number_of(most, "most", MOST_WORD),
+        MOST_WORD if nodes is None else number_of(nodes, "nodes", MOST_WORD),
+    )
 
 
 def _untold(_done: int, _all: Optional[int]) -> None:
@@ -48,15 +50,24 @@ def line_after(scramble: Text, so_far: Text = "") -> str:
     lines = one, other = bytes_of(scramble, "the scramble"), bytes_of(so_far, "the line so far")
     room = _rooms.take()
     answer = _library.nissy_line_after(one, len(one), other, len(other), room.address, LINE_ROOM)
-    text = str(room.memory[:answer.length], "ascii")
+    text = str(room.memory[: answer.length], "ascii")
     _rooms.put_back(room)
     if answer.status != DONE:
         raise fault_on(answer, lines)
     return text
 
 
-def best(scramble: Text, so_far: Text = "", *, slack: int = 0, most: Optional[int] = 20, nodes: Optional[int] = None,
-         partial: bool = False, progress: Optional[Progress] = None, stop: Optional[Stop] = None) -> Continuations:
+def best(
+    scramble: Text,
+    so_far: Text = "",
+    *,
+    slack: int = 0,
+    most: Optional[int] = 20,
+    nodes: Optional[int] = None,
+    partial: bool = False,
+    progress: Optional[Progress] = None,
+    stop: Optional[Stop] = None,
+) -> Continuations:
     """What may follow a scramble and the moves so far, the best first, up to a domino reduction: each orientation on
     three axes, over both sides, and after it the reduction on each of two axes with the fewest moves in all, over both
     sides too. An orientation is let in if it is at most `slack` moves longer than the shortest of its kind: on the
@@ -82,20 +93,43 @@ def best(scramble: Text, so_far: Text = "", *, slack: int = 0, most: Optional[in
 
 
 @overload
-def best_all(scrambles: Iterable[Text], *, slack: int = 0, most: Optional[int] = 20, nodes: Optional[int] = None,
-             partial: Partial, threads: int = 1,
-             progress: Optional[Progress] = None) -> Iterator[Union[Continuations, Fault]]: ...
+def best_all(
+    scrambles: Iterable[Text],
+    *,
+    slack: int = 0,
+    most: Optional[int] = 20,
+    nodes: Optional[int] = None,
+    partial: Partial,
+    threads: int = 1,
+    progress: Optional[Progress] = None,
+) -> Iterator[Union[Continuations, Fault]]:
+    ...
 
 
 @overload
-def best_all(scrambles: Iterable[Text], *, slack: int = 0, most: Optional[int] = 20, nodes: Optional[int] = None,
-             partial: bool = False, threads: int = 1,
-             progress: Optional[Progress] = None) -> Iterator[Union[Continuations, Fault, Cut]]: ...
+def best_all(
+    scrambles: Iterable[Text],
+    *,
+    slack: int = 0,
+    most: Optional[int] = 20,
+    nodes: Optional[int] = None,
+    partial: bool = False,
+    threads: int = 1,
+    progress: Optional[Progress] = None,
+) -> Iterator[Union[Continuations, Fault, Cut]]:
+    ...
 
 
-def best_all(scrambles: Iterable[Text], *, slack: int = 0, most: Optional[int] = 20, nodes: Optional[int] = None,
-             partial: bool = False, threads: int = 1,
-             progress: Optional[Progress] = None) -> Iterator[Union[Continuations, Fault, Cut]]:
+def best_all(
+    scrambles: Iterable[Text],
+    *,
+    slack: int = 0,
+    most: Optional[int] = 20,
+    nodes: Optional[int] = None,
+    partial: bool = False,
+    threads: int = 1,
+    progress: Optional[Progress] = None,
+) -> Iterator[Union[Continuations, Fault, Cut]]:
     """What may follow each scramble in turn, as `best` returns it; of one for which `best` raises, what it raises, with
     the line's number, from 1, as `line` (`raising` raises it). Takes scrambles, threads and `progress` as `solve_all`
     does; `nodes` is for each scramble anew. By four threads a list takes a fourth of the time on four processors."""

@@ -45,9 +45,14 @@ class AttemptCheck(NamedTuple):
     def as_dict(self) -> Dict[str, Any]:
         """What is said of it, as json.dumps takes it, with the `name` of the attempt."""
         checked = None if self.check is None else {**self.check._asdict(), "forms": list(self.check.forms)}
-        return {"name": self.attempt.name, "check": checked, "fault": self.fault and self.fault.as_dict(),
-                "place": self.place and self.place._asdict(), "forms": [it.as_dict() for it in self.forms],
-                "doubt": self.doubt and {"reason": self.doubt.reason, "place": self.doubt.place._asdict()}}
+        return {
+            "name": self.attempt.name,
+            "check": checked,
+            "fault": self.fault and self.fault.as_dict(),
+            "place": self.place and self.place._asdict(),
+            "forms": [it.as_dict() for it in self.forms],
+            "doubt": self.doubt and {"reason": self.doubt.reason, "place": self.doubt.place._asdict()},
+        }
 
 
 def _doubt_of(found: Found) -> Optional[AttemptDoubt]:

@@ -120,13 +120,19 @@ class Facts:
         """All of it by the same names, as json.dumps takes it: of bad pieces there are lists of the places."""
         pieces = {"bad_edges": self.bad_edges, "bad_corners": self.bad_corners, "misplaced_edges": self.misplaced_edges}
         places = {name: {axis: list(it.places) for axis, it in by_axis.items()} for name, by_axis in pieces.items()}
-        return {"solved": self.solved, "moves": self.moves, "clean_moves": self.clean_moves, "holds": list(self.holds),
-                "case": {axis: str(case) for axis, case in self.case.items()}, **places}
+        return {
+            "solved": self.solved,
+            "moves": self.moves,
+            "clean_moves": self.clean_moves,
+            "holds": list(self.holds),
+            "case": {axis: str(case) for axis, case in self.case.items()},
+            **places,
+        }
 
     def _by_axis(self, of_axis: Callable[[Tuple[int, ...]], Value]) -> Dict[Axis, Value]:
         """Returns what each axis's numbers stand for."""
-        numbers = self._numbers()[_FIRST + 1:]
-        return {axis: of_axis(numbers[_EACH * at:_EACH * (at + 1)]) for at, axis in enumerate(AXES)}
+        numbers = self._numbers()[_FIRST + 1 :]
+        return {axis: of_axis(numbers[_EACH * at : _EACH * (at + 1)]) for at, axis in enumerate(AXES)}
 
     def __eq__(self, other: object) -> bool:
         return isinstance(other, Facts) and self._numbers() == other._numbers()
@@ -209,7 +215,7 @@ def _told(piece: Piece, told: bytes) -> Iterable[Union[Facts, Fault]]:
     size = FACTS_ANSWER.size
     if told[::size].count(DONE) == len(piece.lines):
         return starmap(Facts, _EACH_ANSWER.iter_unpack(told))
-    return (_fault(piece, told, at) if told[at] else Facts(told[at:at + size]) for at in range(0, len(told), size))
+    return (_fault(piece, told, at) if told[at] else Facts(told[at : at + size]) for at in range(0, len(told), size))
 
 
 def _fault(piece: Piece, told: bytes, at: int) -> Fault:
@@ -219,8 +225,9 @@ def _fault(piece: Piece, told: bytes, at: int) -> Fault:
     return fault_of(status, fault, column, data, number)
 
 
-def facts_all(lines: Iterable[Text], threads: int = 1,
-              progress: Optional[Progress] = None) -> Iterator[Union[Facts, Fault]]:
+def facts_all(
+    lines: Iterable[Text], threads: int = 1, progress: Optional[Progress] = None
+) -> Iterator[Union[Facts, Fault]]:
     """What is seen of each line in turn, as `facts` returns it; of a line for which `facts` raises, what it
     raises, with the line's number, from 1, as `line` (`raising` raises it). Takes lines in pieces, threads and
     `progress` as `count_all` does."""
@@ -233,11 +240,11 @@ def check(scramble: Text, solution: Text) -> Check:
     return checked((bytes_of(scramble, "the scramble"), bytes_of(solution, "the solution")), "solution")
 
 
-def check_all(pairs: Iterable[Iterable[Text]],
-              progress: Optional[Progress] = None) -> Iterator[Union[Check, Fault]]:
+def check_all(pairs: Iterable[Iterable[Text]], progress: Optional[Progress] = None) -> Iterator[Union[Check, Fault]]:
     """Whether each of many solutions solves its scramble, of pairs of a scramble and a solution, such as two columns of
     a table: what `check` returns; of a pair for which it raises, what it raises, with the number of the pair, from 1,
     as `line` (`raising` raises it). Takes a pair when its answer is asked for, and `progress` as `solve_all` does."""
+
     def ask(number: int, pair: Tuple[bytes, bytes]) -> Union[Check, Fault]:
         told = told_of(pair, "solution")
         return of_pair(told, number) if isinstance(told, Fault) else told

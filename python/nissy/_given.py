@@ -10,8 +10,19 @@ if sys.version_info >= (3, 8):
     from typing import Literal
 
     Step = Literal[
-        "eofb", "eorl", "eoud", "drud-eofb", "drrl-eofb", "drud-eorl", "drfb-eorl", "drrl-eoud", "drfb-eoud",
-        "eo", "dr-eofb", "dr-eorl", "dr-eoud",
+        "eofb",
+        "eorl",
+        "eoud",
+        "drud-eofb",
+        "drrl-eofb",
+        "drud-eorl",
+        "drfb-eorl",
+        "drrl-eoud",
+        "drfb-eoud",
+        "eo",
+        "dr-eofb",
+        "dr-eorl",
+        "dr-eoud",
     ]
     Partial = Literal[True]
 else:

@@ -73,7 +73,7 @@ def _read(reader: Reader, part: List[TextLine]) -> List[Found]:
     # what stands a blank line below the head is directly under it too
     line = next((line for line in part[head:] if line.kind), part[head])
     begin = max(line.begin, part[head].head_end)
-    own = Reader(reader.whole, _BEFORE + reader.whole.data[begin:part[-1].end], begin - len(_BEFORE))
+    own = Reader(reader.whole, _BEFORE + reader.whole.data[begin : part[-1].end], begin - len(_BEFORE))
     first, *others = own.attempts()
     begun = Found(own.attempt(first[0] + 1, first[1]), own, first[0] + 1, first[1]).replaced(name=_name(reader, part))
     return [begun, *(Found(own.attempt(*lines), own, *lines) for lines in others)]

@@ -32,6 +32,7 @@ def _struct(fields: str, *others: Tuple[str, Any]) -> Any:
 
 class KeptTables(ctypes.Structure):
     """The tables of a step, or none: nissy_tables."""
+
     _fields_ = [("tables", ctypes.c_void_p), ("built", ctypes.c_uint8)]
 
 
@@ -39,7 +40,8 @@ LineAnswer = _struct("status:1 fault:1 column:4 length:8")
 RunAnswer = _struct("status:1 out_too_small:1 err_too_small:1 out_length:8 err_length:8")
 SearchAnswer = _struct("status:1 fault:1 least:1 more:1 column:4 length:8 solutions:8 nodes:8")
 AxisFacts = _struct(
-    "bad_edge_places:2 bad_corner_places:2 misplaced_edge_places:2 bad_edges:1 bad_corners:1 misplaced_edges:1")
+    "bad_edge_places:2 bad_corner_places:2 misplaced_edge_places:2 bad_edges:1 bad_corners:1 misplaced_edges:1"
+)
 FactsAnswer = _struct("status:1 fault:1 solved:1 column:4 moves:2 clean_moves:2 holds:2", ("axes", AxisFacts * 3))
 CheckAnswer = _struct("status:1 fault:1 line:1 solved:1 column:4 moves:2 clean_moves:2 forms:1")
 LinesAnswer = _struct("status:1 lines:8 bytes:8")
@@ -121,11 +123,13 @@ def _call(name: str, returned: Any, *taken: Any) -> Callable[..., Any]:
 nissy_run = _call("nissy_run", RunAnswer, *_READ, *_READ, *_WRITTEN, *_WRITTEN)
 nissy_invert, nissy_unniss, nissy_cleanup, nissy_facelets = (
     _call(name, LineAnswer, *_READ, *_WRITTEN)
-    for name in ("nissy_invert", "nissy_unniss", "nissy_cleanup", "nissy_facelets"))
+    for name in ("nissy_invert", "nissy_unniss", "nissy_cleanup", "nissy_facelets")
+)
 nissy_build = _call("nissy_build", ctypes.c_uint8, _PLACE, *_READ)
 nissy_solve = _call("nissy_solve", SearchAnswer, _PLACE, *_READ, _BYTE, _BYTE, _LONG, _LONG, *_WRITTEN)
 nissy_solve_after = _call(
-    "nissy_solve_after", SearchAnswer, _PLACE, *_READ, *_READ, _BYTE, _BYTE, _LONG, _LONG, *_WRITTEN)
+    "nissy_solve_after", SearchAnswer, _PLACE, *_READ, *_READ, _BYTE, _BYTE, _LONG, _LONG, *_WRITTEN
+)
 nissy_count = _call("nissy_count", SearchAnswer, _PLACE, *_READ, _BYTE, _BYTE, _LONG, _LONG)
 nissy_count_lines = _call("nissy_count_lines", LinesAnswer, _PLACE, *_READ, _BYTE, _BYTE, _LONG, _LONG, *_WRITTEN)
 nissy_facts = _call("nissy_facts", FactsAnswer, *_READ)
@@ -137,7 +141,8 @@ nissy_line_after = _call("nissy_line_after", LineAfterAnswer, *_READ, *_READ, *_
 nissy_plain = _call("nissy_plain", PlainAnswer, *_READ, *_WRITTEN, *_WRITTEN)
 nissy_text_lines = _call("nissy_text_lines", TextAnswer, *_READ, *_WRITTEN)
 nissy_text_moves = _call(
-    "nissy_text_moves", PlainAnswer, *_READ, _PLACE, _NUMBER, _BYTE, *_WRITTEN, *_WRITTEN, *_WRITTEN)
+    "nissy_text_moves", PlainAnswer, *_READ, _PLACE, _NUMBER, _BYTE, *_WRITTEN, *_WRITTEN, *_WRITTEN
+)
 nissy_solving_part = _call("nissy_solving_part", PartAnswer, *_READ, *_READ)
 nissy_scramble = _call("nissy_scramble", LineAnswer, _LONG, _LONG, _HALF, *_WRITTEN)
 nissy_steps = _call("nissy_steps", LineAnswer, *_WRITTEN)

@@ -20,7 +20,7 @@ def _written(call: Callable[..., Any], data: bytes, *given: Any) -> str:
     for its text. Raises Fault."""
     room = _rooms.take()
     answer = call(*given, room.address, LINE_ROOM)
-    text = room.memory[:answer.length] if answer.status == DONE else b""
+    text = room.memory[: answer.length] if answer.status == DONE else b""
     _rooms.put_back(room)
     if answer.status:
         raise fault_of(answer.status, answer.fault, answer.column, data)
@@ -33,7 +33,7 @@ def fault_of(status: int, fault: int, column: int, data: bytes, line: Optional[i
     if status != FAULT:
         return Fault(f"a line has at most {MOST_INPUT:,} bytes", line)
     # what stands before a fault spells moves, so it can be read
-    return LineFault(column, fault_text(fault), line, len(data[:column - 1].decode("utf-8", "replace")) + 1)
+    return LineFault(column, fault_text(fault), line, len(data[: column - 1].decode("utf-8", "replace")) + 1)
 
 
 @lru_cache(maxsize=None)
@@ -69,8 +69,11 @@ def facelets(line: Text) -> str:
 
 def drawing(state: int, stream: int, length: int) -> Tuple[int, int, int]:
     """Returns the numbers by which scrambles are drawn, checked."""
-    return (number_of(state, "the state", MOST_WORD), number_of(stream, "the stream", MOST_WORD),
-            number_of(length, "the length", _MOST_LENGTH))
+    return (
+        number_of(state, "the state", MOST_WORD),
+        number_of(stream, "the stream", MOST_WORD),
+        number_of(length, "the length", _MOST_LENGTH),
+    )
 
 
 def scramble(state: int, stream: int, length: int) -> str:

@@ -139,7 +139,7 @@ class _Taking:
             except (TypeError, ValueError) as error:
                 self.error = error
                 break
-        del lines[len(parts):]
+        del lines[len(parts) :]
         return b"".join(parts)
 
     def took(self, piece: Piece, seconds: float) -> None:
@@ -186,8 +186,9 @@ def _lasting(lines: Iterable[Text], each: Iterator[Text]) -> Iterator[Text]:
     return (line if type(line) is str else _copied(line) for line in each)
 
 
-def in_pieces(lines: Iterable[Text], asking: Asking[Value], threads: int,
-              progress: Optional[Progress]) -> Iterator[Value]:
+def in_pieces(
+    lines: Iterable[Text], asking: Asking[Value], threads: int, progress: Optional[Progress]
+) -> Iterator[Value]:
     """Returns an iterator of the answers to lines, which are taken in pieces. The arguments are checked at once."""
     each = each_of(lines, "the lines")
     if number_of(threads, "threads", _MOST_THREADS, 1) == 1:
@@ -195,15 +196,17 @@ def in_pieces(lines: Iterable[Text], asking: Asking[Value], threads: int,
     return _by_threads(lines, each, asking, threads, progress)
 
 
-def _by_threads(lines: Iterable[Text], each: Iterator[Text], asking: Asking[Value], threads: int,
-                progress: Optional[Progress]) -> Iterator[Value]:
+def _by_threads(
+    lines: Iterable[Text], each: Iterator[Text], asking: Asking[Value], threads: int, progress: Optional[Progress]
+) -> Iterator[Value]:
     """Returns an iterator of the answers to lines, which are given both as a whole and one by one."""
     taking = _Taking(_lasting(lines, each), _SHORT_OF_THREADS, _count_of(lines) or 0, threads)
     return _side_by_side(taking, asking, _Telling(lines, progress), threads)
 
 
-def one_by_one(lines: Iterable[Text], ask: Callable[[int, bytes], Value], threads: int,
-               progress: Optional[Progress]) -> Iterator[Value]:
+def one_by_one(
+    lines: Iterable[Text], ask: Callable[[int, bytes], Value], threads: int, progress: Optional[Progress]
+) -> Iterator[Value]:
     """Returns an iterator of the answers to lines, each of which is taken when its answer is asked for: so they come by
     one thread. Several take pieces. A line is asked by its number, from 1, and its bytes."""
     each = each_of(lines, "the lines")
@@ -219,8 +222,9 @@ def one_by_one(lines: Iterable[Text], ask: Callable[[int, bytes], Value], thread
     return _by_threads(lines, each, Asking(of_piece, found), threads, progress)
 
 
-def pair_by_pair(pairs: Iterable[Iterable[Text]], ask: Callable[[int, Tuple[bytes, bytes]], Value],
-                 progress: Optional[Progress]) -> Iterator[Value]:
+def pair_by_pair(
+    pairs: Iterable[Iterable[Text]], ask: Callable[[int, Tuple[bytes, bytes]], Value], progress: Optional[Progress]
+) -> Iterator[Value]:
     """Returns an iterator of the answers to pairs of a scramble and a solution, each of which is taken when its answer
     is asked for. A pair is asked by its number, from 1, and its bytes."""
     each = enumerate(each_of(pairs, "the pairs"), 1)
@@ -310,6 +314,7 @@ def _side_by_side(taking: _Taking, asking: Asking[Value], telling: _Telling, thr
     processor while another one rests."""
     # nobody else waits for this module to be read
     from concurrent.futures import ThreadPoolExecutor
+
     asked: Deque[_Asked[Value]] = deque()
 
     def first() -> Iterable[Value]:

@@ -31,14 +31,15 @@ def _joined(words: Iterable[Text]) -> bytes:
 class _Run:
     def __init__(self, room: Room, words: bytes, data: bytes) -> None:
         self._room, self._err = room, ctypes.create_string_buffer(ERROR_ROOM)
-        self._told = _library.nissy_run(words, len(words), data, len(data), room.address, room.size,
-                                        ctypes.addressof(self._err), ERROR_ROOM)
+        self._told = _library.nissy_run(
+            words, len(words), data, len(data), room.address, room.size, ctypes.addressof(self._err), ERROR_ROOM
+        )
         self.full = bool(self._told.out_too_small)
 
     def answer(self) -> Answer:
         """Returns the answer, with the output copied from the room."""
         told = self._told
-        return Answer(told.status, self._room.memory[:told.out_length], self._err.raw[:told.err_length], self.full)
+        return Answer(told.status, self._room.memory[: told.out_length], self._err.raw[: told.err_length], self.full)
 
 
 def _answer(words: bytes, data: bytes) -> Answer:

@@ -43,13 +43,13 @@ class _Search:
     def solve(self, numbers: _Numbers, partial: bool, data: bytes) -> Solutions:
         room = _rooms.take()
         answer = _library.nissy_solve(self._tables, data, len(data), *numbers, room.address, room.size)
-        out = room.memory[:answer.length]
+        out = room.memory[: answer.length]
         _rooms.put_back(room)
         # it stopped as soon as the room was full
         while answer.status == ROOM:
             room = _rooms.larger(room)
             answer = _library.nissy_solve(self._tables, data, len(data), *numbers, room.address, room.size)
-            out = room.memory[:answer.length] if answer.status != ROOM else b""
+            out = room.memory[: answer.length] if answer.status != ROOM else b""
         status = answer.status
         if status and status != CUT:
             raise self._fault(status, answer.fault, answer.column, data)
@@ -90,8 +90,9 @@ class _Search:
         else:
             after = last.encode()
             answer = _library.nissy_solve_after(
-                self._tables, data, len(data), after, len(after), *numbers, room.address, room.size)
-        out = room.memory[:answer.length]
+                self._tables, data, len(data), after, len(after), *numbers, room.address, room.size
+            )
+        out = room.memory[: answer.length]
         _rooms.put_back(room)
         if answer.status and answer.status != CUT:
             raise self._fault(answer.status, answer.fault, answer.column, data)
@@ -122,14 +123,17 @@ class _Search:
         # the tuple's own way to make one takes half the time
         size, new = SEARCH_ANSWER.size, tuple.__new__
         words = memoryview(told).cast("Q")
-        found = words[_SOLUTIONS::size // 8].tolist()
+        found = words[_SOLUTIONS :: size // 8].tolist()
         # of most pieces: no line of Python is run for a count
         if told[::size].count(DONE) == len(found) and 0 not in found:
-            return map(new, repeat(Count), zip(told[_LEAST::size], found, words[_NODES::size // 8], repeat(False)))
+            return map(new, repeat(Count), zip(told[_LEAST::size], found, words[_NODES :: size // 8], repeat(False)))
         answers = enumerate(SEARCH_ANSWER.iter_unpack(told))
-        return [new(Count, (least if found else None, found, nodes, False)) if not status
-                else self._not_counted(partial, piece, at, (status, fault, least, column, found, nodes))
-                for at, (status, fault, least, _, column, _, found, nodes) in answers]
+        return [
+            new(Count, (least if found else None, found, nodes, False))
+            if not status
+            else self._not_counted(partial, piece, at, (status, fault, least, column, found, nodes))
+            for at, (status, fault, least, _, column, _, found, nodes) in answers
+        ]
 
     def _not_counted(self, partial: bool, piece: Piece, at: int, told: Tuple[int, ...]) -> Union[Count, Fault, Cut]:
         """Returns what is said of a line that wasn't counted to the end."""
@@ -168,9 +172,12 @@ def _solutions(text: str, length: int) -> Solutions:
 def _numbers(limit: int, slack: int, most: Optional[int], nodes: Optional[int]) -> _Numbers:
     """Returns the numbers of a search, checked. The library's own greatest number stands for all solutions,
     and for any number of nodes."""
-    return (number_of(limit, "the limit", MOST_TURNS), number_of(slack, "the slack", MOST_TURNS),
-            MOST_WORD if most is None else number_of(most, "most", MOST_WORD),
-            MOST_WORD if nodes is None else number_of(nodes, "nodes", MOST_WORD))
+    return (
+        number_of(limit, "the limit", MOST_TURNS),
+        number_of(slack, "the slack", MOST_TURNS),
+        MOST_WORD if most is None else number_of(most, "most", MOST_WORD),
+        MOST_WORD if nodes is None else number_of(nodes, "nodes", MOST_WORD),
+    )
 
 
 _last: Dict[str, _Search] = {}
@@ -185,8 +192,17 @@ def _search(step: Step) -> _Search:
         return _last.setdefault(search.step, search)
 
 
-def solve(step: Step, line: Text, limit: int = 20, slack: int = 0, most: Optional[int] = None,
-          nodes: Optional[int] = None, partial: bool = False, *, sides: Optional[Sides] = None) -> Solutions:
+def solve(
+    step: Step,
+    line: Text,
+    limit: int = 20,
+    slack: int = 0,
+    most: Optional[int] = None,
+    nodes: Optional[int] = None,
+    partial: bool = False,
+    *,
+    sides: Optional[Sides] = None,
+) -> Solutions:
     """The solutions of a line: those that have at most `limit` turns and at most `slack` more than the shortest, by
     length and then in turn order, as `nissy near` writes them (`nissy solve` with slack 0). With `most` no more
     than that many of them, and the search ends at the next one. With `nodes` the search looks at no more than that many
@@ -211,8 +227,15 @@ def solutions(step: Step, line: Text, *, limit: int = 20, slack: int = 0) -> Ite
     return chain.from_iterable(chain((next(pieces),), pieces))
 
 
-def count(step: Step, line: Text, limit: int = 20, slack: int = 0, most: Optional[int] = None,
-          nodes: Optional[int] = None, partial: bool = False) -> Count:
+def count(
+    step: Step,
+    line: Text,
+    limit: int = 20,
+    slack: int = 0,
+    most: Optional[int] = None,
+    nodes: Optional[int] = None,
+    partial: bool = False,
+) -> Count:
     """How many solutions `solve` returns of a line, of which length the shortest are, and how many positions the search
     looks at. With `most=1` it ends at the second one, and so finds the length soonest. Takes `nodes` and `partial`
     as `solve` does. Raises LineFault, StartFault and Cut."""
@@ -221,20 +244,47 @@ def count(step: Step, line: Text, limit: int = 20, slack: int = 0, most: Optiona
 
 
 @overload
-def solve_all(step: Step, lines: Iterable[Text], limit: int = 20, slack: int = 0, most: Optional[int] = None,
-              nodes: Optional[int] = None, *, partial: Partial, threads: int = 1,
-              progress: Optional[Progress] = None) -> Iterator[Union[Solutions, Fault]]: ...
+def solve_all(
+    step: Step,
+    lines: Iterable[Text],
+    limit: int = 20,
+    slack: int = 0,
+    most: Optional[int] = None,
+    nodes: Optional[int] = None,
+    *,
+    partial: Partial,
+    threads: int = 1,
+    progress: Optional[Progress] = None,
+) -> Iterator[Union[Solutions, Fault]]:
+    ...
 
 
 @overload
-def solve_all(step: Step, lines: Iterable[Text], limit: int = 20, slack: int = 0, most: Optional[int] = None,
-              nodes: Optional[int] = None, partial: bool = False, threads: int = 1,
-              progress: Optional[Progress] = None) -> Iterator[Union[Solutions, Fault, Cut]]: ...
+def solve_all(
+    step: Step,
+    lines: Iterable[Text],
+    limit: int = 20,
+    slack: int = 0,
+    most: Optional[int] = None,
+    nodes: Optional[int] = None,
+    partial: bool = False,
+    threads: int = 1,
+    progress: Optional[Progress] = None,
+) -> Iterator[Union[Solutions, Fault, Cut]]:
+    ...
 
 
-def solve_all(step: Step, lines: Iterable[Text], limit: int = 20, slack: int = 0, most: Optional[int] = None,
-              nodes: Optional[int] = None, partial: bool = False, threads: int = 1,
-              progress: Optional[Progress] = None) -> Iterator[Union[Solutions, Fault, Cut]]:
+def solve_all(
+    step: Step,
+    lines: Iterable[Text],
+    limit: int = 20,
+    slack: int = 0,
+    most: Optional[int] = None,
+    nodes: Optional[int] = None,
+    partial: bool = False,
+    threads: int = 1,
+    progress: Optional[Progress] = None,
+) -> Iterator[Union[Solutions, Fault, Cut]]:
     """The solutions of each line in turn, as `solve` returns them; of a line for which `solve` raises, what it raises,
     with the line's number, from 1, as `line` (`raising` raises it). A line is taken from the iterable when its answer
     is asked for. With `threads` that many lines are asked side by side, and more are taken ahead; the answers come in
@@ -252,20 +302,47 @@ def solve_all(step: Step, lines: Iterable[Text], limit: int = 20, slack: int = 0
 
 
 @overload
-def count_all(step: Step, lines: Iterable[Text], limit: int = 20, slack: int = 0, most: Optional[int] = None,
-              nodes: Optional[int] = None, *, partial: Partial, threads: int = 1,
-              progress: Optional[Progress] = None) -> Iterator[Union[Count, Fault]]: ...
+def count_all(
+    step: Step,
+    lines: Iterable[Text],
+    limit: int = 20,
+    slack: int = 0,
+    most: Optional[int] = None,
+    nodes: Optional[int] = None,
+    *,
+    partial: Partial,
+    threads: int = 1,
+    progress: Optional[Progress] = None,
+) -> Iterator[Union[Count, Fault]]:
+    ...
 
 
 @overload
-def count_all(step: Step, lines: Iterable[Text], limit: int = 20, slack: int = 0, most: Optional[int] = None,
-              nodes: Optional[int] = None, partial: bool = False, threads: int = 1,
-              progress: Optional[Progress] = None) -> Iterator[Union[Count, Fault, Cut]]: ...
+def count_all(
+    step: Step,
+    lines: Iterable[Text],
+    limit: int = 20,
+    slack: int = 0,
+    most: Optional[int] = None,
+    nodes: Optional[int] = None,
+    partial: bool = False,
+    threads: int = 1,
+    progress: Optional[Progress] = None,
+) -> Iterator[Union[Count, Fault, Cut]]:
+    ...
 
 
-def count_all(step: Step, lines: Iterable[Text], limit: int = 20, slack: int = 0, most: Optional[int] = None,
-              nodes: Optional[int] = None, partial: bool = False, threads: int = 1,
-              progress: Optional[Progress] = None) -> Iterator[Union[Count, Fault, Cut]]:
+def count_all(
+    step: Step,
+    lines: Iterable[Text],
+    limit: int = 20,
+    slack: int = 0,
+    most: Optional[int] = None,
+    nodes: Optional[int] = None,
+    partial: bool = False,
+    threads: int = 1,
+    progress: Optional[Progress] = None,
+) -> Iterator[Union[Count, Fault, Cut]]:
     """How many solutions each line has in turn, as `count` returns it; of a line for which `count` raises, what it
     raises, with the line's number, from 1, as `line` (`raising` raises it). Lines are taken from the iterable in
     pieces, the first of one line and later ones of up to 16,384, which the library counts in one call each. With

@@ -40,12 +40,13 @@ def solve_sides(tables: int, sides: int, numbers: Tuple[int, int, int, int], lin
     while True:
         places = min(most - len(found), room.size // PART.size)
         answer = _library.nissy_solve_sides(
-            tables, turns, len(turns), b"", 0, ctypes.addressof(wanted), room.address, places)
+            tables, turns, len(turns), b"", 0, ctypes.addressof(wanted), room.address, places
+        )
         if answer.status not in (DONE, CUT):
             break
         if not found and answer.rows:
             limit = min(limit, wanted.length + slack)
-        found += (Solution(moves_of(*part[1:])) for part in PART.iter_unpack(room.memory[:answer.rows * PART.size]))
+        found += (Solution(moves_of(*part[1:])) for part in PART.iter_unpack(room.memory[: answer.rows * PART.size]))
         found.nodes, found.cut = found.nodes + answer.nodes, answer.status == CUT
         found.more, wanted.most_nodes = bool(answer.more) or found.cut, wanted.most_nodes - answer.nodes
         if found.cut or found.more and len(found) == most:

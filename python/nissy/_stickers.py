@@ -24,16 +24,38 @@ CORNER_PLACES: Tuple[str, ...] = ("URF", "UFL", "ULB", "UBR", "DFR", "DLF", "DBL
 """The places of corners, in the same order."""
 
 # the numbers of their letters, in the order of the names
-_OF_EDGES = ((5, 10), (7, 19), (3, 37), (1, 46), (32, 16), (28, 25), (30, 43), (34, 52), (23, 12), (21, 41), (50, 39),
-             (48, 14))
-_OF_CORNERS = ((8, 9, 20), (6, 18, 38), (0, 36, 47), (2, 45, 11), (29, 26, 15), (27, 44, 24), (33, 53, 42),
-               (35, 17, 51))
+_OF_EDGES = (
+    (5, 10),
+    (7, 19),
+    (3, 37),
+    (1, 46),
+    (32, 16),
+    (28, 25),
+    (30, 43),
+    (34, 52),
+    (23, 12),
+    (21, 41),
+    (50, 39),
+    (48, 14),
+)
+_OF_CORNERS = (
+    (8, 9, 20),
+    (6, 18, 38),
+    (0, 36, 47),
+    (2, 45, 11),
+    (29, 26, 15),
+    (27, 44, 24),
+    (33, 53, 42),
+    (35, 17, 51),
+)
 _STICKERS: Dict[str, Tuple[int, ...]] = dict(zip(EDGE_PLACES + CORNER_PLACES, _OF_EDGES + _OF_CORNERS))
 
 # the same by each name that begins with another face and goes on around the piece as its own name does
 _AROUND: Dict[str, Tuple[int, ...]] = {
     name[begin:] + name[:begin]: stickers[begin:] + stickers[:begin]
-    for name, stickers in _STICKERS.items() for begin in range(len(name))}
+    for name, stickers in _STICKERS.items()
+    for begin in range(len(name))
+}
 
 # the faces in the order of `facelets`, and the numbers of their centres there
 _FACES = "URFDLB"
@@ -43,7 +65,8 @@ _CENTRES = range(4, 54, 9)
 _FACES_OF_NET = ((0, 3), (3, 6), (3, 3), (6, 3), (3, 0), (3, 9))
 
 NET: Tuple[Tuple[int, int], ...] = tuple(
-    (row + at // 3, column + at % 3) for row, column in _FACES_OF_NET for at in range(9))
+    (row + at // 3, column + at % 3) for row, column in _FACES_OF_NET for at in range(9)
+)
 """The row and the column, from 0, of each letter of `facelets` in the usual net of 9 rows and 12 columns: U above F,
 L F R B in a row, and D below F."""
 
@@ -70,7 +93,7 @@ def _unturned(place: str, centres: str) -> str:
 
 def _centres_of(letters: str) -> str:
     """Returns the centres, which are on the faces as those of a cube."""
-    centres = "".join(letters[at:at + 1] for at in _CENTRES)
+    centres = "".join(letters[at : at + 1] for at in _CENTRES)
     # corners that are corners again, and none as in a mirror, leave no other way than to turn the whole cube
     is_turned = all(_unturned(name, centres) in _AROUND for name in CORNER_PLACES)
     if len(letters) != 54 or not set(letters) <= set(_FACES) or not is_turned:

@@ -21,12 +21,25 @@ _SUFFIXES = {1: "", 2: "2", -1: "'"}
 _NEAR, _FAR, _MIDDLE = (1,), (-1,), (0,)
 # the axis of each move, its layers there, and whether it turns as its axis does (1) or the other way round (-1)
 _TURNED: Dict[str, Tuple[CubeAxis, Tuple[int, ...], int]] = {
-    "R": ("x", _NEAR, 1), "U": ("y", _NEAR, 1), "F": ("z", _NEAR, 1),
-    "L": ("x", _FAR, -1), "D": ("y", _FAR, -1), "B": ("z", _FAR, -1),
-    "Rw": ("x", (0, 1), 1), "Uw": ("y", (0, 1), 1), "Fw": ("z", (0, 1), 1),
-    "Lw": ("x", (-1, 0), -1), "Dw": ("y", (-1, 0), -1), "Bw": ("z", (-1, 0), -1),
-    "M": ("x", _MIDDLE, -1), "E": ("y", _MIDDLE, -1), "S": ("z", _MIDDLE, 1),
-    "x": ("x", (-1, 0, 1), 1), "y": ("y", (-1, 0, 1), 1), "z": ("z", (-1, 0, 1), 1)}
+    "R": ("x", _NEAR, 1),
+    "U": ("y", _NEAR, 1),
+    "F": ("z", _NEAR, 1),
+    "L": ("x", _FAR, -1),
+    "D": ("y", _FAR, -1),
+    "B": ("z", _FAR, -1),
+    "Rw": ("x", (0, 1), 1),
+    "Uw": ("y", (0, 1), 1),
+    "Fw": ("z", (0, 1), 1),
+    "Lw": ("x", (-1, 0), -1),
+    "Dw": ("y", (-1, 0), -1),
+    "Bw": ("z", (-1, 0), -1),
+    "M": ("x", _MIDDLE, -1),
+    "E": ("y", _MIDDLE, -1),
+    "S": ("z", _MIDDLE, 1),
+    "x": ("x", (-1, 0, 1), 1),
+    "y": ("y", (-1, 0, 1), 1),
+    "z": ("z", (-1, 0, 1), 1),
+}
 
 
 class Token(NamedTuple):
@@ -75,8 +88,13 @@ def tokens(line: Text) -> List[Token]:
 
 @lru_cache(maxsize=None)
 def _forms_of(item: str) -> Tuple[str, ...]:
-    has = {"slices": item[0] in "MES", "lower_case": item[0] in "udrlfb", "brackets": item in "()",
-           "apostrophe": item[-1] == "\u2019", "half_prime": item[-2:] in ("2'", "2\u2019")}
+    has = {
+        "slices": item[0] in "MES",
+        "lower_case": item[0] in "udrlfb",
+        "brackets": item in "()",
+        "apostrophe": item[-1] == "\u2019",
+        "half_prime": item[-2:] in ("2'", "2\u2019"),
+    }
     return tuple(form for form, there in has.items() if there)
 
 
@@ -93,7 +111,7 @@ def places_of(text: str) -> List[FormPlace]:
     found, item_end, column = [], 0, 1
     for it in _ITEM.finditer(text):
         # what was counted before isn't counted again
-        column += len(text[item_end:it.start()].encode())
+        column += len(text[item_end : it.start()].encode())
         forms = _forms_of(it.group())
         if forms:
             found.append(FormPlace(it.group(), forms, column, it.start() + 1))

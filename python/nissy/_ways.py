@@ -55,7 +55,7 @@ def moves_of(*sides: Any) -> str:
 
 def _ends(turns: bytes, free: int) -> List[str]:
     """Returns the last turns of a side, of which each quarter turn may go either way: first as they are."""
-    ways = [(turn,) if turn % 3 == 1 else (turn, turn + 2 - 2 * (turn % 3)) for turn in turns[len(turns) - free:]]
+    ways = [(turn,) if turn % 3 == 1 else (turn, turn + 2 - 2 * (turn % 3)) for turn in turns[len(turns) - free :]]
     return [_line(end) for end in product(*ways)]
 
 
@@ -63,7 +63,8 @@ def _part(is_first: bool, step: int, *sides: Any) -> Tuple[Step, str, str, str, 
     """Returns what an orientation and a reduction have in common, by the fields of a step: the first one with its
     twins."""
     (normal, normal_free), (inverse, inverse_free) = (
-        (turns[:count], free) for count, free, turns in (sides[:3], sides[3:]))
+        (turns[:count], free) for count, free, turns in (sides[:3], sides[3:])
+    )
     moves = _line(normal), _line(inverse)
     ends = product(_ends(normal, normal_free), _ends(inverse, inverse_free)) if is_first else ()
     twins = tuple(_written(*end) for end in ends)[1:]
@@ -101,14 +102,21 @@ class _Search:
         return min(self._most, self._room.size // WAY.size)
 
     def _rows(self) -> bytes:
-        return self._room.memory[:self._asked.there * WAY.size]
+        return self._room.memory[: self._asked.there * WAY.size]
 
     def _answer(self) -> Any:
         """Returns what the library says of what is asked. Raises Fault."""
         scramble, so_far = self._lines
         answer = _library.nissy_best(
-            ctypes.addressof(_tables()), scramble, len(scramble), so_far, len(so_far), ctypes.addressof(self._asked),
-            self._room.address, self._places())
+            ctypes.addressof(_tables()),
+            scramble,
+            len(scramble),
+            so_far,
+            len(so_far),
+            ctypes.addressof(self._asked),
+            self._room.address,
+            self._places(),
+        )
         if answer.status not in (DONE, CUT):
             raise fault_on(answer, self._lines)
         return answer
@@ -126,7 +134,7 @@ class _Search:
         # there may be more than have place
         while answer.rows == self._places() < self._most:
             self._room = _rooms.larger(self._room)
-            self._room.memory[:len(before)] = before
+            self._room.memory[: len(before)] = before
             answer = self._answer()
         asked.there, asked.most_nodes = answer.rows, asked.most_nodes - answer.nodes
         self.tried, self.nodes, self.cut = self.tried + answer.tried, self.nodes + answer.nodes, answer.status == CUT

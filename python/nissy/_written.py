@@ -21,7 +21,7 @@ _PLACE = 8
 # bytes that a line may have in place of others
 _OWN = b" ()"
 # 1 for each byte with which a sign begins, of a text in UTF-8
-_BEGINS = bytes(byte & 0xc0 != 0x80 for byte in range(256))
+_BEGINS = bytes(byte & 0xC0 != 0x80 for byte in range(256))
 
 
 class PlainLine(NamedTuple):
@@ -76,8 +76,8 @@ def written_by(most: int, call: Callable[..., Any]) -> WrittenLine:
     size = (1 + _PLACE) * most
     room = _rooms.take() if size <= _rooms.ORDINARY else _rooms.Room(size)
     answer = call(room.address + _PLACE * most, most, room.address, most)
-    line = room.memory[_PLACE * most:_PLACE * most + answer.length]
-    places = struct.unpack(f"={answer.length}Q", room.memory[:_PLACE * answer.length])
+    line = room.memory[_PLACE * most : _PLACE * most + answer.length]
+    places = struct.unpack(f"={answer.length}Q", room.memory[: _PLACE * answer.length])
     if size <= _rooms.ORDINARY:
         _rooms.put_back(room)
     return WrittenLine(line, places, answer.left_out)
@@ -108,12 +108,12 @@ class Written:
             ends = re.finditer("\r\n|\r|\n", self.text)
             self._lines = [0, *(it.end() for it in ends)]
         # between the two signs of a line's end the next line begins
-        is_between = self.text[at - 1:at + 1] == "\r\n" if at > 0 else False
+        is_between = self.text[at - 1 : at + 1] == "\r\n" if at > 0 else False
         line = bisect_right(self._lines, at + is_between)
         return TextPlace(at, line, max(at - self._lines[line - 1], 0) + 1)
 
     def part(self, begin: int, end: int) -> str:
-        return self.text[self.at(begin):self.at(end)]
+        return self.text[self.at(begin) : self.at(end)]
 
     def plain(self, written: WrittenLine) -> PlainLine:
         """Returns a line that was written of this text."""
@@ -134,7 +134,7 @@ class Written:
         signs, own, last = [], [], -1
         for byte, at in zip(line, map(self.at, places)):
             if byte in _OWN or at != last:
-                sign = self.text[at:at + 1]
+                sign = self.text[at : at + 1]
                 signs.append(chr(byte) if byte in _OWN else "\u2019" if sign in _APOSTROPHES else sign)
                 own.append(at)
             last = last if byte in _OWN else at

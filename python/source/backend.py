@@ -44,7 +44,12 @@ def metadata() -> bytes:
     """Returns what a package says of itself: its fields, and README behind an empty line."""
     said = project()
     classifiers = re.findall(r'^ {4}"(.*)",$', read("pyproject.toml").decode(), re.MULTILINE)
-    fields = [("Metadata-Version", "2.1"), ("Name", said["name"]), ("Version", said["version"]), ("Summary", said["description"])]
+    fields = [
+        ("Metadata-Version", "2.1"),
+        ("Name", said["name"]),
+        ("Version", said["version"]),
+        ("Summary", said["description"]),
+    ]
     fields += [("Classifier", it) for it in classifiers]
     fields += [("Requires-Python", said["requires-python"]), ("Description-Content-Type", "text/markdown")]
     return "".join(f"{name}: {text}\n" for name, text in fields).encode() + b"\n" + read("README.md")
@@ -72,7 +77,17 @@ def command(compiler: List[str], made: str) -> List[str]:
     if os.path.basename(compiler[0]).lower() in ("cl", "cl.exe"):
         headers = read("engine", "nissy.h") + read("engine", "nissy_text.h")
         calls = re.findall(r"^\w+ (nissy_\w+)\(", headers.decode(), re.MULTILINE)
-        return [*compiler, "/nologo", "/std:c11", "/O2", "/LD", "/Fe" + made, source, "/link", *("/EXPORT:" + it for it in calls)]
+        return [
+            *compiler,
+            "/nologo",
+            "/std:c11",
+            "/O2",
+            "/LD",
+            "/Fe" + made,
+            source,
+            "/link",
+            *("/EXPORT:" + it for it in calls),
+        ]
     more = shlex.split(os.environ.get("CFLAGS", ""))
     if MACOS:
         more += [*shlex.split(os.environ.get("ARCHFLAGS", "")), "-dynamiclib"]
@@ -111,7 +126,9 @@ def write_wheel(folder: str, tag: str, library: str) -> str:
     info, rows = stem() + ".dist-info", []
     with open(library, "rb") as file:
         parts = [*files(), ("nissy/" + os.path.basename(library), file.read()), (info + "/METADATA", metadata())]
-    parts.append((info + "/WHEEL", f"Wheel-Version: 1.0\nGenerator: nissy\nRoot-Is-Purelib: false\nTag: {tag}\n".encode()))
+    parts.append(
+        (info + "/WHEEL", f"Wheel-Version: 1.0\nGenerator: nissy\nRoot-Is-Purelib: false\nTag: {tag}\n".encode())
+    )
     for path, data in parts:
         digest = base64.urlsafe_b64encode(hashlib.sha256(data).digest()).rstrip(b"=").decode()
         rows.append(f"{path},sha256={digest},{len(data)}\n")
@@ -126,7 +143,9 @@ def write_wheel(folder: str, tag: str, library: str) -> str:
     return name
 
 
-def build_wheel(wheel_directory: str, config_settings: Optional[Dict[str, Any]] = None, metadata_directory: Optional[str] = None) -> str:
+def build_wheel(
+    wheel_directory: str, config_settings: Optional[Dict[str, Any]] = None, metadata_directory: Optional[str] = None
+) -> str:
     """What pip calls: compiles the library, and packs it for this machine."""
     tag = "py3-none-" + re.sub(r"[-.]", "_", sysconfig.get_platform())
     with tempfile.TemporaryDirectory() as room:

@@ -13,13 +13,13 @@ typedef struct tried {
     uint8_t *at;
 } tried;
 
-#define DECLARED(of)                                               \
-    tried of##_alloc(size_t size, size_t align);                   \
-    tried of##_realloc(void *at, size_t kept, size_t size, size_t align); \
-    void of##_dealloc(void *at);                                   \
-    size_t of##_arg_count(void);                                   \
-    ptrdiff_t of##_arg(size_t i, uint8_t *room, size_t size);      \
-    int32_t of##_errno(void);                                      \
+#define DECLARED(of)                                                                                                                                 \
+    tried of##_alloc(size_t size, size_t align);                                                                                                     \
+    tried of##_realloc(void *at, size_t kept, size_t size, size_t align);                                                                            \
+    void of##_dealloc(void *at);                                                                                                                     \
+    size_t of##_arg_count(void);                                                                                                                     \
+    ptrdiff_t of##_arg(size_t i, uint8_t *room, size_t size);                                                                                        \
+    int32_t of##_errno(void);                                                                                                                        \
     void of##_set_errno(int32_t error);
 DECLARED(rattle)
 DECLARED(our)

@@ -6,29 +6,83 @@ from browser import Browser, Step
 from tally import Tally
 from wanted import SIDES, Position, fault
 
-MARKUP = ("<img src=x onerror=window.hit=1>", "<script>window.hit=1</script>", "\"><svg onload=window.hit=1>", "javascript:window.hit=1",
-    "${window.hit=1}")
-REFUSED = ("#%", "#scramble=%", "#scramble=%E0%A4%A", "#scramble=%FF", "#scramble", "#scramble=R=U", "#__proto__=R", "#constructor=R",
-    "#steps=R", "#steps=normal.", "#steps=normal.R~", "#steps=up.R", "#steps=normal.R.U", "#steps=normal.%3Cb%3E", "#steps=normal.q",
-    "#steps=normal.R_2", "#steps=inverse.R)_(U", "#steps=" + "~".join(["normal.R"] * 257), "#steps=normal." + "_".join(["R"] * 257),
-    "#side=__proto__", "#side=Normal", "#longer=4", "#longer=", "#longer=toString", "#list=eofb.normal", "#list=eofb.normal.4", "#list=eofb.normal.-1", "#list=toString.normal.0",
-    "#list=eofb.constructor.0", "#list=eofb.normal.0.0", "#list=eofb.normal.0.all.all", "#kept=R", "#kept=normal.R;a;b",
-    "#kept=normal.R;a;eofb", "#kept=normal.R;a;toString", "#kept=normal.R;a;drud-eofb;b", "#kept=normal.R,", "#kept=normal.q",
-    "#kept=normal.R;" + "a" * 81, "#kept=" + ",".join(["normal.R"] * 25), "#scramble=" + "R_" * 2100, "#scramble=" + "R_" * 500_000,
-    "#" + "&" * 1_000_000)
+MARKUP = (
+    "<img src=x onerror=window.hit=1>",
+    "<script>window.hit=1</script>",
+    '"><svg onload=window.hit=1>',
+    "javascript:window.hit=1",
+    "${window.hit=1}",
+)
+REFUSED = (
+    "#%",
+    "#scramble=%",
+    "#scramble=%E0%A4%A",
+    "#scramble=%FF",
+    "#scramble",
+    "#scramble=R=U",
+    "#__proto__=R",
+    "#constructor=R",
+    "#steps=R",
+    "#steps=normal.",
+    "#steps=normal.R~",
+    "#steps=up.R",
+    "#steps=normal.R.U",
+    "#steps=normal.%3Cb%3E",
+    "#steps=normal.q",
+    "#steps=normal.R_2",
+    "#steps=inverse.R)_(U",
+    "#steps=" + "~".join(["normal.R"] * 257),
+    "#steps=normal." + "_".join(["R"] * 257),
+    "#side=__proto__",
+    "#side=Normal",
+    "#longer=4",
+    "#longer=",
+    "#longer=toString",
+    "#list=eofb.normal",
+    "#list=eofb.normal.4",
+    "#list=eofb.normal.-1",
+    "#list=toString.normal.0",
+    "#list=eofb.constructor.0",
+    "#list=eofb.normal.0.0",
+    "#list=eofb.normal.0.all.all",
+    "#kept=R",
+    "#kept=normal.R;a;b",
+    "#kept=normal.R;a;eofb",
+    "#kept=normal.R;a;toString",
+    "#kept=normal.R;a;drud-eofb;b",
+    "#kept=normal.R,",
+    "#kept=normal.q",
+    "#kept=normal.R;" + "a" * 81,
+    "#kept=" + ",".join(["normal.R"] * 25),
+    "#scramble=" + "R_" * 2100,
+    "#scramble=" + "R_" * 500_000,
+    "#" + "&" * 1_000_000,
+)
 REFUSALS = ("Left out of this address: ", "This address is too long", "The steps of this address can't be read")
 # an address of which a part is left out, what is said of that, and what else it says stays
-LEFT_OUT = (("#scramble=R_U&", "", "R U", ""), ("#scramble=R_U&utm_source=chat", "utm_source (unknown)", "R U", ""),
+LEFT_OUT = (
+    ("#scramble=R_U&", "", "R U", ""),
+    ("#scramble=R_U&utm_source=chat", "utm_source (unknown)", "R U", ""),
     ("#utm_source=a&scramble=R_U&steps=normal.F&fbclid=b", "utm_source (unknown), fbclid (unknown)", "R U", "F"),
-    ("#scramble=R&toString=1", "toString (unknown)", "R", ""), ("#scramble=R&scramble=F", "scramble (said twice)", "R", ""),
+    ("#scramble=R&toString=1", "toString (unknown)", "R", ""),
+    ("#scramble=R&scramble=F", "scramble (said twice)", "R", ""),
     ("#scramble=R&steps=normal.F~normal.q", "steps (not steps)", "R", ""),
     ("#scramble=R&side=up&steps=normal.F", "side (no side)", "R", "F"),
     ("#scramble=R&list=eofb.normal.9&steps=inverse.F", "list (no list)", "R", "(F)"),
-    ("#scramble=R&kept=normal.q", "kept (not steps)", "R", ""), ("#scramble=R&longer=9", "longer (no number of moves)", "R", ""),
-    ("#scramble=R&" + "&".join(f"a{at}=1" for at in range(9)), ", ".join(f"a{at} (unknown)" for at in range(5)) + " and 4 more", "R", ""),
-    ("#scramble=R&" + "x" * 99 + "=1", "x" * 24 + "\u2026 (unknown)", "R", ""))
+    ("#scramble=R&kept=normal.q", "kept (not steps)", "R", ""),
+    ("#scramble=R&longer=9", "longer (no number of moves)", "R", ""),
+    (
+        "#scramble=R&" + "&".join(f"a{at}=1" for at in range(9)),
+        ", ".join(f"a{at} (unknown)" for at in range(5)) + " and 4 more",
+        "R",
+        "",
+    ),
+    ("#scramble=R&" + "x" * 99 + "=1", "x" * 24 + "\u2026 (unknown)", "R", ""),
+)
 ELEMENTS = "return all('*').filter((each) => !each.closest('#steps-body, pre')).length"
-UNHARMED = f"const count = (() => {{ {ELEMENTS} }})(); return [window.hit === undefined && ({{}}).hit === undefined, count]"
+UNHARMED = (
+    f"const count = (() => {{ {ELEMENTS} }})(); return [window.hit === undefined && ({{}}).hit === undefined, count]"
+)
 
 
 def is_shown(tally: Tally, browser: Browser, what: str, *made: str) -> None:
@@ -45,8 +99,11 @@ def markup(tally: Tally, browser: Browser) -> None:
         # what stands before a colon is a label, and left out
         word = re.split(r"[\s()]", text.removeprefix("javascript:"))[0]
         shown = word if len(word) <= 12 else word[:12] + "\u2026"
-        tally.equal(f"{text}: the field and the words on it", (browser.value("scramble"), browser.texts("#scramble-fault p")),
-            (text, [f"\u201c{shown}\u201d is no move."]))
+        tally.equal(
+            f"{text}: the field and the words on it",
+            (browser.value("scramble"), browser.texts("#scramble-fault p")),
+            (text, [f"\u201c{shown}\u201d is no move."]),
+        )
         tally.equal(f"{text}: nothing ran or came", browser.script(UNHARMED), [True, elements])
 
 
@@ -109,8 +166,17 @@ def has_no_room(tally: Tally, browser: Browser) -> None:
     tally.holds(f"there is room for less than a note: {len(address)}", 19_280 < len(address) < 20_000)
     said = {"alert": "The address of the page has no room for all of this, and stays as it was.", "hash": address}
     by_time: Step = ("choose", "kept-sort", "kept", {})
-    browser.walk(tally, "no room", ("go", address, {}), by_time, ("script", note, "\u754c" * 80, said), ("load", {"alert": "", "kept": 24}),
-        by_time, ("script", note, "\u754c" * 80, said), ("script", note, "a", {"alert": "", "hash": address + ";a"}))
+    browser.walk(
+        tally,
+        "no room",
+        ("go", address, {}),
+        by_time,
+        ("script", note, "\u754c" * 80, said),
+        ("load", {"alert": "", "kept": 24}),
+        by_time,
+        ("script", note, "\u754c" * 80, said),
+        ("script", note, "a", {"alert": "", "hash": address + ";a"}),
+    )
 
 
 def overtaken(tally: Tally, browser: Browser) -> None:
@@ -119,6 +185,11 @@ def overtaken(tally: Tally, browser: Browser) -> None:
         part('results').setAttribute('aria-busy', 'true');
         location.hash = '#scramble=F_B&steps=inverse.R'"""
     for button, rest in (("#switch", "&side=inverse"), ('[data-cell="eofb.inverse"]', "&list=eofb.inverse.0")):
-        looks = {"hash": "#scramble=R_U_F" + rest, "scramble=": "R U F", "steps": 0, "letters normal": Position("R U F").letters("normal")}
+        looks = {
+            "hash": "#scramble=R_U_F" + rest,
+            "scramble=": "R U F",
+            "steps": 0,
+            "letters normal": Position("R U F").letters("normal"),
+        }
         browser.walk(tally, button, ("open", "#scramble=R_U_F", {}), ("script", act, button, looks))
     tally.equal("and its list", browser.listed(), Position("R U F").rows("eofb", "inverse"))

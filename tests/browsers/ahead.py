@@ -26,8 +26,12 @@ def beginnings(count: int) -> list[str]:
     """All lines of so many turns, of which neighbours turn other faces, those of opposite faces in one order alone."""
     lines: list[list[str]] = [[]]
     for _ in range(count):
-        lines = [[*line, turn] for line in lines for turn in TURNS
-            if not line or (line[-1][0] != turn[0] and line[-1][0] + turn[0] not in ("DU", "LR", "BF"))]
+        lines = [
+            [*line, turn]
+            for line in lines
+            for turn in TURNS
+            if not line or (line[-1][0] != turn[0] and line[-1][0] + turn[0] not in ("DU", "LR", "BF"))
+        ]
     return [" ".join(line) for line in lines]
 
 
@@ -37,7 +41,9 @@ def pairs_of(program: str, scramble: str, step: str, length: int) -> set[tuple[s
     for side, other, counts in (("normal", "inverse", (0, 1, 2)), ("inverse", "normal", (0, 1))):
         begun = [line for count in counts for line in beginnings(count)]
         inverted = program_answers(program, ["invert"], begun)
-        lists = program_lists(program, ["solve", step, "20"], [f"{each} {Position(scramble).lines[side]}" for each in inverted])
+        lists = program_lists(
+            program, ["solve", step, "20"], [f"{each} {Position(scramble).lines[side]}" for each in inverted]
+        )
         for begin, each in zip(begun, lists, strict=True):
             ways = ({side: moves, other: begin} for moves in each if len(moves.split()) + len(begin.split()) == length)
             found |= {(way["normal"], way["inverse"]) for way in ways}
@@ -54,10 +60,16 @@ def over_both(tally: Tally, browser: Browser) -> None:
     tally.holds("some are over both", any(all(pair) for pair in pairs))
     tally.equal("what it is called", browser.text("solutions-heading"), "EO F/B, both sides")
     at = next(at for at, line in enumerate(listed) if " (" in line)
-    browser.walk(tally, "one is taken, as one step", ("script", "all('#solutions-groups .take')[arguments[0]].click()", at, {}),
-        ("comes", "bracketed", listed[at], {"steps": 1}))
+    browser.walk(
+        tally,
+        "one is taken, as one step",
+        ("script", "all('#solutions-groups .take')[arguments[0]].click()", at, {}),
+        ("comes", "bracketed", listed[at], {"steps": 1}),
+    )
     tally.holds("and reaches its step", "EO F/B" in browser.texts("#line-list .reaches"))
-    browser.walk(tally, "Back leads to the list", ("script", "history.back()", {}), ("comes", "steps", 0, {"list-side=": "both"}))
+    browser.walk(
+        tally, "Back leads to the list", ("script", "history.back()", {}), ("comes", "steps", 0, {"list-side=": "both"})
+    )
     browser.choose("list-side", "inverse")
     browser.wait()
     tally.equal("another side is chosen", browser.listed(), Position(LONGER).solutions("eofb", "inverse"))

@@ -22,16 +22,34 @@ BOTH = SCRAMBLE + "&steps=inverse.B_D_R_F2_B_D~normal.R_B-"
 FIELD = "const field = document.querySelector('%s'); field.value = '%s';"
 PRESS = "document.querySelector(%r).click();"
 # what is looked at: a name, an address, and what is done there
-STATES = (("empty", "", ""), ("a scramble", SCRAMBLE, ""), ("an EO that is taken", SCRAMBLE + "&steps=normal.R-_U_F-_R_L", ""),
-    ("both sides", BOTH, ""), ("an open list", "#scramble=R_U_F_D2_L-_B&list=eorl.normal.1", ""),
-    ("the best with one move more", "#scramble=R_U_F", FIELD % ("#best-slack", "1") + "field.dispatchEvent(new Event('change'))"),
+STATES = (
+    ("empty", "", ""),
+    ("a scramble", SCRAMBLE, ""),
+    ("an EO that is taken", SCRAMBLE + "&steps=normal.R-_U_F-_R_L", ""),
+    ("both sides", BOTH, ""),
+    ("an open list", "#scramble=R_U_F_D2_L-_B&list=eorl.normal.1", ""),
+    (
+        "the best with one move more",
+        "#scramble=R_U_F",
+        FIELD % ("#best-slack", "1") + "field.dispatchEvent(new Event('change'))",
+    ),
     ("kept lines", BOTH + "&kept=inverse.B_D_R_F2_B_D;a_note,normal.R-_U_F-_R_L", ""),
     ("a fault", "#scramble=R_U", FIELD % ("#scramble", "R U q F") + "field.dispatchEvent(new Event('input'))"),
-    ("several scrambles", "#scramble=R_U", FIELD % ("#scramble", "1. R U F\\n2. D L") + "field.dispatchEvent(new Event('input'))"),
-    ("a line that is too long", "#scramble=" + "_".join(["R", "U"] * 129), ""), ("a solved cube", "#scramble=R_U&steps=normal.U-_R-", ""),
+    (
+        "several scrambles",
+        "#scramble=R_U",
+        FIELD % ("#scramble", "1. R U F\\n2. D L") + "field.dispatchEvent(new Event('input'))",
+    ),
+    ("a line that is too long", "#scramble=" + "_".join(["R", "U"] * 129), ""),
+    ("a solved cube", "#scramble=R_U&steps=normal.U-_R-", ""),
     ("a reduction", BOTH + "~normal.D2_R", ""),
-    ("an edit", BOTH, PRESS % "#line-list button" + FIELD % ("#line-list input", "(B D)") + "field.form.requestSubmit()"),
-    ("an undo", BOTH, PRESS % "#undo-move"))
+    (
+        "an edit",
+        BOTH,
+        PRESS % "#line-list button" + FIELD % ("#line-list input", "(B D)") + "field.form.requestSubmit()",
+    ),
+    ("an undo", BOTH, PRESS % "#undo-move"),
+)
 # wide, with all of them, and as a phone has it, with these
 SIZES = {(1280, 1000): range(len(STATES)), (520, 900): (0, 4, 6)}
 CARDS = """
@@ -51,7 +69,9 @@ CONTROLS = """
         each.localName === "button" || each.localName === "summary" ? each.textContent : each.value, each.ariaPressed, each.disabled,
         [...(each.options ?? [])].map((option) => option.textContent.trim()).join()])"""
 # what the page's own policy refuses it
-REFUSED = "window.refused = []; addEventListener('securitypolicyviolation', (event) => window.refused.push(event.blockedURI))"
+REFUSED = (
+    "window.refused = []; addEventListener('securitypolicyviolation', (event) => window.refused.push(event.blockedURI))"
+)
 # goes to an address, if the page is open, as if nothing had been done on it before
 GO = """const [results, slack, before] = [document.getElementById("results"), document.getElementById("best-slack"), location.hash];
     if (results === null) return true;
@@ -102,7 +122,9 @@ def all_shown(browser: str, page: str) -> list[dict[str, object]]:
     return found
 
 
-def compare(tally: Tally, browser: str, other: str, found: dict[str, object], wanted: dict[str, object], what: str) -> None:
+def compare(
+    tally: Tally, browser: str, other: str, found: dict[str, object], wanted: dict[str, object], what: str
+) -> None:
     """Each part of what two browsers show."""
     tally.equal(f"{what}: {browser} has the parts of {other}", sorted(found), sorted(wanted))
     for name, part in wanted.items():
@@ -122,7 +144,9 @@ def main() -> None:
     page = Path(sys.argv[1]).resolve().as_uri()
     here = [name for name in BROWSERS if is_here(name)]
     found = dict(zip(here, side_by_side(tally, 2, lambda name: all_shown(name, page), here)))
-    names = [f"{STATES[at][0]}, {width} points" for (width, _), chosen in SIZES.items() for at in chosen] + ["in the tree"]
+    names = [f"{STATES[at][0]}, {width} points" for (width, _), chosen in SIZES.items() for at in chosen] + [
+        "in the tree"
+    ]
     for browser in here[1:]:
         for what, one, other in zip(names, found[browser], found[here[0]]):
             compare(tally, browser, here[0], one, other, what)

@@ -56,7 +56,11 @@ def ahead(tally: Tally, browser: Browser) -> None:
     tally.holds("a step asks for the counts behind it", browser.until(f"{counted} >= 4"))
     browser.wait_best()
     asked = [each for each in browser.script("return window.asked") if each.startswith("count")]
-    tally.equal("orientations come before reductions", asked[:4], ["count eofb", "count eoud", "count drud-eorl", "count drfb-eorl"])
+    tally.equal(
+        "orientations come before reductions",
+        asked[:4],
+        ["count eofb", "count eoud", "count drud-eorl", "count drfb-eorl"],
+    )
     others = {"count drud-eofb", "count drrl-eofb", "count drrl-eoud", "count drfb-eoud"}
     tally.equal(f"the main engine builds no table again: {asked}", others & set(asked), set())
     browser.no_longer(script)
@@ -72,7 +76,10 @@ def best_of_many(tally: Tally, browser: Browser) -> None:
     kept, every = (int(number.replace(",", "")) for number in said.groups()) if said else (0, 0)
     tally.holds(f"there are more than are kept: {kept} of {every}", kept == CUT < every)
     browser.script("part('best-options').open = true")
-    tally.holds("so do the chips of cases, which count these alone", browser.comes("best-cases-name", f"Case before DR, of the best {CUT}"))
+    tally.holds(
+        "so do the chips of cases, which count these alone",
+        browser.comes("best-cases-name", f"Case before DR, of the best {CUT}"),
+    )
     browser.script("part('best-options').open = false")
     while len(rows := browser.script(ROWS)) < SHOWN:
         browser.script("part('best-more').click()")
@@ -89,7 +96,9 @@ def more(tally: Tally, browser: Browser) -> None:
     Each row of a list can be reached without a filter, also by Back, which marks it, for this scramble alone; the rows that stood there stay as they are,
     and what is selected.
     """
-    marked = "return all('#solutions-groups .seen').map((each) => [each.dataset.key, each.ariaLabel.endsWith(', seen')])"
+    marked = (
+        "return all('#solutions-groups .seen').map((each) => [each.dataset.key, each.ariaLabel.endsWith(', seen')])"
+    )
     browser.open(address_of(LONGER) + "&list=eofb.normal.1")
     tally.equal("the first rows, of which none is marked", (len(browser.listed()), browser.script(marked)), (200, []))
     browser.script(STAND, "solutions-groups")
@@ -106,8 +115,12 @@ def more(tally: Tally, browser: Browser) -> None:
     last = "const row = all('#solutions-groups .take').at(-1); row.focus(); row.click()"
     browser.walk(tally, "the last", ("script", last, {}), ("comes", "steps", 1, {}))
     back(browser)
-    browser.walk(tally, "Back leads to the last", ("until", HAS_FOCUS, listed[-1], {marked: [[listed[-1], True]]}),
-        ("go", address_of(LONGER) + "_D&list=eofb.normal.1", {marked: [], "n #solutions-groups .take": 200}))
+    browser.walk(
+        tally,
+        "Back leads to the last",
+        ("until", HAS_FOCUS, listed[-1], {marked: [[listed[-1], True]]}),
+        ("go", address_of(LONGER) + "_D&list=eofb.normal.1", {marked: [], "n #solutions-groups .take": 200}),
+    )
 
 
 def folded(tally: Tally, browser: Browser) -> None:
@@ -117,7 +130,12 @@ def folded(tally: Tally, browser: Browser) -> None:
     browser.resize(360, 740)
     browser.walk(tally, "they are folded", ("open", address_of(LONGER) + "&list=eorl.normal.0", {"filter?": False}))
     tally.holds(f"the first row is near the list's head: {browser.script(room)}", browser.script(room) < 360)
-    browser.walk(tally, "a key opens them", ("script", "document.activeElement.blur()", {}), ("press", "/", {"filter?": True, "focus": "filter"}))
+    browser.walk(
+        tally,
+        "a key opens them",
+        ("script", "document.activeElement.blur()", {}),
+        ("press", "/", {"filter?": True, "focus": "filter"}),
+    )
     browser.go(address_of(LONGER) + "&steps=normal.R-_U_F-_R_L_D-_F_B-_L2_D")
     wide = "return document.documentElement.scrollWidth - document.documentElement.clientWidth"
     tally.equal("where a second way to a reduction is named: what stands beyond the window", browser.script(wide), 0)

@@ -8,19 +8,45 @@ PASTE = """const field = part('scramble'); field.focus(); field.select(); field.
 CHIPS, SHOWN, KEPT = "#desk-chips a", "#desk-chips [aria-current]", "kept lines"
 NOTES = "return all('#kept-list .note-field').map((each) => each.value)"
 # texts of one attempt: the scramble, the line so far, what is kept, and what is said to be left out
-ONE: tuple[tuple[str, str, str, list[str], str], ...] = (("R U F\n\nD L\n", "R U F", "D L", ["D L"], ""),
+ONE: tuple[tuple[str, str, str, list[str], str], ...] = (
+    ("R U F\n\nD L\n", "R U F", "D L", ["D L"], ""),
     ("Scramble 1: R U F", "Scramble 1: R U F", "", [], "Left out: “Scramble 1:”."),
     ("R U F\nD // EO\n\nSolution:\nD L2 B\n", "R U F", "D", ["D L2 B"], ""),
     ("Inverse: (R U)", "Inverse: (R U)", "", [], "Left out: labels. Moves in brackets count as inverse moves."),
-    ("Inverse: R U", "R U", "", [], "Left out: labels."))
+    ("Inverse: R U", "R U", "", [], "Left out: labels."),
+)
 # texts in doubt: the text, the scramble, the line so far, what is said, the word that is marked, and how many signs stand before it
 DOUBTS: tuple[tuple[str, str, str, str, str, int], ...] = (
-    ("R U F\n\nR U // premoves\nF' // EO", "R U F", "R U F'", "“premoves” names a side, and moves on the inverse belong in brackets", "p", 14),
-    ("R U F\n\nAnna: F' U' R'\nBert: F' U' D", "R U F", "F' U' R' F' U' D", "the steps don't solve the scramble, but some of them do", "F", 13),
+    (
+        "R U F\n\nR U // premoves\nF' // EO",
+        "R U F",
+        "R U F'",
+        "“premoves” names a side, and moves on the inverse belong in brackets",
+        "p",
+        14,
+    ),
+    (
+        "R U F\n\nAnna: F' U' R'\nBert: F' U' D",
+        "R U F",
+        "F' U' R' F' U' D",
+        "the steps don't solve the scramble, but some of them do",
+        "F",
+        13,
+    ),
     ("R U F\n\nF' // EO U' R' D", "R U F", "F'", "moves stand in a comment, and are left out", "/", 10),
-    ("R U F\n\nEO: D\n\nDR: L\n\nD L B", "R U F", "", "of several solutions none is said to be the one that counts", "D", 11),
-    ("R' U' F D R' U' F R U", "R' U' F D R' U' F R U", "", "a whole scramble begins here, and more follows it", "R", 0))
-SHEET = "Hello!\nScramble 1 of 3\nR U F\nD // EO\n\nL2\n// a note\n\nScramble 2 of 3\nF' L2, U\nScramble 3 of 3\nB2 R q\n"
+    (
+        "R U F\n\nEO: D\n\nDR: L\n\nD L B",
+        "R U F",
+        "",
+        "of several solutions none is said to be the one that counts",
+        "D",
+        11,
+    ),
+    ("R' U' F D R' U' F R U", "R' U' F D R' U' F R U", "", "a whole scramble begins here, and more follows it", "R", 0),
+)
+SHEET = (
+    "Hello!\nScramble 1 of 3\nR U F\nD // EO\n\nL2\n// a note\n\nScramble 2 of 3\nF' L2, U\nScramble 3 of 3\nB2 R q\n"
+)
 
 
 def chip(number: int) -> str:
@@ -32,26 +58,54 @@ def reads_one(tally: Tally, browser: Browser) -> None:
     """A scramble with a solution below it, one with a name, a solution beside the steps, a label before it."""
     for text, scramble, line, kept, said in ONE:
         browser.open()
-        browser.walk(tally, f"{text!r}", ("script", PASTE, text, {}), ("comes", "bracketed", line, {}),
-            ("comes", KEPT, kept, {"scramble=": scramble, "scramble-read": said, "scramble-fault": ""}))
+        browser.walk(
+            tally,
+            f"{text!r}",
+            ("script", PASTE, text, {}),
+            ("comes", "bracketed", line, {}),
+            ("comes", KEPT, kept, {"scramble=": scramble, "scramble-read": said, "scramble-fault": ""}),
+        )
 
 
 def doubts(tally: Tally, browser: Browser) -> None:
     """A text that may be meant otherwise than it is read: why is said, with the place marked, until anything is changed, and not beside a fault."""
     for text, scramble, line, said, sign, before in DOUBTS:
         browser.open()
-        browser.walk(tally, f"{text!r}", ("script", PASTE, text, {}),
-            ("comes", "#scramble-doubt p", [f"In doubt: {said}."], {"#scramble-doubt mark": [sign], "scramble=": scramble, "bracketed": line}))
+        browser.walk(
+            tally,
+            f"{text!r}",
+            ("script", PASTE, text, {}),
+            (
+                "comes",
+                "#scramble-doubt p",
+                [f"In doubt: {said}."],
+                {"#scramble-doubt mark": [sign], "scramble=": scramble, "bracketed": line},
+            ),
+        )
         shown = browser.texts("#scramble-doubt pre")[0].split("\n")
         tally.equal(f"the place of the doubt of {text!r}", (shown[1].index("^"), shown[0][before]), (before, sign))
-        browser.walk(tally, "it goes away", ("fill", "scramble", "R U", {"scramble-doubt?": False}), ("fill", "scramble", "r q", {"scramble-doubt?": False}))
+        browser.walk(
+            tally,
+            "it goes away",
+            ("fill", "scramble", "R U", {"scramble-doubt?": False}),
+            ("fill", "scramble", "r q", {"scramble-doubt?": False}),
+        )
     small = ["In doubt: “r” is read as a wide turn."]
     browser.open()
-    browser.walk(tally, "a scramble in small letters",  ("fill", "scramble", "r u f", {"#scramble-doubt p": small}),
-        ("submit", "own", "F", {}), ("comes", "steps", 1, {"scramble-doubt?": False}))
+    browser.walk(
+        tally,
+        "a scramble in small letters",
+        ("fill", "scramble", "r u f", {"#scramble-doubt p": small}),
+        ("submit", "own", "F", {}),
+        ("comes", "steps", 1, {"scramble-doubt?": False}),
+    )
     browser.open()
-    browser.walk(tally, "a solution that solves", ("script", PASTE, "r u f\n\nf' u' r'", {}),
-        ("comes", "steps", 1, {"scramble-doubt?": False}))
+    browser.walk(
+        tally,
+        "a solution that solves",
+        ("script", PASTE, "r u f\n\nf' u' r'", {}),
+        ("comes", "steps", 1, {"scramble-doubt?": False}),
+    )
 
 
 def chooses(tally: Tally, browser: Browser) -> None:
@@ -61,19 +115,42 @@ def chooses(tally: Tally, browser: Browser) -> None:
     for width in (1280, 360):
         browser.resize(width, 900, width < 400)
         browser.open()
-        browser.walk(tally, f"{width}: a sheet", ("script", PASTE, SHEET, {"desk?": True}),
+        browser.walk(
+            tally,
+            f"{width}: a sheet",
+            ("script", PASTE, SHEET, {"desk?": True}),
             ("comes", "kept", 1, first | {"scramble-read": "Left out: 1 line before the scramble."}),
             ("act", chip(2), second | {"scramble?": width > 400}),
-            ("act", chip(3), {"#scramble-fault p": ["\u201cq\u201d is no move."], "#scramble-marks mark": ["q"], SHOWN: ["3"]}))
+            (
+                "act",
+                chip(3),
+                {"#scramble-fault p": ["\u201cq\u201d is no move."], "#scramble-marks mark": ["q"], SHOWN: ["3"]},
+            ),
+        )
         # what is mended stays beside the others
-        browser.walk(tally, f"{width}: mended", ("fill", "scramble", "B2 R D", {"scramble-read": "", SHOWN: ["3"]}),
-            ("script", "history.back()", {}), ("comes", "scramble=", "F' L2 U", second), ("act", chip(3), {"scramble=": "B2 R D"}),
-            ("act", chip(1), {}), ("comes", "kept", 1, first))
-        browser.walk(tally, f"{width}: another scramble, and back", ("script", "part('random').click()", {}),
+        browser.walk(
+            tally,
+            f"{width}: mended",
+            ("fill", "scramble", "B2 R D", {"scramble-read": "", SHOWN: ["3"]}),
+            ("script", "history.back()", {}),
+            ("comes", "scramble=", "F' L2 U", second),
+            ("act", chip(3), {"scramble=": "B2 R D"}),
+            ("act", chip(1), {}),
+            ("comes", "kept", 1, first),
+        )
+        browser.walk(
+            tally,
+            f"{width}: another scramble, and back",
+            ("script", "part('random').click()", {}),
             ("comes", SHOWN, ["4"], {"scramble-read": ""}),
-            ("script", "history.back()", {}), ("comes", "bracketed", "D", first), ("fill", "scramble", "", {CHIPS: ["1 \u26051", "2", "3"]}),
-            ("fill", "scramble", " ", {}), ("act", chip(1), {}), ("comes", "scramble=", "R U F", first),
-            ("script", PASTE, "U2 F", {"scramble-read": "", "scramble-fault": ""}))
+            ("script", "history.back()", {}),
+            ("comes", "bracketed", "D", first),
+            ("fill", "scramble", "", {CHIPS: ["1 \u26051", "2", "3"]}),
+            ("fill", "scramble", " ", {}),
+            ("act", chip(1), {}),
+            ("comes", "scramble=", "R U F", first),
+            ("script", PASTE, "U2 F", {"scramble-read": "", "scramble-fault": ""}),
+        )
 
 
 def joins(tally: Tally, browser: Browser) -> None:
@@ -84,13 +161,35 @@ def joins(tally: Tally, browser: Browser) -> None:
     full = "#scramble=R_U_F&kept=" + ",".join(f"normal.{'_'.join(['R', 'U'] * at)}" for at in range(1, 24))
     most = "24 lines are kept, and there can be no more: remove one of them first."
     browser.open()
-    browser.walk(tally, "a solution of the same scramble", ("choose", "kept-sort", "kept", {}),
-        ("script", PASTE, "R U F\nD // EO\n\nL2\n// one\n\nB\n", {}), ("comes", "kept", 2, first),
-        ("script", PASTE, "R,  U F\nF2 // EO\n\nL2\n// other\n\nU\n", {}), ("comes", "kept", 3, joined),
-        ("script", "history.back()", {}), ("comes", "bracketed", "D", {"kept": 3}), ("script", "history.forward()", {}),
-        ("comes", "bracketed", "F2", joined))
-    browser.walk(tally, "candidates alone leave the line", ("script", PASTE, "R U F\n\nD2\n\nR2\n", {}),
-        ("comes", KEPT, ["L2", "B", "U", "D2", "R2"], {"bracketed": "F2"}))
-    browser.walk(tally, "another scramble", ("script", PASTE, "R U\n\nD2\n\nR2\n", {}),
-        ("comes", KEPT, ["D2", "R2"], {"bracketed": "", CHIPS: ["1 \u26055", "2 \u26052"]}))
-    browser.walk(tally, "no room", ("go", full, {}), ("script", PASTE, "R U F\n\nL\n\nB2\n", {}), ("comes", "alert", most, {"kept": 24}))
+    browser.walk(
+        tally,
+        "a solution of the same scramble",
+        ("choose", "kept-sort", "kept", {}),
+        ("script", PASTE, "R U F\nD // EO\n\nL2\n// one\n\nB\n", {}),
+        ("comes", "kept", 2, first),
+        ("script", PASTE, "R,  U F\nF2 // EO\n\nL2\n// other\n\nU\n", {}),
+        ("comes", "kept", 3, joined),
+        ("script", "history.back()", {}),
+        ("comes", "bracketed", "D", {"kept": 3}),
+        ("script", "history.forward()", {}),
+        ("comes", "bracketed", "F2", joined),
+    )
+    browser.walk(
+        tally,
+        "candidates alone leave the line",
+        ("script", PASTE, "R U F\n\nD2\n\nR2\n", {}),
+        ("comes", KEPT, ["L2", "B", "U", "D2", "R2"], {"bracketed": "F2"}),
+    )
+    browser.walk(
+        tally,
+        "another scramble",
+        ("script", PASTE, "R U\n\nD2\n\nR2\n", {}),
+        ("comes", KEPT, ["D2", "R2"], {"bracketed": "", CHIPS: ["1 \u26055", "2 \u26052"]}),
+    )
+    browser.walk(
+        tally,
+        "no room",
+        ("go", full, {}),
+        ("script", PASTE, "R U F\n\nL\n\nB2\n", {}),
+        ("comes", "alert", most, {"kept": 24}),
+    )

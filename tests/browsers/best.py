@@ -46,11 +46,24 @@ def best(tally: Tally, browser: Browser) -> None:
     tally.holds("and more when they are asked for", browser.until(MORE))
     rows = browser.script(ROWS)
     tally.equal("they are those of the model, in its order", rows, wanted)
-    tally.equal("each with the first of its reductions", [first for first, *_ in browser.script(DETAILS)], firsts_of(found))
-    marks = browser.script("return all('#best-body tr').map((row) => [...row.querySelectorAll('.number')].map((each) => each.matches('.best')))")
+    tally.equal(
+        "each with the first of its reductions", [first for first, *_ in browser.script(DETAILS)], firsts_of(found)
+    )
+    marks = browser.script(
+        "return all('#best-body tr').map((row) => [...row.querySelectorAll('.number')].map((each) => each.matches('.best')))"
+    )
     # a reduction is on a side alone, or as long as the least there
-    tally.equal("sides are marked on which no fewer moves do", marks, [[not way.dr[1 - at] and bool(way.dr[at]) or int(row[4 + at]) ==
-        len(line_of(way.dr).split()) for at in (0, 1)] for way, row in zip(found, wanted)])
+    tally.equal(
+        "sides are marked on which no fewer moves do",
+        marks,
+        [
+            [
+                not way.dr[1 - at] and bool(way.dr[at]) or int(row[4 + at]) == len(line_of(way.dr).split())
+                for at in (0, 1)
+            ]
+            for way, row in zip(found, wanted)
+        ],
+    )
     tally.holds("of one, of both and of none", {0, 1, 2} <= {sum(each) for each in marks})
     filters_orientations(tally, browser, [tuple(row) for row in rows])
     at = next(at for at, way in enumerate(found) if all(way.eo))
@@ -60,13 +73,21 @@ def best(tally: Tally, browser: Browser) -> None:
     tally.holds("all of them", browser.until(MORE))
     browser.script("all('#best-body .take')[arguments[0]].click()", at)
     browser.settle("return document.activeElement.closest('#solutions-groups') !== null")
-    tally.equal("one over both sides is taken as one step", (browser.text("bracketed"), browser.look("steps")), (line, 1))
+    tally.equal(
+        "one over both sides is taken as one step", (browser.text("bracketed"), browser.look("steps")), (line, 1)
+    )
     shown = browser.listed()
-    tally.equal("and the reductions are listed where its own is", len(shown[0].split()) if shown else 0, len(line_of(found[at].dr).split()))
+    tally.equal(
+        "and the reductions are listed where its own is",
+        len(shown[0].split()) if shown else 0,
+        len(line_of(found[at].dr).split()),
+    )
     tally.holds("of its axis", browser.text("solutions-heading").startswith(f"{reached} after"))
     browser.submit("own", line_of(found[at].dr))
     browser.settle("return all('#line-list li').length === 2")
-    tally.equal("its reduction finishes", browser.text("finished").split(".")[0], f"{reached} is reached: {total} moves")
+    tally.equal(
+        "its reduction finishes", browser.text("finished").split(".")[0], f"{reached} is reached: {total} moves"
+    )
     copied = [step.split(" //")[0] for step in browser.content("fmc").splitlines()[1:]]
     tally.equal("each step is a line of the copy", copied, [line, line_of(found[at].dr)])
 
@@ -113,7 +134,11 @@ def filters_reductions(tally: Tally, browser: Browser, rows: list[tuple[int, str
     plain = [[side.strip() for side in re.split("[()]", line) if side.strip()] for _, line, _ in rows]
     for state in sorted({state for _, _, state in rows}):
         browser.choose("best-reduction", state)
-        tally.equal(f"those of {state}", (browser.until(MORE), browser.script(moves)), (True, [row[1] for row in rows if row[2] == state]))
+        tally.equal(
+            f"those of {state}",
+            (browser.until(MORE), browser.script(moves)),
+            (True, [row[1] for row in rows if row[2] == state]),
+        )
     browser.choose("best-reduction", "")
     for side in ("inverse", "normal", "both sides"):
         browser.choose("best-reduction-side", side)
@@ -142,7 +167,11 @@ def forgets_filters(tally: Tally, browser: Browser, count: int) -> None:
     tally.equal("before an orientation cases are filtered by", browser.script(SHOWN_FILTERS), [True, False])
     browser.script("history.back()")
     browser.until("return document.getElementById('best-table').classList.contains('of-reductions')")
-    browser.walk(tally, "a filter of another cube is gone, so all are there again", ("wait_best", {"best-reduction-side=": "", "best-note": f"{count} rows."}))
+    browser.walk(
+        tally,
+        "a filter of another cube is gone, so all are there again",
+        ("wait_best", {"best-reduction-side=": "", "best-note": f"{count} rows."}),
+    )
 
 
 def after_orientation(tally: Tally, browser: Browser) -> None:
@@ -159,7 +188,11 @@ def after_orientation(tally: Tally, browser: Browser) -> None:
     tally.equal("by all moves", [row[0] for row in rows], sorted(row[0] for row in rows))
     filters_reductions(tally, browser, rows)
     said = f"{rows[0][2]} is reached: {rows[0][0]} moves. nissy has no step after a DR: go on by hand."
-    browser.walk(tally, "the first finishes, and then there is no best", ("act", "#best-body .take", {"finished": said, "best?": False}))
+    browser.walk(
+        tally,
+        "the first finishes, and then there is no best",
+        ("act", "#best-body .take", {"finished": said, "best?": False}),
+    )
 
 
 def says_no_reduction(tally: Tally, browser: Browser) -> None:
@@ -168,7 +201,9 @@ def says_no_reduction(tally: Tally, browser: Browser) -> None:
     browser.wait_best()
     tally.holds("all of them", browser.until(MORE))
     found = ways("0 ; R U F ; ;")
-    tally.equal("the rows", [row[:2] for row in browser.script(ROWS)], [[str(way.total), line_of(way.eo)] for way in found])
+    tally.equal(
+        "the rows", [row[:2] for row in browser.script(ROWS)], [[str(way.total), line_of(way.eo)] for way in found]
+    )
     said = [first for first, *_ in browser.script(DETAILS)]
     tally.equal("what follows each", said, firsts_of(found))
     tally.holds("nothing follows some", "" in said and set(said) != {""})
@@ -183,7 +218,10 @@ def stopped(tally: Tally, browser: Browser) -> None:
     tally.holds("the progress is shown", browser.until(moving))
     tally.holds("and rows", browser.look("n #best-body .take") > 0)
     browser.click('[data-cell="eofb.normal"]')
-    tally.holds("meanwhile a list is answered", browser.until("return document.querySelector('#solutions-groups button') !== null"))
+    tally.holds(
+        "meanwhile a list is answered",
+        browser.until("return document.querySelector('#solutions-groups button') !== null"),
+    )
     tally.holds("and the search goes on", browser.script("return !document.getElementById('best-stop').disabled"))
     workers = browser.workers()
     browser.act("#best-stop")

@@ -20,11 +20,16 @@ BEST = "return document.querySelector('#best[aria-busy=true], #best-body[aria-bu
 # a method with its words, and each look with what is wanted of it
 Step = tuple[Any, ...]
 # what may be looked for by a short name, beside what `look` says
-LOOKS = {"hash": "return location.hash", "title": "return document.title",
+LOOKS = {
+    "hash": "return location.hash",
+    "title": "return document.title",
     "focus": "const at = document.activeElement; return at.id || at.dataset.cell || at.textContent",
-    "steps": "return all('#line-list li').length", "kept": "return all('#kept-list li').length",
+    "steps": "return all('#line-list li').length",
+    "kept": "return all('#kept-list li').length",
     "kept lines": "return all('#kept-list li > .step').map((it) => [...it.querySelectorAll('.moves')].map((one) => one.textContent).join(' '))",
-    "said": "return part('status').textContent", "label": "return document.activeElement.ariaLabel ?? document.activeElement.id"}
+    "said": "return part('status').textContent",
+    "label": "return document.activeElement.ariaLabel ?? document.activeElement.id",
+}
 # waits in the page until what another script says is true
 UNTIL = """const [words, end] = [[...arguments], performance.now() + %d];
     const says = function () { %s\n};
@@ -58,8 +63,18 @@ class Keys:
     ARROW_LEFT, ARROW_UP, ARROW_RIGHT, ARROW_DOWN = "ArrowLeft", "ArrowUp", "ArrowRight", "ArrowDown"
 
 
-CODES = {"Tab": 9, "Enter": 13, "Escape": 27, "Backspace": 8, "Delete": 46, "Home": 36, "ArrowLeft": 37, "ArrowUp": 38, "ArrowRight": 39,
-    "ArrowDown": 40}
+CODES = {
+    "Tab": 9,
+    "Enter": 13,
+    "Escape": 27,
+    "Backspace": 8,
+    "Delete": 46,
+    "Home": 36,
+    "ArrowLeft": 37,
+    "ArrowUp": 38,
+    "ArrowRight": 39,
+    "ArrowDown": 40,
+}
 
 
 class Browser(Tab):
@@ -75,7 +90,9 @@ class Browser(Tab):
 
     def resize(self, width: int = 1280, height: int = 1000, mobile: bool = False) -> None:
         """Makes the window so large."""
-        self.command("Emulation.setDeviceMetricsOverride", width=width, height=height, deviceScaleFactor=1, mobile=mobile)
+        self.command(
+            "Emulation.setDeviceMetricsOverride", width=width, height=height, deviceScaleFactor=1, mobile=mobile
+        )
 
     def media(self, kind: str = "", **features: str) -> None:
         """Has the browser tell the page of these wishes, and of no others."""
@@ -115,12 +132,15 @@ class Browser(Tab):
 
     def follow(self, address: str = "") -> None:
         """Has the page go to this address, or loads it if it isn't open, and waits for its answers: what was chosen stays."""
-        if self.script("""const before = location.hash, results = part("results");
+        if self.script(
+            """const before = location.hash, results = part("results");
                 if (results === null) return true;
                 document.activeElement?.blur();
                 scrollTo({ top: 0, behavior: "instant" });
                 location.hash = arguments[0];
-                if (location.hash !== before) results.setAttribute("aria-busy", "true")""", address):
+                if (location.hash !== before) results.setAttribute("aria-busy", "true")""",
+            address,
+        ):
             self.load(self.page + address)
         self.wait()
 
@@ -147,7 +167,9 @@ class Browser(Tab):
 
     def choose(self, name: str, value: str) -> None:
         """Chooses of a field, without waiting."""
-        self.script("const it = part(arguments[0]); it.value = arguments[1]; it.dispatchEvent(new Event('change'))", name, value)
+        self.script(
+            "const it = part(arguments[0]); it.value = arguments[1]; it.dispatchEvent(new Event('change'))", name, value
+        )
 
     def listed(self) -> list[str]:
         """The solutions that are listed, without their brackets."""
@@ -155,7 +177,9 @@ class Browser(Tab):
 
     def text(self, name: str) -> str:
         """The text of the part with this id, as it is seen, "" where it is hidden."""
-        return self.script("const it = part(arguments[0]); return it.checkVisibility() ? it.innerText.trim() : ''", name)
+        return self.script(
+            "const it = part(arguments[0]); return it.checkVisibility() ? it.innerText.trim() : ''", name
+        )
 
     def content(self, name: str) -> str:
         """The text of the part with this id, also where it is hidden."""
@@ -214,7 +238,9 @@ class Browser(Tab):
 
     def press(self, *keys: str, modifiers: int = 0) -> None:
         """Keys, as they come to what has the focus: those of CODES by their names, and each sign of another text."""
-        for key in (each for keys_or_text in keys for each in ([keys_or_text] if keys_or_text in CODES else keys_or_text)):
+        for key in (
+            each for keys_or_text in keys for each in ([keys_or_text] if keys_or_text in CODES else keys_or_text)
+        ):
             text = {"text": "\r" if key == "Enter" else key} if key == "Enter" or key not in CODES else {}
             code = {"windowsVirtualKeyCode": CODES.get(key, ord(key.upper()) if len(key) == 1 and key.isalnum() else 0)}
             for kind in ("keyDown" if text else "rawKeyDown", "keyUp"):
@@ -232,7 +258,10 @@ class Browser(Tab):
         """Puts a text in place of a field's, and waits for what the page makes of it."""
         self.script(
             "const field = part(arguments[0]); field.value = arguments[1];"
-            'part("results").setAttribute("aria-busy", "true"); field.dispatchEvent(new Event("input"))', name, text)
+            'part("results").setAttribute("aria-busy", "true"); field.dispatchEvent(new Event("input"))',
+            name,
+            text,
+        )
         self.wait()
 
     def submit(self, name: str, text: str) -> None:
@@ -244,7 +273,14 @@ class Browser(Tab):
         """Clicks the first element that a selector finds, in an opened part."""
         x, y = self.script(MIDDLE, selector)
         for kind in ("mouseMoved", "mousePressed", "mouseReleased"):
-            self.command("Input.dispatchMouseEvent", type=kind, x=x, y=y, button="none" if kind == "mouseMoved" else "left", clickCount=1)
+            self.command(
+                "Input.dispatchMouseEvent",
+                type=kind,
+                x=x,
+                y=y,
+                button="none" if kind == "mouseMoved" else "left",
+                clickCount=1,
+            )
         # nobody is quicker than the page draws
         self.script("return new Promise((done) => requestAnimationFrame(() => requestAnimationFrame(() => done())))")
 

@@ -6,8 +6,17 @@ from selenium import webdriver
 from selenium.common.exceptions import WebDriverException
 
 PATIENCE = 400
-WORDS = ("--headless=new", "--no-sandbox", "--disable-dev-shm-usage", "--no-first-run", "--disable-background-networking",
-    "--disable-component-update", "--disable-sync", "--disable-extensions", "--disable-default-apps")
+WORDS = (
+    "--headless=new",
+    "--no-sandbox",
+    "--disable-dev-shm-usage",
+    "--no-first-run",
+    "--disable-background-networking",
+    "--disable-component-update",
+    "--disable-sync",
+    "--disable-extensions",
+    "--disable-default-apps",
+)
 # what the scripts of the tests call by short names
 HELPERS = """const part = (name) => document.getElementById(name), all = (selector) => [...document.querySelectorAll(selector)];
     const seen = (selector) => all(selector).filter((each) => each.checkVisibility());"""

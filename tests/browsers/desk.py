@@ -5,7 +5,11 @@ from kept import KEPT_SAID
 from tally import Tally
 
 ADDRESS = "#scramble=" + LONGER.replace(" ", "_").replace("'", "-")
-FIVE = ADDRESS + "&kept=" + ",".join(f"normal.R-_U_F-_R_L{turns};note_{at}" for at, turns in enumerate(("", "_D", "_D2", "_F2", "_B2")))
+FIVE = (
+    ADDRESS
+    + "&kept="
+    + ",".join(f"normal.R-_U_F-_R_L{turns};note_{at}" for at, turns in enumerate(("", "_D", "_D2", "_F2", "_B2")))
+)
 SIZES = ((1366, 768), (1180, 980), (1024, 768), (1440, 900))
 MANY = ADDRESS + "&kept=" + ",".join(f"normal.{'_'.join(['R', 'U'] * at)}" for at in range(1, 20))
 # whether it is high, and beside the best, and what stands beyond the window
@@ -22,13 +26,26 @@ def stands_beside(tally: Tally, browser: Browser) -> None:
     """On a desktop it begins in the upper half of the window, beside the best; on the widest it is there before the first star, which moves
     nothing."""
     browser.walk(tally, "five", ("go", FIVE, {}), ("until", KEPT_SAID, {}), ("wait_best", {}))
-    browser.walk(tally, "it is high, and beside the best", *(("resize", width, height, {PLACES: [True, True, 0]}) for width, height in SIZES))
-    tally.equal("on a laptop it takes no column of its own", browser.script("return part('kept').getBoundingClientRect().left < 20"), True)
+    browser.walk(
+        tally,
+        "it is high, and beside the best",
+        *(("resize", width, height, {PLACES: [True, True, 0]}) for width, height in SIZES),
+    )
+    tally.equal(
+        "on a laptop it takes no column of its own",
+        browser.script("return part('kept').getBoundingClientRect().left < 20"),
+        True,
+    )
     browser.resize(1920, 1080)
     browser.go(ADDRESS)
     browser.wait_best()
     tally.holds("an empty desk says what it is for", "☆" in browser.text("kept-none"))
-    browser.walk(tally, "the first star moves nothing", ("act", "#best-body .star", {}), ("until", KEPT_SAID, {TOPS: browser.script(TOPS)}))
+    browser.walk(
+        tally,
+        "the first star moves nothing",
+        ("act", "#best-body .star", {}),
+        ("until", KEPT_SAID, {TOPS: browser.script(TOPS)}),
+    )
 
 
 def undoes(tally: Tally, browser: Browser) -> None:
@@ -36,16 +53,46 @@ def undoes(tally: Tally, browser: Browser) -> None:
     browser.resize()
     browser.walk(tally, "five", ("go", FIVE, {}), ("choose", "kept-sort", "kept", {}), ("until", KEPT_SAID, {}))
     lines = browser.script(LINES)
-    browser.walk(tally, "one", ("click", REMOVE % 2, {"kept-left-words": "1 line was removed.", LINES: lines[:1] + lines[2:]}),
-        ("click", "#kept-back", {"kept-left": "", LINES: lines}), ("until", KEPT_SAID, {}))
-    gone = {"kept-left-words": "5 lines were removed.", "focus": "kept-back", "kept": 0, "copy-kept?": False, "kept-sort?": False}
-    browser.walk(tally, "all are removed, and nothing is left to copy or to sort", ("click", "#kept-clear", gone),
-        ("click", "#kept-back", {LINES: lines}), ("until", KEPT_SAID, {}))
-    browser.walk(tally, "another change ends the offer", ("click", REMOVE % 1, {"kept-left-words": "1 line was removed."}), ("wait_best", {}),
-        ("act", "#best-body .star", {"kept-left": ""}))
-    is_seen = "const { top, bottom } = part('kept-back').getBoundingClientRect(); return top > 0 && bottom <= innerHeight"
+    browser.walk(
+        tally,
+        "one",
+        ("click", REMOVE % 2, {"kept-left-words": "1 line was removed.", LINES: lines[:1] + lines[2:]}),
+        ("click", "#kept-back", {"kept-left": "", LINES: lines}),
+        ("until", KEPT_SAID, {}),
+    )
+    gone = {
+        "kept-left-words": "5 lines were removed.",
+        "focus": "kept-back",
+        "kept": 0,
+        "copy-kept?": False,
+        "kept-sort?": False,
+    }
+    browser.walk(
+        tally,
+        "all are removed, and nothing is left to copy or to sort",
+        ("click", "#kept-clear", gone),
+        ("click", "#kept-back", {LINES: lines}),
+        ("until", KEPT_SAID, {}),
+    )
+    browser.walk(
+        tally,
+        "another change ends the offer",
+        ("click", REMOVE % 1, {"kept-left-words": "1 line was removed."}),
+        ("wait_best", {}),
+        ("act", "#best-body .star", {"kept-left": ""}),
+    )
+    is_seen = (
+        "const { top, bottom } = part('kept-back').getBoundingClientRect(); return top > 0 && bottom <= innerHeight"
+    )
     for width in (1440, 1180, 390):
         browser.resize(width, 900)
-        browser.walk(tally, f"{width}: the undo is seen, and all come back", ("go", MANY, {}), ("until", KEPT_SAID, {}),
-            ("script", "part('kept').scrollIntoView()", {}), ("click", REMOVE % 2, {is_seen: True}), ("click", "#kept-clear", {"kept": 0}),
-            ("click", "#kept-back", {"kept": 18}))
+        browser.walk(
+            tally,
+            f"{width}: the undo is seen, and all come back",
+            ("go", MANY, {}),
+            ("until", KEPT_SAID, {}),
+            ("script", "part('kept').scrollIntoView()", {}),
+            ("click", REMOVE % 2, {is_seen: True}),
+            ("click", "#kept-clear", {"kept": 0}),
+            ("click", "#kept-back", {"kept": 18}),
+        )

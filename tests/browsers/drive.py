@@ -22,8 +22,10 @@ from chromium import chromium
 from tally import Tally
 
 # in the order in which they are dealt out to the browsers
-PARTS = ("keyboard faults workers addresses best searches at_once turned steps line kept focus stops phone narrow sizes settings filters looks still "
-    "trifles further desk first ahead teacher attempts scrambles passage").split()
+PARTS = (
+    "keyboard faults workers addresses best searches at_once turned steps line kept focus stops phone narrow sizes settings filters looks still "
+    "trifles further desk first ahead teacher attempts scrambles passage"
+).split()
 # how many browsers there are, each with some of the parts
 BROWSERS = 6
 TOP = Path(__file__).resolve().parent.parent.parent
@@ -66,7 +68,9 @@ def main() -> None:
             except (TimeoutError, LookupError, TypeError, ValueError) as stop:
                 tally.holds(f"{part} goes to its end: {str(stop).splitlines()[0]}", False)
             tally.equal(f"{part}: the console", browser.complaints(), [])
-            beyond = [url for url in browser.requests() if not url.startswith((page, without, "blob:", "data:", "about:"))]
+            beyond = [
+                url for url in browser.requests() if not url.startswith((page, without, "blob:", "data:", "about:"))
+            ]
             tally.equal(f"{part}: requests beyond the file", beyond, [])
             browser.end()
     driver.quit()

@@ -24,13 +24,19 @@ MARKUP = r"(?:inner|outer|set)HTML|insertAdjacent|document\.write|ContextualFrag
 # what would ask a network
 ASKING = r"\bfetch\b|XMLHttpRequest|WebSocket|EventSource|sendBeacon|importScripts|RTCPeer|serviceWorker"
 # a script of the page that is put in place of one, and what it would do
-REFUSED = (("main.js", 'import { part } from "./shared/element.js";\nconst part = 1;\n', "a name that is declared twice"),
+REFUSED = (
+    ("main.js", 'import { part } from "./shared/element.js";\nconst part = 1;\n', "a name that is declared twice"),
     ("main.js", 'import * as element from "./shared/element.js";\n', "an import of another form"),
-    ("main.js", "export default 1;\n", "an export of another form"), ("main.js", 'const text = "</script>";\n', "an end of its element"),
-    ("main.js", 'const text = "<!--";\n', "a comment of the page"), ("main.js", "const text = `R\n  U`;\n", "a text of several lines"),
-    ("style/style.css", "</style>", "an end of the style"), ("style/print.css", "</style>", "an end of the style in a part of it"),
+    ("main.js", "export default 1;\n", "an export of another form"),
+    ("main.js", 'const text = "</script>";\n', "an end of its element"),
+    ("main.js", 'const text = "<!--";\n', "a comment of the page"),
+    ("main.js", "const text = `R\n  U`;\n", "a text of several lines"),
+    ("style/style.css", "</style>", "an end of the style"),
+    ("style/print.css", "</style>", "an end of the style in a part of it"),
     ("style/style.css", '@import url("./print.css");', "an import of another form in the style"),
-    ("main.js", 'const text = "\U0001f9e9";\n', "a sign that an escape hasn't"), ("main.js", f"const text = '{'x' * MOST_BYTES}';\n", "a page that is too large"))
+    ("main.js", 'const text = "\U0001f9e9";\n', "a sign that an escape hasn't"),
+    ("main.js", f"const text = '{'x' * MOST_BYTES}';\n", "a page that is too large"),
+)
 
 
 def element(page: str, pattern: str) -> str:
@@ -53,16 +59,29 @@ def is_closed(tally: Tally, page: str) -> None:
     """The policy allows the page's own script, style and worker, and nothing of a network."""
     [policy] = re.findall(r'http-equiv="Content-Security-Policy" content="([^"]*)"', page)
     rules = dict(rule.strip().split(" ", 1) for rule in policy.split(";"))
-    wanted = {"default-src": "'none'", "script-src": hash_of(element(page, 'script type="module"')) + " 'wasm-unsafe-eval'",
-        "worker-src": "blob:", "style-src": hash_of(element(page, "style")), "img-src": "data:", "base-uri": "'none'",
-        "form-action": "'none'",}
+    wanted = {
+        "default-src": "'none'",
+        "script-src": hash_of(element(page, 'script type="module"')) + " 'wasm-unsafe-eval'",
+        "worker-src": "blob:",
+        "style-src": hash_of(element(page, "style")),
+        "img-src": "data:",
+        "base-uri": "'none'",
+        "form-action": "'none'",
+    }
     tally.equal("the policy", rules, wanted)
-    tally.holds("it stands before what it rules", page.index("Content-Security-Policy") < min(page.index("<style"), page.index("<link")))
+    tally.holds(
+        "it stands before what it rules",
+        page.index("Content-Security-Policy") < min(page.index("<style"), page.index("<link")),
+    )
     links = re.findall(r'\b(?:src|href|action|data|poster)="([^"]*)"', page)
     # it is drawn first once its last part is read: a drawing before that takes as long as its script
     last = re.findall(r' id="([^"]+)"', page.split("<script")[0])[-1]
     others = [each for each in links if not each.startswith("data:image/svg+xml,")]
-    tally.equal("its links are data, but for one to its last part, and one to itself without a scramble", others, [f"#{last}", "#"])
+    tally.equal(
+        "its links are data, but for one to its last part, and one to itself without a scramble",
+        others,
+        [f"#{last}", "#"],
+    )
     tally.holds("it has data", len(links) > 1)
     tally.equal("its signs beyond ASCII", re.findall(r"[^\x00-\x7f]", page), [])
     tally.holds("no style asks for a file", not re.search(r"url\(|@import", element(page, "style")))
@@ -71,13 +90,18 @@ def is_closed(tally: Tally, page: str) -> None:
 
 def is_plain(tally: Tally, page: str) -> None:
     """The scripts make no markup and ask nothing."""
-    for name, text in (("the script", element(page, 'script type="module"')), ("the worker's script", packed(page, "worker-script").decode("ascii"))):
+    for name, text in (
+        ("the script", element(page, 'script type="module"')),
+        ("the worker's script", packed(page, "worker-script").decode("ascii")),
+    ):
         script = re.sub(r"/\*[\s\S]*?\*/|^\s*//.*$", "", text, flags=re.MULTILINE)
         tally.holds(f"{name} is there", len(script) > 1000)
         tally.equal(f"{name}: lines with an indent", re.findall(r"^ +\S*", script, re.MULTILINE), [])
         tally.equal(f"{name}: markup", re.findall(MARKUP, script), [])
         tally.equal(f"{name}: requests", re.findall(ASKING, script), [])
-        tally.equal(f"{name}: imports that are left", re.findall(r"^\s*(?:import|export)\b.*", script, re.MULTILINE), [])
+        tally.equal(
+            f"{name}: imports that are left", re.findall(r"^\s*(?:import|export)\b.*", script, re.MULTILINE), []
+        )
 
 
 def is_whole(tally: Tally, page: str) -> None:
@@ -105,7 +129,11 @@ def is_laid_out(tally: Tally) -> None:
         code = [line for line in script.read_text().splitlines() if not line.lstrip().startswith("*")]
         least = min((len(line) - len(line.lstrip()) for line in code if line.startswith(" ")), default=2)
         tally.equal(f"{script.relative_to(TOP)}: its indent", least, 2)
-        odd = [line for line in script.read_text().splitlines() if len(line) > 120 or line != line.rstrip() or line.strip() == "/**" or "\t" in line]
+        odd = [
+            line
+            for line in script.read_text().splitlines()
+            if len(line) > 120 or line != line.rstrip() or line.strip() == "/**" or "\t" in line
+        ]
         tally.equal(f"{script.relative_to(TOP)}: lines of another layout", odd, [])
 
 
@@ -118,7 +146,9 @@ def refuses(tally: Tally) -> None:
             Path(room, "module").write_bytes(b"\0asm")
             with (web / name).open("a") as file:
                 file.write("\n" + text)
-            done = subprocess.run([TOP / "tools/page", web, Path(room, "module"), made], capture_output=True, check=False)
+            done = subprocess.run(
+                [TOP / "tools/page", web, Path(room, "module"), made], capture_output=True, check=False
+            )
             is_made = done.returncode == 0 and made.exists()
             tally.equal(f"tools/page makes a page with {what or 'nothing added'}", is_made, not what)
 

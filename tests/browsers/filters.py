@@ -15,7 +15,9 @@ def of_the_best(tally: Tally, browser: Browser) -> None:
     browser.open(address_of(LONGER))
     browser.wait_best()
     first = browser.texts("#best-body tr")
-    every = browser.script("return ['best-axis', 'best-side', 'best-next'].map((name) => document.getElementById(name).options[0].text)")
+    every = browser.script(
+        "return ['best-axis', 'best-side', 'best-next'].map((name) => document.getElementById(name).options[0].text)"
+    )
     tally.equal("what leaves any is called so", every, ["any"] * 3)
     tally.equal("without a filter nothing is said", browser.script(SIGNS, "best"), ["", "", ""])
     browser.choose("best-axis", "EO F/B")
@@ -34,7 +36,11 @@ def of_the_best(tally: Tally, browser: Browser) -> None:
     browser.click("#best-clear")
     tally.equal("they are cleared", browser.script(SIGNS, "best"), ["", "", ""])
     tally.holds("and all are there", browser.texts("#best-body tr"))
-    tally.equal("the focus is at the fold", browser.script("return document.activeElement.closest('#best-options') !== null"), True)
+    tally.equal(
+        "the focus is at the fold",
+        browser.script("return document.activeElement.closest('#best-options') !== null"),
+        True,
+    )
     values = "return [...document.querySelectorAll('#best-filters select, #best-cases')].map((each) => each.value)"
     tally.equal("no field is set", browser.script(values), [""] * 4)
 
@@ -48,12 +54,18 @@ def of_many(tally: Tally, browser: Browser) -> None:
     count = len(browser.texts("#best-body tr"))
     place = "return document.getElementById('best-options').getBoundingClientRect().top"
     browser.script("scrollTo({ top: 0, behavior: 'instant' })")
-    tally.holds(f"it is in view: {browser.script(place)}", browser.script(place) < browser.script("return innerHeight") - 20)
+    tally.holds(
+        f"it is in view: {browser.script(place)}", browser.script(place) < browser.script("return innerHeight") - 20
+    )
     browser.script("document.getElementById('best-options').open = true")
     top = browser.script(place)
     browser.choose("best-side", "inverse")
     left = re.match(r"([0-9,]+) of ", browser.text("best-note"))
-    tally.equal("as many are seen", len(browser.texts("#best-body tr")), min(count, int(left[1].replace(",", "")) if left else 0))
+    tally.equal(
+        "as many are seen",
+        len(browser.texts("#best-body tr")),
+        min(count, int(left[1].replace(",", "")) if left else 0),
+    )
     tally.holds(f"and not as few as at first: {count}", len(browser.texts("#best-body tr")) > 6)
     tally.equal("the filters stay", browser.script(place), top)
     browser.choose("best-side", "")
@@ -83,4 +95,6 @@ def of_both_sides(tally: Tally, browser: Browser) -> None:
     browser.script(TYPE, "", turns)
     found = [re.split(r" ?\(", key.replace(")", "")) for key in browser.listed()]
     wanted = [sides for sides in every if any(f" {turns} " in f" {side} " for side in sides)]
-    tally.holds(f"those with {turns}, and twins", wanted and all(sides in found for sides in wanted) and len(found) < len(every))
+    tally.holds(
+        f"those with {turns}, and twins", wanted and all(sides in found for sides in wanted) and len(found) < len(every)
+    )

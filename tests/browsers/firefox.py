@@ -17,10 +17,21 @@ class Firefox(Window):
         with socket.socket() as probe:
             probe.bind(("127.0.0.1", 0))
             port = probe.getsockname()[1]
-        preferences = {"marionette.port": port, "datareporting.policy.dataSubmissionEnabled": False, "app.update.disabledForTesting": True}
+        preferences = {
+            "marionette.port": port,
+            "datareporting.policy.dataSubmissionEnabled": False,
+            "app.update.disabledForTesting": True,
+        }
         lines = [f"user_pref({json.dumps(name)}, {json.dumps(value)});\n" for name, value in preferences.items()]
         Path(room, "user.js").write_text("".join(lines))
-        words = [shutil.which("firefox") or "firefox-esr", "--headless", "--no-remote", "--marionette", "--profile", room]
+        words = [
+            shutil.which("firefox") or "firefox-esr",
+            "--headless",
+            "--no-remote",
+            "--marionette",
+            "--profile",
+            room,
+        ]
         self.process = subprocess.Popen(words, stdout=subprocess.DEVNULL, stderr=subprocess.DEVNULL)
         self.count = 0
         try:

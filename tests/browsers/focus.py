@@ -29,8 +29,12 @@ SLACK = FOCUS + "const it = part('slack'); it.value = arguments[1]; it.dispatchE
 
 def dimmed(tally: Tally, browser: Browser) -> None:
     """The table of the last cube can't be used under another scramble; then its cell has the focus again."""
-    browser.walk(tally, "the table is lit", ("open", ADDRESS, {HELD: [False, False]}),
-        ("script", "document.querySelector('[data-cell=\"eorl.normal\"]').focus()", {}))
+    browser.walk(
+        tally,
+        "the table is lit",
+        ("open", ADDRESS, {HELD: [False, False]}),
+        ("script", "document.querySelector('[data-cell=\"eorl.normal\"]').focus()", {}),
+    )
     held = browser.script("document.querySelector('[data-example]').click();" + HELD)
     tally.equal("an old table is dimmed and can't be used", held, [True, True])
     browser.walk(tally, "a new one is lit", ("wait", {HELD: [False, False], "focus": "eorl.normal"}))
@@ -43,7 +47,12 @@ def ends(tally: Tally, browser: Browser) -> None:
     least = browser.script("return all('#steps-body .least').map((each) => each.dataset.cell)")
     tally.holds(f"there are several: {least}", len(least) > 1)
     tally.equal("the first has the focus", browser.focused(), least[0])
-    browser.walk(tally, "the last step", ("act", f'[data-cell="{least[0]}"]', {}), ("act", "#solutions-groups .take", {"focus": "copy-fmc"}))
+    browser.walk(
+        tally,
+        "the last step",
+        ("act", f'[data-cell="{least[0]}"]', {}),
+        ("act", "#solutions-groups .take", {"focus": "copy-fmc"}),
+    )
     tally.holds("it ends", "reached" in browser.text("finished"))
 
 
@@ -85,7 +94,9 @@ def says(tally: Tally, browser: Browser) -> None:
     browser.open(ADDRESS + "&list=eoud.normal.1")
     browser.script(LISTEN)
     browser.script(FOCUS, "filter")
-    shortest = next(cell for cell in Position(SCRAMBLE).cells() if cell.endswith(", shortest")).removesuffix(", shortest")
+    shortest = next(cell for cell in Position(SCRAMBLE).cells() if cell.endswith(", shortest")).removesuffix(
+        ", shortest"
+    )
     for typed in ("u r", "x"):
         browser.script(TYPE, typed)
         time.sleep(QUIET)
@@ -100,18 +111,25 @@ def says(tally: Tally, browser: Browser) -> None:
 
 def says_typed(tally: Tally, browser: Browser) -> None:
     """What is wrong with a scramble that is typed is said once nothing more is typed; what was left out already isn't said again."""
-    browser.script("""const field = part('scramble');
+    browser.script(
+        """const field = part('scramble');
         ["R (", "R (U", "R (U F", "R (U F2"].forEach((text, at) => setTimeout(() => {
             field.value = text;
             field.dispatchEvent(new Event('input'));
-        }, 300 * at))""")
+        }, 300 * at))"""
+    )
     browser.until("return part('scramble-fault').textContent.includes('F2')")
     time.sleep(QUIET)
     silent = "return part('scramble-fault').closest('[aria-live], [role]')?.id ?? ''"
     stays = "return words === part('scramble-read').firstChild"
-    browser.walk(tally, "what is said of a bracket, and of what was left out", ("wait", {SAID: ["A bracket isn't closed."], silent: ""}),
-        ("fill", "scramble", "R, U", {}), ("script", "window.words = part('scramble-read').firstChild", {}),
-        ("fill", "scramble", "R, U F", {"scramble-read": "Left out: commas.", stays: True}))
+    browser.walk(
+        tally,
+        "what is said of a bracket, and of what was left out",
+        ("wait", {SAID: ["A bracket isn't closed."], silent: ""}),
+        ("fill", "scramble", "R, U", {}),
+        ("script", "window.words = part('scramble-read').firstChild", {}),
+        ("fill", "scramble", "R, U F", {"scramble-read": "Left out: commas.", stays: True}),
+    )
 
 
 def comes_back(tally: Tally, browser: Browser) -> None:
@@ -137,7 +155,9 @@ def one_stop(tally: Tally, browser: Browser) -> None:
     third = "return document.activeElement === all('#best-body .take')[2]"
     tally.holds("arrows lead on", browser.script(third))
     browser.press(Keys.TAB)
-    tally.holds("the Tab key leaves them", browser.script("return document.activeElement.closest('#best-body') === null"))
+    tally.holds(
+        "the Tab key leaves them", browser.script("return document.activeElement.closest('#best-body') === null")
+    )
     browser.choose("best-slack", "2")
     seen = """const row = document.querySelector("#best-body .take");
         if (part("best-progress").hidden || !row) return false;
@@ -145,7 +165,9 @@ def one_stop(tally: Tally, browser: Browser) -> None:
         return document.activeElement === row"""
     tally.holds("some are there while others are looked for", browser.until(seen))
     browser.until("return part('best-progress').hidden")
-    tally.holds("the focus stays among them", browser.script("return document.activeElement.closest('#best-body') !== null"))
+    tally.holds(
+        "the focus stays among them", browser.script("return document.activeElement.closest('#best-body') !== null")
+    )
 
 
 def across(tally: Tally, browser: Browser) -> None:
@@ -158,13 +180,22 @@ def across(tally: Tally, browser: Browser) -> None:
     for holder in ("#best-body", "#solutions-groups"):
         browser.script("document.querySelector(arguments[0]).focus()", f"{holder} .take")
         right, left = (Keys.ARROW_RIGHT,) * 3, (Keys.ARROW_LEFT,) * 2
-        for keys, wanted in (((Keys.ARROW_DOWN, Keys.ARROW_RIGHT), [1, "star", "false"]), ((Keys.ENTER,), [1, "star", "true"]),
-                ((Keys.ARROW_UP,), [0, "take"]), (right, [0, "star"]), (left, [0, "take"])):
+        for keys, wanted in (
+            ((Keys.ARROW_DOWN, Keys.ARROW_RIGHT), [1, "star", "false"]),
+            ((Keys.ENTER,), [1, "star", "true"]),
+            ((Keys.ARROW_UP,), [0, "take"]),
+            (right, [0, "star"]),
+            (left, [0, "take"]),
+        ):
             browser.press(*keys)
             browser.settle("return arguments[0] || all('#kept-list .total').length > 0", keys != (Keys.ENTER,))
             tally.equal(f"{holder}, {', '.join(keys)}", browser.script(place, holder)[: len(wanted)], wanted)
             if keys == (Keys.ENTER,):
-                tally.equal(f"{holder}: its row is the stop", browser.texts(f"{holder} .take[tabindex='0']"), browser.texts(f"{holder} .take")[1:2])
+                tally.equal(
+                    f"{holder}: its row is the stop",
+                    browser.texts(f"{holder} .take[tabindex='0']"),
+                    browser.texts(f"{holder} .take")[1:2],
+                )
     browser.script("part('keys-on').checked = true")
 
 
@@ -180,8 +211,13 @@ def words(tally: Tally, browser: Browser) -> None:
     sides = "return all('#best-body tr:first-child .number').map((each) => [each.title, each.ariaLabel])"
     lengths, times = zip(*(text.split("×") for text in browser.texts("#best-body tr:first-child .number")))
     said = browser.script(sides)
-    wanted = [[f"{side} side alone", f"DR in {counted(int(count), 'move')} on the {side} side alone, {counted(int(number), 'solution')}"]
-        for side, count, number in zip(SIDES, lengths, times)]
+    wanted = [
+        [
+            f"{side} side alone",
+            f"DR in {counted(int(count), 'move')} on the {side} side alone, {counted(int(number), 'solution')}",
+        ]
+        for side, count, number in zip(SIDES, lengths, times)
+    ]
     tally.equal("what the lengths of a row are", said, wanted)
 
 
@@ -189,8 +225,12 @@ def goes_on(tally: Tally, browser: Browser) -> None:
     """Shortest is said of steps that keep what is reached alone; the others are said to begin anew."""
     least = """return [[...new Set(all('#steps-body .least').map((each) => each.dataset.cell.slice(0, 2)))],
         document.querySelector('#steps .head .least').checkVisibility()]"""
-    ways: tuple[tuple[str, list[str], list[str]], ...] = (("", ["eo"], []), ("&steps=normal.D2_R2_L_U", ["dr"],
-        ["Going on from here, this EO given up"]), ("&steps=normal.D2_R2_L_U~normal.B_R_D2_B_R_B_R_B", [],
-        ["Going on from here, this DR given up"]),)
+    ways: tuple[tuple[str, list[str], list[str]], ...] = (
+        ("", ["eo"], []),
+        ("&steps=normal.D2_R2_L_U", ["dr"], ["Going on from here, this EO given up"]),
+        ("&steps=normal.D2_R2_L_U~normal.B_R_D2_B_R_B_R_B", [], ["Going on from here, this DR given up"]),
+    )
     for steps, kinds, said in ways:
-        browser.walk(tally, "goes on", ("go", ADDRESS + steps, {least: [kinds, kinds != []], "#steps-body .anew": said}))
+        browser.walk(
+            tally, "goes on", ("go", ADDRESS + steps, {least: [kinds, kinds != []], "#steps-body .anew": said})
+        )

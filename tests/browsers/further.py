@@ -65,7 +65,12 @@ def goes_on(tally: Tally, browser: Browser) -> None:
     """
     script = browser.before_page(ALWAYS)
     begins(browser, WORSE)
-    note, first, keys, top = browser.text("best-note"), browser.script(ROWS), browser.script(KEYS), browser.script(FIRST_ROW)
+    note, first, keys, top = (
+        browser.text("best-note"),
+        browser.script(ROWS),
+        browser.script(KEYS),
+        browser.script(FIRST_ROW),
+    )
     height = "return part('best-head').offsetHeight"
     before = browser.script(height)
     time.sleep(LONGER_THAN_REST)
@@ -77,14 +82,22 @@ def goes_on(tally: Tally, browser: Browser) -> None:
     tally.equal("the rows stay", (browser.script(KEYS), browser.script(FIRST_ROW)), (keys, top))
     tally.holds("and those of two", browser.until(f"return {NOTE}.includes(' Up to 2 longer: ')"))
     tally.holds("to their end", browser.until(ENDED))
-    tally.equal("to the end", (browser.script(KEYS), browser.script(FIRST_ROW), browser.script(height)), (keys, top, before))
+    tally.equal(
+        "to the end", (browser.script(KEYS), browser.script(FIRST_ROW), browser.script(height)), (keys, top, before)
+    )
     said = browser.text("best-note")
-    tally.holds(f"of the rows it is said how many they are, and of longer ones that they were found: {said}",
-        re.fullmatch(re.escape(note) + r" Up to 2 longer: [0-9,]+ rows\.", said))
+    tally.holds(
+        f"of the rows it is said how many they are, and of longer ones that they were found: {said}",
+        re.fullmatch(re.escape(note) + r" Up to 2 longer: [0-9,]+ rows\.", said),
+    )
     # more of the same are no others
     browser.click("#best-more")
     browser.wait_best()
-    tally.equal("more rows let none in", (browser.script(KEYS)[: len(keys)], browser.script(IS_NEW), browser.value("best-slack")), (keys, True, "0"))
+    tally.equal(
+        "more rows let none in",
+        (browser.script(KEYS)[: len(keys)], browser.script(IS_NEW), browser.value("best-slack")),
+        (keys, True, "0"),
+    )
     shows_found(tally, browser, first, top)
     browser.no_longer(script)
     browser.script(FORGET)
@@ -98,9 +111,21 @@ def shows_found(tally: Tally, browser: Browser, first: list[list[str]], top: int
     browser.script("scrollTo({ top: 0, behavior: 'instant' })")
     browser.click("#best-new")
     rows = browser.script(ROWS)
-    tally.equal("which it shows", (rows[0][0], browser.script(FIRST_ROW), browser.script(IS_NEW)), (said[1] if said else "", top, False))
-    tally.equal("the first of them has the focus", browser.script("return document.activeElement.dataset.key"), browser.script(KEYS)[0])
-    tally.equal("and the number of moves says it", (browser.value("best-slack"), "longer" in browser.text("best-note")), ("2", False))
+    tally.equal(
+        "which it shows",
+        (rows[0][0], browser.script(FIRST_ROW), browser.script(IS_NEW)),
+        (said[1] if said else "", top, False),
+    )
+    tally.equal(
+        "the first of them has the focus",
+        browser.script("return document.activeElement.dataset.key"),
+        browser.script(KEYS)[0],
+    )
+    tally.equal(
+        "and the number of moves says it",
+        (browser.value("best-slack"), "longer" in browser.text("best-note")),
+        ("2", False),
+    )
     found = shows_all(browser)
     tally.equal("by all moves", [int(row[0]) for row in found], sorted(int(row[0]) for row in found))
     stays(tally, browser)
@@ -120,7 +145,10 @@ def stays(tally: Tally, browser: Browser) -> None:
     shown = (browser.script(KEYS)[:5], False, "2")
     browser.act("#best-body .take")
     browser.wait_best()
-    for what, act in (("after Clear", lambda: browser.act("#clear")), ("after a reload", lambda: browser.reopen(browser.hash()))):
+    for what, act in (
+        ("after Clear", lambda: browser.act("#clear")),
+        ("after a reload", lambda: browser.reopen(browser.hash())),
+    ):
         act()
         browser.wait_best()
         tally.equal(what, (browser.script(KEYS)[:5], browser.script(IS_NEW), browser.value("best-slack")), shown)
@@ -149,7 +177,9 @@ def pauses(tally: Tally, browser: Browser) -> None:
     time.sleep(LONGER_THAN_REST)
     tally.equal("and nothing is asked", (browser.script(asked), browser.text("best-note")), left)
     browser.script(TURN, True)
-    tally.holds("it goes on", browser.until(f"return window.asked.filter((each) => each === 'best').length > {left[0]}"))
+    tally.holds(
+        "it goes on", browser.until(f"return window.asked.filter((each) => each === 'best').length > {left[0]}")
+    )
     browser.click("#best-stop")
     note = browser.text("best-note")
     tally.holds(f"a stop says how far it came: {note}", re.match(r"Stopped\. [0-9,]+ rows\. Up to 1 longer: ", note))
@@ -178,9 +208,16 @@ def is_measured(tally: Tally, browser: Browser) -> None:
             tally.holds(f"{of_what}: it waits", browser.until(HELD))
             note, longer = browser.text("best-note"), rf"[0-9,]+ rows\. Up to 1 longer: {count} EOs, about [0-9]+ s\."
             tally.holds(f"{of_what}: it says how many there are: {note}", re.fullmatch(longer, note))
-            tally.equal(f"{of_what}: and has asked nothing more", (browser.value("best-further"), browser.script(ASKED)), ("none", 3))
+            tally.equal(
+                f"{of_what}: and has asked nothing more",
+                (browser.value("best-further"), browser.script(ASKED)),
+                ("none", 3),
+            )
         browser.click("#best-stop")
-        tally.holds(f"{of_what}: asked, it goes on, and waits with the next ones", browser.until(f"return {NOTE}.includes('Up to 2 longer: ') && {HELD_IS}"))
+        tally.holds(
+            f"{of_what}: asked, it goes on, and waits with the next ones",
+            browser.until(f"return {NOTE}.includes('Up to 2 longer: ') && {HELD_IS}"),
+        )
         tally.equal(f"{of_what}: once more of each axis", browser.script(ASKED), 6)
         if prepared:
             browser.no_longer(prepared)
@@ -198,10 +235,15 @@ def is_chosen(tally: Tally, browser: Browser) -> None:
     tally.holds(f"which it says: {note}", re.search(r" Up to 2 longer: about [0-9,]{9,} EOs, [0-9]+ (s|min)\.$", note))
     tally.equal("though it may go on by itself", browser.value("best-further"), "some")
     begins(browser, "R U F")
-    tally.holds("as it does with few", browser.until(f"return {NOTE}.startsWith('Up to 2 longer: ')") and browser.until(ENDED))
+    tally.holds(
+        "as it does with few", browser.until(f"return {NOTE}.startsWith('Up to 2 longer: ')") and browser.until(ENDED)
+    )
     begins(browser, FLIPPED)
     browser.choose("best-further", "all")
-    tally.holds("it goes on if that is chosen", browser.until("return part('best-stop').textContent === 'Stop' && !part('best-stop').disabled"))
+    tally.holds(
+        "it goes on if that is chosen",
+        browser.until("return part('best-stop').textContent === 'Stop' && !part('best-stop').disabled"),
+    )
     browser.choose("best-further", "none")
     browser.reopen(address_of(WORSE))
     browser.wait_best()

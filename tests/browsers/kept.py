@@ -44,7 +44,9 @@ def keeps(tally: Tally, browser: Browser) -> None:
     browser.open(ADDRESS)
     browser.wait_best()
     browser.press("s")
-    tally.holds("a line without moves has no star", browser.script("return document.getElementById('keep-line').hidden"))
+    tally.holds(
+        "a line without moves has no star", browser.script("return document.getElementById('keep-line').hidden")
+    )
     tally.holds("and no key keeps it", "kept=" not in browser.script("return location.hash"))
     star = "document.querySelector(arguments[0]).click()"
     browser.script(star, "#best-body tr:nth-child(2) .star")
@@ -59,7 +61,9 @@ def keeps(tally: Tally, browser: Browser) -> None:
     tally.holds(f"one of the best, {second}", second.startswith(("normal.", "inverse.")))
     tally.holds("one of the list", third in browser.texts("#kept-list .step .moves"))
     chips = browser.script(KEPT_WORDS.replace(".step .moves, .chip, .case", ".chip"))
-    tally.equal("each with what it reaches", [any(word.startswith("EO ") for word in words) for words in chips], [True] * 3)
+    tally.equal(
+        "each with what it reaches", [any(word.startswith("EO ") for word in words) for words in chips], [True] * 3
+    )
     cases = [len(each) for each in browser.script(KEPT_WORDS.replace(".step .moves, .chip, .case", ".case"))]
     tally.equal("and its cases, a row of the best with its own and the moves to it", cases, [2, 2, 2])
 
@@ -84,15 +88,23 @@ def keeps_in_address(tally: Tally, browser: Browser) -> None:
     tally.equal("and the others stay", browser.texts("#kept-list .step .moves"), before)
     browser.click("#kept-list li:nth-child(3) button:nth-of-type(2)")
     tally.equal("one is taken away", browser.texts("#kept-list .step .moves"), before[:2])
-    tally.equal("its stars are the page's", browser.script("return document.getElementById('keep-line').ariaPressed"), "true")
+    tally.equal(
+        "its stars are the page's", browser.script("return document.getElementById('keep-line').ariaPressed"), "true"
+    )
 
 
 def copies_kept(tally: Tally, browser: Browser) -> None:
     """Those that are left are copied, with their notes; and no more are kept than the address has room for."""
     # what was taken away is said first
     browser.until("return document.getElementById('status').textContent.includes('removed')")
-    copied = "Copied: " + "\n\n".join([SCRAMBLE, *browser.script(
-        "return [...document.querySelectorAll('#kept-list li')].map((each) => each.querySelector('.moves').textContent)")])
+    copied = "Copied: " + "\n\n".join(
+        [
+            SCRAMBLE,
+            *browser.script(
+                "return [...document.querySelectorAll('#kept-list li')].map((each) => each.querySelector('.moves').textContent)"
+            ),
+        ]
+    )
     browser.click("#copy-kept")
     browser.until("return document.getElementById('status').textContent.startsWith('Copied')")
     said = browser.texts("#status")[0]
@@ -106,7 +118,11 @@ def copies_kept(tally: Tally, browser: Browser) -> None:
     browser.click("#keep-line")
     tally.equal("no more than fit", len(browser.texts("#kept-list li")), 24)
     said = browser.script(UNDER, "said", "keep-line")
-    tally.equal("which is said under the star", said, ["24 lines are kept, and there can be no more: remove one of them first.", True])
+    tally.equal(
+        "which is said under the star",
+        said,
+        ["24 lines are kept, and there can be no more: remove one of them first.", True],
+    )
 
 
 def keeps_reductions(tally: Tally, browser: Browser) -> None:
@@ -127,14 +143,20 @@ def keeps_reductions(tally: Tally, browser: Browser) -> None:
     browser.until(told, one)
     first = browser.script(told, one)
     browser.act('[data-cell="eorl.normal"]')
-    shortest = browser.script("const row = document.querySelector('#solutions-groups li'); row.querySelector('.star').click();"
-        "return row.querySelector('.take').textContent")
+    shortest = browser.script(
+        "const row = document.querySelector('#solutions-groups li'); row.querySelector('.star').click();"
+        "return row.querySelector('.take').textContent"
+    )
     browser.script("document.querySelectorAll('#best-body .star')[arguments[0]].click()", one)
     browser.until(KEPT_SAID)
     tally.equal("the star is of the row alone", browser.script(stars), [at == one for at in range(len(rows))])
     named = browser.script("return document.querySelectorAll('#best-body .star')[arguments[0]].ariaLabel", one)
     tally.holds(f"and says so: {named}", named.endswith(f", {reduction} {case}"))
-    tally.equal("it says what the row said, and comes before an orientation alone", browser.script(KEPT_WORDS)[0], [line, state, said, first])
+    tally.equal(
+        "it says what the row said, and comes before an orientation alone",
+        browser.script(KEPT_WORDS)[0],
+        [line, state, said, first],
+    )
     tally.equal("which stays as it was", browser.script(KEPT_WORDS)[1][:2], [shortest, "EO R/L"])
     browser.script("document.querySelectorAll('#best-body .star')[arguments[0]].click()", other)
     browser.until(KEPT_SAID)
@@ -162,7 +184,11 @@ def keeps_what_is_gone_on_to(tally: Tally, browser: Browser) -> None:
     tally.equal("the button is as wide as before", browser.script(wide), before)
     browser.until(KEPT_SAID)
     words = browser.script(KEPT_WORDS)
-    tally.equal("the line with its reduction", [(*each[:2], each[2][:6], each[3]) for each in words], [(line, state, reduction, first)])
+    tally.equal(
+        "the line with its reduction",
+        [(*each[:2], each[2][:6], each[3]) for each in words],
+        [(line, state, reduction, first)],
+    )
     tally.equal("which the button says", browser.script(pressed, "#keep-line"), "true")
     browser.click("#solutions-close")
     tally.equal("without the list the line alone isn't kept", browser.script(pressed, "#keep-line"), "false")
@@ -190,7 +216,10 @@ def reads_reductions(tally: Tally, browser: Browser, said: str, step: str) -> No
     notes = browser.script("return [...document.querySelectorAll('#kept-list .note-field')].map((each) => each.value)")
     tally.holds("and is read again as a note", f"{said} a" in notes)
     line = step.split(" //")[0]
-    tally.holds("of a line with these moves", any(line in browser.texts("#kept-list li")[at] for at in range(len(notes)) if notes[at] == f"{said} a"))
+    tally.holds(
+        "of a line with these moves",
+        any(line in browser.texts("#kept-list li")[at] for at in range(len(notes)) if notes[at] == f"{said} a"),
+    )
     browser.open(f"{ADDRESS}&kept=normal.R;;drud-eofb,normal.R;a;drud-eofb")
     browser.until(KEPT_SAID)
     tally.equal("a reduction that may not follow is not said", browser.script(KEPT_WORDS), [["R"], ["R"]])
@@ -203,11 +232,17 @@ def goes_on_at_once(tally: Tally, browser: Browser) -> None:
     browser.no_longer(script)
     tally.equal("it is pressed before more is known of it", browser.script("return window.known"), "")
     browser.settle("return document.activeElement.closest('#solutions-groups') !== null")
-    tally.equal("it goes on", (browser.text("bracketed"), browser.text("solutions-heading")), ("(B D R F2 B D)", "DR R/L after EO U/D, both sides"))
+    tally.equal(
+        "it goes on",
+        (browser.text("bracketed"), browser.text("solutions-heading")),
+        ("(B D R F2 B D)", "DR R/L after EO U/D, both sides"),
+    )
     inverted = program_answers(browser.program, ["invert"], ["B D R F2 B D"])[0]
     found = [way for way in ways(f"0 ; {inverted} {EXAMPLE} ; ; B D R F2 B D") if way.step == "drrl-eoud"]
     least = min(way.length for way in found)
-    tally.equal("the list of its reduction", browser.listed(), [line_of(way.dr) for way in found if way.length == least])
+    tally.equal(
+        "the list of its reduction", browser.listed(), [line_of(way.dr) for way in found if way.length == least]
+    )
 
 
 def keeps_a_note(tally: Tally, browser: Browser) -> None:
@@ -223,7 +258,10 @@ def keeps_a_note(tally: Tally, browser: Browser) -> None:
     notes = "return [...document.querySelectorAll('#kept-list .note-field')].map((each) => each.value)"
     tally.equal("and the note is kept", browser.script(notes), ["a note", ""])
     browser.script("history.back()")
-    tally.holds("the way back has it too", browser.until("return document.getElementById('bracketed').textContent !== arguments[0]", second))
+    tally.holds(
+        "the way back has it too",
+        browser.until("return document.getElementById('bracketed').textContent !== arguments[0]", second),
+    )
     tally.equal("as it was", browser.script(notes), ["a note", ""])
 
 
@@ -231,10 +269,21 @@ def leaves_kept(tally: Tally, browser: Browser) -> None:
     """A scramble that is pasted in place of the whole leaves what is kept and taken, which Back leads to; the same one again doesn't."""
     two = {"#kept-list .step .moves": ["R", "U"]}
     browser.open(f"{ADDRESS}&kept=normal.R,normal.U")
-    browser.walk(tally, "the same scramble keeps them", ("until", KEPT_SAID, {}), ("script", PASTE, f"{SCRAMBLE} // again", {}), ("wait", two),
-        ("script", PASTE, EXAMPLE, {}), ("comes", "kept", 0, {}), ("script", "history.back()", {}), ("comes", "kept", 2, two),
-        *(("fill", "scramble", typed, {}) for typed in ("", "B", "B U", "B U F")), ("comes", "kept", 0, {}),
-        ("script", "history.back()", {}), ("comes", "kept", 2, two))
+    browser.walk(
+        tally,
+        "the same scramble keeps them",
+        ("until", KEPT_SAID, {}),
+        ("script", PASTE, f"{SCRAMBLE} // again", {}),
+        ("wait", two),
+        ("script", PASTE, EXAMPLE, {}),
+        ("comes", "kept", 0, {}),
+        ("script", "history.back()", {}),
+        ("comes", "kept", 2, two),
+        *(("fill", "scramble", typed, {}) for typed in ("", "B", "B U", "B U F")),
+        ("comes", "kept", 0, {}),
+        ("script", "history.back()", {}),
+        ("comes", "kept", 2, two),
+    )
 
 
 def keeps_lengths(tally: Tally, browser: Browser) -> None:
@@ -248,7 +297,11 @@ def keeps_lengths(tally: Tally, browser: Browser) -> None:
     browser.choose("kept-sort", "kept")
     browser.until(KEPT_SAID)
     said = [[words[0], words[-2].split(": ")[1]] for words in browser.script(KEPT_WORDS)]
-    tally.equal("each as in its row", said, [[row[1], f"{row[4]} normal, {row[5]} inverse, {row[0]} with the line"] for row in rows])
+    tally.equal(
+        "each as in its row",
+        said,
+        [[row[1], f"{row[4]} normal, {row[5]} inverse, {row[0]} with the line"] for row in rows],
+    )
 
 
 def keeps_stages(tally: Tally, browser: Browser) -> None:
@@ -264,15 +317,26 @@ def keeps_stages(tally: Tally, browser: Browser) -> None:
     whole = "~".join(("inverse.B_D_R_F2_B_D", "normal.R_B-", "normal.D2_R"))
     apart = "inverse.B_D_R~normal.R2~inverse.F2_B_D~normal.R2_R_B-_D2_R"
     oriented, reduced = ["(B D R F2 B D)", "EO U/D"], ["R B'", "D2 R", "DR F/B"]
-    wanted = [[*oriented, *reduced, "10 in all"], [*oriented, *reduced, "(F2)", "11 in all"], ["(B D)", "2 moves"], [*oriented, *reduced, "10 in all"]]
-    tally.equal("each step with what it reaches", shown(example, whole, f"{whole}~inverse.F2", "inverse.B_D", f"{whole};;drrl-eoud"), wanted)
+    wanted = [
+        [*oriented, *reduced, "10 in all"],
+        [*oriented, *reduced, "(F2)", "11 in all"],
+        ["(B D)", "2 moves"],
+        [*oriented, *reduced, "10 in all"],
+    ]
+    tally.equal(
+        "each step with what it reaches",
+        shown(example, whole, f"{whole}~inverse.F2", "inverse.B_D", f"{whole};;drrl-eoud"),
+        wanted,
+    )
     both = ["(B D R)", "R2", "(F2 B D)", "EO U/D", "R2 R B' D2 R", "DR F/B"]
     tally.equal("an orientation on both sides", shown(example, apart)[0][:-1], both)
     tally.equal("one that held before", shown("#scramble=U_R", "normal.R-"), [["R'", "DR U/D", "1 move"]])
     # U keeps the DR on its axis, and the other U brings both others back
     again = ["U R2", "(U)", "DR R/L", "DR F/B", "3 in all"]
     tally.equal("what held all the time isn't reached", shown("#scramble=U2", "normal.U_R2~inverse.U"), [again])
-    tally.equal("two that are reached at once", shown("#scramble=F", "normal.F-"), [["F'", "DR U/D", "DR R/L", "1 move"]])
+    tally.equal(
+        "two that are reached at once", shown("#scramble=F", "normal.F-"), [["F'", "DR U/D", "DR R/L", "1 move"]]
+    )
 
 
 def leads_to_kept(tally: Tally, browser: Browser) -> None:
@@ -285,17 +349,27 @@ def leads_to_kept(tally: Tally, browser: Browser) -> None:
     for is_scrolled in (True, False):
         browser.open(ADDRESS)
         browser.wait_best()
-        tally.equal("there is no bar without a step or a line that is kept", browser.script(seen), [False, False, False])
+        tally.equal(
+            "there is no bar without a step or a line that is kept", browser.script(seen), [False, False, False]
+        )
         moved = browser.script(star, is_scrolled)
         tally.holds(f"a star stays where it is: {moved}", abs(moved) < 2)
-        tally.equal("what is kept is led to", (browser.script(seen), browser.text("bar-kept")), ([True, False, True], "★ 1"))
-    browser.script("document.querySelectorAll('#best-body .star')[1].click(); scrollTo({ top: 150, behavior: 'instant' })")
+        tally.equal(
+            "what is kept is led to", (browser.script(seen), browser.text("bar-kept")), ([True, False, True], "★ 1")
+        )
+    browser.script(
+        "document.querySelectorAll('#best-body .star')[1].click(); scrollTo({ top: 150, behavior: 'instant' })"
+    )
     tally.equal("the button counts", browser.text("bar-kept"), "★ 2")
     leaves = "return document.getElementById('bar-kept').textContent === '★ 2'"
     is_seen = "const { top, bottom } = document.getElementById('kept').getBoundingClientRect(); return top >= 0 && top < innerHeight"
     tally.equal("they are far below", browser.script(is_seen), False)
     browser.click("#bar-kept")
-    tally.equal("it leads there", (browser.script(is_seen), browser.focused(), browser.text("bar-kept")), (True, "kept-heading", "Back"))
+    tally.equal(
+        "it leads there",
+        (browser.script(is_seen), browser.focused(), browser.text("bar-kept")),
+        (True, "kept-heading", "Back"),
+    )
     browser.click("#bar-kept")
     tally.equal("and back", (browser.script("return scrollY"), browser.text("bar-kept")), (150, "★ 2"))
     browser.click("#bar-kept")
@@ -303,7 +377,11 @@ def leads_to_kept(tally: Tally, browser: Browser) -> None:
     tally.holds("whoever leaves isn't led back", browser.until(leaves))
     browser.click("#bar-kept")
     browser.act("#kept-list li:nth-child(1) button")
-    tally.equal("whoever goes on comes to what follows", (browser.script(seen), browser.until(leaves)), ([True, True, True], True))
+    tally.equal(
+        "whoever goes on comes to what follows",
+        (browser.script(seen), browser.until(leaves)),
+        ([True, True, True], True),
+    )
     is_there = "return document.activeElement.closest('#solutions-groups') !== null"
     tally.equal("and has the focus in the list of its reduction", browser.until(is_there), True)
     fits = "return document.documentElement.scrollWidth <= innerWidth"

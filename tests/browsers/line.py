@@ -29,7 +29,9 @@ def fmc_text(tally: Tally, browser: Browser) -> None:
     text = browser.look("said").removeprefix("Copied: ")
     wanted = [EXAMPLE, "(B D R F2 B D) // EO U/D (6)", "R B' // (2/8)", "D2 R // DR F/B (2/10)"]
     tally.equal("the text", text.split("\n"), wanted)
-    browser.walk(tally, "it is read again", ("go", {}), ("fill", "scramble", text, {}), ("comes", "steps", 3, {"hash": before}))
+    browser.walk(
+        tally, "it is read again", ("go", {}), ("fill", "scramble", text, {}), ("comes", "steps", 3, {"hash": before})
+    )
     tally.holds("tabs are told apart", "(B D R F2 B D) R B'" in browser.look("title"))
     browser.click("#copy-link")
     copied = "return part('status').textContent.startsWith(`Copied: ${location.href}`)"
@@ -42,11 +44,18 @@ def edits(tally: Tally, browser: Browser) -> None:
     # it is seen as it is written, and one types at its end
     at = "const it = document.activeElement; return [it.value, it.selectionStart]"
     change = "const it = document.querySelector('#line-list input'); it.value = '(U2) L'; it.form.requestSubmit()"
-    browser.walk(tally, "a step", ("go", "#scramble=R_U_F&steps=normal.R~inverse.U_D~normal.F", {}),
-        ("act", f"{step} button", {at: ["(U D)", len("(U D)")]}), ("press", Keys.ESCAPE, {f"{step} .moves": ["(U D)"], "focus": "Edit"}),
-        ("script", EDIT, 1, "(U q)", {}), ("until", "return document.querySelector('#line-list .fault')?.textContent.includes('no move')", {}),
-        ("script", change, {}), ("comes", "bracketed", "R L (U2) F", {"steps": 3, "label": "Edit L on the inverse side U2"}),
-        ("act", "#line-list li:nth-child(1) button:nth-of-type(2)", {"bracketed": "L (U2) F"}))
+    browser.walk(
+        tally,
+        "a step",
+        ("go", "#scramble=R_U_F&steps=normal.R~inverse.U_D~normal.F", {}),
+        ("act", f"{step} button", {at: ["(U D)", len("(U D)")]}),
+        ("press", Keys.ESCAPE, {f"{step} .moves": ["(U D)"], "focus": "Edit"}),
+        ("script", EDIT, 1, "(U q)", {}),
+        ("until", "return document.querySelector('#line-list .fault')?.textContent.includes('no move')", {}),
+        ("script", change, {}),
+        ("comes", "bracketed", "R L (U2) F", {"steps": 3, "label": "Edit L on the inverse side U2"}),
+        ("act", "#line-list li:nth-child(1) button:nth-of-type(2)", {"bracketed": "L (U2) F"}),
+    )
 
 
 def takes_away(tally: Tally, browser: Browser) -> None:
@@ -60,13 +69,22 @@ def takes_away(tally: Tally, browser: Browser) -> None:
         browser.script(EDIT, 0, moves)
         browser.settle("return document.querySelector('#line-list .moves')?.textContent === arguments[0]", moves)
         position = Position(EXAMPLE, normal, moves.strip("()"))
-        holds = [position.may_start("drfb-eoud"), position.may_start("drfb-eoud") and position.count("drfb-eoud", "normal")[0] == 0]
+        holds = [
+            position.may_start("drfb-eoud"),
+            position.may_start("drfb-eoud") and position.count("drfb-eoud", "normal")[0] == 0,
+        ]
         for state, so, (reaches, lost) in zip(("EO U/D", "DR F/B"), holds, browser.script(said)):
             tally.equal(f"{state} after {moves}", (state in reaches, lost), (so, "" if so else f"no longer {state}"))
     tally.equal("the last of them brings both back", holds, [True, True])
     # a step that is cut says nothing
-    browser.walk(tally, "taken away", ("act", "#line-list li:nth-child(1) button:nth-of-type(2)", {said: [["", "no longer DR F/B"]]}),
-        ("script", "history.back()", {}), ("comes", "steps", 2, whole), ("act", "#undo-move", {said: [["EO U/D", ""], ["", ""]]}))
+    browser.walk(
+        tally,
+        "taken away",
+        ("act", "#line-list li:nth-child(1) button:nth-of-type(2)", {said: [["", "no longer DR F/B"]]}),
+        ("script", "history.back()", {}),
+        ("comes", "steps", 2, whole),
+        ("act", "#undo-move", {said: [["EO U/D", ""], ["", ""]]}),
+    )
 
 
 def edits_early(tally: Tally, browser: Browser) -> None:
@@ -78,8 +96,12 @@ def edits_early(tally: Tally, browser: Browser) -> None:
     browser.script("document.querySelector('#line-list button').click()")
     tally.equal("its field is there first", browser.texts("#total"), ["\u2026"])
     browser.script("goOn()")
-    browser.walk(tally, "left as it was", ("wait", {"alert": "", "return part('results').inert": False}),
-        ("press", Keys.ESCAPE, {"#line-list .count": ["2 moves"]}))
+    browser.walk(
+        tally,
+        "left as it was",
+        ("wait", {"alert": "", "return part('results').inert": False}),
+        ("press", Keys.ESCAPE, {"#line-list .count": ["2 moves"]}),
+    )
 
 
 def keeps_focus(tally: Tally, browser: Browser) -> None:
@@ -89,10 +111,20 @@ def keeps_focus(tally: Tally, browser: Browser) -> None:
     browser.until(KEPT_SAID)
     browser.script(press, "#line-list button", 2)
     browser.press(Keys.BACKSPACE, "2)", Keys.ENTER)
-    browser.walk(tally, "a step is changed", ("comes", "bracketed", "R (U2) L", {"label": "Edit on the inverse side U2"}),
-        ("choose", "kept-sort", "kept", {}))
-    for selector, place, wanted in (("#line-list button", 3, "Remove L"), ("#line-list button", 3, "Remove R"),
-            *(("#kept-list [data-control^=away]", *each) for each in ((1, "Remove: D"), (1, "Remove: R"), (0, "kept-back")))):
+    browser.walk(
+        tally,
+        "a step is changed",
+        ("comes", "bracketed", "R (U2) L", {"label": "Edit on the inverse side U2"}),
+        ("choose", "kept-sort", "kept", {}),
+    )
+    for selector, place, wanted in (
+        ("#line-list button", 3, "Remove L"),
+        ("#line-list button", 3, "Remove R"),
+        *(
+            ("#kept-list [data-control^=away]", *each)
+            for each in ((1, "Remove: D"), (1, "Remove: R"), (0, "kept-back"))
+        ),
+    ):
         browser.walk(tally, "one is taken away", ("script", press, selector, place, {"label": wanted}))
 
 
@@ -102,12 +134,27 @@ def by_keys(tally: Tally, browser: Browser) -> None:
     browser.wait_best()
     take = """const it = part('filter'); it.value = ''; it.dispatchEvent(new Event('input'));
         document.querySelector('#solutions-groups .take').click()"""
-    browser.walk(tally, "keys", ("script", BLUR, {}), ("press", "i", {"side": "inverse side"}), ("press", "n", {"side": "normal side"}),
-        ("press", "3", {"solutions-heading": "EO R/L, normal side"}))
+    browser.walk(
+        tally,
+        "keys",
+        ("script", BLUR, {}),
+        ("press", "i", {"side": "inverse side"}),
+        ("press", "n", {"side": "normal side"}),
+        ("press", "3", {"solutions-heading": "EO R/L, normal side"}),
+    )
     first = browser.texts("#solutions-groups .take")[:1]
-    browser.walk(tally, "keys", ("press", "s", {"#kept-list .step .moves": first}), ("press", "/", {"focus": "filter"}), ("press", "u", {"filter=": "u"}),
-        ("script", take, {}), ("comes", "steps", 1, {}), ("press", "u", {"steps": 0}),
-        ("script", "part('keys-on').checked = false;" + BLUR, {}), ("press", "i", {"side": "normal side"}))
+    browser.walk(
+        tally,
+        "keys",
+        ("press", "s", {"#kept-list .step .moves": first}),
+        ("press", "/", {"focus": "filter"}),
+        ("press", "u", {"filter=": "u"}),
+        ("script", take, {}),
+        ("comes", "steps", 1, {}),
+        ("press", "u", {"steps": 0}),
+        ("script", "part('keys-on').checked = false;" + BLUR, {}),
+        ("press", "i", {"side": "normal side"}),
+    )
 
 
 def keys_rest(tally: Tally, browser: Browser) -> None:
@@ -115,12 +162,24 @@ def keys_rest(tally: Tally, browser: Browser) -> None:
     browser.open("#scramble=R_U_F&steps=normal.F-")
     browser.script("part('keys-on').checked = true")
     fault = {"hash": browser.hash().replace("F&", "F_q&")}
-    browser.walk(tally, "under a fault", ("fill", "scramble", "R U F q", {}), ("script", BLUR, {}), ("press", *"1iusn", fault),
-        ("fill", "scramble", "R U F", {}))
+    browser.walk(
+        tally,
+        "under a fault",
+        ("fill", "scramble", "R U F q", {}),
+        ("script", BLUR, {}),
+        ("press", *"1iusn", fault),
+        ("fill", "scramble", "R U F", {}),
+    )
     browser.script(SLOW + f";{BLUR}; part('undo-step').click(); {BLUR}")
     browser.walk(tally, "while the next cells are looked for", ("press", "1", {"hash": "#scramble=R_U_F"}))
     browser.resize(640, 740)
-    browser.walk(tally, "a folded scramble", ("open", "#scramble=R_U_F", {}), ("script", BLUR, {}), ("press", "/", {"focus": "scramble"}))
+    browser.walk(
+        tally,
+        "a folded scramble",
+        ("open", "#scramble=R_U_F", {}),
+        ("script", BLUR, {}),
+        ("press", "/", {"focus": "scramble"}),
+    )
     browser.resize()
 
 
@@ -129,29 +188,61 @@ def plays(tally: Tally, browser: Browser) -> None:
     browser.go("#scramble=R_U&steps=normal.F_D~inverse.L")
     positions = [Position("R U"), Position("R U", "F"), Position("R U", "F D"), Position("R U", "F D", "L")]
     for place in (2, 1, 0):
-        browser.walk(tally, "back", ("click", "#play-back", {}), ("until", "return part('played').textContent.startsWith(arguments[0])",
-            f"{place} of 3", {"letters normal": positions[place].letters("normal")}))
-    browser.walk(tally, "on, and to its end", ("click", "#play-on", {"played": "1 of 3: F", "letters inverse": positions[1].letters("inverse")}),
-        ("click", "#play", {}), ("comes", "played", "3 of 3: (L)", {"play": "Play", "letters normal": positions[3].letters("normal")}),
-        ("go", "#scramble=R_U", {"letters normal": answer("print", "R U")}))
+        browser.walk(
+            tally,
+            "back",
+            ("click", "#play-back", {}),
+            (
+                "until",
+                "return part('played').textContent.startsWith(arguments[0])",
+                f"{place} of 3",
+                {"letters normal": positions[place].letters("normal")},
+            ),
+        )
+    browser.walk(
+        tally,
+        "on, and to its end",
+        ("click", "#play-on", {"played": "1 of 3: F", "letters inverse": positions[1].letters("inverse")}),
+        ("click", "#play", {}),
+        ("comes", "played", "3 of 3: (L)", {"play": "Play", "letters normal": positions[3].letters("normal")}),
+        ("go", "#scramble=R_U", {"letters normal": answer("print", "R U")}),
+    )
 
 
 def solved(tally: Tally, browser: Browser) -> None:
     """Nothing is finished where nothing was done, and several reductions are; no cell leads to an empty list."""
     nothing = {"finished": ""}
-    browser.walk(tally, "nothing", ("open", {}), *(("fill", "scramble", scramble, nothing) for scramble in ("", "  ", "R R'", "x2")),
-        ("fill", "scramble", "U2", {"reached": "Reached: EO F/B EO R/L EO U/D DR U/D DR R/L DR F/B"}))
+    browser.walk(
+        tally,
+        "nothing",
+        ("open", {}),
+        *(("fill", "scramble", scramble, nothing) for scramble in ("", "  ", "R R'", "x2")),
+        ("fill", "scramble", "U2", {"reached": "Reached: EO F/B EO R/L EO U/D DR U/D DR R/L DR F/B"}),
+    )
     every = "DR U/D, DR R/L and DR F/B are reached: 1 move. nissy has no step after a DR: go on by hand."
-    for steps, said in (("normal.R2", every), ("normal.U2", "Solved: 1 move."), ("inverse.U~normal.U-", "Solved: 2 moves.")):
+    for steps, said in (
+        ("normal.R2", every),
+        ("normal.U2", "Solved: 1 move."),
+        ("inverse.U~normal.U-", "Solved: 2 moves."),
+    ):
         browser.walk(tally, "steps", ("go", f"#scramble=U2&steps={steps}", {"finished": said}))
-        tally.equal(f"{steps}: the cells", [name for name in browser.cells() if " 0 moves" in name or "reached" in name], [])
+        tally.equal(
+            f"{steps}: the cells", [name for name in browser.cells() if " 0 moves" in name or "reached" in name], []
+        )
 
 
 def premoves(tally: Tally, browser: Browser) -> None:
     """Without brackets inverse moves are premoves until the cube is solved, and it says so; nothing is said of a line on the normal side."""
     note = "Not finished: the inverse moves stand at the end as premoves, and what follows goes before them."
     browser.open()
-    for steps, joined, said in (("normal.R-", "R'", ""), ("inverse.F", "F'", note), ("normal.R-~inverse.F", "R' F'", note),
-            ("normal.R-~inverse.F~normal.U-~normal.F", "R' U' F F'", ""), ("normal.R-~inverse.F~normal.U-", "R' U' F'", note)):
-        browser.walk(tally, "premoves", ("go", f"#scramble=U_R&steps={steps}", {"joined-note": said, "content joined": joined}))
+    for steps, joined, said in (
+        ("normal.R-", "R'", ""),
+        ("inverse.F", "F'", note),
+        ("normal.R-~inverse.F", "R' F'", note),
+        ("normal.R-~inverse.F~normal.U-~normal.F", "R' U' F F'", ""),
+        ("normal.R-~inverse.F~normal.U-", "R' U' F'", note),
+    ):
+        browser.walk(
+            tally, "premoves", ("go", f"#scramble=U_R&steps={steps}", {"joined-note": said, "content joined": joined})
+        )
     browser.walk(tally, "without them", ("act", "#undo-step", {}), ("act", "#undo-step", {"joined-note": ""}))

@@ -47,29 +47,42 @@ def is_legible(tally: Tally, browser: Browser, what: str) -> None:
 
 def is_named(tally: Tally, browser: Browser, what: str) -> None:
     """What assistive technology is told of each control."""
-    nodes = [(node.get("role", {}).get("value"), node.get("name", {}).get("value", ""))
-        for node in browser.command("Accessibility.getFullAXTree")["nodes"] if not node.get("ignored")]
+    nodes = [
+        (node.get("role", {}).get("value"), node.get("name", {}).get("value", ""))
+        for node in browser.command("Accessibility.getFullAXTree")["nodes"]
+        if not node.get("ignored")
+    ]
     controls = [(role, name) for role, name in nodes if role in NAMELESS]
     tally.holds(f"{what}: there are controls", len(controls) > 30)
     tally.equal(f"{what}: controls without a name", [role for role, name in controls if not name.strip()], [])
-    tally.equal(f"{what}: buttons of one word", [name for _, name in controls if name in ("Use", "Add", "Copy", "?")], [])
+    tally.equal(
+        f"{what}: buttons of one word", [name for _, name in controls if name in ("Use", "Add", "Copy", "?")], []
+    )
     texts = Counter(name for role, name in nodes if role == "StaticText")
     # a move that stands between two cases is a letter too
     texts -= Counter(browser.script("return [...document.querySelectorAll('.passed')].map((it) => it.textContent)"))
-    tally.equal(f"{what}: letters of stickers beside the label of their net, and what only explains a colour",
-        [text for text in texts if text in ("shortest", *"URFDLB")], [])
+    tally.equal(
+        f"{what}: letters of stickers beside the label of their net, and what only explains a colour",
+        [text for text in texts if text in ("shortest", *"URFDLB")],
+        [],
+    )
     pressed = [name for role, name in controls if role == "button"]
     tally.equal(f"{what}: moves that are said with an apostrophe", [name for name in pressed if "'" in name], [])
     tally.holds(f"{what}: moves that are said", any(" prime" in name for name in pressed))
     tally.holds(f"{what}: the shortest are said to be", any(name.endswith(", shortest") for name in pressed))
     tables = {name for role, name in nodes if role == "table"}
-    tally.holds(f"{what}: the tables' names are without help: {tables}", {"Best ways on, by all moves", "Shortest next steps"} <= tables)
+    tally.holds(
+        f"{what}: the tables' names are without help: {tables}",
+        {"Best ways on, by all moves", "Shortest next steps"} <= tables,
+    )
 
 
 def has_its_words(tally: Tally, browser: Browser, what: str) -> None:
     """What is pressed by the voice is called as it is seen: the words on a button are in its name. Moves and signs aren't said so."""
-    pairs = browser.script("""return all('button[aria-label]:not(.take, .help, .moves)')
-        .filter((each) => each.checkVisibility() && /[a-z]{2}/i.test(each.innerText)).map((each) => [each.innerText, each.ariaLabel])""")
+    pairs = browser.script(
+        """return all('button[aria-label]:not(.take, .help, .moves)')
+        .filter((each) => each.checkVisibility() && /[a-z]{2}/i.test(each.innerText)).map((each) => [each.innerText, each.ariaLabel])"""
+    )
     tally.holds(f"{what}: there are words", len(pairs) > 10)
     plain = [[re.sub(r"[\s,]+", " ", words).lower() for words in pair] for pair in pairs]
     tally.equal(f"{what}: words that aren't in the name", [pair for pair in plain if pair[0] not in pair[1]], [])
@@ -77,7 +90,9 @@ def has_its_words(tally: Tally, browser: Browser, what: str) -> None:
 
 def is_bordered(tally: Tally, browser: Browser, what: str) -> None:
     """The contrast of the borders of what is pressed to the ground of its card."""
-    found = browser.script(CONTRAST.split("const found")[0] + """
+    found = browser.script(
+        CONTRAST.split("const found")[0]
+        + """
         const shown = all(
             "#steps .cell, #steps .help, #best-body .take, #solutions .take, #theme, #own, #line .quiet");
         return shown.filter((node) => node.checkVisibility()).map((node) => {
@@ -85,7 +100,8 @@ def is_bordered(tally: Tally, browser: Browser, what: str) -> None:
             if (own.borderTopColor === "rgba(0, 0, 0, 0)") return [99, node.className];
             const [line, ground] = [light(channels(own.borderTopColor)), light(behind(node.parentElement))];
             return [(Math.max(line, ground) + 0.05) / (Math.min(line, ground) + 0.05), node.className || node.id];
-        })""")
+        })"""
+    )
     tally.holds(f"{what}: there are borders", len(found) > 30)
     tally.equal(f"{what}: borders of less than 3", [each for each in found if each[0] < 3], [])
 
@@ -123,13 +139,19 @@ def begins(tally: Tally, browser: Browser) -> None:
     """Before the first answer, and with a fault, there are no empty nets, and no welcome beside a scramble."""
     seen = "return ['cube', 'welcome', 'best'].map((name) => part(name).checkVisibility())"
     raw = "return all('.sticker').filter((each) => !each.dataset.colour).length"
-    browser.walk(tally, "with a fault, and without a scramble", ("open", "#scramble=R_q", {seen: [False, False, False]}),
-        ("open", {seen: [False, True, False], raw: 0}))
+    browser.walk(
+        tally,
+        "with a fault, and without a scramble",
+        ("open", "#scramble=R_q", {seen: [False, False, False]}),
+        ("open", {seen: [False, True, False], raw: 0}),
+    )
     # a tint for the mouse is only where there is one that hovers: on a phone it would stick
-    rules = browser.script("""const rules = [...document.styleSheets].flatMap((sheet) => [...sheet.cssRules]);
+    rules = browser.script(
+        """const rules = [...document.styleSheets].flatMap((sheet) => [...sheet.cssRules]);
         const hovering = (list) => list.filter((rule) => rule.selectorText?.includes(':hover')).map((rule) => rule.selectorText);
         const media = rules.filter((rule) => rule.media?.mediaText === '(hover: hover)');
-        return [hovering(rules), hovering(media.flatMap((rule) => [...rule.cssRules]))]""")
+        return [hovering(rules), hovering(media.flatMap((rule) => [...rule.cssRules]))]"""
+    )
     tally.equal("rules for hovering without such a mouse", rules[0], [])
     tally.holds("rules for hovering with one", len(rules[1]) > 0)
     browser.open("#scramble=R", browser.page_without_engine)
@@ -150,7 +172,14 @@ def prints(tally: Tally, browser: Browser) -> None:
         && getComputedStyle(each).overflowY !== 'visible').map((each) => each.id)"""
     first = """const tops = seen('main .card').map((each) => [each.getBoundingClientRect().top, each.id]);
         return tops.sort(([one], [other]) => one - other).map(([, name]) => name).slice(0, 2)"""
-    browser.walk(tally, "a sheet", ("wait", {first: ["scramble-card", "line"]}), ("wait", printed | {pressed: []}), ("resize", 794, 1123, {gap: 0}), ("resize", 360, 800, {cut: []}))
+    browser.walk(
+        tally,
+        "a sheet",
+        ("wait", {first: ["scramble-card", "line"]}),
+        ("wait", printed | {pressed: []}),
+        ("resize", 794, 1123, {gap: 0}),
+        ("resize", 360, 800, {cut: []}),
+    )
     browser.media(prefers_color_scheme="light")
 
 
@@ -177,14 +206,18 @@ def helps(tally: Tally, browser: Browser) -> None:
         browser.press(Keys.ENTER)
         tally.holds(f"{name} opens", browser.until("return all('.popover:popover-open').length === 1"))
         fits(tally, browser, name)
-        tally.equal(f"{name} is said", browser.look("said"), " ".join(browser.texts(".popover:popover-open")[0].split()))
+        tally.equal(
+            f"{name} is said", browser.look("said"), " ".join(browser.texts(".popover:popover-open")[0].split())
+        )
         browser.press(Keys.ESCAPE)
         tally.holds(f"{name} closes", browser.until("return document.querySelector('.popover:popover-open') === null"))
 
 
 def copies(tally: Tally, browser: Browser) -> None:
     """The lines are copied, and said to be."""
-    copied = "return part('status').textContent === `Copied: ${arguments[0]}` || String(getSelection()) === arguments[0]"
+    copied = (
+        "return part('status').textContent === `Copied: ${arguments[0]}` || String(getSelection()) === arguments[0]"
+    )
     for name in ("bracketed", "joined"):
         line = browser.text(name)
         browser.click(f"#copy-{name}")

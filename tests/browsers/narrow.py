@@ -65,11 +65,18 @@ def says_all(tally: Tally, browser: Browser) -> None:
     browser.open(ADDRESS.split("&list")[0].replace("~normal.R_B-", ""))
     browser.wait_best()
     tally.equal("the heading", browser.text("best-heading"), "Best ways on")
-    tally.holds(f"more of them: {browser.text('best-more')}", re.fullmatch(r"Show more of [0-9,]+", browser.text("best-more")))
-    rows = browser.script("""return seen('#best-body tr').map((each) => [getComputedStyle(each.querySelector('.axis'), '::after').content,
-        each.querySelector('.take').ariaLabel])""")
-    tally.equal("the case of each trigger", [re.findall(r"\dc\de", case) for case, _ in rows],
-        [re.findall(r"trigger from (\dc\de)", label) for _, label in rows])
+    tally.holds(
+        f"more of them: {browser.text('best-more')}", re.fullmatch(r"Show more of [0-9,]+", browser.text("best-more"))
+    )
+    rows = browser.script(
+        """return seen('#best-body tr').map((each) => [getComputedStyle(each.querySelector('.axis'), '::after').content,
+        each.querySelector('.take').ariaLabel])"""
+    )
+    tally.equal(
+        "the case of each trigger",
+        [re.findall(r"\dc\de", case) for case, _ in rows],
+        [re.findall(r"trigger from (\dc\de)", label) for _, label in rows],
+    )
     tally.holds("of some rows", len(rows) > 2)
     browser.go(SCRAMBLE)
     browser.wait_best()
@@ -77,7 +84,11 @@ def says_all(tally: Tally, browser: Browser) -> None:
     browser.wait_best()
     twins = browser.script("return seen('#best-body .twins').map((each) => each.innerText.trim())")
     tally.holds("some have several twins", any(each.startswith("or ") for each in twins))
-    tally.equal("what several twins are called", [each for each in twins if each.startswith("or ") and not each.endswith(" twins")], [])
+    tally.equal(
+        "what several twins are called",
+        [each for each in twins if each.startswith("or ") and not each.endswith(" twins")],
+        [],
+    )
 
 
 def says_once(tally: Tally, browser: Browser) -> None:
@@ -88,8 +99,12 @@ def says_once(tally: Tally, browser: Browser) -> None:
         browser.wait_best()
         browser.act("#best-body .take")
         browser.settle("return document.activeElement.closest('#solutions-groups') !== null")
-        browser.walk(tally, f"{width}: a row is taken", ("wait_best", {"best?": False, "solutions?": True}),
-            ("act", "#solutions-close", {"best?": True, "solutions?": False}))
+        browser.walk(
+            tally,
+            f"{width}: a row is taken",
+            ("wait_best", {"best?": False, "solutions?": True}),
+            ("act", "#solutions-close", {"best?": True, "solutions?": False}),
+        )
 
 
 def presses(tally: Tally, browser: Browser) -> None:
@@ -142,11 +157,24 @@ def has_rows(tally: Tally, browser: Browser) -> None:
         browser.wait_best()
         rows = browser.script(ROWS_OF_BEST)
         longest = max(len(row["moves"]) for row in rows)
-        tally.holds(f"{after}: there are long rows and twins: {longest}", longest > 15 and any(row["hasTwins"] for row in rows))
+        tally.holds(
+            f"{after}: there are long rows and twins: {longest}", longest > 15 and any(row["hasTwins"] for row in rows)
+        )
         # before an orientation the first reduction has a line of its own
         most = MOST_OF_ROW + (0 if after else LINE_OF_FIRST)
-        tally.equal(f"{after}: rows of more lines, with parts on each other, or with signs or stars that are too small", [row for row in rows
-            if row["lines"] > 1 or row["height"] > most or row["on"] or row["size"] < LEAST_SIGN or min(row["star"]) < TARGET], [])
+        tally.equal(
+            f"{after}: rows of more lines, with parts on each other, or with signs or stars that are too small",
+            [
+                row
+                for row in rows
+                if row["lines"] > 1
+                or row["height"] > most
+                or row["on"]
+                or row["size"] < LEAST_SIGN
+                or min(row["star"]) < TARGET
+            ],
+            [],
+        )
         least = min(min(each) for each in browser.script(REACHED, "#best-body .star"))
         tally.holds(f"{after}: stars that a finger misses: {least}", least >= TARGET)
     for width in (601, 768, 960, 1180, 1440):
@@ -155,9 +183,15 @@ def has_rows(tally: Tally, browser: Browser) -> None:
         longest = max(len(row["moves"]) for row in rows if row["hasTwins"])
         tally.holds(f"{width}: there are long rows with twins: {longest}", longest > 20)
         sizes = {name: browser.script(SIZES_OF, f"#best-body .{name}") for name in ("take", "twins")}
-        tally.holds(f"{width}: one size in a column, and the least sign: {sizes}", all(len(each) == 1 and min(each) >= LEAST_BESIDE_MOUSE
-            for each in sizes.values()))
-        tally.equal(f"{width}: twins on several lines", browser.script("return seen('.twins').filter((each) => each.getClientRects().length > 1).length"), 0)
+        tally.holds(
+            f"{width}: one size in a column, and the least sign: {sizes}",
+            all(len(each) == 1 and min(each) >= LEAST_BESIDE_MOUSE for each in sizes.values()),
+        )
+        tally.equal(
+            f"{width}: twins on several lines",
+            browser.script("return seen('.twins').filter((each) => each.getClientRects().length > 1).length"),
+            0,
+        )
         if width >= 1440:
             tally.equal(f"{width}: as large as other text", sizes["take"], [16])
         # further down a row with several twins is higher; the last row has half of a border less
@@ -173,7 +207,11 @@ def places(tally: Tally, browser: Browser) -> None:
         && !each.matches('pre, textarea')).length"""
 
     def in_view(what: str, *names: str) -> None:
-        tally.equal(f"{width}: after {what} what isn't in view", [name for name in names if not browser.script(IN_VIEW, name)], [])
+        tally.equal(
+            f"{width}: after {what} what isn't in view",
+            [name for name in names if not browser.script(IN_VIEW, name)],
+            [],
+        )
 
     for width, height in ((1200, 900), (360, 800)):
         is_narrow = width < 960
@@ -195,8 +233,16 @@ def places(tally: Tally, browser: Browser) -> None:
         tally.holds(f"{width}: there are long solutions", any(len(moves.split()) == 8 for moves in browser.listed()))
         tally.equal(f"{width}: solutions of more than one line", browser.script(BROKEN), [])
         browser.act("#solutions-groups .take")
-        in_view("the last step", "line-list", "finished", "own", "switch", "bracketed", "copy-bracketed",
-            *(() if is_narrow else ("joined", "copy-fmc", "net-normal", "net-inverse")))
+        in_view(
+            "the last step",
+            "line-list",
+            "finished",
+            "own",
+            "switch",
+            "bracketed",
+            "copy-bracketed",
+            *(() if is_narrow else ("joined", "copy-fmc", "net-normal", "net-inverse")),
+        )
         beside = """const [line, steps] = ['line', 'steps'].map((name) => part(name).getBoundingClientRect());
             return line.left > steps.right && line.width > steps.width"""
         tally.equal(f"{width}: the line has the wider column, if there are two", browser.script(beside), not is_narrow)

@@ -31,4 +31,6 @@ def letters_of(seen: list[Sticker]) -> str:
     if (len(seen), len(columns), len(rows)) != (54, 12, 9):
         return f"{len(seen)} stickers in {len(columns)} columns and {len(rows)} rows"
     shown = {(columns.index(round(it["left"])), rows.index(round(it["top"]))): it["letter"] for it in seen}
-    return "".join(shown.get((3 * column + place % 3, 3 * row + place // 3), "?") for column, row in BLOCKS for place in range(9))
+    return "".join(
+        shown.get((3 * column + place % 3, 3 * row + place // 3), "?") for column, row in BLOCKS for place in range(9)
+    )

@@ -58,24 +58,37 @@ def of_a_list(tally: Tally, browser: Browser) -> None:
     browser.open(AFTER + "&list=drrl-eoud.inverse.1")
     rows = browser.script(PASSED, "#solutions-groups .take")
     cases = {line: cases_of(LONGER, EO, "rl", line) for line, _ in rows}
-    tally.equal("each with its cases", [shown for _, shown in rows], [passage_of(cases[line], line) for line, _ in rows])
+    tally.equal(
+        "each with its cases", [shown for _, shown in rows], [passage_of(cases[line], line) for line, _ in rows]
+    )
     tally.holds("some have a set-up", {True, False} <= {is_last for _, shown in rows for _, _, is_last in shown})
     triggers = Counter(trigger_of(each) for each in cases.values())
     tally.holds(f"there are several triggers: {triggers}", len(triggers) > 1)
     groups = browser.script(GROUPS)
-    tally.equal("each group has one trigger, which its heading says",
+    tally.equal(
+        "each group has one trigger, which its heading says",
         [{trigger_of(cases[f"({key})"]) for key in keys} for _, keys in groups],
-        [set(re.findall(r"trigger from (\dc\de): ", heading)) for heading, _ in groups])
+        [set(re.findall(r"trigger from (\dc\de): ", heading)) for heading, _ in groups],
+    )
     tally.equal("the chips count them", dict(browser.script(CHIPS % "list")), dict(triggers))
     first, second = list(triggers)[:2]
     for pressed in ([first], [first, second], [second]):
         changed = second if len(pressed) == 2 else first
         browser.click(CHIP % ("list", changed))
-        tally.equal(f"{pressed} leaves its rows", sorted(browser.listed()),
-            sorted(line.strip("()") for line, each in cases.items() if trigger_of(each) in pressed))
-        tally.equal(f"{pressed}: which is seen, said, and keeps the focus",
-            (sorted(browser.script(PRESSED % "list")), browser.text("list-on"), browser.script("return document.activeElement.dataset.case")),
-            (sorted(pressed), "1 on", changed))
+        tally.equal(
+            f"{pressed} leaves its rows",
+            sorted(browser.listed()),
+            sorted(line.strip("()") for line, each in cases.items() if trigger_of(each) in pressed),
+        )
+        tally.equal(
+            f"{pressed}: which is seen, said, and keeps the focus",
+            (
+                sorted(browser.script(PRESSED % "list")),
+                browser.text("list-on"),
+                browser.script("return document.activeElement.dataset.case"),
+            ),
+            (sorted(pressed), "1 on", changed),
+        )
     browser.press(Keys.SPACE)
     tally.equal("by keys it is pressed again", sorted(browser.script(PRESSED % "list")), sorted([first, second]))
     browser.click("#list-clear")
@@ -94,14 +107,23 @@ def of_the_best(tally: Tally, browser: Browser) -> None:
     axes = [state.split()[1].replace("/", "").lower() for state in browser.texts("#best-body td:nth-child(3)")]
     rows = browser.script(PASSED, "#best-body .take")
     cases = [cases_of(LONGER, EO, axis, line) for axis, (line, _) in zip(axes, rows)]
-    tally.equal("each with its cases", [shown for _, shown in rows], [passage_of(each, line) for each, (line, _) in zip(cases, rows)])
+    tally.equal(
+        "each with its cases",
+        [shown for _, shown in rows],
+        [passage_of(each, line) for each, (line, _) in zip(cases, rows)],
+    )
     tally.holds("some are over both sides", any(all(sides_of(line)) for line, _ in rows))
     labels = browser.script("return all('#best-body .take').map((each) => each.ariaLabel)")
-    tally.equal("a label says where it begins, and its trigger", [re.findall(r"from (\dc\de)", each) for each in labels],
-        [[each[0], trigger_of(each)] for each in cases])
+    tally.equal(
+        "a label says where it begins, and its trigger",
+        [re.findall(r"from (\dc\de)", each) for each in labels],
+        [[each[0], trigger_of(each)] for each in cases],
+    )
     browser.script("part('best-options').open = true")
     triggers = Counter(map(trigger_of, cases))
-    tally.holds("the chips come", browser.until("return all('#best-cases-chips button').length === arguments[0]", len(triggers)))
+    tally.holds(
+        "the chips come", browser.until("return all('#best-cases-chips button').length === arguments[0]", len(triggers))
+    )
     tally.equal("and count the triggers", dict(browser.script(CHIPS % "best")), dict(triggers))
     goes_on(tally, browser, rows[0][0], passage_of(cases[0], rows[0][0]))
 
@@ -111,7 +133,9 @@ def goes_on(tally: Tally, browser: Browser, line: str, wanted: list[list[object]
     browser.act("#best-body .take")
     shown = [line, wanted]
     tally.equal("the line", browser.script(PASSED, "#line-list li:nth-child(2) .moves"), [shown])
-    tally.equal("the orientation has none", browser.script(PASSED, "#line-list li:first-child .moves"), [[f"({EO})", []]])
+    tally.equal(
+        "the orientation has none", browser.script(PASSED, "#line-list li:first-child .moves"), [[f"({EO})", []]]
+    )
     browser.act("#keep-line")
     browser.until("return document.querySelector('#kept-list .passed') !== null")
     tally.equal("what is kept", browser.script(PASSED, "#kept-list .step .step:nth-child(2) .moves"), [shown])
@@ -125,15 +149,24 @@ def of_orientations(tally: Tally, browser: Browser) -> None:
     browser.wait_best()
     found = ways(f"0 ; {SCRAMBLE} ; ;")
     counts = Counter(way.case for way in found)
-    tally.holds("they count all", browser.until("return all('#best-cases-chips button').length === arguments[0]", len(counts)))
+    tally.holds(
+        "they count all", browser.until("return all('#best-cases-chips button').length === arguments[0]", len(counts))
+    )
     chips = browser.script(CHIPS % "best")
     tally.equal("each case as often as the model has it", dict(chips), dict(counts))
-    tally.equal("the nearest first", [int(case[0]) + int(case[2]) for case, _ in chips], sorted(int(case[0]) + int(case[2]) for case in counts))
+    tally.equal(
+        "the nearest first",
+        [int(case[0]) + int(case[2]) for case, _ in chips],
+        sorted(int(case[0]) + int(case[2]) for case in counts),
+    )
     case = next(case for case, count in chips if 1 < count < len(found))
     browser.click(CHIP % ("best", case))
     tally.holds("all that are left", browser.until(MORE))
-    tally.equal("one leaves its rows", (browser.texts("#best-body .case"), browser.text("best-note")),
-        ([case] * counts[case], f"{counts[case]} of {len(found)} rows."))
+    tally.equal(
+        "one leaves its rows",
+        (browser.texts("#best-body .case"), browser.text("best-note")),
+        ([case] * counts[case], f"{counts[case]} of {len(found)} rows."),
+    )
     browser.fill("scramble", "R U F")
     browser.wait_best()
     tally.equal("for the next scramble it is still pressed", browser.script(PRESSED % "best"), [case])

@@ -47,7 +47,9 @@ def reaches_rows(tally: Tally, browser: Browser) -> None:
     last = "#best-body tr:last-child .star"
     for scroll in (0, 250):
         edit(browser, scroll)
-        tally.equal(f"{scroll}: it is open, and is typed in", (browser.look("scramble?"), browser.focused()), (True, "scramble"))
+        tally.equal(
+            f"{scroll}: it is open, and is typed in", (browser.look("scramble?"), browser.focused()), (True, "scramble")
+        )
         top = browser.script(TOP, last)
         tap(browser, last)
         tally.holds(f"{scroll}: a star, of that row", browser.comes("#best-body .star", [*["\u2606"] * 4, "\u2605"]))
@@ -70,16 +72,26 @@ def leads_back(tally: Tally, browser: Browser) -> None:
     for way, act in WAYS.items():
         browser.walk(tally, way, ("go", ADDRESS + TWO_KEPT, {}))
         before = browser.hash()
-        browser.walk(tally, way, ("script", act, TEXT, {}), ("comes", "desk?", True, {"steps": int("pasted" in way)}),
-            ("act", f"#desk a[href='{before}']", back | {"hash": before}))
-    browser.walk(tally, "what is typed keeps them", ("go", ADDRESS + TWO_KEPT, {}), ("fill", "scramble", "R U F", {"kept": 2}))
+        browser.walk(
+            tally,
+            way,
+            ("script", act, TEXT, {}),
+            ("comes", "desk?", True, {"steps": int("pasted" in way)}),
+            ("act", f"#desk a[href='{before}']", back | {"hash": before}),
+        )
+    browser.walk(
+        tally, "what is typed keeps them", ("go", ADDRESS + TWO_KEPT, {}), ("fill", "scramble", "R U F", {"kept": 2})
+    )
 
 
 def undoes(tally: Tally, browser: Browser) -> None:
     """Whoever undoes a step comes back to the row that it was taken from, among the best or in its list, and keeps what was starred."""
     row = """const { top, bottom } = document.querySelector('.take.seen')?.getBoundingClientRect() ?? {};
         return top >= 0 && bottom <= innerHeight && document.activeElement.matches('.take.seen')"""
-    for address, selector in (("", "#best-body tr:nth-child(3) .take"), ("&list=eofb.normal.1", "#solutions-groups li:nth-child(9) .take")):
+    for address, selector in (
+        ("", "#best-body tr:nth-child(3) .take"),
+        ("&list=eofb.normal.1", "#solutions-groups li:nth-child(9) .take"),
+    ):
         browser.open(ADDRESS + address)
         browser.wait_best()
         browser.script(INTO_VIEW, selector, "center")
@@ -95,12 +107,22 @@ def undoes(tally: Tally, browser: Browser) -> None:
         tally.equal(f"{taken}: the list beside it", "list=" in browser.hash(), address != "")
     browser.go(ADDRESS)
     browser.wait_best()
-    browser.walk(tally, "two steps", ("script", "document.querySelector('#best-body .take').click()", {}), ("submit", "own", "R", {}),
-        ("comes", "steps", 2, {}), ("wait_best", {}))
+    browser.walk(
+        tally,
+        "two steps",
+        ("script", "document.querySelector('#best-body .take').click()", {}),
+        ("submit", "own", "R", {}),
+        ("comes", "steps", 2, {}),
+        ("wait_best", {}),
+    )
     for left in (1, 0):
         browser.script("part('bar-undo').focus()")
         browser.walk(tally, "by keys", ("press", Keys.ENTER, {}), ("comes", "steps", left, {}), ("wait_best", {}))
-        tally.equal(f"by keys, with {left} left", browser.focused() if left else browser.until(row), "bar-undo" if left else True)
+        tally.equal(
+            f"by keys, with {left} left",
+            browser.focused() if left else browser.until(row),
+            "bar-undo" if left else True,
+        )
 
 
 def stays(tally: Tally, browser: Browser) -> None:
@@ -124,16 +146,25 @@ def stays(tally: Tally, browser: Browser) -> None:
 def is_whole(tally: Tally, browser: Browser) -> None:
     """A scramble of 25 moves is seen whole; so are the words of the buttons beside a long line, and a number with its word in the table."""
     scramble = "R' U' F D2 L2 F' R2 U2 R2 B' D2 L' B2 D' B2 L' R' B' D2 B2 F' L' R' U' F"
-    browser.walk(tally, "25 moves", ("go", {}), ("script", "part('scramble').focus()", {}),
-        ("fill", "scramble", scramble, {"scramble?": True}))
+    browser.walk(
+        tally,
+        "25 moves",
+        ("go", {}),
+        ("script", "part('scramble').focus()", {}),
+        ("fill", "scramble", scramble, {"scramble?": True}),
+    )
     cut = "const { scrollHeight, clientHeight } = part('scramble'); return scrollHeight - clientHeight"
     tally.equal("what is cut of the scramble", browser.script(cut), 0)
     browser.go(f"{ADDRESS}&steps=normal.D2_R2_L_U_R_U2_F_L-_R_L2_U_R-~inverse.R2_U-_L_D2_U_R-_B_L2")
-    narrow = """return all('#whole button').filter((each) => each.scrollWidth > each.clientWidth).map((each) => each.id)"""
+    narrow = (
+        """return all('#whole button').filter((each) => each.scrollWidth > each.clientWidth).map((each) => each.id)"""
+    )
     tally.equal("buttons that are narrower than their words", browser.script(narrow), [])
     browser.go(f"{ADDRESS}&steps=normal.D2_R2_L_U")
     words = browser.texts("#steps-body .together")
-    tally.holds(f"numbers of solutions: {words}", words and all(re.fullmatch(r"[0-9,]+ solutions?", each) for each in words))
+    tally.holds(
+        f"numbers of solutions: {words}", words and all(re.fullmatch(r"[0-9,]+ solutions?", each) for each in words)
+    )
     apart = """return all('#steps-body .together').filter((each) => {
         const range = document.createRange();
         range.selectNodeContents(each);

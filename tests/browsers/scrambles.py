@@ -13,65 +13,129 @@ PASTE_ALL = """const field = part('scramble'), clipboardData = new DataTransfer(
 NOTE = """const field = document.querySelector('.note-field');
     field.value = arguments[0];
     field.dispatchEvent(new Event('change'))"""
-NO_CLIPBOARD = "Object.defineProperty(navigator, 'clipboard', { value: { writeText: async (text) => { window.copied = text } } })"
+NO_CLIPBOARD = (
+    "Object.defineProperty(navigator, 'clipboard', { value: { writeText: async (text) => { window.copied = text } } })"
+)
 REFUSES = "Storage.prototype.setItem = () => { throw new DOMException('no room', 'QuotaExceededError') }"
 
 
 def begin(browser: Browser, tally: Tally, what: str) -> None:
     """Opens the page as one who was never here, with three scrambles."""
     browser.open()
-    browser.walk(tally, what, ("choose", "kept-sort", "kept", {"desk?": False}), ("script", PASTE, MEAN, {}),
-        ("comes", CHIPS, ["1", "2", "3"], {SHOWN: ["1"], "scramble=": "R U F", "scramble-read": ""}))
+    browser.walk(
+        tally,
+        what,
+        ("choose", "kept-sort", "kept", {"desk?": False}),
+        ("script", PASTE, MEAN, {}),
+        ("comes", CHIPS, ["1", "2", "3"], {SHOWN: ["1"], "scramble=": "R U F", "scramble-read": ""}),
+    )
 
 
 def keeps_each(tally: Tally, browser: Browser) -> None:
     """Of a mean each scramble keeps its line, its list, what is kept with its notes, and how far the page was scrolled."""
     begin(browser, tally, "a mean")
-    browser.walk(tally, "the first one", ("submit", "own", "D L", {}), ("comes", "steps", 1, {}), ("act", "#keep-line", {}),
-        ("script", NOTE, "good", {CHIPS: ["1 ★1", "2", "3"]}), ("press", "1", {}), ("comes", "solutions?", True, {}))
+    browser.walk(
+        tally,
+        "the first one",
+        ("submit", "own", "D L", {}),
+        ("comes", "steps", 1, {}),
+        ("act", "#keep-line", {}),
+        ("script", NOTE, "good", {CHIPS: ["1 ★1", "2", "3"]}),
+        ("press", "1", {}),
+        ("comes", "solutions?", True, {}),
+    )
     first = browser.hash()
-    browser.walk(tally, "the second one", ("act", chip(2), {"scramble=": "F' L2 U", SHOWN: ["2"], "steps": 0, "kept": 0, "solutions?": False}),
-        ("submit", "own", "B (U)", {}), ("comes", "steps", 1, {}), ("act", "#keep-line", {}), ("comes", CHIPS, ["1 ★1", "2 ★1", "3"], {}))
+    browser.walk(
+        tally,
+        "the second one",
+        ("act", chip(2), {"scramble=": "F' L2 U", SHOWN: ["2"], "steps": 0, "kept": 0, "solutions?": False}),
+        ("submit", "own", "B (U)", {}),
+        ("comes", "steps", 1, {}),
+        ("act", "#keep-line", {}),
+        ("comes", CHIPS, ["1 ★1", "2 ★1", "3"], {}),
+    )
     second = browser.hash()
-    browser.walk(tally, "back to the first one", ("act", chip(1), {"hash": first, KEPT: ["D L"], "bracketed": "D L", "solutions?": True}),
-        ("script", "history.back()", {}), ("comes", "hash", second, {SHOWN: ["2 ★1"], KEPT: ["B (U)"]}))
+    browser.walk(
+        tally,
+        "back to the first one",
+        ("act", chip(1), {"hash": first, KEPT: ["D L"], "bracketed": "D L", "solutions?": True}),
+        ("script", "history.back()", {}),
+        ("comes", "hash", second, {SHOWN: ["2 ★1"], KEPT: ["B (U)"]}),
+    )
     tally.equal("the note", browser.script("return all('.note-field').map((each) => each.value)"), [""])
     browser.reopen(first)
-    browser.walk(tally, "a reload takes nothing", ("comes", CHIPS, ["1 ★1", "2 ★1", "3"], {SHOWN: ["1 ★1"]}),
-        ("act", "#random", {}), ("comes", "n #desk-chips a", 4, {CHIPS: ["1 ★1", "2 ★1", "3", "4"]}),
-        ("act", "#random", {}), ("comes", CHIPS, ["1 ★1", "2 ★1", "3", "4"], {SHOWN: ["4"]}),
+    browser.walk(
+        tally,
+        "a reload takes nothing",
+        ("comes", CHIPS, ["1 ★1", "2 ★1", "3"], {SHOWN: ["1 ★1"]}),
+        ("act", "#random", {}),
+        ("comes", "n #desk-chips a", 4, {CHIPS: ["1 ★1", "2 ★1", "3", "4"]}),
+        ("act", "#random", {}),
+        ("comes", CHIPS, ["1 ★1", "2 ★1", "3", "4"], {SHOWN: ["4"]}),
         ("reopen", {CHIPS: ["1 ★1", "2 ★1", "3", "4"], SHOWN: [], "welcome?": True}),
         ("act", chip(2), {"hash": second, KEPT: ["B (U)"], "welcome?": False}),
         ("act", "#desk-new", {"focus": "scramble", "hash": "", "scramble=": "", "welcome?": True}),
-        ("script", PASTE, "R U F", {}), ("comes", "bracketed", "D L", {SHOWN: ["1 ★1"], KEPT: ["D L"]}))
+        ("script", PASTE, "R U F", {}),
+        ("comes", "bracketed", "D L", {SHOWN: ["1 ★1"], KEPT: ["D L"]}),
+    )
 
 
 def keeps_what_back_leaves(tally: Tally, browser: Browser) -> None:
     """What is kept belongs to the scramble: the browser's Back undoes a step and takes no line away, and a link adds to what is there."""
     begin(browser, tally, "a mean")
-    browser.walk(tally, "kept after a step", ("submit", "own", "D", {}), ("comes", "steps", 1, {}), ("act", "#keep-line", {}),
-        ("submit", "own", "L", {}), ("comes", "steps", 2, {}), ("act", "#keep-line", {"kept": 2}),
-        ("script", "history.go(-2)", {}), ("comes", "steps", 0, {KEPT: ["D", "D L"]}),
-        ("follow", "#scramble=R_U_F&steps=normal.B&kept=normal.B2", {KEPT: ["D", "D L", "B2"], "bracketed": "B", CHIPS: ["1 ★3", "2", "3"]}),
+    browser.walk(
+        tally,
+        "kept after a step",
+        ("submit", "own", "D", {}),
+        ("comes", "steps", 1, {}),
+        ("act", "#keep-line", {}),
+        ("submit", "own", "L", {}),
+        ("comes", "steps", 2, {}),
+        ("act", "#keep-line", {"kept": 2}),
+        ("script", "history.go(-2)", {}),
+        ("comes", "steps", 0, {KEPT: ["D", "D L"]}),
+        (
+            "follow",
+            "#scramble=R_U_F&steps=normal.B&kept=normal.B2",
+            {KEPT: ["D", "D L", "B2"], "bracketed": "B", CHIPS: ["1 ★3", "2", "3"]},
+        ),
         ("follow", "#scramble=R_U_F", {"bracketed": "B", "kept": 3}),
-        ("follow", "#scramble=R_U_F&steps=normal.F", {"bracketed": "F", KEPT: ["D", "D L", "B2", "B"]}))
+        ("follow", "#scramble=R_U_F&steps=normal.F", {"bracketed": "F", KEPT: ["D", "D L", "B2", "B"]}),
+    )
 
 
 def opens_steps(tally: Tally, browser: Browser) -> None:
     """A scramble of a text with a solution below it is read with that once it is opened, also after a reload."""
     browser.open()
-    browser.walk(tally, "a sheet", ("script", PASTE, "1. B2 R D\n\n2. R U F\nD // EO\n\nL2\n// a note\n", {}),
-        ("comes", CHIPS, ["1", "2"], {"scramble=": "B2 R D"}), ("reopen", {CHIPS: ["1", "2"]}),
-        ("act", chip(2), {}), ("comes", "kept", 1, {"scramble=": "R U F", "bracketed": "D", KEPT: ["L2"], CHIPS: ["1", "2 ★1"]}))
+    browser.walk(
+        tally,
+        "a sheet",
+        ("script", PASTE, "1. B2 R D\n\n2. R U F\nD // EO\n\nL2\n// a note\n", {}),
+        ("comes", CHIPS, ["1", "2"], {"scramble=": "B2 R D"}),
+        ("reopen", {CHIPS: ["1", "2"]}),
+        ("act", chip(2), {}),
+        ("comes", "kept", 1, {"scramble=": "R U F", "bracketed": "D", KEPT: ["L2"], CHIPS: ["1", "2 ★1"]}),
+    )
 
 
 def removes(tally: Tally, browser: Browser) -> None:
     """A scramble is taken away with what was done, and brought back."""
     begin(browser, tally, "a mean")
-    browser.walk(tally, "one is removed", ("act", chip(2), {}), ("submit", "own", "B", {}), ("comes", "steps", 1, {}), ("act", "#keep-line", {}),
+    browser.walk(
+        tally,
+        "one is removed",
+        ("act", chip(2), {}),
+        ("submit", "own", "B", {}),
+        ("comes", "steps", 1, {}),
+        ("act", "#keep-line", {}),
         ("comes", CHIPS, ["1", "2 ★1", "3"], {}),
-        ("act", "#desk-remove", {CHIPS: ["1", "2"], SHOWN: ["2"], "scramble=": "B2 R D", "desk-removed-words": "Scramble 2 was removed."}),
-        ("act", "#desk-back", {CHIPS: ["1", "2 ★1", "3"], SHOWN: ["2 ★1"], "bracketed": "B", "desk-removed?": False}))
+        (
+            "act",
+            "#desk-remove",
+            {CHIPS: ["1", "2"], SHOWN: ["2"], "scramble=": "B2 R D", "desk-removed-words": "Scramble 2 was removed."},
+        ),
+        ("act", "#desk-back", {CHIPS: ["1", "2 ★1", "3"], SHOWN: ["2 ★1"], "bracketed": "B", "desk-removed?": False}),
+    )
     lefts: tuple[list[str], ...] = (["1", "2"], ["1"], [])
     for left in lefts:
         browser.walk(tally, f"{len(left)} are left", ("act", "#desk-remove", {CHIPS: left}))
@@ -82,15 +146,38 @@ def copies(tally: Tally, browser: Browser) -> None:
     """All of a desk is a text, which another page takes; what that has of a scramble stays."""
     stub = browser.before_page(NO_CLIPBOARD)
     begin(browser, tally, "a mean")
-    browser.walk(tally, "to be copied", ("submit", "own", "D (L)", {}), ("comes", "steps", 1, {}), ("act", "#keep-line", {}),
-        ("script", NOTE, "it's <b>good</b>, 9", {}), ("act", "#copy-desk", {}))
+    browser.walk(
+        tally,
+        "to be copied",
+        ("submit", "own", "D (L)", {}),
+        ("comes", "steps", 1, {}),
+        ("act", "#keep-line", {}),
+        ("script", NOTE, "it's <b>good</b>, 9", {}),
+        ("act", "#copy-desk", {}),
+    )
     text = browser.script("return window.copied")
     tally.holds("it shows the scrambles", all(each in text for each in ("1. R U F\n", "2. F' L2 U\n", "3. B2 R D\n")))
-    browser.walk(tally, "another page", ("open", {"desk?": False}), ("script", PASTE_ALL, text, {}),
-        ("comes", CHIPS, ["1 ★1", "2", "3"], {"scramble=": "R U F", "bracketed": "D (L)", KEPT: ["D (L)"]}))
-    tally.equal("the note", browser.script("return all('.note-field').map((each) => each.value)"), ["it's <b>good</b>, 9"])
-    browser.walk(tally, "a page with one of them", ("open", {}), ("script", PASTE, "R U F", {}), ("submit", "own", "B", {}), ("comes", "steps", 1, {}),
-        ("act", "#keep-line", {}), ("script", PASTE_ALL, text, {}), ("comes", CHIPS, ["1 ★2", "2", "3"], {KEPT: ["B", "D (L)"]}))
+    browser.walk(
+        tally,
+        "another page",
+        ("open", {"desk?": False}),
+        ("script", PASTE_ALL, text, {}),
+        ("comes", CHIPS, ["1 ★1", "2", "3"], {"scramble=": "R U F", "bracketed": "D (L)", KEPT: ["D (L)"]}),
+    )
+    tally.equal(
+        "the note", browser.script("return all('.note-field').map((each) => each.value)"), ["it's <b>good</b>, 9"]
+    )
+    browser.walk(
+        tally,
+        "a page with one of them",
+        ("open", {}),
+        ("script", PASTE, "R U F", {}),
+        ("submit", "own", "B", {}),
+        ("comes", "steps", 1, {}),
+        ("act", "#keep-line", {}),
+        ("script", PASTE_ALL, text, {}),
+        ("comes", CHIPS, ["1 ★2", "2", "3"], {KEPT: ["B", "D (L)"]}),
+    )
     browser.no_longer(stub)
 
 
@@ -99,9 +186,18 @@ def says_what_is_refused(tally: Tally, browser: Browser) -> None:
     browser.open()
     stub = browser.before_page(REFUSES)
     said = "This browser keeps nothing of what is done here: take it along by Copy all."
-    browser.walk(tally, "nothing is kept", ("reopen", {"desk?": False}), ("script", PASTE, MEAN, {}),
-        ("comes", CHIPS, ["1", "2", "3"], {"desk-note": said}), ("submit", "own", "D", {}), ("comes", "steps", 1, {}), ("act", "#keep-line", {}),
-        ("act", chip(2), {"kept": 0}), ("act", chip(1), {"bracketed": "D", KEPT: ["D"], CHIPS: ["1 ★1", "2", "3"]}))
+    browser.walk(
+        tally,
+        "nothing is kept",
+        ("reopen", {"desk?": False}),
+        ("script", PASTE, MEAN, {}),
+        ("comes", CHIPS, ["1", "2", "3"], {"desk-note": said}),
+        ("submit", "own", "D", {}),
+        ("comes", "steps", 1, {}),
+        ("act", "#keep-line", {}),
+        ("act", chip(2), {"kept": 0}),
+        ("act", chip(1), {"bracketed": "D", KEPT: ["D"], CHIPS: ["1 ★1", "2", "3"]}),
+    )
     browser.no_longer(stub)
     browser.reopen()
 
@@ -109,15 +205,37 @@ def says_what_is_refused(tally: Tally, browser: Browser) -> None:
 def reads_what_is_right(tally: Tally, browser: Browser) -> None:
     """What the browser kept is read as text from outside: what is no sheet is left out, and what is one is shown as text."""
     good = '{"id": 7, "address": "#scramble=R_U&steps=normal.F", "place": null, "written": null, "isDrawn": false}'
-    odd = ("null", "[]", "{}", "[1, null, [], {}]", "[", '"x"', '[{"id": "1", "address": "#scramble=R"}]', '[{"id": 1, "address": "R"}]',
-        '[{"id": 1, "address": "#scramble=%"}]', '[{"id": 1, "address": "#scramble=R&steps=normal.%3Cb%3E"}]', '[{"id": 1, "address": 2}]')
+    odd = (
+        "null",
+        "[]",
+        "{}",
+        "[1, null, [], {}]",
+        "[",
+        '"x"',
+        '[{"id": "1", "address": "#scramble=R"}]',
+        '[{"id": 1, "address": "R"}]',
+        '[{"id": 1, "address": "#scramble=%"}]',
+        '[{"id": 1, "address": "#scramble=R&steps=normal.%3Cb%3E"}]',
+        '[{"id": 1, "address": 2}]',
+    )
     store = "localStorage.setItem('nissy-desk', arguments[0])"
     for text in odd:
         browser.walk(tally, f"{text}", ("script", store, text, {}), ("reopen", {"desk?": False, CHIPS: []}))
-    browser.walk(tally, "beside a good one", ("script", store, f'[{{"id": "x"}}, {good}, 5]', {}), ("reopen", {CHIPS: ["1"], "desk?": True}),
-        ("act", chip(1), {"scramble=": "R U", "bracketed": "F"}))
+    browser.walk(
+        tally,
+        "beside a good one",
+        ("script", store, f'[{{"id": "x"}}, {good}, 5]', {}),
+        ("reopen", {CHIPS: ["1"], "desk?": True}),
+        ("act", chip(1), {"scramble=": "R U", "bracketed": "F"}),
+    )
     late = '[{"id": 7, "address": "#scramble=R_U", "written": {"text": "R U", "at": 5}}]'
-    browser.walk(tally, "a text that has fewer scrambles", ("script", store, late, {}), ("reopen", {CHIPS: ["1"]}), ("act", chip(1), {"scramble=": "R U"}))
+    browser.walk(
+        tally,
+        "a text that has fewer scrambles",
+        ("script", store, late, {}),
+        ("reopen", {CHIPS: ["1"]}),
+        ("act", chip(1), {"scramble=": "R U"}),
+    )
     browser.forget()
 
 
@@ -126,8 +244,20 @@ def has_room(tally: Tally, browser: Browser) -> None:
     browser.open()
     browser.resize(360, 900, True)
     many = "\n".join(f"{at}. {'R U ' * (at % 7)}{'F' if at % 2 else 'B'} {'D L ' * (at // 7)}" for at in range(1, 106))
-    browser.walk(tally, "more than fit", ("reopen", {}), ("script", PASTE, many, {}),
-        ("comes", "n #desk-chips a", 100, {"desk-note": "The desk is full: 5 scrambles had no room.",
-            "return document.documentElement.scrollWidth": 360}))
+    browser.walk(
+        tally,
+        "more than fit",
+        ("reopen", {}),
+        ("script", PASTE, many, {}),
+        (
+            "comes",
+            "n #desk-chips a",
+            100,
+            {
+                "desk-note": "The desk is full: 5 scrambles had no room.",
+                "return document.documentElement.scrollWidth": 360,
+            },
+        ),
+    )
     browser.forget()
     browser.resize()

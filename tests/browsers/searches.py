@@ -27,8 +27,12 @@ def cases(tally: Tally, browser: Browser) -> None:
     browser.settle("return all('#steps-body th').length > 0")
     tally.equal("bad edges", browser.script(heads), ["EO F/B 4 bad edges", "EO R/L 6 bad edges", "EO U/D 6 bad edges"])
     browser.act('[data-cell="eofb.normal"]')
-    listed = dict(browser.script("""return all('#solutions-groups li').map((each) =>
-        [each.querySelector('.take').dataset.key, [...each.querySelectorAll('.case')].map((one) => one.textContent)])"""))
+    listed = dict(
+        browser.script(
+            """return all('#solutions-groups li').map((each) =>
+        [each.querySelector('.take').dataset.key, [...each.querySelectorAll('.case')].map((one) => one.textContent)])"""
+        )
+    )
     two = [["U/D 4c4e", "R/L 4c6e"], ["U/D 4c2e", "R/L 6c6e"]]
     tally.equal("the cases of two", [listed.get("R2 L D' F"), listed.get("R2 D' L F")], two)
     pressed: list[str] = []
@@ -44,10 +48,18 @@ def cases(tally: Tally, browser: Browser) -> None:
 
 def marked(tally: Tally, browser: Browser) -> None:
     """Bad pieces have a ring and a dot, the rest is grey; what is marked follows the list that is open, and the focus."""
-    normal, inverse = ("return all('#net-%s .sticker').flatMap((each, place) => each.matches('.bad') ? [place] : [])" % side for side in SIDES)
+    normal, inverse = (
+        "return all('#net-%s .sticker').flatMap((each, place) => each.matches('.bad') ? [place] : [])" % side
+        for side in SIDES
+    )
     # F flips four edges of its own: their stickers are on F, and beside it
     edges = [7, 12, 19, 21, 23, 25, 28, 41]
-    browser.walk(tally, "bad edges on both sides", ("go", "#scramble=F", {normal: []}), ("choose", "marks", "EO F/B", {normal: edges, inverse: edges}))
+    browser.walk(
+        tally,
+        "bad edges on both sides",
+        ("go", "#scramble=F", {normal: []}),
+        ("choose", "marks", "EO F/B", {normal: edges, inverse: edges}),
+    )
     looks = """return ['.bad', '.sticker:not(.bad)'].map((each) => document.querySelector(`#net-normal ${each}`)).map((it) => {
         const own = getComputedStyle(it.querySelector('rect'));
         return [own.fill, own.strokeWidth, getComputedStyle(it.querySelector('.dot')).visibility]; })"""
@@ -56,21 +68,35 @@ def marked(tally: Tally, browser: Browser) -> None:
     tally.equal("a bad one has a ring and a dot, another neither", (has_ring, dot, none), (True, "visible", "hidden"))
     parts = [int(part) for part in re.findall(r"\d+", grey)]
     tally.holds(f"the rest is grey: {parts}", max(parts) - min(parts) < 20)
-    named = re.search("EO F/B: 4 bad, ([A-Z ]+);", browser.script("return document.querySelector('#net-normal svg').ariaLabel"))
+    named = re.search(
+        "EO F/B: 4 bad, ([A-Z ]+);", browser.script("return document.querySelector('#net-normal svg').ariaLabel")
+    )
     tally.equal("and they are named", sorted(named[1].split()) if named else None, ["DF", "FL", "FR", "UF"])
     ends = "return part('marked-normal').innerText.slice(-13)"
     count = normal + ".length"
     # of a reduction corners, and edges of both sides of the slice
-    browser.walk(tally, "what is marked", ("choose", "marks", "DR U/D", {count: 4 * 3 + 4 * 2}), ("choose", "marks", "follow", {}),
-        ("go", address_of(LONGER), {}), ("script", "document.querySelector('[data-cell=\"eofb.normal\"]').focus()", {count: 12, ends: "EO F/B: 6 bad"}),
-        ("script", BLUR, {count: 0}), ("act", '[data-cell="eorl.normal"]', {}), ("script", BLUR, {ends: "EO R/L: 6 bad"}))
+    browser.walk(
+        tally,
+        "what is marked",
+        ("choose", "marks", "DR U/D", {count: 4 * 3 + 4 * 2}),
+        ("choose", "marks", "follow", {}),
+        ("go", address_of(LONGER), {}),
+        ("script", "document.querySelector('[data-cell=\"eofb.normal\"]').focus()", {count: 12, ends: "EO F/B: 6 bad"}),
+        ("script", BLUR, {count: 0}),
+        ("act", '[data-cell="eorl.normal"]', {}),
+        ("script", BLUR, {ends: "EO R/L: 6 bad"}),
+    )
 
 
 def long_list(tally: Tally, browser: Browser) -> None:
     """The longest list that the page offers, and a stop of it; a filter that is typed meanwhile. What isn't known is never said to be none."""
     note = "return part('solutions-note').textContent"
     browser.open(address_of(LONGER) + "&list=eoud.inverse.0")
-    tally.equal("a filter that is typed while a list is looked for", browser.script(CHOOSE + TYPE + note, "1", "B D R"), "Looking \u2026")
+    tally.equal(
+        "a filter that is typed while a list is looked for",
+        browser.script(CHOOSE + TYPE + note, "1", "B D R"),
+        "Looking \u2026",
+    )
     browser.wait()
     wanted = [moves for moves in Position(LONGER).rows("eoud", "inverse", 1) if " B D R " in f" {moves} "]
     tally.equal("it is kept for the list", browser.listed(), wanted)
@@ -80,8 +106,11 @@ def long_list(tally: Tally, browser: Browser) -> None:
     browser.wait()
     lines = program_answers(browser.program, ["near", "eoud", "20", "2", f"({LONGER})"], [])
     count = sum(line.endswith(")") for line in lines)
-    tally.equal("a long one is counted whole, and cut", (browser.text("solutions-note").split(".")[0], len(browser.listed())),
-        (f"{count:,} solutions", 200))
+    tally.equal(
+        "a long one is counted whole, and cut",
+        (browser.text("solutions-note").split(".")[0], len(browser.listed())),
+        (f"{count:,} solutions", 200),
+    )
     browser.go(address_of(FLIPPED) + "&list=eofb.normal.3")
     said = browser.text("solutions-note")
     fewer = program_answers(browser.program, ["near", "eofb", "20", "2", FLIPPED], [])
@@ -115,7 +144,11 @@ def impatient(tally: Tally, browser: Browser) -> None:
     browser.until("return part('scramble').value !== arguments[0]", LONGER)
     time.sleep(1)
     browser.wait()
-    tally.equal("of many scrambles the one of the seed is shown", browser.value("scramble"), drawn(browser, browser.value("seed")))
+    tally.equal(
+        "of many scrambles the one of the seed is shown",
+        browser.value("scramble"),
+        drawn(browser, browser.value("seed")),
+    )
     add = "const own = part('own'); own.value = 'R'; for (let at = 0; at < 3; at += 1) own.form.requestSubmit();"
     another = """const field = part('scramble');
         field.select();
@@ -123,13 +156,26 @@ def impatient(tally: Tally, browser: Browser) -> None:
         field.value = 'F B U';
         field.dispatchEvent(new InputEvent('input', { inputType: 'insertFromPaste' }));
         part('results').setAttribute('aria-busy', 'true')"""
-    browser.walk(tally, "moves that are sent three times at once", ("script", EXAMPLE + add, {}),
-        ("until", "return all('#line-list li').length > 0", {"bracketed": "R", "own-fault": "", "own=": ""}))
-    browser.walk(tally, "before another scramble", ("script", add + another, {"steps": 0, "own-fault": "", "own=": "R"}))
+    browser.walk(
+        tally,
+        "moves that are sent three times at once",
+        ("script", EXAMPLE + add, {}),
+        ("until", "return all('#line-list li').length > 0", {"bracketed": "R", "own-fault": "", "own=": ""}),
+    )
+    browser.walk(
+        tally, "before another scramble", ("script", add + another, {"steps": 0, "own-fault": "", "own=": "R"})
+    )
 
 
 def random(tally: Tally, browser: Browser) -> None:
     """Scrambles by a seed, and a random one, which shows its seed."""
-    browser.walk(tally, "a seed", ("go", {}), ("submit", "seed", "42", {}), ("comes", "scramble=", drawn(browser, "42"), {}), ("click", "#random", {}))
+    browser.walk(
+        tally,
+        "a seed",
+        ("go", {}),
+        ("submit", "seed", "42", {}),
+        ("comes", "scramble=", drawn(browser, "42"), {}),
+        ("click", "#random", {}),
+    )
     browser.settle("return part('scramble').value !== arguments[0]", drawn(browser, "42"))
     tally.equal("a random one shows its seed", browser.value("scramble"), drawn(browser, browser.value("seed")))

@@ -44,7 +44,11 @@ def speaks_english(tally: Tally, browser: Browser) -> None:
         browser.command("Emulation.setLocaleOverride", locale=locale)
         browser.open(ADDRESS)
         browser.wait_best()
-        tally.equal(f"{locale}: the browser has it", browser.script("return Intl.NumberFormat().resolvedOptions().locale"), locale)
+        tally.equal(
+            f"{locale}: the browser has it",
+            browser.script("return Intl.NumberFormat().resolvedOptions().locale"),
+            locale,
+        )
         tally.equal(f"{locale}: what is seen", browser.script(SEEN), wanted)
     browser.command("Emulation.setLocaleOverride", locale="")
 
@@ -54,7 +58,14 @@ def keeps_nothing(tally: Tally, browser: Browser) -> None:
     for what, script in (("denied", DENIED), ("full", FULL)):
         name = browser.before_page(script)
         looks = {"bracketed": "R", "alert": "", "n #steps-body .cell": 6, "hash": SCRAMBLE + "&steps=normal.R"}
-        browser.walk(tally, what, ("open", SCRAMBLE, {}), ("submit", "own", "R", {}), ("comes", "steps", 1, {}), ("choose", "theme", "dark", looks))
+        browser.walk(
+            tally,
+            what,
+            ("open", SCRAMBLE, {}),
+            ("submit", "own", "R", {}),
+            ("comes", "steps", 1, {}),
+            ("choose", "theme", "dark", looks),
+        )
         tally.equal(f"{what}: the theme", browser.script("return document.documentElement.dataset.theme"), "dark")
         browser.no_longer(name)
     browser.open()
@@ -71,5 +82,14 @@ def has_a_long_history(tally: Tally, browser: Browser) -> None:
         browser.until("return all('#line-list li').length === 0")
     browser.wait()
     tally.holds("it is long", browser.script("return history.length") >= 50)
-    browser.walk(tally, "Back leads to the last step", ("script", "history.back()", {}),
-        ("comes", "hash", SCRAMBLE + "&steps=normal.R", {"bracketed": "R", "alert": "", "failed": "", "n #steps-body .cell": 6}))
+    browser.walk(
+        tally,
+        "Back leads to the last step",
+        ("script", "history.back()", {}),
+        (
+            "comes",
+            "hash",
+            SCRAMBLE + "&steps=normal.R",
+            {"bracketed": "R", "alert": "", "failed": "", "n #steps-body .cell": 6},
+        ),
+    )

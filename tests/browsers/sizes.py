@@ -4,9 +4,15 @@ from browser import Browser
 from looks import ADDRESS, SCRAMBLE
 from tally import Tally
 
-STATES = (("empty", ""), ("a scramble", SCRAMBLE), ("all cards", ADDRESS), ("an EO", SCRAMBLE + "&steps=inverse.B_D_R_F2_B_D"),
-    ("a fault", "#scramble=R_U_q_" + "_".join("F" * 60)), ("a list", SCRAMBLE + "&list=eorl.inverse.1"),
-    ("a DR", SCRAMBLE + "&steps=inverse.B_D_R_F2_B_D~normal.R_B-~normal.D2_R"))
+STATES = (
+    ("empty", ""),
+    ("a scramble", SCRAMBLE),
+    ("all cards", ADDRESS),
+    ("an EO", SCRAMBLE + "&steps=inverse.B_D_R_F2_B_D"),
+    ("a fault", "#scramble=R_U_q_" + "_".join("F" * 60)),
+    ("a list", SCRAMBLE + "&list=eorl.inverse.1"),
+    ("a DR", SCRAMBLE + "&steps=inverse.B_D_R_F2_B_D~normal.R_B-~normal.D2_R"),
+)
 # what is beyond the window, cut, or on something else: the text of each line, by its middle, since the heights of lines may meet; a line
 # that shows its end alone is meant to be cut
 BROKEN = """
@@ -37,8 +43,15 @@ SPACED = """body, body * { line-height: 1.5 !important; letter-spacing: 0.12em !
     p { margin-bottom: 2em !important }"""
 STYLE = "const sheet = new CSSStyleSheet(); sheet.replaceSync(arguments[0]); document.adoptedStyleSheets = [sheet]"
 # a name, the width of the window, and the style of the reader
-SIZES = (("twice the text", 360, LARGE), ("a zoom of 200", 180, ""), ("spaced", 360, SPACED), ("spaced", 390, SPACED),
-    ("spaced", 1280, SPACED), ("narrow", 320, ""), ("wide", 2560, ""))
+SIZES = (
+    ("twice the text", 360, LARGE),
+    ("a zoom of 200", 180, ""),
+    ("spaced", 360, SPACED),
+    ("spaced", 390, SPACED),
+    ("spaced", 1280, SPACED),
+    ("narrow", 320, ""),
+    ("wide", 2560, ""),
+)
 
 
 def is_whole(tally: Tally, browser: Browser) -> None:
@@ -52,4 +65,6 @@ def is_whole(tally: Tally, browser: Browser) -> None:
             browser.script(STYLE, style)
             browser.until("return innerWidth === arguments[0]", width)
             is_within, far, cut, on = browser.script(BROKEN)
-            tally.equal(f"{name} at {width} points, {state}", (is_within, far[-3:], cut[-3:], on[:3]), (True, [], [], []))
+            tally.equal(
+                f"{name} at {width} points, {state}", (is_within, far[-3:], cut[-3:], on[:3]), (True, [], [], [])
+            )

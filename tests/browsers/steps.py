@@ -6,8 +6,15 @@ from wanted import Position
 SCRAMBLE = "F2 U2 L2 D2 R2 L2 U2 L B R2 B2 L2 D F B2 R2 U' F R L U R2 F' D2 R2"
 ADDRESS = "#scramble=" + SCRAMBLE.replace(" ", "_").replace("'", "-")
 EXAMPLE = "R' U' F D2 L2 F R2 U2 R2 B D2 L B2 D' B2 L' R' B' D2 B2 R' U' F"
-TYPED: tuple[tuple[str, list[str]], ...] = (("U", ["U"]), ("u2", ["U2"]), ("U'", ["U'"]), ("  R F2 ", ["R", "F2"]), ("l\u2019f", ["L'", "F"]),
-    ("B2'", ["B2"]), ("", []))
+TYPED: tuple[tuple[str, list[str]], ...] = (
+    ("U", ["U"]),
+    ("u2", ["U2"]),
+    ("U'", ["U'"]),
+    ("  R F2 ", ["R", "F2"]),
+    ("l\u2019f", ["L'", "F"]),
+    ("B2'", ["B2"]),
+    ("", []),
+)
 # turns of opposite faces change nothing by their order; of these the lists have U, R or F first
 OPPOSITE = (("D2 U", ["U", "D2"]), ("B2F2", ["F2", "B2"]), ("R' L2", ["R'", "L2"]), ("L2 R' U", ["R'", "L2", "U"]))
 TYPE = "const it = part('filter'); it.value = arguments[0]; it.dispatchEvent(new Event('input'))"
@@ -24,7 +31,9 @@ def history(tally: Tally, browser: Browser) -> None:
     count = "return history.length"
     browser.open(ADDRESS)
     entries = browser.script(count)
-    browser.walk(tally, "a side and a list", ("click", "#switch", {}), ("act", '[data-cell="eofb.inverse"]', {count: entries}))
+    browser.walk(
+        tally, "a side and a list", ("click", "#switch", {}), ("act", '[data-cell="eofb.inverse"]', {count: entries})
+    )
     browser.act("#solutions-groups .take")
     first = browser.text("bracketed")
     browser.walk(tally, "by hand", ("submit", "own", "R", {}), ("comes", "steps", 2, {}))
@@ -32,8 +41,11 @@ def history(tally: Tally, browser: Browser) -> None:
     browser.walk(tally, "a step, moves by hand and Clear make one each", ("act", "#clear", {count: entries + 3}))
     back(browser)
     browser.walk(tally, "Back after Clear", ("wait", {"bracketed": both}), ("act", "#undo-move", {"bracketed": first}))
-    for what, looks in (("an undone move", {"bracketed": both}), ("moves by hand", {"bracketed": first}),
-            ("a step", {"bracketed": "", "side": "inverse side", "solutions-heading": "EO F/B, inverse side"})):
+    for what, looks in (
+        ("an undone move", {"bracketed": both}),
+        ("moves by hand", {"bracketed": first}),
+        ("a step", {"bracketed": "", "side": "inverse side", "solutions-heading": "EO F/B, inverse side"}),
+    ):
         back(browser)
         browser.walk(tally, f"Back after {what}", ("wait", looks))
     drawn = [SCRAMBLE]
@@ -56,19 +68,29 @@ def refused(tally: Tally, browser: Browser) -> None:
         document.querySelector(arguments[0]).click()"""
     browser.go("#scramble=R_U_F&steps=normal.R~inverse.U")
     for button, steps in (("#switch", "normal.R~inverse.U"), ("#undo-step", "normal.R")):
-        browser.walk(tally, "refused", ("script", often, button, {"side": "inverse side"}),
-            ("comes", "hash", f"#scramble=R_U_F&steps={steps}&side=inverse", {}))
+        browser.walk(
+            tally,
+            "refused",
+            ("script", often, button, {"side": "inverse side"}),
+            ("comes", "hash", f"#scramble=R_U_F&steps={steps}&side=inverse", {}),
+        )
     tally.equal("what is seen is what the address says", browser.texts("#line-list .moves"), ["R"])
 
 
 def undo(tally: Tally, browser: Browser) -> None:
     """An undone step gives its side back."""
-    browser.walk(tally, "undo", ("go", "#scramble=R_U_F&steps=inverse.R~normal.U", {}), ("act", "#undo-step", {"side": "normal side"}),
-        ("act", "#undo-step", {"side": "inverse side"}))
+    browser.walk(
+        tally,
+        "undo",
+        ("go", "#scramble=R_U_F&steps=inverse.R~normal.U", {}),
+        ("act", "#undo-step", {"side": "normal side"}),
+        ("act", "#undo-step", {"side": "inverse side"}),
+    )
 
 
 def kept(tally: Tally, browser: Browser) -> None:
     """The best continuations of a cube are there again when one comes back to it, but not for another scramble."""
+
     def shown() -> tuple[list[str], list[str], str]:
         return browser.texts("#best-body th"), browser.texts("#best-body td.axis"), browser.text("best-note")
 
@@ -78,8 +100,10 @@ def kept(tally: Tally, browser: Browser) -> None:
     browser.act("#best-body .take")
     browser.wait_best()
     tally.holds("those of another cube aren't shown", shown()[0] != found[0])
-    browser.script("""const { postMessage } = Worker.prototype; Worker.prototype.postMessage = function (...words) {
-        if (words[0].request?.call !== 'bestOfAxis') postMessage.apply(this, words); }""")
+    browser.script(
+        """const { postMessage } = Worker.prototype; Worker.prototype.postMessage = function (...words) {
+        if (words[0].request?.call !== 'bestOfAxis') postMessage.apply(this, words); }"""
+    )
     browser.act("#undo-step")
     tally.equal("they are kept", shown(), found)
     marked = browser.script("return all('.seen').map((each) => each.ariaLabel.endsWith(', seen'))")
@@ -102,7 +126,10 @@ def returns(tally: Tally, browser: Browser) -> None:
         browser.walk(tally, "a row", ("script", "document.activeElement.click()", {}), ("comes", "steps", 1, {}))
         tally.holds("the list of a reduction is open", address or browser.listed() != [])
         back(browser)
-        tally.holds(f"{rows}: it has the focus again", browser.until("return document.activeElement.dataset.key === arguments[0]", before[0]))
+        tally.holds(
+            f"{rows}: it has the focus again",
+            browser.until("return document.activeElement.dataset.key === arguments[0]", before[0]),
+        )
         browser.wait_best()
         after = browser.script(place)
         tally.holds(f"{rows}: it stands where it stood: {before}, {after}", abs(before[1] - after[1]) < 3)
@@ -118,14 +145,25 @@ def leaves_list(tally: Tally, browser: Browser) -> None:
         heading = browser.text("solutions-heading")
         busy = "document.querySelector(arguments[0]).click(); part('results').setAttribute('aria-busy', 'true')"
         browser.walk(tally, "it is left without a fault", ("script", busy, act, {"alert": ""}))
-        tally.holds(f"{act}: it is left", browser.text("solutions-heading") != heading and "nissy:" not in browser.text("results"))
+        tally.holds(
+            f"{act}: it is left",
+            browser.text("solutions-heading") != heading and "nissy:" not in browser.text("results"),
+        )
     for close in ('[data-cell="eofb.normal"]', "#solutions-close"):
-        browser.walk(tally, "an open list", ("go", ADDRESS, {}), ("act", '[data-cell="eofb.normal"]', {"hash": ADDRESS + "&list=eofb.normal.0"}),
-            ("act", close, {"solutions": "", "hash": ADDRESS, "focus": "eofb.normal"}))
+        browser.walk(
+            tally,
+            "an open list",
+            ("go", ADDRESS, {}),
+            ("act", '[data-cell="eofb.normal"]', {"hash": ADDRESS + "&list=eofb.normal.0"}),
+            ("act", close, {"solutions": "", "hash": ADDRESS, "focus": "eofb.normal"}),
+        )
     width = "return document.body.clientWidth"
     closed = browser.script(width)
     browser.walk(tally, "a long list", ("act", '[data-cell="eofb.normal"]', {}), ("choose", "slack", "1", {}))
-    tally.holds("a long list makes the page longer", browser.script("return document.documentElement.scrollHeight > 2 * innerHeight"))
+    tally.holds(
+        "a long list makes the page longer",
+        browser.script("return document.documentElement.scrollHeight > 2 * innerHeight"),
+    )
     tally.equal("but no narrower", browser.script(width), closed)
     browser.walk(tally, "Escape closes it", ("press", Keys.ESCAPE, {"solutions": ""}))
 
@@ -143,7 +181,11 @@ def filters(tally: Tally, browser: Browser) -> None:
         browser.script(TYPE, typed)
         is_said = "not moves" in browser.text("solutions-note")
         tally.equal(f"{typed!r} is said to be no moves, with no list", (is_said, browser.listed()), (True, []))
-    browser.walk(tally, "twins", ("go", "#scramble=R_U_F&list=eofb.normal.0", {"solutions-note": "2 solutions. 1 row: twins share one."}))
+    browser.walk(
+        tally,
+        "twins",
+        ("go", "#scramble=R_U_F&list=eofb.normal.0", {"solutions-note": "2 solutions. 1 row: twins share one."}),
+    )
 
 
 def says_in_all(tally: Tally, browser: Browser) -> None:
@@ -161,5 +203,8 @@ def says_in_all(tally: Tally, browser: Browser) -> None:
     tally.holds(f"they have several: {counts}", len(counts) > 1)
     heads = [head.split(":")[0] for head in browser.texts("#solutions-groups h3")]
     length = at.count("drrl-eofb", "normal")[0]
-    tally.equal("by all moves", list(dict.fromkeys(head.split(", trigger")[0] for head in heads)),
-        [f"{length} moves, {total} in all" for total, _ in counts])
+    tally.equal(
+        "by all moves",
+        list(dict.fromkeys(head.split(", trigger")[0] for head in heads)),
+        [f"{length} moves, {total} in all" for total, _ in counts],
+    )

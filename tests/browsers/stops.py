@@ -3,8 +3,27 @@ from browser import Browser, Keys, Step
 from looks import ADDRESS, SCRAMBLE
 from tally import Tally
 
-STOPS = {"skip", "scramble-edit", "undo-move", "own", "switch", "copy-joined", "eofb.normal", "slack", "filter", "best-more", "copy-fmc", "copy-kept",
-    "marks", "play", "keep-line", "copy-link", "theme", "solutions-close", "twins"}
+STOPS = {
+    "skip",
+    "scramble-edit",
+    "undo-move",
+    "own",
+    "switch",
+    "copy-joined",
+    "eofb.normal",
+    "slack",
+    "filter",
+    "best-more",
+    "copy-fmc",
+    "copy-kept",
+    "marks",
+    "play",
+    "keep-line",
+    "copy-link",
+    "theme",
+    "solutions-close",
+    "twins",
+}
 
 
 def shows_focus(tally: Tally, browser: Browser) -> None:
@@ -45,7 +64,10 @@ def shows_focus_below(tally: Tally, browser: Browser) -> None:
         browser.script("window.end = undefined; part(arguments[0]).focus()", begin)
         while browser.script("return document.activeElement.closest('#side-column') !== null"):
             browser.until(seen)
-            tally.holds(f"the focus is in view at {browser.focused()!r}, from {begin}", browser.script("return window.end === undefined"))
+            tally.holds(
+                f"the focus is in view at {browser.focused()!r}, from {begin}",
+                browser.script("return window.end === undefined"),
+            )
             browser.script("window.end = undefined; scrollTo(0, document.documentElement.scrollHeight)")
             browser.press(Keys.TAB, modifiers=modifiers)
 
@@ -59,5 +81,13 @@ def has_no_more_stops(tally: Tally, browser: Browser) -> None:
     focus: Step = ("script", "part('scramble').focus()", {})
     browser.walk(tally, "after the field", focus, ("press", Keys.TAB, {"focus": "random"}))
     browser.resize(1280, 900)
-    browser.walk(tally, "stops from the scramble to the first cell", ("go", SCRAMBLE, {}), ("wait_best", {}), focus, ("tab_to", "eofb.normal", 8, {}),
-        ("script", "part('skip').focus()", {}), ("press", Keys.ENTER, {"focus": "eofb.normal"}))
+    browser.walk(
+        tally,
+        "stops from the scramble to the first cell",
+        ("go", SCRAMBLE, {}),
+        ("wait_best", {}),
+        focus,
+        ("tab_to", "eofb.normal", 8, {}),
+        ("script", "part('skip').focus()", {}),
+        ("press", Keys.ENTER, {"focus": "eofb.normal"}),
+    )

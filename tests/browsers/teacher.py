@@ -27,29 +27,48 @@ def tells_why(tally: Tally, browser: Browser) -> None:
     for choice in CHOICES:
         browser.choose("marks", choice)
         bad = set(browser.script(BAD))
-        places = [place for place in range(54) if place % 9 != 4 and (place % 9 in EDGE_PLACES or choice.startswith("DR"))]
+        places = [
+            place for place in range(54) if place % 9 != 4 and (place % 9 in EDGE_PLACES or choice.startswith("DR"))
+        ]
         said = {place: browser.script(PRESS, place) for place in places}
         words = {place: f"is {'bad' if place in bad else 'good'} for {choice}" for place in places}
         tally.holds(f"{choice}: some are bad", bad)
-        wrong = [(place, text) for place, text in said.items() if not text.startswith("Normal: ") or words[place] not in text]
+        wrong = [
+            (place, text) for place, text in said.items() if not text.startswith("Normal: ") or words[place] not in text
+        ]
         tally.equal(f"{choice}: what is said otherwise than marked", wrong, [])
     browser.choose("marks", "none")
     said_of_one = browser.script(PRESS, 1)
-    tally.equal("without marks each axis is told", [f"EO {axis}" in said_of_one for axis in ("U/D", "F/B", "R/L")], [True] * 3)
+    tally.equal(
+        "without marks each axis is told", [f"EO {axis}" in said_of_one for axis in ("U/D", "F/B", "R/L")], [True] * 3
+    )
     browser.choose("piece", "1")
-    tally.equal("the field tells of both sides", re.findall(r"(Normal|Inverse): (?:\w\w at )?UB is ", browser.text("why")), ["Normal", "Inverse"])
+    tally.equal(
+        "the field tells of both sides",
+        re.findall(r"(Normal|Inverse): (?:\w\w at )?UB is ", browser.text("why")),
+        ["Normal", "Inverse"],
+    )
     # by hand: a quarter turn of F makes its four edges bad for F/B, and UR stays as it was
     browser.go("#scramble=F")
     browser.choose("marks", "EO F/B")
     rule = "(U or D tells, else F or B)"
-    tally.equal("UF", browser.script(PRESS, 7), f"Normal: FL at UF is bad for EO F/B: its F belongs on U, and is on F {rule}.")
+    tally.equal(
+        "UF", browser.script(PRESS, 7), f"Normal: FL at UF is bad for EO F/B: its F belongs on U, and is on F {rule}."
+    )
     tally.equal("UR", browser.script(PRESS, 5), f"Normal: UR is good for EO F/B: its U is on U {rule}.")
     # an edge is in its slice or not by its colours, which is no reason for where it is
     browser.choose("marks", "DR U/D")
     why = "since it has U or D"
-    tally.equal("UR in its place", browser.script(PRESS, 5),
-        f"Normal: UR is good for DR U/D: it is outside the slice, and belongs there, {why}.")
-    tally.equal("UF in the slice", browser.script(PRESS, 23), f"Normal: UF at FR is bad for DR U/D: it belongs outside the slice, {why}.")
+    tally.equal(
+        "UR in its place",
+        browser.script(PRESS, 5),
+        f"Normal: UR is good for DR U/D: it is outside the slice, and belongs there, {why}.",
+    )
+    tally.equal(
+        "UF in the slice",
+        browser.script(PRESS, 23),
+        f"Normal: UF at FR is bad for DR U/D: it belongs outside the slice, {why}.",
+    )
 
 
 def covers(tally: Tally, browser: Browser) -> None:
@@ -61,7 +80,9 @@ def covers(tally: Tally, browser: Browser) -> None:
     tally.equal("moves are covered", set(browser.script(COVERED)), {True})
     shown = """return all('.twins, .first').filter((each) => getComputedStyle(each).visibility !== 'hidden').length"""
     tally.equal("and what would tell them", browser.script(shown), 0)
-    tally.holds("numbers aren't", browser.script("return document.querySelector('#best-body .number').checkVisibility()"))
+    tally.holds(
+        "numbers aren't", browser.script("return document.querySelector('#best-body .number').checkVisibility()")
+    )
     tally.equal("no label tells them either", [each for each in browser.script(LABELS) if re.search(TURN, each)], [])
     browser.click("#solutions-groups .take")
     tally.equal("the first press shows them", browser.script(COVERED).count(False), 1)
@@ -103,9 +124,15 @@ def shows_a_reduction(tally: Tally, browser: Browser) -> None:
     browser.go(SCRAMBLE + f"&steps=inverse.{first.replace(' ', '_')}~normal.R_B-_D2_R")
     browser.choose("marks", "follow")
     browser.click("#cube-large")
-    line = browser.script("return [part('shown-line').innerText.trim(), all('#shown-line .passed').map((each) => each.dataset.case)]")
+    line = browser.script(
+        "return [part('shown-line').innerText.trim(), all('#shown-line .passed').map((each) => each.dataset.case)]"
+    )
     cases = [Position(EXAMPLE, " ".join(second.split()[:at]), first).case("fb") for at in range(5)]
-    tally.equal("the line, with its cases", line, [f"({first}) {second}", [each for at, each in enumerate(cases[:4]) if at == 0 or each != cases[at - 1]]])
+    tally.equal(
+        "the line, with its cases",
+        line,
+        [f"({first}) {second}", [each for at, each in enumerate(cases[:4]) if at == 0 or each != cases[at - 1]]],
+    )
     marked = "return [part('marked-normal').textContent.replace(' \u00b7 ', ''), document.querySelector('#net-normal .net').matches('.marked')]"
     tally.equal("the cube in the end", browser.script(marked), [f"DR F/B: {cases[4]}", False])
     for at in (3, 2, 1, 0):

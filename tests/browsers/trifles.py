@@ -38,44 +38,83 @@ def copies(tally: Tally, browser: Browser) -> None:
     selected = "const it = part('uncopied-text'); return it.value.slice(it.selectionStart, it.selectionEnd)"
     tally.holds("the text is seen", browser.until("return part('uncopied').matches(':popover-open')"))
     text = browser.script(selected)
-    tally.holds(f"all of it is selected: {text!r}", text.endswith("(B D R F2 B D) // EO U/D (6)") and text.startswith("R' U' F"))
+    tally.holds(
+        f"all of it is selected: {text!r}", text.endswith("(B D R F2 B D) // EO U/D (6)") and text.startswith("R' U' F")
+    )
     closed = {"focus": "copy-kept", "n :popover-open": 0}
-    browser.walk(tally, "it has the focus, and is closed", ("wait", {"focus": "uncopied-text"}), ("press", Keys.ESCAPE, closed))
+    browser.walk(
+        tally, "it has the focus, and is closed", ("wait", {"focus": "uncopied-text"}), ("press", Keys.ESCAPE, closed)
+    )
     browser.no_longer(script)
 
 
 def sets_up(tally: Tally, browser: Browser) -> None:
     """The line and what is kept say how the cube in one's hands is set up on each side, on a sheet too."""
     both = {"#set-ups output": ["L' U F D", "D' F' U' L"], "#kept-list dl output": ["L' U F D", "D' F' U' L"]}
-    browser.walk(tally, "both sides", ("go", "#scramble=U_F&steps=normal.D.inverse.L&kept=normal.D.inverse.L", {}), ("comes", "n #kept-list dl", 1, both),
+    browser.walk(
+        tally,
+        "both sides",
+        ("go", "#scramble=U_F&steps=normal.D.inverse.L&kept=normal.D.inverse.L", {}),
+        ("comes", "n #kept-list dl", 1, both),
         ("script", "dispatchEvent(new Event('beforeprint'))", {"n #kept-list details[open]": 1}),
-        ("script", "dispatchEvent(new Event('afterprint'))", {"n #kept-list details[open]": 0}), ("act", "#undo-step", {"set-ups?": False}))
+        ("script", "dispatchEvent(new Event('afterprint'))", {"n #kept-list details[open]": 0}),
+        ("act", "#undo-step", {"set-ups?": False}),
+    )
 
 
 def marks_what_is_pointed_at(tally: Tally, browser: Browser) -> None:
     """What comes under a mouse that stays where it is isn't marked: the open list is, until the mouse moves."""
-    browser.walk(tally, "a row is pressed", ("go", SCRAMBLE, {}), ("wait_best", {}), ("click", "#best-body .take", {}), ("wait_best", {}))
-    tally.holds(f"the list is marked: {browser.text('marked-normal')}", browser.text("marked-normal").startswith("\u00b7 DR"))
-    x, y = browser.script("const { left, top } = document.querySelector('#steps-body tr').getBoundingClientRect(); return [left + 9, top + 9]")
+    browser.walk(
+        tally,
+        "a row is pressed",
+        ("go", SCRAMBLE, {}),
+        ("wait_best", {}),
+        ("click", "#best-body .take", {}),
+        ("wait_best", {}),
+    )
+    tally.holds(
+        f"the list is marked: {browser.text('marked-normal')}", browser.text("marked-normal").startswith("\u00b7 DR")
+    )
+    x, y = browser.script(
+        "const { left, top } = document.querySelector('#steps-body tr').getBoundingClientRect(); return [left + 9, top + 9]"
+    )
     browser.command("Input.dispatchMouseEvent", type="mouseMoved", x=x, y=y)
     browser.command("Input.dispatchMouseEvent", type="mouseMoved", x=x + 3, y=y + 3)
     marks = browser.script("return document.querySelector('#steps-body tr').dataset.marks")
-    tally.holds(f"then what has the mouse: {marks}", browser.until("return part('marked-normal').textContent.includes(arguments[0])", marks))
+    tally.holds(
+        f"then what has the mouse: {marks}",
+        browser.until("return part('marked-normal').textContent.includes(arguments[0])", marks),
+    )
 
 
 def takes_an_empty_line(tally: Tally, browser: Browser) -> None:
     """An empty line at the end of a scramble is nothing new: nothing is searched anew for it."""
-    browser.walk(tally, "an empty line", ("go", SCRAMBLE, {}), ("wait_best", {}),
-        ("script", "const it = part('scramble'); it.focus(); it.setSelectionRange(it.value.length, it.value.length)", {}),
-        ("script", "window.row = document.querySelector('#best-body tr')", {}), ("press", Keys.ENTER, {}),
-        ("script", "return new Promise((done) => setTimeout(done, 400))", {"return window.row.isConnected": True}))
+    browser.walk(
+        tally,
+        "an empty line",
+        ("go", SCRAMBLE, {}),
+        ("wait_best", {}),
+        (
+            "script",
+            "const it = part('scramble'); it.focus(); it.setSelectionRange(it.value.length, it.value.length)",
+            {},
+        ),
+        ("script", "window.row = document.querySelector('#best-body tr')", {}),
+        ("press", Keys.ENTER, {}),
+        ("script", "return new Promise((done) => setTimeout(done, 400))", {"return window.row.isConnected": True}),
+    )
 
 
 def closes_from_fields(tally: Tally, browser: Browser) -> None:
     """Escape closes the list also from its fields."""
     for name in ("filter", "list-side", "slack"):
-        browser.walk(tally, name, ("go", SCRAMBLE + "&list=eorl.normal.0", {"solutions?": True}),
-            ("script", "part(arguments[0]).focus()", name, {}), ("press", Keys.ESCAPE, {"solutions?": False}))
+        browser.walk(
+            tally,
+            name,
+            ("go", SCRAMBLE + "&list=eorl.normal.0", {"solutions?": True}),
+            ("script", "part(arguments[0]).focus()", name, {}),
+            ("press", Keys.ESCAPE, {"solutions?": False}),
+        )
 
 
 def has_a_plain_title(tally: Tally, browser: Browser) -> None:
@@ -87,9 +126,25 @@ def has_a_plain_title(tally: Tally, browser: Browser) -> None:
 
 def goes_on_with_reduction(tally: Tally, browser: Browser) -> None:
     """A line that is kept with its reduction is gone on with by that reduction's list, on the side where it is least, which has the focus."""
-    kept, is_told = SCRAMBLE + "&kept=inverse.B_D_R_F2_B_D;;drfb-eoud", "return document.querySelector('#kept-list .case') !== null"
+    kept, is_told = (
+        SCRAMBLE + "&kept=inverse.B_D_R_F2_B_D;;drfb-eoud",
+        "return document.querySelector('#kept-list .case') !== null",
+    )
     has_focus = "return document.activeElement.closest('#solutions-groups') !== null"
-    browser.walk(tally, "its list is open", ("go", kept, {}), ("until", is_told, {}),
-        ("act", "#kept-list button", {"solutions-heading": "DR F/B after EO U/D, normal side"}), ("until", has_focus, {}))
+    browser.walk(
+        tally,
+        "its list is open",
+        ("go", kept, {}),
+        ("until", is_told, {}),
+        ("act", "#kept-list button", {"solutions-heading": "DR F/B after EO U/D, normal side"}),
+        ("until", has_focus, {}),
+    )
     anew = "const it = document.querySelector('#kept-list button'); it.focus(); it.click(); part('kept-sort').dispatchEvent(new Event('change'))"
-    browser.walk(tally, "its row is drawn anew meanwhile", ("go", kept, {}), ("until", is_told, {}), ("script", anew, {}), ("until", has_focus, {}))
+    browser.walk(
+        tally,
+        "its row is drawn anew meanwhile",
+        ("go", kept, {}),
+        ("until", is_told, {}),
+        ("script", anew, {}),
+        ("until", has_focus, {}),
+    )

@@ -11,8 +11,12 @@ import model  # noqa: E402
 
 SIDES = ("normal", "inverse")
 TITLES = {"eofb": "EO F/B", "eorl": "EO R/L", "eoud": "EO U/D"}
-TITLES |= {f"dr{axis}-{start}": f"DR {letters} after {TITLES[start]}" for start, axes in {"eofb": ("ud", "rl"), "eorl": ("ud", "fb"),
-    "eoud": ("rl", "fb")}.items() for axis, letters in {"ud": "U/D", "rl": "R/L", "fb": "F/B"}.items() if axis in axes}
+TITLES |= {
+    f"dr{axis}-{start}": f"DR {letters} after {TITLES[start]}"
+    for start, axes in {"eofb": ("ud", "rl"), "eorl": ("ud", "fb"), "eoud": ("rl", "fb")}.items()
+    for axis, letters in {"ud": "U/D", "rl": "R/L", "fb": "F/B"}.items()
+    if axis in axes
+}
 
 
 @lru_cache(maxsize=None)
@@ -46,7 +50,11 @@ def by_faces(line: str) -> str:
 AXES = ("UD", "RL", "FB")
 # the axis whose quarter turns end a step's solutions
 LAST_AXES = {"eofb": "FB", "eorl": "RL", "eoud": "UD"}
-LAST_AXES |= {step: next(axis for axis in AXES if axis.lower() not in step.replace("lr", "rl")) for step in TITLES if step.startswith("dr")}
+LAST_AXES |= {
+    step: next(axis for axis in AXES if axis.lower() not in step.replace("lr", "rl"))
+    for step in TITLES
+    if step.startswith("dr")
+}
 
 
 def one_axis(turns: list[str]) -> bool:
@@ -69,7 +77,11 @@ def is_earlier(moves: str, solutions: set[str]) -> bool:
     for count in range(len(turns)):
         if " ".join(turns[:count]) in solutions:
             return True
-        if count > 0 and one_axis(turns[count - 1 : count + 1]) and " ".join([*turns[: count - 1], turns[count]]) in solutions:
+        if (
+            count > 0
+            and one_axis(turns[count - 1 : count + 1])
+            and " ".join([*turns[: count - 1], turns[count]]) in solutions
+        ):
             return True
     return False
 
@@ -107,8 +119,10 @@ class Position:
     def __init__(self, scramble: str, normal: str = "", inverse: str = "") -> None:
         whole = by_faces(answer("unniss", scramble))
         self.made = {"normal": normal, "inverse": inverse}
-        self.lines = {"normal": " ".join([answer("invert", inverse), whole, normal]), "inverse": " ".join([answer("invert",
-            f"{whole} {normal}"), inverse]),}
+        self.lines = {
+            "normal": " ".join([answer("invert", inverse), whole, normal]),
+            "inverse": " ".join([answer("invert", f"{whole} {normal}"), inverse]),
+        }
 
     def letters(self, side: str) -> str:
         """The 54 letters of the cube on a side."""
@@ -175,7 +189,9 @@ class Position:
     def rows(self, step: str, side: str, slack: int = 0) -> list[str]:
         """The rows of a list, without their lengths: after moves those first that have the fewest in all."""
         solutions = self.solutions(step, side, slack)
-        return rows_of(sorted(solutions, key=lambda moves: self.in_all(side, moves)) if self.in_all() else solutions, step)
+        return rows_of(
+            sorted(solutions, key=lambda moves: self.in_all(side, moves)) if self.in_all() else solutions, step
+        )
 
     def solutions(self, step: str, side: str, slack: int = 0) -> list[str]:
         """The solutions of a step, without their lengths."""

@@ -53,14 +53,19 @@ def lengths_after(program: str, scramble: str, found: list[Way]) -> list[list[st
     told: dict[tuple[str, str], str] = {}
     for step in {way.step for way in found}:
         asked = [line[side] for way, line in zip(found, lines) if way.step == step for side in SIDES]
-        told |= {(step, line): said.split()[1] for line, said in zip(asked, program_answers(program, ["count", step, "20"], asked), strict=True)}
+        told |= {
+            (step, line): said.split()[1]
+            for line, said in zip(asked, program_answers(program, ["count", step, "20"], asked), strict=True)
+        }
     return [[told[way.step, line[side]] for side in SIDES] for way, line in zip(found, lines)]
 
 
 def rows_of(program: str, scramble: str, found: list[Way]) -> list[list[str]]:
     """Ways on with an orientation as the page shows them: the number, moves, what they reach, the reduction, its case and lengths."""
-    return [[str(way.total), line_of(way.eo), f"EO {AXES[way.axis]}", f"DR {AXES[way.reduction]}", *lengths]
-        for way, lengths in zip(found, lengths_after(program, scramble, found), strict=True)]
+    return [
+        [str(way.total), line_of(way.eo), f"EO {AXES[way.axis]}", f"DR {AXES[way.reduction]}", *lengths]
+        for way, lengths in zip(found, lengths_after(program, scramble, found), strict=True)
+    ]
 
 
 def firsts_of(found: list[Way]) -> list[str]:

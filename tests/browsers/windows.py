@@ -29,14 +29,23 @@ class OfChromium(Window):
         return self.driver.script(text)
 
     def labels(self, selector: str) -> list[str]:
-        found = self.driver.command("Runtime.evaluate", expression=f"(() => {{ {SEEN % json.dumps(selector)} }})()")["result"]["objectId"]
+        found = self.driver.command("Runtime.evaluate", expression=f"(() => {{ {SEEN % json.dumps(selector)} }})()")[
+            "result"
+        ]["objectId"]
         each = self.driver.command("Runtime.getProperties", objectId=found, ownProperties=True)["result"]
-        nodes = [self.driver.command("Accessibility.getPartialAXTree", objectId=one["value"]["objectId"], fetchRelatives=False)["nodes"][0]
-            for one in each if one["name"].isdigit()]
+        nodes = [
+            self.driver.command(
+                "Accessibility.getPartialAXTree", objectId=one["value"]["objectId"], fetchRelatives=False
+            )["nodes"][0]
+            for one in each
+            if one["name"].isdigit()
+        ]
         return [node.get("name", {}).get("value", "") for node in nodes]
 
     def resize(self, width: int, height: int) -> None:
-        self.driver.command("Emulation.setDeviceMetricsOverride", width=width, height=height, deviceScaleFactor=1, mobile=False)
+        self.driver.command(
+            "Emulation.setDeviceMetricsOverride", width=width, height=height, deviceScaleFactor=1, mobile=False
+        )
 
     def end(self) -> None:
         self.driver.driver.quit()
@@ -47,7 +56,11 @@ def webkit(_room: str) -> Window:
     return Window(webdriver.WebKitGTK())
 
 
-BROWSERS: dict[str, Callable[[str], Window]] = {"chromium": lambda _room: OfChromium(), "firefox": Firefox, "webkit": webkit}
+BROWSERS: dict[str, Callable[[str], Window]] = {
+    "chromium": lambda _room: OfChromium(),
+    "firefox": Firefox,
+    "webkit": webkit,
+}
 NEEDS = {"chromium": ["chromium", "chromedriver"], "firefox": ["firefox"], "webkit": ["WebKitWebDriver", "xvfb-run"]}
 
 

@@ -26,10 +26,19 @@ MENDED = f"window.sound = true; return part('failed').hidden && (() => {{ {IDLE}
 SILENCE = "The engine has given no answer for 20 seconds. It may still be at work, or it has ended without a word."
 MUTE = "self.addEventListener('message', (event) => event.stopImmediatePropagation());"
 # what spoils a worker, whose own script has names too, and what is said of it
-SCRIPTS = (("throw new Error('spoilt');", "The engine doesn't work here. Uncaught Error: spoilt"), (MUTE, SILENCE),
+SCRIPTS = (
+    ("throw new Error('spoilt');", "The engine doesn't work here. Uncaught Error: spoilt"),
+    (MUTE, SILENCE),
     ("{ let asked = 0; self.addEventListener('message', () => { if (++asked === 4) close(); }); }", SILENCE),
-    ("WebAssembly.Memory.prototype.grow = () => { throw new RangeError('no memory is left'); };", "There is no answer: no memory is left."),
-    ("self.addEventListener('message', () => Promise.reject(new Error('uncaught'))); " + MUTE, "The engine doesn't work here. Uncaught Error: uncaught"))
+    (
+        "WebAssembly.Memory.prototype.grow = () => { throw new RangeError('no memory is left'); };",
+        "There is no answer: no memory is left.",
+    ),
+    (
+        "self.addEventListener('message', () => Promise.reject(new Error('uncaught'))); " + MUTE,
+        "The engine doesn't work here. Uncaught Error: uncaught",
+    ),
+)
 UNREADABLE = "made.forEach((each) => each.dispatchEvent(new MessageEvent('messageerror')))"
 # a worker that has crashed: its page is told nothing
 CRASH = "window.isPatient = false; made.forEach((each) => each.terminate())"
@@ -74,9 +83,13 @@ def begins(tally: Tally, browser: Browser) -> None:
 
 def crashes(tally: Tally, browser: Browser) -> None:
     """Workers that end later, of which the page is told nothing: it says so once it waits for one, and then goes on from where it was."""
-    acts = {"a step": "document.querySelector('#best-body .take').click()", "a list": "document.querySelector('#steps-body .cell').click()",
+    acts = {
+        "a step": "document.querySelector('#best-body .take').click()",
+        "a list": "document.querySelector('#steps-body .cell').click()",
         "the best": "const field = part('best-slack'); field.value = '1'; field.dispatchEvent(new Event('change'))",
-        "a random scramble": "part('random').click()", "moves by hand": "part('own').value = 'R'; part('own-form').requestSubmit()",}
+        "a random scramble": "part('random').click()",
+        "moves by hand": "part('own').value = 'R'; part('own-form').requestSubmit()",
+    }
     for what, act in acts.items():
         opened(browser, "")
         browser.wait_best()

@@ -20,21 +20,39 @@ from tally import Tally
 
 # scramble, moves so far, and the line
 ROWS = [
-    ("", "", ""), ("R U", "", "R U"), ("", "R U", "R U"), ("R", "U F", "R U F"),
+    ("", "", ""),
+    ("R U", "", "R U"),
+    ("", "R U", "R U"),
+    ("R", "U F", "R U F"),
     # what stands in brackets is undone before the scramble, one bracket after another; both together are clean, in the order of cleanup
-    ("R U F", "(L2 B)", "B' R L2 U F"), ("R U F", "D (L2) U (B)", "B' R L2 U F U D"), ("", "(R)", "R'"), ("R", "(R)", ""),
+    ("R U F", "(L2 B)", "B' R L2 U F"),
+    ("R U F", "D (L2) U (B)", "B' R L2 U F U D"),
+    ("", "(R)", "R'"),
+    ("R", "(R)", ""),
     # so is the scramble with what stands outside
-    ("R U F", "F", "R U F2"), ("R U F", "F' U' (R)", ""),
+    ("R U F", "F", "R U F2"),
+    ("R U F", "F' U' (R)", ""),
     # that of a scramble is undone behind it, as a line has it
-    ("U (R)", "F", "U R' F"), ("(R) U", "F (D)", "U D' R' F"),
+    ("U (R)", "F", "U R' F"),
+    ("(R) U", "F (D)", "U D' R' F"),
     # after x the face F is called U, and stays it for what is made on the inverse
-    ("R x", "U", "R F"), ("x R", "U", "R F"), ("R", "x U", "R F"), ("R x", "(U)", "F' R"), ("R", "x (U)", "F' R"), ("R", "(U) x", "F' R"),
+    ("R x", "U", "R F"),
+    ("x R", "U", "R F"),
+    ("R", "x U", "R F"),
+    ("R x", "(U)", "F' R"),
+    ("R", "x (U)", "F' R"),
+    ("R", "(U) x", "F' R"),
     # after y the face R is called F, and after z2 each of L and R has the other's name
-    ("U y", "F2 (F)", "R' U R2"), ("F z2", "L (R)", "L' F R"),
+    ("U y", "F2 (F)", "R' U R2"),
+    ("F z2", "L (R)", "L' F R"),
     # a wide turn is one of the other face and a rotation: Rw is L x, and M of both is R L' x'
-    ("Rw", "U", "L F"), ("R", "Rw (U)", "F' R L"), ("M", "U", "R L' B"),
+    ("Rw", "U", "L F"),
+    ("R", "Rw (U)", "F' R L"),
+    ("M", "U", "R L' B"),
     # within brackets x U is undone by U' x', and U x F by F' x' U', which is F' B' x'
-    ("R", "(x U) F", "U' R F"), ("R", "(U x F) F", "F' B' R F")]
+    ("R", "(x U) F", "U' R F"),
+    ("R", "(U x F) F", "F' B' R F"),
+]
 
 
 def faulty(draw: Drawing) -> Tuple[str, str]:
@@ -51,8 +69,14 @@ def drawn(seed: int, count: int) -> Iterator[Tuple[str, str]]:
     kinds = [
         lambda: (draw.scramble(), draw.both_sides()),
         lambda: (f"{draw.scramble()} {draw.choice(TURNING)}", draw.turning()),
-        lambda: (f"{draw.choice(TURNING)} {' '.join(draw.turns(3))} ({draw.choice(TURNING)} {' '.join(draw.turns(2))})", draw.turning()),
-        lambda: (draw.turning(), f"{draw.choice(TURNING)} ({draw.choice(TURNING)} {' '.join(draw.turns(2))}) {draw.both_sides()}"),
+        lambda: (
+            f"{draw.choice(TURNING)} {' '.join(draw.turns(3))} ({draw.choice(TURNING)} {' '.join(draw.turns(2))})",
+            draw.turning(),
+        ),
+        lambda: (
+            draw.turning(),
+            f"{draw.choice(TURNING)} ({draw.choice(TURNING)} {' '.join(draw.turns(2))}) {draw.both_sides()}",
+        ),
         lambda: (draw.turning(), " ".join(draw.turns(draw.randrange(3)))),
         lambda: faulty(draw),
         # with fewer than so many moves each, and more together
@@ -87,9 +111,17 @@ def main() -> None:
     hosts: List[Host] = hosts_of(sys.argv[3:])
     for host in hosts:
         for scramble, so_far, line in ROWS:
-            tally.equal(f"{scramble!r}, {so_far!r} in {host.name}", told(host, "line_after", scramble.encode(), so_far.encode()), line)
+            tally.equal(
+                f"{scramble!r}, {so_far!r} in {host.name}",
+                told(host, "line_after", scramble.encode(), so_far.encode()),
+                line,
+            )
         came = {compare(tally, host, pair) for pair in drawn(seed, count)}
-        tally.equal(f"what came in {host.name}", sorted(came), ["a fault in line 1", "a fault in line 2", "a line", "too long together"])
+        tally.equal(
+            f"what came in {host.name}",
+            sorted(came),
+            ["a fault in line 1", "a fault in line 2", "a line", "too long together"],
+        )
         tally.equal(f"{host.name} ends, and has said no more", host.end(), 0)
     tally.end()
 

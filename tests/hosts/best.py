@@ -35,8 +35,12 @@ CUT = fault_of(0, 0, "cut")
 # of so many rows of a question it is tried that they go on
 GONE_ON = 5
 # one whose best rows take back the F2 that stands before a B, one of a reduced cube, and two that are cut
-FIXED = (Question("R' B U2 R' U' L' B' D F2 L D' L2 R2 U B F2 D R2 L F R' F L' D L", "L F2 B"),
-         Question("U R F", "F' R"), Question("U R F L D", "", 0, 20, 500), Question("U R F D", "(F)", 0, 20, 2000, 1))
+FIXED = (
+    Question("R' B U2 R' U' L' B' D F2 L D' L2 R2 U B F2 D R2 L F R' F L' D L", "L F2 B"),
+    Question("U R F", "F' R"),
+    Question("U R F L D", "", 0, 20, 500),
+    Question("U R F D", "(F)", 0, 20, 2000, 1),
+)
 # more pieces than any question here has
 NO_STOP = 10**9
 # questions of the model at once, of which each process builds its tables
@@ -82,7 +86,7 @@ def total_of(row: str) -> int:
 def counted(tally: Tally, program: str, answered: List[Tuple[Question, str]]) -> None:
     """Answers beside the model: all rows, or those of one that was cut among the model's."""
     asked = [asked_of(*each) for each in answered]
-    chunks = [asked[at:at + CHUNK] for at in range(0, len(asked), CHUNK)]
+    chunks = [asked[at : at + CHUNK] for at in range(0, len(asked), CHUNK)]
     rows = [each for part in side_by_side(tally, 2, lambda some: by_model(program, some), chunks) for each in part]
     for (question, said), it, ours in zip(answered, asked, rows):
         theirs = [as_model(row) for row in said.splitlines() if row != CUT_LINE and total_of(row) <= it.total]
@@ -98,9 +102,15 @@ def stopped(tally: Tally, hosts: List[Host], python: Host, slack: int) -> None:
         asked = [question._replace(asks=asks, partial=1) for asks in (0, 1, 2, 9, NO_STOP)]
         for host in [python, *hosts]:
             got = answers(host, asked)
-            tally.equal(f"{question}: none before the first piece, and all at the end, in {host.name}", (got[0], got[-1]), ("cut\n", whole))
+            tally.equal(
+                f"{question}: none before the first piece, and all at the end, in {host.name}",
+                (got[0], got[-1]),
+                ("cut\n", whole),
+            )
             tally.equal("it is that of Python", got, answers(python, asked))
-            tally.equal("it is cut if that isn't wanted", answers(host, [it._replace(partial=0) for it in asked[:2]]), [CUT] * 2)
+            tally.equal(
+                "it is cut if that isn't wanted", answers(host, [it._replace(partial=0) for it in asked[:2]]), [CUT] * 2
+            )
 
 
 def main() -> None:
@@ -122,7 +132,10 @@ def main() -> None:
     stopped(tally, [host for host in hosts if host.name != "JavaScript"], python, slack)
     for host in hosts:
         tally.equal(f"{host.name} ends, and has said no more", host.end(), 0)
-    tally.holds("some have rows, some have none, and some are cut", any(";" in it for it in wanted) and "" in wanted and CUT in wanted)
+    tally.holds(
+        "some have rows, some have none, and some are cut",
+        any(";" in it for it in wanted) and "" in wanted and CUT in wanted,
+    )
     tally.end()
 
 

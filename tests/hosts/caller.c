@@ -60,7 +60,8 @@ static void say_names(unsigned bits, const char *const *names, const char *parte
 
 static const char *const FORMS[] = {"slices", "lower_case", "brackets", "apostrophe", "half_prime", NULL};
 static const char *const LEFT_OUT[] = {"labels", "numbers of moves", "comments", "line numbers", "commas", "signs that aren't seen", NULL};
-static const char *const DOUBTS[] = {"", "another scramble", "several solutions", "side", "letters", "small letters", "comment", "repetition", "insertion"};
+static const char *const DOUBTS[] = {"",        "another scramble", "several solutions", "side", "letters", "small letters",
+                                     "comment", "repetition",       "insertion"};
 
 static int begins_sign(uint8_t byte) { return (byte & 0xc0) != 0x80; }
 
@@ -173,8 +174,10 @@ static void say_doubt(text of, lines those) {
     size_t at = 0;
     while (at < those.count && those.first[at].doubt == NISSY_NO_DOUBT) at++;
     if (it.check.status == NISSY_DONE && !is_solved) {
-        if (at < those.count) say_text(DOUBTS[those.first[at].doubt]), say_place(of, those.first[at].doubt_at);
-        else say_part(of, those, &it.scramble);
+        if (at < those.count)
+            say_text(DOUBTS[those.first[at].doubt]), say_place(of, those.first[at].doubt_at);
+        else
+            say_part(of, those, &it.scramble);
     }
     let_go(it.scramble), let_go(it.solution);
 }
@@ -186,7 +189,8 @@ static void say_each(text of, void (*say_one)(text, lines)) {
     int said_one = 0;
     nissy_text_lines(of.bytes, of.length, all, count.lines);
     for (size_t at = 0, end; at < count.lines; at = end) {
-        for (end = at; end < count.lines && all[end].attempt == all[at].attempt; end++) {}
+        for (end = at; end < count.lines && all[end].attempt == all[at].attempt; end++) {
+        }
         const lines those = {all + at, end - at};
         if (!has(those, NISSY_SCRAMBLE_LINE, 0)) continue;
         if (said_one++) say_text("\n");
@@ -232,9 +236,12 @@ int main(void) {
         uint8_t *const digits = (uint8_t *)strchr(line, '=') + 1;
         const text of = {digits, bytes_in(digits, (size_t)length - (size_t)(digits - (uint8_t *)line) - 1)};
         said_length = 0;
-        if (line[0] == 'p') say_plain(of);
-        else if (line[0] == 't') say_all(of);
-        else say_each(of, line[0] == 'c' ? say_check : say_doubt);
+        if (line[0] == 'p')
+            say_plain(of);
+        else if (line[0] == 't')
+            say_all(of);
+        else
+            say_each(of, line[0] == 'c' ? say_check : say_doubt);
         putchar('=');
         for (size_t at = 0; at < said_length; at++) {
             const uint8_t byte = (uint8_t)said[at];

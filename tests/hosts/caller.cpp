@@ -84,8 +84,8 @@ std::string seen(std::string_view line) {
         axes += " " + joined(nissy::place_names(it.bad_edge_places)) + "/";
         axes += joined(nissy::place_names(it.bad_corner_places)) + "/" + joined(nissy::place_names(it.misplaced_edge_places));
     }
-    return std::to_string(facts.solved) + " " + std::to_string(facts.moves) + " " + std::to_string(facts.clean_moves) + " " +
-           joined(facts.holds()) + axes;
+    return std::to_string(facts.solved) + " " + std::to_string(facts.moves) + " " + std::to_string(facts.clean_moves) + " " + joined(facts.holds()) +
+           axes;
 }
 
 std::string said_of(const nissy::verdict &it) {
@@ -170,7 +170,8 @@ std::string attempts_of(std::string_view text) {
         for (const nissy::attempt_candidate &each : it.candidates)
             others.push_back(parts_in(text, each.steps) + "=" + part_in(text, each.solution) + "#" + each.note);
         said.push_back(joined({it.name, std::to_string(it.before), part_in(text, it.scramble), parts_in(text, it.steps), part_in(text, it.solution),
-                               joined(others, ";")}, "|"));
+                               joined(others, ";")},
+                              "|"));
     }
     return joined(said, "\n");
 }
@@ -190,9 +191,7 @@ std::string said_of(const nissy::attempt_check &it) {
 }
 
 // What makes one doubt it, and where.
-std::string doubt_of(const nissy::attempt_check &it) {
-    return it.doubt ? it.doubt->name() + said_of(it.doubt->place) : "";
-}
+std::string doubt_of(const nissy::attempt_check &it) { return it.doubt ? it.doubt->name() + said_of(it.doubt->place) : ""; }
 
 // Something of each check, each on a line.
 template <typename Said> std::string each_on_a_line(const std::vector<nissy::attempt_check> &checks, Said said) {
@@ -257,8 +256,8 @@ std::string continued(std::istream &asked) {
     asked >> scramble >> so_far >> which.slack >> which.most >> which.nodes >> partial >> asks;
     if (asks != NISSY_ALL) which.stop = [&asks] { return asks-- == 0; };
     const exact first(scramble), other(so_far);
-    const nissy::best_found found = partial ? nissy::find_best(first.view(), other.view(), which)
-                                            : nissy::best_found{nissy::best(first.view(), other.view(), which)};
+    const nissy::best_found found =
+        partial ? nissy::find_best(first.view(), other.view(), which) : nissy::best_found{nissy::best(first.view(), other.view(), which)};
     const auto said = [](const std::optional<int> &number) { return number ? std::to_string(*number) : "none"; };
     for (const nissy::continuation &it : found.rows)
         text += std::to_string(it.total) + ";" + it.line + ";" + (it.eo ? part(*it.eo) : "none") + ";" + part(it.dr) + ";" +

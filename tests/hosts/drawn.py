@@ -121,13 +121,22 @@ class BesideHosts(Trial):
             return
         length = found[0].rpartition("(")[2].rstrip(")\n") if found else "none"
         self.check(f"{host.name}: count with a slack", words, line, count.split(" ")[:2], [length, str(len(found))])
-        most = self.draws.choice([0, 1, len(found), max(len(found) - 1, 0), len(found) + 1, self.draws.randrange(len(found) + 1)])
-        self.check(f"{host.name}: so many at most", words, line, told(host, "solve", *search, most, line), "".join(found[:most]))
+        most = self.draws.choice(
+            [0, 1, len(found), max(len(found) - 1, 0), len(found) + 1, self.draws.randrange(len(found) + 1)]
+        )
+        self.check(
+            f"{host.name}: so many at most",
+            words,
+            line,
+            told(host, "solve", *search, most, line),
+            "".join(found[:most]),
+        )
 
 
 def many_lines(trial: Trial, draw: Drawing, files: int) -> None:
     """Files of many lines, rewritten and searched, of which the last line is damaged in half of the files. A run of the program is the longest
     part of most comparisons, and here one serves for all the lines."""
+
     def with_damage(lines: list[str]) -> bytes:
         *whole, last = (line.encode() for line in lines)
         return b"\n".join([*whole, draw.damaged(last) if draw.random() < 0.5 else last])
@@ -188,12 +197,23 @@ def facts_of_model(line: bytes) -> str:
     """What the model sees of a line."""
     seen = bad_pieces.seen(line)
     axes = ["/".join(",".join(places) for places in seen.axes[axis]) for axis in ("fb", "rl", "ud")]
-    return " ".join([str(int(seen.solved)), str(seen.moves), str(seen.clean_moves), ",".join(step for step in ORDER if step in seen.holds), *axes])
+    return " ".join(
+        [
+            str(int(seen.solved)),
+            str(seen.moves),
+            str(seen.clean_moves),
+            ",".join(step for step in ORDER if step in seen.holds),
+            *axes,
+        ]
+    )
 
 
 def form_places_of_model(line: bytes) -> str:
     """Where a line that is spelled has forms, each move and bracket cut out by the model and judged by itself."""
-    items = ((it, () if it.group().isspace() else bad_pieces.forms(b"(" if it.group() == b")" else it.group())) for it in ITEM.finditer(line))
+    items = (
+        (it, () if it.group().isspace() else bad_pieces.forms(b"(" if it.group() == b")" else it.group()))
+        for it in ITEM.finditer(line)
+    )
     return " ".join(f"{it.start() + 1}/{it.group().decode()}/{','.join(forms)}" for it, forms in items if forms)
 
 
@@ -206,10 +226,14 @@ def of_model(call: str, lines: list[bytes]) -> str:
             return fault_of(number if len(lines) == 2 else 0, fault.column, fault.kind)
     if call == "check":
         seen = bad_pieces.seen(lines[1])
-        return f"{bad_pieces.is_solution(*lines):d} {seen.moves} {seen.clean_moves} {','.join(bad_pieces.forms(lines[1]))}"
+        return (
+            f"{bad_pieces.is_solution(*lines):d} {seen.moves} {seen.clean_moves} {','.join(bad_pieces.forms(lines[1]))}"
+        )
     if call == "tokens":
         # sorted, since the model keeps the two parts of a line alone
-        return " ".join([token_of_model(move, False) for move in normal] + [token_of_model(move, True) for move in bracketed])
+        return " ".join(
+            [token_of_model(move, False) for move in normal] + [token_of_model(move, True) for move in bracketed]
+        )
     return facts_of_model(lines[0]) if call == "facts" else form_places_of_model(lines[0])
 
 
@@ -254,7 +278,13 @@ def main() -> None:
     if any(host.has_calls for host in trial.hosts):
         listed(trial)
         judged(trial, Drawing(seed + 2), int(JUDGED * scale))
-        trial.awaits(*(f"{host.name}: {call}" for host in trial.hosts for call in (*REWRITINGS.values(), "solve", "count", "scrambles", "steps")))
+        trial.awaits(
+            *(
+                f"{host.name}: {call}"
+                for host in trial.hosts
+                for call in (*REWRITINGS.values(), "solve", "count", "scrambles", "steps")
+            )
+        )
     for host in trial.hosts:
         trial.check(f"{host.name} ends, and has said no more", [], b"", host.end(), 0)
     sys.exit(trial.report())

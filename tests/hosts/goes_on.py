@@ -26,7 +26,9 @@ def is_oriented(moves: Moves, axis: str) -> bool:
 
 def holds(moves: Moves, step: str) -> bool:
     """Whether a cube has reached a step."""
-    return is_oriented(moves, step[-2:]) and (len(step) == 4 or is_reached(step, {axis: of_axis(axis, effect_of(moves)) for axis in AXIS}))
+    return is_oriented(moves, step[-2:]) and (
+        len(step) == 4 or is_reached(step, {axis: of_axis(axis, effect_of(moves)) for axis in AXIS})
+    )
 
 
 def pieces(moves: Moves, step: str) -> Tuple[int, int]:
@@ -48,7 +50,7 @@ def twins(part: Union[nissy.Orientation, nissy.Reduction]) -> Iterator[str]:
     for end in part.twins:
         normal, _, inverse = end.partition("(")
         sides = zip((part.normal, part.inverse), (normal, inverse.rstrip(")")))
-        kept = [moves.split()[:len(moves.split()) - len(last.split())] + last.split() for moves, last in sides]
+        kept = [moves.split()[: len(moves.split()) - len(last.split())] + last.split() for moves, last in sides]
         yield f"{' '.join(kept[0])} ({' '.join(kept[1])})"
 
 
@@ -65,6 +67,8 @@ def goes_on(question: Question, row: nissy.Continuation) -> bool:
     count = sum(len(clean(to_faces(moves)[0])) for moves in read(line.encode()))
     is_long = all(part.length == len(part.moves.split()) for part in (row.eo, row.dr) if part)
     is_so = (effect_of(after(row.line)) == UNMOVED) == is_solution(question.scramble.encode(), line.encode())
-    are_reached = all(holds(after(moves), first.step) for moves in (first.moves, *twins(first))) and holds(after(row.line), row.dr.step)
+    are_reached = all(holds(after(moves), first.step) for moves in (first.moves, *twins(first))) and holds(
+        after(row.line), row.dr.step
+    )
     case = "{}c{}e".format(*pieces(after(row.eo.moves if row.eo else ""), row.dr.step))
     return is_so and is_long and are_reached and count == row.total and row.case == case

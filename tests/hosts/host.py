@@ -46,7 +46,7 @@ class Host:
         """What a run answers in so much room, or in room that grows: output, error text, status, and whether the room was full."""
         listed = [word.encode("utf-8", "surrogateescape") for word in words]
         status, full, length, texts = self.ask("run", "-" if room is None else room, data, *listed).split(b" ", 3)
-        return texts[:int(length)], texts[int(length):], int(status), full == b"1"
+        return texts[: int(length)], texts[int(length) :], int(status), full == b"1"
 
     def end(self) -> int:
         """The status with which it ends."""

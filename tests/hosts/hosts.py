@@ -20,17 +20,31 @@ sys.path[:0] = [os.path.join(TOP, folder) for folder in ("python", "tests", os.p
 import nissy
 
 from host import (
-    PARTED as PARTED, Caller as Caller, Fault as Fault, Given as Given, Host as Host, Other as Other, fault_of as fault_of, question as question,
-    told as told, told_by as told_by,
+    PARTED as PARTED,
+    Caller as Caller,
+    Fault as Fault,
+    Given as Given,
+    Host as Host,
+    Other as Other,
+    fault_of as fault_of,
+    question as question,
+    told as told,
+    told_by as told_by,
 )
 
 AXES: List[nissy.Axis] = ["fb", "rl", "ud"]
 ALL = 2**64 - 1
 # the same bytes as what a line may be given as
 FORMS: List[Callable[[bytes], Any]] = [
-    bytes, bytearray, memoryview, lambda line: line.decode("utf-8", "surrogateescape"), lambda line: memoryview(line[::-1])[::-1],
-    lambda line: memoryview(b"R U" + line + b"F q")[3:len(line) + 3], lambda line: array.array("b", line),
-    lambda line: (ctypes.c_char * len(line)).from_buffer_copy(line)]
+    bytes,
+    bytearray,
+    memoryview,
+    lambda line: line.decode("utf-8", "surrogateescape"),
+    lambda line: memoryview(line[::-1])[::-1],
+    lambda line: memoryview(b"R U" + line + b"F q")[3 : len(line) + 3],
+    lambda line: array.array("b", line),
+    lambda line: (ctypes.c_char * len(line)).from_buffer_copy(line),
+]
 
 
 def lines(texts: Iterable[str]) -> str:
@@ -109,8 +123,11 @@ def part_in(text: str, plain: nissy.PlainLine, form: Any) -> str:
     def place_at(at: int) -> int | str:
         place = nissy.place_of(nissy.LineFault(9, "of bytes", character=at + 1), plain, form)
         assert place is not None
-        above = re.split("\r\n?|\n", text[:place.at])
-        is_there = text.startswith(above[-1], place.at - place.column + 1) and (place.line, place.column) == (len(above), len(above[-1]) + 1)
+        above = re.split("\r\n?|\n", text[: place.at])
+        is_there = text.startswith(above[-1], place.at - place.column + 1) and (place.line, place.column) == (
+            len(above),
+            len(above[-1]) + 1,
+        )
         return place.at if is_there and place.at == plain.places[at] else "another place"
 
     return own and f"{own}@{place_at(first)}-{place_at(first + len(own) - 1)}"
@@ -118,11 +135,14 @@ def part_in(text: str, plain: nissy.PlainLine, form: Any) -> str:
 
 def attempts(text: str, form: Any) -> str:
     """The attempts of a text, each on a line."""
+
     def all_of(steps: Iterable[nissy.PlainLine]) -> str:
         return "/".join(part_in(text, it, form) for it in steps)
 
     def told_of(it: nissy.Attempt) -> str:
-        others = ";".join(f"{all_of(each.steps)}={part_in(text, each.solution, form)}#{each.note}" for each in it.candidates)
+        others = ";".join(
+            f"{all_of(each.steps)}={part_in(text, each.solution, form)}#{each.note}" for each in it.candidates
+        )
         solution = "none" if it.solution is None else part_in(text, it.solution, form)
         return "|".join([it.name, str(it.before), part_in(text, it.scramble, form), all_of(it.steps), solution, others])
 
@@ -165,8 +185,15 @@ def each_on_a_line(told: Callable[[nissy.AttemptCheck], str], checks: Sequence[n
 def text_told(text: str, form: Any, known: Sequence[nissy.AttemptCheck]) -> str:
     """All that is told of a text, with the checks of known scrambles."""
     checks = nissy.check_attempts(form)
-    return PARTED.join([plain_line(nissy.plain_line(form)), each_on_a_line(attempt_check, checks), each_on_a_line(attempt_doubt, checks),
-                        attempts(text, form), each_on_a_line(known_check, known)])
+    return PARTED.join(
+        [
+            plain_line(nissy.plain_line(form)),
+            each_on_a_line(attempt_check, checks),
+            each_on_a_line(attempt_doubt, checks),
+            attempts(text, form),
+            each_on_a_line(known_check, known),
+        ]
+    )
 
 
 def pair_check(it: nissy.Check | nissy.Fault) -> str:
@@ -188,20 +215,28 @@ class Python(Host):
 
     def solve(self, name: Any, *given: Any) -> nissy.Solutions:
         """Solutions by the next of the calls."""
-        return [lambda: nissy.solve(name, *given),
-                lambda: next(nissy.raising(nissy.solve_all(name, given[:1], *given[1:])))][self.asked % 2]()
+        return [
+            lambda: nissy.solve(name, *given),
+            lambda: next(nissy.raising(nissy.solve_all(name, given[:1], *given[1:]))),
+        ][self.asked % 2]()
 
     def count(self, name: Any, line: Any, limit: int, slack: int) -> nissy.Count:
         """A count by the next of them."""
-        return [lambda: nissy.count(name, line, limit, slack),
-                lambda: next(nissy.raising(nissy.count_all(name, [line], limit, slack, threads=2)))][self.asked % 2]()
+        return [
+            lambda: nissy.count(name, line, limit, slack),
+            lambda: next(nissy.raising(nissy.count_all(name, [line], limit, slack, threads=2))),
+        ][self.asked % 2]()
 
     def told(self, call: str, given: Any) -> str:
         """What a call tells."""
         if call in ("solve", "count"):
             step, limit, slack, most, line = given
             name, form = step.decode("utf-8", "replace"), self.line(line)
-            return solutions(self.solve(name, form, limit, slack, most)) if call == "solve" else counted(self.count(name, form, limit, slack))
+            return (
+                solutions(self.solve(name, form, limit, slack, most))
+                if call == "solve"
+                else counted(self.count(name, form, limit, slack))
+            )
         if call == "scrambles":
             return lines([nissy.scramble(*given[:3]), *nissy.scrambles(*given)])
         if call == "steps":
@@ -213,8 +248,15 @@ class Python(Host):
             return " ".join(map(str, nissy.stickers_of((name for name in names.split(",") if name), *letters)))
         if call == "best":
             scramble, so_far, slack, most, nodes, partial, asks = given
-            found = nissy.best(self.line(scramble), self.line(so_far), slack=slack, most=most, nodes=nodes, partial=partial == 1,
-                               stop=None if asks == ALL else stopping(asks))
+            found = nissy.best(
+                self.line(scramble),
+                self.line(so_far),
+                slack=slack,
+                most=most,
+                nodes=nodes,
+                partial=partial == 1,
+                stop=None if asks == ALL else stopping(asks),
+            )
             return lines([*map(row, found), *(["cut"] if found.cut else [])])
         if call == "read_attempts":
             return attempts(given[0].decode(), self.line(given[0]))
@@ -225,13 +267,23 @@ class Python(Host):
         if call in ("known_checks", "text"):
             form, scrambles = self.line(given[0]), given[1].decode().splitlines()
             known = nissy.check_attempts(form, scrambles=map(self.line, map(str.encode, scrambles)))
-            return each_on_a_line(known_check, known) if call == "known_checks" else text_told(given[0].decode(), form, known)
+            return (
+                each_on_a_line(known_check, known)
+                if call == "known_checks"
+                else text_told(given[0].decode(), form, known)
+            )
         if call == "check_all":
             lines_of = given[0].decode("utf-8", "surrogateescape").split("\n")
             return "\n".join(map(pair_check, nissy.check_all(zip(lines_of[::2], lines_of[1::2]))))
         if call == "attempt_counts":
             return attempt_counts(self.line(given[0]))
-        written: Any = {"facts": facts, "tokens": tokens, "form_places": form_places, "check": checked, "plain_line": plain_line}.get(call, str)
+        written: Any = {
+            "facts": facts,
+            "tokens": tokens,
+            "form_places": form_places,
+            "check": checked,
+            "plain_line": plain_line,
+        }.get(call, str)
         return str(written(getattr(nissy, call)(*map(self.line, given))))
 
     def ask(self, call: str, *given: Given) -> bytes:

@@ -27,17 +27,57 @@ PORTION = 1000
 # scrambles that some of the texts solve
 KNOWN = b"R' U' F D2 L2 F R2 U2 R2 B D2 L B2 D' B2 L' R' B' D2 B2 R' U' F\nR U F\nR' U' F L2 D B2 U R2 F2 D2 B U2 L R' U' F\n"
 # what a change puts in: signs that are read otherwise than others, and words of scrambles, sides and solutions
-SIGNS = list("RUFDLBMESxyzrw2'\u2019\u2032\u00b4` ()[]<>{}0123456789.,;:/#*|-\u2013\u2014=+_>~\"\\\t\r\n\u00a0\u3000\u2028\u200b\ufeff"
-             "\u00e9\u0301\uff1a\u89e3\u0660\u2164\U0001f600\U00010400")
-WORDS = ["\n\n", "\r\n", "// ", " - ", "Scramble: ", "Scramble 2:", "Attempt 3 of 3", "2. ", "#2 ", "E1 ", "E2 ", "Extra 1 ", "Solution: ",
-         "Final solution: ", "EO: ", "DR - ", "Inverse: ", "on inverse", "(inv)", "NISS", "premoves ", "switch", "(24)", "[5/11]", "(12 moves)", " = 23", "F2L ",
-         "DR ", "DNF", "R' U' F D R' U' F", "R' U' F ", "R U F\n", "F' U' R'\n", "23\n", "Solution", "[0:12] ", "| ", "Time: 45:12", "\u6253\u4e71\uff1a"]
+SIGNS = list(
+    "RUFDLBMESxyzrw2'\u2019\u2032\u00b4` ()[]<>{}0123456789.,;:/#*|-\u2013\u2014=+_>~\"\\\t\r\n\u00a0\u3000\u2028\u200b\ufeff"
+    "\u00e9\u0301\uff1a\u89e3\u0660\u2164\U0001f600\U00010400"
+)
+WORDS = [
+    "\n\n",
+    "\r\n",
+    "// ",
+    " - ",
+    "Scramble: ",
+    "Scramble 2:",
+    "Attempt 3 of 3",
+    "2. ",
+    "#2 ",
+    "E1 ",
+    "E2 ",
+    "Extra 1 ",
+    "Solution: ",
+    "Final solution: ",
+    "EO: ",
+    "DR - ",
+    "Inverse: ",
+    "on inverse",
+    "(inv)",
+    "NISS",
+    "premoves ",
+    "switch",
+    "(24)",
+    "[5/11]",
+    "(12 moves)",
+    " = 23",
+    "F2L ",
+    "DR ",
+    "DNF",
+    "R' U' F D R' U' F",
+    "R' U' F ",
+    "R U F\n",
+    "F' U' R'\n",
+    "23\n",
+    "Solution",
+    "[0:12] ",
+    "| ",
+    "Time: 45:12",
+    "\u6253\u4e71\uff1a",
+]
 
 
 def cut(draw: random.Random, text: str) -> str:
     """Without some signs in a row."""
     begin = draw.randrange(len(text) + 1)
-    return text[:begin] + text[begin + draw.randrange(12):]
+    return text[:begin] + text[begin + draw.randrange(12) :]
 
 
 def put(draw: random.Random, text: str) -> str:
@@ -49,7 +89,7 @@ def put(draw: random.Random, text: str) -> str:
 def turned(draw: random.Random, text: str) -> str:
     """With a sign in place of another."""
     at = draw.randrange(len(text) + 1)
-    return text[:at] + draw.choice(SIGNS) + text[at + 1:]
+    return text[:at] + draw.choice(SIGNS) + text[at + 1 :]
 
 
 def moved(draw: random.Random, text: str) -> str:
@@ -75,7 +115,7 @@ def mutated(draw: random.Random, count: int, texts: List[str]) -> Iterator[str]:
         text = draw.choice(texts)
         if draw.random() < 0.1:
             other = draw.choice(texts)
-            text = text[:draw.randrange(len(text) + 1)] + other[draw.randrange(len(other) + 1):]
+            text = text[: draw.randrange(len(text) + 1)] + other[draw.randrange(len(other) + 1) :]
         for _ in range(draw.randrange(5)):
             text = draw.choice(CHANGES)(draw, text)
         yield text
@@ -97,7 +137,11 @@ def main() -> None:
     tally, (seed, count) = Tally(), map(int, sys.argv[1:3])
     hosts = callers_of(sys.argv[3:])
     draw = random.Random(seed)
-    base = [*(kind.text for kind in called.kinds()), *(text for text, _ in called.rows("attempts")), *(text for text, *_ in called.rows("plain"))]
+    base = [
+        *(kind.text for kind in called.kinds()),
+        *(text for text, _ in called.rows("attempts")),
+        *(text for text, *_ in called.rows("plain")),
+    ]
     seen: Set[str] = set()
     texts = mutated(draw, count, base)
     with ThreadPoolExecutor(len(hosts)) as room:

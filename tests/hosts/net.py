@@ -14,7 +14,16 @@ from itertools import combinations
 from hosts import Host, hosts_of, told  # isort: skip
 
 from bad_pieces import CORNERS, EDGES, STICKERS
-from cube import DIRECTION_OF_FACE, FACELETS, NUMBER_OF_PLACE, PLACES, ROTATION_BY_CENTRES, Move, effect_of, facelet_text
+from cube import (
+    DIRECTION_OF_FACE,
+    FACELETS,
+    NUMBER_OF_PLACE,
+    PLACES,
+    ROTATION_BY_CENTRES,
+    Move,
+    effect_of,
+    facelet_text,
+)
 from tally import Tally
 
 Square = tuple[int, int]
@@ -41,7 +50,13 @@ def stickers(tally: Tally, host: Host) -> None:
 
 # slices with and without face turns, and wide turns, after each of which the whole cube is turned in each of the 24 ways
 TURNED: list[list[Move]] = [
-    [], [("M", 1)], [("E", 3), ("S", 2)], [("R", 1), ("U", 1), ("F", 1)], [("R", 1), ("M", 1), ("D", 3), ("E", 1), ("B", 2)], [("Rw", 1), ("F", 1)]]
+    [],
+    [("M", 1)],
+    [("E", 3), ("S", 2)],
+    [("R", 1), ("U", 1), ("F", 1)],
+    [("R", 1), ("M", 1), ("D", 3), ("E", 1), ("B", 2)],
+    [("Rw", 1), ("F", 1)],
+]
 
 
 def turned_stickers(moves: list[Move]) -> tuple[str, dict[str, str]]:
@@ -67,11 +82,17 @@ def stickers_of_turned(tally: Tally, host: Host) -> None:
 def folds(tally: Tally, host: Host, net: list[Square]) -> None:
     """Neighbours of the net are neighbours of one face, or stickers of one piece, and each face is where it belongs."""
     tally.equal(f"the squares in {host.name}", (len(net), len(set(net))), (54, 54))
-    tally.holds("they are in 9 rows and 12 columns", all(row in range(9) and column in range(12) for row, column in net))
+    tally.holds(
+        "they are in 9 rows and 12 columns", all(row in range(9) and column in range(12) for row, column in net)
+    )
     for face, middle in MIDDLES.items():
         centre = NUMBER_OF_PLACE[DIRECTION_OF_FACE[face], DIRECTION_OF_FACE[face]]
         tally.equal(f"the middle of {face}", net[FACELETS.index(centre)], middle)
-    pairs = [(PLACES[FACELETS[one]], PLACES[FACELETS[other]]) for one, other in combinations(range(54), 2) if distance(net[one], net[other]) == 1]
+    pairs = [
+        (PLACES[FACELETS[one]], PLACES[FACELETS[other]])
+        for one, other in combinations(range(54), 2)
+        if distance(net[one], net[other]) == 1
+    ]
     tally.equal("the neighbours", len(pairs), NEIGHBOURS)
     for (cell, direction), (other, others) in pairs:
         tally.equal(f"neighbours at {cell} and {other}", distance(cell, other), 1 if direction == others else 0)
@@ -82,7 +103,9 @@ def main() -> None:
     tally = Tally()
     for host in hosts_of(sys.argv[1:]):
         axes, edges, corners, *net = told(host, "net").split("\n")
-        tally.equal(f"the names in {host.name}", (axes, edges, corners), ("fb,rl,ud", ",".join(EDGES), ",".join(CORNERS)))
+        tally.equal(
+            f"the names in {host.name}", (axes, edges, corners), ("fb,rl,ud", ",".join(EDGES), ",".join(CORNERS))
+        )
         squares = [tuple(map(int, square.split(","))) for square in net]
         folds(tally, host, [(row, column) for row, column in squares])
         stickers(tally, host)

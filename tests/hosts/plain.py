@@ -23,26 +23,142 @@ from tally import Tally
 Texts = Dict[str, List[List[str]]]
 PARTS = """R U2 F' L\u2019 B\u2032 ( ) ` ' \u02bc EO DR Final finale R\u00e9duction re\u0301 \u042d\u041e \u89e3 \U00010400 F2L EO\u00b2 \u00bd A
     Inverse NISS premoves R2w Scramble SCRAMBLE scramble 1. 23) 4 . // / , ; _ - \u2192 \U0001f600 \u200b \u2060 \ufeff
-    (2) [1/5] (12 (3] \uff1a""".split() + ["(12 moves)", "[1 MOVE]"]
-BLANKS = [" ", " ", " ", ": ", ":", "\n", "\n", "\r\n", "\r", "\t", "\u00a0", "\u2009", "\u2028", "\u3000", "\u0085", "", "", "\n\n", " : "]
+    (2) [1/5] (12 (3] \uff1a""".split() + [
+    "(12 moves)",
+    "[1 MOVE]",
+]
+BLANKS = [
+    " ",
+    " ",
+    " ",
+    ": ",
+    ":",
+    "\n",
+    "\n",
+    "\r\n",
+    "\r",
+    "\t",
+    "\u00a0",
+    "\u2009",
+    "\u2028",
+    "\u3000",
+    "\u0085",
+    "",
+    "",
+    "\n\n",
+    " : ",
+]
 ALL_NAMES = {"labels", "numbers of moves", "comments", "line numbers", "commas", "signs that aren't seen"}
 # what lines of attempts begin with, and go on with
-HEADS = ["", "", "", "", " ", "1. ", "2) ", "(3)", "#4 ", "5 ", "6.07 ", "E1 ", "E2 ", "Extra 1: ", "Scramble 2:", "scramble: ", "Attempt 3 of 3",
-         "Attempt 4/5 - ", "attempt", "EO: ", "Solution: ", "\u00c9tape finale\u00a0: ", "my solution :", "R\u00e9solution: ", "Inverse: ", "NISS: ",
-         "R2: ", "// ", "\u2028", "a\u00b2b ", "1. Scramble: ", "Solution (3): ", "EO 2: ", "Final solution: ", "\u6253\u4e71\uff1a",
-         "R' U' F D R' U' F"]
-RESTS = ["", "", "", " ", "\r", "R U", "(F2 D\u2019)", "L, B // hello", "// a note", "Hi all", "thanks a lot", "R (U F) \U0001f600", "q", "\u200bD\r",
-         "3 of 3", "F\rEO: D", "\rInverse: R\r(U)", "R\u2028Switch: (U // F)", "a/b // c", " //\u3000d\ufeff", "\x1c", "2 3. U",
-         "R' U' F D R' U' F", "L (2)", "Time: 45:12", "D // hard", "F // EO", "I liked it.", "D // \u03b9EO", "L // a\u2028DR", "[3/5] U2 // (3)"]
+HEADS = [
+    "",
+    "",
+    "",
+    "",
+    " ",
+    "1. ",
+    "2) ",
+    "(3)",
+    "#4 ",
+    "5 ",
+    "6.07 ",
+    "E1 ",
+    "E2 ",
+    "Extra 1: ",
+    "Scramble 2:",
+    "scramble: ",
+    "Attempt 3 of 3",
+    "Attempt 4/5 - ",
+    "attempt",
+    "EO: ",
+    "Solution: ",
+    "\u00c9tape finale\u00a0: ",
+    "my solution :",
+    "R\u00e9solution: ",
+    "Inverse: ",
+    "NISS: ",
+    "R2: ",
+    "// ",
+    "\u2028",
+    "a\u00b2b ",
+    "1. Scramble: ",
+    "Solution (3): ",
+    "EO 2: ",
+    "Final solution: ",
+    "\u6253\u4e71\uff1a",
+    "R' U' F D R' U' F",
+]
+RESTS = [
+    "",
+    "",
+    "",
+    " ",
+    "\r",
+    "R U",
+    "(F2 D\u2019)",
+    "L, B // hello",
+    "// a note",
+    "Hi all",
+    "thanks a lot",
+    "R (U F) \U0001f600",
+    "q",
+    "\u200bD\r",
+    "3 of 3",
+    "F\rEO: D",
+    "\rInverse: R\r(U)",
+    "R\u2028Switch: (U // F)",
+    "a/b // c",
+    " //\u3000d\ufeff",
+    "\x1c",
+    "2 3. U",
+    "R' U' F D R' U' F",
+    "L (2)",
+    "Time: 45:12",
+    "D // hard",
+    "F // EO",
+    "I liked it.",
+    "D // \u03b9EO",
+    "L // a\u2028DR",
+    "[3/5] U2 // (3)",
+]
 # long texts, with the numbers of their attempts, and of all steps and candidates of these
-LONG = {"\r" * 1_000_000: "1 0 0", "1.\n" * 100_000: "1 0 0", "R U // x\n" * 50_000: "1 49999 0", "Inverse:\r" * 50_000: "1 0 0",
-        "1. R\n" * 20_000: "20000 0 0", "R U\n\n" * 20_000: "1 0 19999", "Solution: R\n\n" * 20_000: "1 0 19999",
-        "Final solution: R\n\n" * 20_000: "1 1 19999", "1. Scramble: R\n" * 20_000: "20000 0 0", "R' U' F D R' U' F\n" * 15_000: "15000 0 0",
-        "Solution (1): R\nR (2) // EO\n" * 10_000: "1 1 19998"}
+LONG = {
+    "\r" * 1_000_000: "1 0 0",
+    "1.\n" * 100_000: "1 0 0",
+    "R U // x\n" * 50_000: "1 49999 0",
+    "Inverse:\r" * 50_000: "1 0 0",
+    "1. R\n" * 20_000: "20000 0 0",
+    "R U\n\n" * 20_000: "1 0 19999",
+    "Solution: R\n\n" * 20_000: "1 0 19999",
+    "Final solution: R\n\n" * 20_000: "1 1 19999",
+    "1. Scramble: R\n" * 20_000: "20000 0 0",
+    "R' U' F D R' U' F\n" * 15_000: "15000 0 0",
+    "Solution (1): R\nR (2) // EO\n" * 10_000: "1 1 19998",
+}
 SOON = 60
 # scrambles and solutions, of which many belong together, some have forms, and others are at fault
-CHECKED = ["R", "R'", "R\u2032", "R2", "R2'", "(R)", "(R')", "M", "M\u2019", "r Lw'", "x", "", "D (M2 r2\u2019)", "\u2028R, U", "U' R'", "R q", "(R",
-           "R\u00b4 \u00c9F", "R " * 257, "\U0001f600 R"]
+CHECKED = [
+    "R",
+    "R'",
+    "R\u2032",
+    "R2",
+    "R2'",
+    "(R)",
+    "(R')",
+    "M",
+    "M\u2019",
+    "r Lw'",
+    "x",
+    "",
+    "D (M2 r2\u2019)",
+    "\u2028R, U",
+    "U' R'",
+    "R q",
+    "(R",
+    "R\u00b4 \u00c9F",
+    "R " * 257,
+    "\U0001f600 R",
+]
 
 
 def wanted_lines() -> Iterator[List[str]]:
@@ -68,13 +184,19 @@ def drawn_sheets(draw: random.Random, count: int) -> Iterator[str]:
 def drawn_solutions(draw: random.Random, count: int) -> Iterator[str]:
     """Texts of scrambles with a solution each, which a comment or a label tells, or with none."""
     for _ in range(count):
-        pairs = [(draw.choice(CHECKED), draw.choice(("{}", "{} // \u00e9", "EO: {}", "\n{}", "")).format(draw.choice(CHECKED)))
-                 for _ in range(draw.randrange(1, 5))]
+        pairs = [
+            (
+                draw.choice(CHECKED),
+                draw.choice(("{}", "{} // \u00e9", "EO: {}", "\n{}", "")).format(draw.choice(CHECKED)),
+            )
+            for _ in range(draw.randrange(1, 5))
+        ]
         yield "\n".join(f"{at}. {scramble}\n{solution}" for at, (scramble, solution) in enumerate(pairs, 1))
 
 
 def checks_by_calls(text: str) -> str:
     """What other calls tell of the attempts of a text: `check`, `form_places`, and `place_of`."""
+
     def of_fault(fault: nissy.LineFault, it: nissy.Attempt) -> str:
         name, plain = ("scramble", it.scramble) if fault.line == 1 else ("solution", it.solution)
         place = nissy.place_of(fault, plain, text) if plain else None
@@ -86,8 +208,10 @@ def checks_by_calls(text: str) -> str:
             said = checked(nissy.check(it.scramble.line, solution.line))
         except nissy.LineFault as fault:
             return of_fault(fault, it)
-        forms = [f"{each.text}/{','.join(each.forms)}@{line_and_column(nissy.place_of(each, solution, text))}"
-                 for each in nissy.form_places(solution.line)]
+        forms = [
+            f"{each.text}/{','.join(each.forms)}@{line_and_column(nissy.place_of(each, solution, text))}"
+            for each in nissy.form_places(solution.line)
+        ]
         return f"{said}||{' '.join(forms)}" if it.solution else "||"
 
     return "\n".join(map(of_attempt, nissy.read_attempts(text)))
@@ -95,7 +219,9 @@ def checks_by_calls(text: str) -> str:
 
 def names_of(tally: Tally, lines: List[str]) -> None:
     """What is told of lines has each name of what may be left out."""
-    tally.equal("each name is there", {name for it in lines for name in it.rpartition("\n")[2].split("|") if name}, ALL_NAMES)
+    tally.equal(
+        "each name is there", {name for it in lines for name in it.rpartition("\n")[2].split("|") if name}, ALL_NAMES
+    )
 
 
 def kinds_of(tally: Tally, sheets: List[str]) -> None:
@@ -104,7 +230,9 @@ def kinds_of(tally: Tally, sheets: List[str]) -> None:
     seen = [any(it[at] not in ("", "0") for it in fields) for at in range(6)]
     tally.equal("each field is there", seen, 6 * [True])
     tally.holds("several attempts are", any("\n" in it for it in sheets))
-    tally.holds("a solution that isn't its steps", any("/" not in it[3] and it[4] not in (it[3], "none") for it in fields))
+    tally.holds(
+        "a solution that isn't its steps", any("/" not in it[3] and it[4] not in (it[3], "none") for it in fields)
+    )
     tally.holds("steps, and no solution that can be told", any(it[3] and it[4] == "none" for it in fields))
 
 
@@ -119,7 +247,11 @@ def times_of(tally: Tally, host: Host) -> None:
     """A host reads long texts in a time by their length: by its square they would take minutes."""
     for text, wanted in LONG.items():
         begun = time.monotonic()
-        tally.equal(f"attempt_counts of {text[:12]!r} and so on in {host.name}", told(host, "attempt_counts", text.encode()), wanted)
+        tally.equal(
+            f"attempt_counts of {text[:12]!r} and so on in {host.name}",
+            told(host, "attempt_counts", text.encode()),
+            wanted,
+        )
         tally.holds(f"{text[:12]!r} and so on soon in {host.name}", time.monotonic() - begun < SOON)
 
 
@@ -127,7 +259,9 @@ def is_told(tally: Tally, host: Host, texts: Texts) -> None:
     """A host tells of texts what is wanted."""
     for call, those in texts.items():
         for *given, wanted in those:
-            tally.equal(f"{call} of {given!r} in {host.name}", told(host, call, *(text.encode() for text in given)), wanted)
+            tally.equal(
+                f"{call} of {given!r} in {host.name}", told(host, call, *(text.encode() for text in given)), wanted
+            )
 
 
 def drawn_pairs(draw: random.Random, count: int) -> Iterator[List[str]]:
@@ -149,12 +283,18 @@ def check_alone(pair: Tuple[str, str]) -> str:
 def drawn_known(draw: random.Random, count: int) -> Iterator[List[str]]:
     """Texts of several lines, with some scrambles that are known."""
     for text in drawn_sheets(draw, count):
-        yield [text, "".join(f"{line}\n" for line in draw.sample(["R U", "F", "R' U' F D R' U' F", "q", ""], draw.randrange(5)))]
+        yield [
+            text,
+            "".join(f"{line}\n" for line in draw.sample(["R U", "F", "R' U' F D R' U' F", "q", ""], draw.randrange(5))),
+        ]
 
 
 def by_host(host: Host, drawn_texts: Dict[str, List[List[str]]]) -> Texts:
     """What is given to calls, each with what a host tells of it."""
-    return {call: [[*given, told(host, call, *(text.encode() for text in given))] for given in those] for call, those in drawn_texts.items()}
+    return {
+        call: [[*given, told(host, call, *(text.encode() for text in given))] for given in those]
+        for call, those in drawn_texts.items()
+    }
 
 
 def main() -> None:
@@ -163,12 +303,24 @@ def main() -> None:
     draw = random.Random(seed)
     sheets, kinds = list(drawn_sheets(draw, count)), [kind.text for kind in called.kinds()]
     solved = [*sheets, *drawn_solutions(draw, count), *kinds]
-    rows: Texts = {"plain_line": list(wanted_lines()), "read_attempts": list(called.rows("attempts")), "known_checks": list(called.rows("known"))}
+    rows: Texts = {
+        "plain_line": list(wanted_lines()),
+        "read_attempts": list(called.rows("attempts")),
+        "known_checks": list(called.rows("known")),
+    }
     by_calls = [[text, checks_by_calls(text)] for text in [*solved, *(text for text, _ in rows["read_attempts"])]]
     is_told(tally, python, {**rows, "check_attempts": by_calls, "check_all": list(drawn_pairs(draw, count // 10))})
-    ours = by_host(python, {"plain_line": [[it] for it in drawn(draw, count)], "read_attempts": [[it] for it in sheets],
-                            "check_attempts": [[it] for it in solved], "attempt_doubts": [[it] for it in solved],
-                            "known_checks": list(drawn_known(draw, count)), "check_all": [[it] for it, _ in drawn_pairs(draw, count // 10)]})
+    ours = by_host(
+        python,
+        {
+            "plain_line": [[it] for it in drawn(draw, count)],
+            "read_attempts": [[it] for it in sheets],
+            "check_attempts": [[it] for it in solved],
+            "attempt_doubts": [[it] for it in solved],
+            "known_checks": list(drawn_known(draw, count)),
+            "check_all": [[it] for it, _ in drawn_pairs(draw, count // 10)],
+        },
+    )
     for host in hosts_of(sys.argv[3:]):
         if not isinstance(host, Python):
             is_told(tally, host, rows)

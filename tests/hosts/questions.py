@@ -79,14 +79,25 @@ def drawn(seed: int, count: int, slack: int) -> Iterator[Question]:
         lambda: draw.oriented(slack),
         lambda: Question(" ".join(draw.turns(draw.randrange(4))), draw.choice(("", "R", "(F2)", "U (D)")), slack, 50),
         lambda: Question(draw.scramble(), "", slack),
-        lambda: Question(draw.scramble(), draw.choice(("", draw.both_sides())), slack, 20, draw.choice((1000, 20_000, 100_000, 10**6)), 1),
+        lambda: Question(
+            draw.scramble(),
+            draw.choice(("", draw.both_sides())),
+            slack,
+            20,
+            draw.choice((1000, 20_000, 100_000, 10**6)),
+            1,
+        ),
         lambda: Question(*draw.choice(((draw.mixed(), draw.choice(FAULTS)), (draw.choice(FAULTS), "R"))), slack),
         # moves so far make more ways alike, so these take longer
         lambda: Question(draw.mixed(), draw.turning(), slack),
         lambda: Question(draw.mixed(), draw.both_sides(), slack, draw.choice((1, 3, 20, 50))),
         lambda: Question(draw.scramble(), draw.turning(), slack, 20, draw.choice((0, 1, 50, 5000, 10**9))),
-        lambda: Question(f"{draw.scramble()} {draw.choice(TURNING)}", f"{draw.both_sides()} {draw.choice(TURNING)}", slack),
-        lambda: Question(" ".join(draw.turns(draw.choice((130, 240, 252)))), " ".join(draw.turns(draw.choice((0, 20, 130)))), slack),
+        lambda: Question(
+            f"{draw.scramble()} {draw.choice(TURNING)}", f"{draw.both_sides()} {draw.choice(TURNING)}", slack
+        ),
+        lambda: Question(
+            " ".join(draw.turns(draw.choice((130, 240, 252)))), " ".join(draw.turns(draw.choice((0, 20, 130)))), slack
+        ),
     ]
     for at in range(count):
         yield kinds[at % len(kinds)]()

@@ -24,21 +24,23 @@ MOST_TOTAL = 1000
 
 class Side(ctypes.Structure):
     """`nissy_side_turns` of nissy.h."""
+
     _fields_ = [("count", ctypes.c_uint8), ("free", ctypes.c_uint8), ("turns", ctypes.c_uint8 * 20)]
 
     def moves(self) -> str:
         """Its moves."""
-        return " ".join(TURNS[turn] for turn in self.turns[:self.count])
+        return " ".join(TURNS[turn] for turn in self.turns[: self.count])
 
     def ends(self) -> List[str]:
         """Its last turns in any direction that they may have, their own first."""
-        last = [TURNS[turn] for turn in self.turns[self.count - self.free:self.count]]
+        last = [TURNS[turn] for turn in self.turns[self.count - self.free : self.count]]
         others = {"": "'", "'": "", "2": "2"}
         return [" ".join(end) for end in product(*(dict.fromkeys([turn, turn[0] + others[turn[1:]]]) for turn in last))]
 
 
 class Part(ctypes.Structure):
     """`nissy_way_part` of nissy.h."""
+
     _fields_ = [("step", ctypes.c_uint8), ("normal", Side), ("inverse", Side)]
 
     def said(self, is_first: bool) -> str:
@@ -50,35 +52,70 @@ class Part(ctypes.Structure):
 
 class Way(ctypes.Structure):
     """`nissy_way` of nissy.h."""
-    _fields_ = [("total", ctypes.c_uint16), ("corners", ctypes.c_uint8), ("edges", ctypes.c_uint8), ("on_normal", ctypes.c_uint8),
-                ("on_inverse", ctypes.c_uint8), ("eo", Part), ("dr", Part)]
+
+    _fields_ = [
+        ("total", ctypes.c_uint16),
+        ("corners", ctypes.c_uint8),
+        ("edges", ctypes.c_uint8),
+        ("on_normal", ctypes.c_uint8),
+        ("on_inverse", ctypes.c_uint8),
+        ("eo", Part),
+        ("dr", Part),
+    ]
 
     def said(self) -> str:
         """It as hosts.py writes a row."""
         parts = [part for part in (self.eo, self.dr) if part.step != NO_STEP]
         line = ""
-        for moves, on in ((side.moves(), on) for part in parts for on, side in (("", part.normal), ("(", part.inverse))):
+        for moves, on in (
+            (side.moves(), on) for part in parts for on, side in (("", part.normal), ("(", part.inverse))
+        ):
             if moves:
-                line = f"{line[:-1]} {moves})" if on and line.endswith(")") else f"{line} ({moves})" if on else f"{line} {moves}"
+                line = (
+                    f"{line[:-1]} {moves})"
+                    if on and line.endswith(")")
+                    else f"{line} ({moves})"
+                    if on
+                    else f"{line} {moves}"
+                )
         lengths = ["none" if length > MOST_TURNS else str(length) for length in (self.on_normal, self.on_inverse)]
         eo = "none" if self.eo.step == NO_STEP else self.eo.said(True)
-        return ";".join([str(self.total), line.strip(), eo, self.dr.said(eo == "none"), *lengths, f"{self.corners}c{self.edges}e"])
+        return ";".join(
+            [str(self.total), line.strip(), eo, self.dr.said(eo == "none"), *lengths, f"{self.corners}c{self.edges}e"]
+        )
 
 
 class Wanted(ctypes.Structure):
     """`nissy_ways_wanted` of nissy.h."""
-    _fields_ = [("slack", ctypes.c_uint8), ("axes", ctypes.c_uint8), ("least", ctypes.c_uint8), ("most", ctypes.c_uint8),
-                ("most_nodes", ctypes.c_uint64), ("there", ctypes.c_uint64)]
+
+    _fields_ = [
+        ("slack", ctypes.c_uint8),
+        ("axes", ctypes.c_uint8),
+        ("least", ctypes.c_uint8),
+        ("most", ctypes.c_uint8),
+        ("most_nodes", ctypes.c_uint64),
+        ("there", ctypes.c_uint64),
+    ]
 
 
 class Answer(ctypes.Structure):
     """`nissy_ways_answer` of nissy.h."""
-    _fields_ = [("status", ctypes.c_uint8), ("fault", ctypes.c_uint8), ("line", ctypes.c_uint8), ("next", ctypes.c_uint8),
-                ("column", ctypes.c_uint32), ("rows", ctypes.c_uint64), ("tried", ctypes.c_uint64), ("nodes", ctypes.c_uint64)]
+
+    _fields_ = [
+        ("status", ctypes.c_uint8),
+        ("fault", ctypes.c_uint8),
+        ("line", ctypes.c_uint8),
+        ("next", ctypes.c_uint8),
+        ("column", ctypes.c_uint32),
+        ("rows", ctypes.c_uint64),
+        ("tried", ctypes.c_uint64),
+        ("nodes", ctypes.c_uint64),
+    ]
 
 
 class Tables(ctypes.Structure):
     """`nissy_tables` of nissy.h."""
+
     _fields_ = [("tables", ctypes.c_void_p), ("built", ctypes.c_uint8)]
 
 
@@ -109,7 +146,7 @@ class C:
         """What hosts answer to a question without a bound or a fault, by one call."""
         room = (Way * min(question.most, MOST_ROWS))()
         told = self.call(question, Wanted(question.slack, sum(AXES), 0, MOST_TURNS, 2**64 - 1, 0), room)
-        return "".join(way.said() + "\n" for way in room[:told.rows])
+        return "".join(way.said() + "\n" for way in room[: told.rows])
 
     def in_pieces(self, question: Question, fault_text: str, cut_text: str) -> str:
         """The same of any question, in pieces of one length on one axis each, as all hosts ask. Of a fault or a cut it is
@@ -124,10 +161,14 @@ class C:
                     return fault_text % (told.line, told.column)
                 wanted.there, wanted.most_nodes = told.rows, wanted.most_nodes - told.nodes
                 if told.status == CUT:
-                    return "".join(way.said() + "\n" for way in room[:told.rows]) + "cut\n" if question.partial else cut_text
+                    return (
+                        "".join(way.said() + "\n" for way in room[: told.rows]) + "cut\n"
+                        if question.partial
+                        else cut_text
+                    )
                 if not told.next:
                     axes.remove(axis)
-        return "".join(way.said() + "\n" for way in room[:wanted.there])
+        return "".join(way.said() + "\n" for way in room[: wanted.there])
 
 
 class Asked(NamedTuple):

@@ -15,9 +15,7 @@ enum { AREA = 1 << 17, ROOM = 1 << 16, MARGIN = 64, BLOCK = 4096 };
 
 static char draw_name[64];
 
-static void is_so(int holding, const char *what) {
-    holds(holding, what, draw_name);
-}
+static void is_so(int holding, const char *what) { holds(holding, what, draw_name); }
 
 /* A page that can't be touched was touched: what was passed and failed until then isn't told. */
 static void on_fault(int number) {

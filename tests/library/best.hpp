@@ -100,7 +100,8 @@ void sides_are_listed() {
     const nissy::found all = nissy::find(tables, line, NISSY_BOTH, {20, 1});
     const auto is_shorter = [](const nissy::solution &one, const nissy::solution &other) { return one.length < other.length; };
     holds(std::is_sorted(all.solutions.begin(), all.solutions.end(), is_shorter), "by length", line);
-    holds(all.count.length == all.solutions[0].length && all.count.solutions == all.solutions.size() && !all.count.more, "what is said of them", line);
+    holds(all.count.length == all.solutions[0].length && all.count.solutions == all.solutions.size() && !all.count.more, "what is said of them",
+          line);
     bool reach = true, over_both = false;
     for (const auto &[moves, length] : all.solutions) {
         reach = reach && nissy::facts(nissy::line_after(line, moves)).held[0] && length == 1 + std::count(moves.begin(), moves.end(), ' ');
@@ -114,7 +115,8 @@ void sides_are_listed() {
     }
     holds(nissy::find(tables, line, NISSY_BOTH, {20, 0, NISSY_ALL, 3}).count.is_cut, "it is cut", line);
     throw_each<nissy::cut>(line, {[&] { nissy::solve(tables, line, NISSY_BOTH, {20, 0, NISSY_ALL, 3}); }});
-    throw_each<nissy::fault>("R q", {[&] { nissy::solve(tables, "R q", NISSY_BOTH); }, [] { nissy::solve(nissy::tables("drfb-eorl"), "R", NISSY_BOTH); }});
+    throw_each<nissy::fault>("R q",
+                             {[&] { nissy::solve(tables, "R q", NISSY_BOTH); }, [] { nissy::solve(nissy::tables("drfb-eorl"), "R", NISSY_BOTH); }});
 }
 
 } // namespace

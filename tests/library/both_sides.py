@@ -33,12 +33,30 @@ def best(tally: Tally) -> None:
     for nodes in (0, 1, 20, 500):
         cut = raised(nissy.Cut, lambda: nissy.best("U R F L D", nodes=nodes))
         tally.holds(f"it is cut by {nodes}", cut and cut.count.cut and cut.count.nodes <= nodes and cut.solutions == [])
-    tally.equal("and not by many", [(it, it.nodes) for it in (nissy.best("U R F", nodes=nodes) for nodes in (10**7, MOST))], [(rows, rows.nodes)] * 2)
-    tally.equal("a reduction is reached without a search", (nissy.best("U R F", "F' R", nodes=0), nissy.best("", nodes=0)), ([], []))
-    tally.equal("as many as are wanted", [nissy.best("U R F", most=most) for most in (0, 1, len(rows), None)], [[], rows[:1], rows, rows])
+    tally.equal(
+        "and not by many",
+        [(it, it.nodes) for it in (nissy.best("U R F", nodes=nodes) for nodes in (10**7, MOST))],
+        [(rows, rows.nodes)] * 2,
+    )
+    tally.equal(
+        "a reduction is reached without a search",
+        (nissy.best("U R F", "F' R", nodes=0), nissy.best("", nodes=0)),
+        ([], []),
+    )
+    tally.equal(
+        "as many as are wanted",
+        [nissy.best("U R F", most=most) for most in (0, 1, len(rows), None)],
+        [[], rows[:1], rows, rows],
+    )
     pairs: List[Any] = []
-    tally.equal("the same rows", nissy.best("U R F L D", progress=lambda *told: pairs.append(told)), nissy.best("U R F L D"))
-    tally.equal("it begins with none, and never goes back", (pairs[0], [it for it, _ in pairs]), ((0, None), sorted(it for it, _ in pairs)))
+    tally.equal(
+        "the same rows", nissy.best("U R F L D", progress=lambda *told: pairs.append(told)), nissy.best("U R F L D")
+    )
+    tally.equal(
+        "it begins with none, and never goes back",
+        (pairs[0], [it for it, _ in pairs]),
+        ((0, None), sorted(it for it, _ in pairs)),
+    )
     tally.holds("it ends with all", 0 < pairs[-1][0] == pairs[-1][1] and all(total is None for _, total in pairs[:-1]))
 
     def stop(done: int, _: object) -> None:
@@ -48,7 +66,12 @@ def best(tally: Tally) -> None:
     for line in ("U R F L D", "R U"):
         tally.holds(f"what it raises, of {line}", raised(InterruptedError, lambda: nissy.best(line, progress=stop)))
     tally.equal("bytes and wide turns", nissy.best(b"U R F x", bytearray(b"")), nissy.best("U R F x"))
-    for name, value, kind in (("most", -1, ValueError), ("most", 1.5, TypeError), ("slack", None, TypeError), ("progress", 1, TypeError)):
+    for name, value, kind in (
+        ("most", -1, ValueError),
+        ("most", 1.5, TypeError),
+        ("slack", None, TypeError),
+        ("progress", 1, TypeError),
+    ):
         tally.holds(f"{name} {value}", raised(kind, lambda: untyped.best("R", **{name: value})))
     says(tally, TypeError, "the stop is a function or None, not bool", lambda: untyped.best("R", stop=True))
 
@@ -71,10 +94,17 @@ def all_best(tally: Tally) -> None:
     for threads in (1, 3):
         told = list(nissy.best_all(scrambles, most=3, threads=threads))
         tally.equal("the rows", [None if isinstance(it, nissy.Fault) else it for it in told], wanted)
-        tally.equal("what is wrong", [str(it) for it in told if isinstance(it, nissy.Fault)],
-                    [f"line {at + 2}, column 3: not a move" for at in range(0, 25, 5)])
+        tally.equal(
+            "what is wrong",
+            [str(it) for it in told if isinstance(it, nissy.Fault)],
+            [f"line {at + 2}, column 3: not a move" for at in range(0, 25, 5)],
+        )
         cut = list(nissy.best_all(["U R F", "R U F"], nodes=5, threads=threads))
-        tally.equal("those that are cut", [(type(it), it.line) for it in cut if isinstance(it, nissy.Cut)], [(nissy.Cut, 1), (nissy.Cut, 2)])
+        tally.equal(
+            "those that are cut",
+            [(type(it), it.line) for it in cut if isinstance(it, nissy.Cut)],
+            [(nissy.Cut, 1), (nissy.Cut, 2)],
+        )
         some = list(nissy.raising(nissy.best_all(["U R F"], nodes=5, partial=True, threads=threads)))
         tally.holds("what there is of one that is cut", some[0].cut and len(some) == 1)
     pairs: List[Any] = []
@@ -89,7 +119,11 @@ def sequences(count: int, turns: List[str]) -> Iterator[Tuple[str, ...]]:
         return
     for before in sequences(count - 1, turns):
         last = before[-1][0] if before else ""
-        yield from ((*before, turn) for turn in turns if turn[0] != last and (turn[0], last) not in (("U", "D"), ("R", "L"), ("F", "B")))
+        yield from (
+            (*before, turn)
+            for turn in turns
+            if turn[0] != last and (turn[0], last) not in (("U", "D"), ("R", "L"), ("F", "B"))
+        )
 
 
 def over_both(step: nissy.Step, line: str, length: int) -> Iterator[str]:
@@ -100,15 +134,29 @@ def over_both(step: nissy.Step, line: str, length: int) -> Iterator[str]:
         for inverse in sequences(count, turns):
             found = nissy.solve(step, f"{nissy.invert(' '.join(inverse))} {line}", length - count, 20)
             for normal in (tuple(it.split()) for it in found if it.length == length - count):
-                begun = ((normal[:at], inverse[:to]) for at in range(len(normal) + 1) for to in range(count + 1) if at + to < length)
-                if not any(step in nissy.facts(f"{nissy.invert(' '.join(back))} {line} {' '.join(on)}").holds for on, back in begun):
+                begun = (
+                    (normal[:at], inverse[:to])
+                    for at in range(len(normal) + 1)
+                    for to in range(count + 1)
+                    if at + to < length
+                )
+                if not any(
+                    step in nissy.facts(f"{nissy.invert(' '.join(back))} {line} {' '.join(on)}").holds
+                    for on, back in begun
+                ):
                     yield " ".join([*normal, *([f"({' '.join(inverse)})"] if inverse else [])])
 
 
 def sides(tally: Tally) -> None:
     """Solutions over both sides are all that there are, by their lengths; those on the inverse are those of its line."""
     asked: List[Tuple[nissy.Step, str]] = [
-        ("eofb", "F U R F"), ("eofb", "R U F L"), ("eoud", "R U2 L"), ("drud-eofb", "R U R"), ("eofb", "R U"), ("eorl", "x R (U F)")]
+        ("eofb", "F U R F"),
+        ("eofb", "R U F L"),
+        ("eoud", "R U2 L"),
+        ("drud-eofb", "R U R"),
+        ("eofb", "R U"),
+        ("eorl", "x R (U F)"),
+    ]
     for step, given in asked:
         line = nissy.line_after(given)
         least = nissy.solve(step, line, sides="both")[0].length
@@ -121,29 +169,46 @@ def sides(tally: Tally) -> None:
         on_inverse = [f"({it})" if it else it for it in nissy.solve(step, nissy.invert(line))]
         tally.equal("on the inverse", nissy.solve(step, line, sides="inverse"), on_inverse)
         tally.equal("on the line", nissy.solve(step, line, sides="normal"), nissy.solve(step, line))
-        tally.equal("the same of a line that turns the cube", nissy.solve(step, given, sides="both"), nissy.solve(step, line, sides="both"))
+        tally.equal(
+            "the same of a line that turns the cube",
+            nissy.solve(step, given, sides="both"),
+            nissy.solve(step, line, sides="both"),
+        )
     whole = nissy.solve("eofb", "F U R F", 20, 1, sides="both")
     tally.holds("some are over both", any(it[0] != "(" and it[-1] == ")" for it in whole))
     some = [nissy.solve("eofb", "F U R F", 20, 1, most, sides="both") for most in (0, 1, len(whole) - 1, len(whole))]
     tally.equal("as many as are wanted", some, [whole[:most] for most in (0, 1, len(whole) - 1, len(whole))])
     tally.equal("there are others", [it.more for it in some], [True, True, True, False])
     cut = raised(nissy.Cut, lambda: nissy.solve("eofb", "R U F L", nodes=3, sides="both"))
-    tally.holds("it is cut", cut and cut.count.nodes <= 3 and nissy.solve("eofb", "R U F L", nodes=3, partial=True, sides="both").cut)
+    tally.holds(
+        "it is cut",
+        cut and cut.count.nodes <= 3 and nissy.solve("eofb", "R U F L", nodes=3, partial=True, sides="both").cut,
+    )
     says(tally, nissy.LineFault, "column 3: not a move", lambda: nissy.solve("eofb", "R q", sides="both"))
     says(tally, nissy.StartFault, "eorl does not hold", lambda: nissy.solve("drfb-eorl", "R", sides="both"))
-    says(tally, ValueError, "the sides are one of normal, inverse, both", lambda: untyped.solve("eofb", "R", sides="all"))
+    says(
+        tally, ValueError, "the sides are one of normal, inverse, both", lambda: untyped.solve("eofb", "R", sides="all")
+    )
 
 
 def cut_best(tally: Tally) -> None:
     """What a cut `best` found is told as such. What it is, tests/hosts tries."""
     some, most, whole = (nissy.best("U R F L D", nodes=nodes, partial=True) for nodes in (500, MOST, None))
-    tally.equal("what is told of each", [(it.cut, type(it)) for it in (some, most, whole)], [(it, nissy.Continuations) for it in (True, False, False)])
+    tally.equal(
+        "what is told of each",
+        [(it.cut, type(it)) for it in (some, most, whole)],
+        [(it, nissy.Continuations) for it in (True, False, False)],
+    )
     tally.holds("without a cut there are all", most == whole == nissy.best("U R F L D") and len(some) < len(whole))
 
     def own(*_: object) -> None:
         nissy.count("eofb", "R U F", nodes=0)
 
-    tally.equal("a cut of the progress", raised(nissy.Cut, lambda: nissy.best("U R F", nodes=100, partial=True, progress=own)).count.nodes, 0)
+    tally.equal(
+        "a cut of the progress",
+        raised(nissy.Cut, lambda: nissy.best("U R F", nodes=100, partial=True, progress=own)).count.nodes,
+        0,
+    )
     tally.holds("a fault is no cut", raised(nissy.LineFault, lambda: nissy.best("U R Q", nodes=0, partial=True)))
 
 
@@ -156,8 +221,14 @@ def stopped_best(tally: Tally) -> None:
     tally.equal("at once", (at_once.count, at_once.solutions), (nissy.Count(None, 0, 0, True), []))
     some = nissy.best("U R F", partial=True, stop=lambda: next(half, None) is None)
     tally.holds("after half of the searches", some.cut and 0 < len(some) < len(whole))
-    tally.holds("it is asked also if a reduction is reached", raised(nissy.Cut, lambda: nissy.best("U R F", "F' R", stop=lambda: True)))
-    tally.holds("what it raises", raised(ZeroDivisionError, lambda: nissy.best("U R F", partial=True, stop=lambda: bool(1 // 0))))
+    tally.holds(
+        "it is asked also if a reduction is reached",
+        raised(nissy.Cut, lambda: nissy.best("U R F", "F' R", stop=lambda: True)),
+    )
+    tally.holds(
+        "what it raises",
+        raised(ZeroDivisionError, lambda: nissy.best("U R F", partial=True, stop=lambda: bool(1 // 0))),
+    )
     own: Callable[[], bool] = lambda: nissy.count("eofb", "F", nodes=7).cut
     tally.holds("a cut of its own", raised(nissy.Cut, lambda: nissy.best("U R F", partial=True, stop=own)))
 

@@ -20,13 +20,21 @@ def main() -> None:
     ffi.cdef(Path(sys.argv[1]).read_text(encoding="utf-8"))
     nissy, out = ffi.dlopen(sys.argv[2]), ffi.new("uint8_t[]", 2048)
     answer = nissy.nissy_invert(b"R U' F2", 7, out, len(out))
-    tally.equal("an inverse", (answer.status, bytes(out[0:answer.length])), (nissy.NISSY_DONE, b"F2 U R'"))
+    tally.equal("an inverse", (answer.status, bytes(out[0 : answer.length])), (nissy.NISSY_DONE, b"F2 U R'"))
     seen = nissy.nissy_facts(b"R U2 R", 6)
-    tally.equal("a case", (seen.axes[nissy.NISSY_UD].bad_corners, seen.axes[nissy.NISSY_UD].misplaced_edges, seen.moves), (4, 2, 3))
+    tally.equal(
+        "a case",
+        (seen.axes[nissy.NISSY_UD].bad_corners, seen.axes[nissy.NISSY_UD].misplaced_edges, seen.moves),
+        (4, 2, 3),
+    )
     tables = ffi.new("nissy_tables *")
     tally.equal("tables", nissy.nissy_build(tables, b"eofb", 4), nissy.NISSY_DONE)
     found = nissy.nissy_solve(tables, b"R U F", 5, 20, 0, 2**64 - 1, 2**64 - 1, out, len(out))
-    tally.equal("solutions", (found.solutions, found.more, found.nodes, bytes(out[0:found.length])), (2, 0, 20, b"F (1)\nF' (1)\n"))
+    tally.equal(
+        "solutions",
+        (found.solutions, found.more, found.nodes, bytes(out[0 : found.length])),
+        (2, 0, 20, b"F (1)\nF' (1)\n"),
+    )
     fault = nissy.nissy_count(tables, b"R q", 3, 20, 0, 1, 1)
     tally.equal("a fault", (fault.status, fault.fault, fault.column), (nissy.NISSY_FAULT, nissy.NISSY_NOT_A_MOVE, 3))
     line = b"R M2' r"

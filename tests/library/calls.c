@@ -156,8 +156,8 @@ static void solves(const nissy_tables *tables, const search_row *row) {
 
 /* Whether a search says this and nothing else. */
 static int says_alone(nissy_search_answer got, int status, int fault, unsigned column) {
-    return got.status == status && got.fault == fault && got.column == column && !got.length && !got.solutions && !got.least &&
-           !got.nodes && !got.more;
+    return got.status == status && got.fault == fault && got.column == column && !got.length && !got.solutions && !got.least && !got.nodes &&
+           !got.more;
 }
 
 /* Both searches of a line answer this and write nothing. */
@@ -200,7 +200,8 @@ static void copies_stay(void) {
     solves(&copy, &SEARCHES[0]);
     holds(nissy_build(&tables, (const uint8_t *)"eorl", 4) == NISSY_DONE, "another step is built", "a struct with tables");
     solves(&copy, &SEARCHES[0]);
-    holds(nissy_count(&tables, (const uint8_t *)"F", 1, MOST, 0, NISSY_ALL, NISSY_ALL).least == 0, "it asks the step that was built last", "F of eorl");
+    holds(nissy_count(&tables, (const uint8_t *)"F", 1, MOST, 0, NISSY_ALL, NISSY_ALL).least == 0, "it asks the step that was built last",
+          "F of eorl");
 }
 
 /* A null pointer to no byte is as good as another. */
@@ -237,8 +238,8 @@ static uint32_t version_of_header(void) {
 
 /* The calls that take no line. */
 static void texts_are_written(void) {
-    static const char *const FAULTS[] = {"not a move",          "bracket inside a bracket", "bracket closed that was not opened",
-                                         "bracket not closed",  "more than 256 moves",      "does not hold"};
+    static const char *const FAULTS[] = {"not a move",         "bracket inside a bracket", "bracket closed that was not opened",
+                                         "bracket not closed", "more than 256 moves",      "does not hold"};
     static const char STEPS[] =
 #include "steps.inc"
         ;

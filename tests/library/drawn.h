@@ -8,9 +8,7 @@
 static uint64_t drawing;
 
 /* A drawing of its own for each number. */
-static void begin_drawing(uint64_t number) {
-    drawing = number * 0x9e3779b97f4a7c15u ^ 0x853c49e6748fea9bu;
-}
+static void begin_drawing(uint64_t number) { drawing = number * 0x9e3779b97f4a7c15u ^ 0x853c49e6748fea9bu; }
 
 /* A number below this one. */
 static uint32_t draw(uint32_t below) {
@@ -24,13 +22,32 @@ static const char *const LETTERS[] = {"U", "D", "R", "L", "F", "B", "Uw", "Dw", 
                                       "u", "d", "r", "l", "f", "b", "M",  "E",  "S",  "x",  "y",  "z"};
 static const char *const SUFFIXES[] = {"", "", "", "2", "'", "2'", "\xe2\x80\x99", "2\xe2\x80\x99"};
 static const char *const BLANKS[] = {" ", " ", " ", "", "\t", "\r", "  ", " \t\r "};
-static const char *const DAMAGES[] = {"w", "3",  "''", "22", "'2", "((", "))", "()", "(", ")", "\n", "Q", "[R,U]", "\x1a", "\x7f", "\xc3",
+static const char *const DAMAGES[] = {"w",    "3",    "''",   "22",       "'2",           "((",          "))",   "()",
+                                      "(",    ")",    "\n",   "Q",        "[R,U]",        "\x1a",        "\x7f", "\xc3",
                                       "\xff", "\xe2", "\x99", "\xe2\x80", "\xe2\x80\x98", "\xef\xbb\xbf"};
-static const char *const COMMANDS[] = {"invert", "unniss", "cleanup", "print", "solve", "count",  "near",   "solve",     "count",
-                                       "near",   "scramble", "steps", "Invert", "help", "--help", "stepsx", "inver\xff", ""};
+static const char *const COMMANDS[] = {"invert", "unniss",   "cleanup", "print",  "solve", "count",  "near",   "solve",     "count",
+                                       "near",   "scramble", "steps",   "Invert", "help",  "--help", "stepsx", "inver\xff", ""};
 static const char *const STEPS[] = {"eofb", "eorl", "eoud", "eo", "eofb", "eo", "dr-eofb", "drud-eofb", "drfb-eorl", "EO", "htr", ""};
-static const char *const NUMBERS[] = {"0", "1", "2", "3", "5", "20", "0", "1", "2", "20", "021", "21", "-1", " 1", "", "0x1", "1_0",
-                                      "\xd9\xa1", "18446744073709551616", "0000000000000000000000000000007"};
+static const char *const NUMBERS[] = {"0",
+                                      "1",
+                                      "2",
+                                      "3",
+                                      "5",
+                                      "20",
+                                      "0",
+                                      "1",
+                                      "2",
+                                      "20",
+                                      "021",
+                                      "21",
+                                      "-1",
+                                      " 1",
+                                      "",
+                                      "0x1",
+                                      "1_0",
+                                      "\xd9\xa1",
+                                      "18446744073709551616",
+                                      "0000000000000000000000000000007"};
 
 /* A text that grows up to its room. */
 typedef struct text {
@@ -44,9 +61,7 @@ static void add_bytes(text *to, const char *bytes, size_t size) {
     to->size += size;
 }
 
-static void add(text *to, const char *word) {
-    add_bytes(to, word, strlen(word));
-}
+static void add(text *to, const char *word) { add_bytes(to, word, strlen(word)); }
 
 /* A line of so many moves, with brackets, and damaged where it is to be. */
 static void add_line(text *to, uint32_t moves, int is_damaged) {
@@ -73,9 +88,7 @@ static inline void add_lines(text *to) {
 }
 
 /* A word with the zero byte behind it, which is missing now and then. */
-static void add_word(text *to, const char *word) {
-    add_bytes(to, word, strlen(word) + (draw(60) ? 1 : 0));
-}
+static void add_word(text *to, const char *word) { add_bytes(to, word, strlen(word) + (draw(60) ? 1 : 0)); }
 
 /* A command with what belongs to it, or with too little or too much; now and then cut. */
 static inline void add_words(text *to) {

@@ -36,8 +36,12 @@ static void lines_are_judged(void) {
         holds(got.solved == row->solved && got.holds == row->holds, "whether it is solved, and the steps that hold", row->line);
         for (int at = 0; at < 3; at++) {
             const unsigned *masks = row->masks[at];
-            nissy_axis_facts wanted = {(uint16_t)masks[0], (uint16_t)masks[1], (uint16_t)masks[2], (uint8_t)__builtin_popcount(masks[0]),
-                                       (uint8_t)__builtin_popcount(masks[1]), (uint8_t)__builtin_popcount(masks[2])};
+            nissy_axis_facts wanted = {(uint16_t)masks[0],
+                                       (uint16_t)masks[1],
+                                       (uint16_t)masks[2],
+                                       (uint8_t)__builtin_popcount(masks[0]),
+                                       (uint8_t)__builtin_popcount(masks[1]),
+                                       (uint8_t)__builtin_popcount(masks[2])};
             holds(is_same_axis(got.axes[AXES[at]], wanted), "its pieces on an axis", row->line);
         }
     }

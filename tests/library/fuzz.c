@@ -67,9 +67,7 @@ static void run(answer *to, text words, text input, size_t out_room, size_t err_
     memcpy(to->out, out.bytes, to->is.out_length), memcpy(to->err, err.bytes, to->is.err_length);
 }
 
-static size_t least(size_t one, size_t other) {
-    return one < other ? one : other;
-}
+static size_t least(size_t one, size_t other) { return one < other ? one : other; }
 
 static answer whole, got;
 
@@ -85,9 +83,7 @@ static void is_whole_in(size_t out_room, size_t err_room, const char *what) {
 }
 
 /* Whether these words begin with a command whose tables take a while. */
-static int is_slow(text words) {
-    return words.size > 6 && (memcmp(words.bytes + 5, "dr", 2) == 0 || memcmp(words.bytes + 6, "dr", 2) == 0);
-}
+static int is_slow(text words) { return words.size > 6 && (memcmp(words.bytes + 5, "dr", 2) == 0 || memcmp(words.bytes + 6, "dr", 2) == 0); }
 
 /* A run whole, then in other rooms, with memory refused, and without the last zero byte. */
 static void try_run(text words, text input) {
@@ -184,8 +180,10 @@ static void try_search(text line) {
     is_so(is_start ? all.status == NISSY_FAULT && all.column == 0 : all.fault == first.fault && all.column == first.column, "its fault");
     is_so(all.solutions <= of.most && (all.solutions > 0) == (all.length > 0), "as many solutions as may be");
     is_so(all.status == NISSY_DONE || all.status == NISSY_ROOM || all.nodes == 0, "nothing is looked at without a search");
-    if (is.status == NISSY_CUT) was_cut(of, is, bytes, all, all_bytes);
-    else is_so(is_same(is, all) && is_text(bytes, is.length, all_bytes, all.length), "a bound that is kept changes nothing");
+    if (is.status == NISSY_CUT)
+        was_cut(of, is, bytes, all, all_bytes);
+    else
+        is_so(is_same(is, all) && is_text(bytes, is.length, all_bytes, all.length), "a bound that is kept changes nothing");
     if (is.status != NISSY_ROOM) is_so(is_same(is, count_of(of, line)), "a count says what a search says");
     whole_of.most = NISSY_ALL, whole_of.slack = of.slack > 20 ? of.slack : of.slack & 1;
     nissy_search_answer told = count_of(whole_of, line);
@@ -197,8 +195,10 @@ static void try_search(text line) {
 static void try_judging(text line) {
     static uint8_t bytes[2 * BLOCK];
     text solution = {bytes, 0, sizeof bytes};
-    if (draw(3) == 0) add_line(&solution, draw(12), draw(3) == 0);
-    else solution.size = nissy_invert(line.bytes, line.size, bytes, NISSY_LINE_ROOM).length;
+    if (draw(3) == 0)
+        add_line(&solution, draw(12), draw(3) == 0);
+    else
+        solution.size = nissy_invert(line.bytes, line.size, bytes, NISSY_LINE_ROOM).length;
     slice first = read_slice(WORDS_AREA, line, draw(2) != 0), second = read_slice(INPUT_AREA, solution, draw(2) != 0);
     made = 0, refused_at = 1, onward = 1;
     nissy_check_answer is = nissy_check(first.bytes, first.size, second.bytes, second.size);

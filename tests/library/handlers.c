@@ -32,14 +32,13 @@ static int are_lines(void) {
     static const char cube[] = "UUFUUFUUFRRRRRRRRRFFDFFDFFDDDBDDBDDBLLLLLLLLLUBBUBBUBB";
     static const uint8_t line[] = "R (U F') D";
     uint8_t out[256];
-    return is_text(nissy_invert(line, 10, out, sizeof out), out, "U F' D' R'") &&
-           is_text(nissy_unniss(line, 10, out, sizeof out), out, "R D F U'") &&
+    return is_text(nissy_invert(line, 10, out, sizeof out), out, "U F' D' R'") && is_text(nissy_unniss(line, 10, out, sizeof out), out, "R D F U'") &&
            is_text(nissy_cleanup((const uint8_t *)"Rw U", 4, out, sizeof out), out, "L F x") &&
            is_text(nissy_facelets((const uint8_t *)"R", 1, out, sizeof out), out, cube) &&
            is_text(nissy_scramble(42, 54, 6, out, sizeof out), out, "L' D' F' R2 F' L'") &&
            is_text(nissy_start((const uint8_t *)"dr-eofb", 7, out, sizeof out), out, "eofb") &&
-           is_text(nissy_fault_text(NISSY_START, out, sizeof out), out, "does not hold") &&
-           nissy_steps(out, sizeof out).status == NISSY_DONE && nissy_version() > 0;
+           is_text(nissy_fault_text(NISSY_START, out, sizeof out), out, "does not hold") && nissy_steps(out, sizeof out).status == NISSY_DONE &&
+           nissy_version() > 0;
 }
 
 /* Whether the calls that judge lines, and those on many, are answered as they are to be: guides for solvers have R as 4c4e, and the manual
@@ -53,8 +52,7 @@ static int are_judged(void) {
     nissy_check_answer check = nissy_check(text, 1, (const uint8_t *)"R' x", 4);
     return alone.axes[NISSY_UD].bad_corners == 4 && alone.axes[NISSY_UD].misplaced_edges == 4 && check.solved && check.moves == 1 &&
            judged.lines == 3 && judged.bytes == 7 && facts[0].axes[NISSY_UD].bad_corners == 4 && facts[1].status == NISSY_FAULT &&
-           facts[2].axes[NISSY_FB].bad_edges == 8 && counted.lines == 3 && counts[1].column == 1 && counts[2].solutions == 4 &&
-           counts[2].nodes == 75;
+           facts[2].axes[NISSY_FB].bad_edges == 8 && counted.lines == 3 && counts[1].column == 1 && counts[2].solutions == 4 && counts[2].nodes == 75;
 }
 
 /* The next signal. */

@@ -27,9 +27,17 @@ OF_FIRST, OF_SECOND = " ".join(STEPS), "F' U R L' U2 B' D2 F2 R2 U' B2 D' L2 F' 
 ON_INVERSE = "R' U' F D2 L2 F R2 U2 R2 B D2 L"
 # words before each of two scrambles, and before a solution behind its steps
 HEADS = """Solve %d|Day %d:|Week %d|Cube %d|Try %d:|FMC %d:|Mo3 %d:|Scr %d:|Puzzle %d|Versuch %d|Mezcla %d|\u6253\u4e71 %d:|Attempt no. %d
-Group 1 scramble %d|Attempt %d (23 moves)|Attempt %d - 23 moves|Attempt %d, 23 moves|%d. 23 moves|%d. 23|%d) (23)|[%d]|----%d""".replace("\n", "|").split("|")
-ENDS = """Final|Total|Full|Result|All|Sol|Answer|Submitted|Together|Summary|Cleaned|L\u00f6sung|Soluci\u00f3n|Rozwi\u0105zanie|\u89e3\u6cd5|Final answer""".split("|")
-SIDES = "Inverse|Reverse|Inverted|Inversed|Inverso|Invers|Other side|Second side|EOinv|Backwards|NISSed|DR premoved|Odwrotnie|Obratno".split("|")
+Group 1 scramble %d|Attempt %d (23 moves)|Attempt %d - 23 moves|Attempt %d, 23 moves|%d. 23 moves|%d. 23|%d) (23)|[%d]|----%d""".replace(
+    "\n", "|"
+).split(
+    "|"
+)
+ENDS = """Final|Total|Full|Result|All|Sol|Answer|Submitted|Together|Summary|Cleaned|L\u00f6sung|Soluci\u00f3n|Rozwi\u0105zanie|\u89e3\u6cd5|Final answer""".split(
+    "|"
+)
+SIDES = "Inverse|Reverse|Inverted|Inversed|Inverso|Invers|Other side|Second side|EOinv|Backwards|NISSed|DR premoved|Odwrotnie|Obratno".split(
+    "|"
+)
 COMMENTS = "on inverse|DR (inv)|NISS|premoves|inverse|reverse|on the inverse|DR on inv|EOinv".split("|")
 WORDS = "F2L LL xD BLD LUL FML LS ELL SB Dry Bu DR FR EO".split()
 
@@ -38,18 +46,26 @@ def of_words() -> Iterator[Kind]:
     """Kinds that a word makes."""
     labelled = "\n".join(f"{name}: {step}" for name, step in zip(("EO", "DR", "HTR", "finish"), STEPS))
     for head in HEADS:
-        yield Kind(f"the head {head}", f"{head % 1}\n{FIRST}\n{OF_FIRST}\n\n{head % 2}\n{SECOND}\n{OF_SECOND}", [True, True])
+        yield Kind(
+            f"the head {head}", f"{head % 1}\n{FIRST}\n{OF_FIRST}\n\n{head % 2}\n{SECOND}\n{OF_SECOND}", [True, True]
+        )
     for end in ENDS:
         yield Kind(f"steps, then {end}", f"Scramble: {FIRST}\n\n{labelled}\n{end}: {OF_FIRST}", [True])
     for side in SIDES:
         yield Kind(f"the label {side}", f"{FIRST}\n\nEO: {STEPS[0]}\n{side}: {ON_INVERSE}\nfinish: {STEPS[1]}", [True])
     for comment in COMMENTS:
-        yield Kind(f"the comment {comment}", f"{FIRST}\n\n{STEPS[0]} // EO\n{ON_INVERSE} // {comment}\n{STEPS[1]} // finish", [True])
+        yield Kind(
+            f"the comment {comment}",
+            f"{FIRST}\n\n{STEPS[0]} // EO\n{ON_INVERSE} // {comment}\n{STEPS[1]} // finish",
+            [True],
+        )
     for word in WORDS:
         for form in ("{0} {1}", "{1} {0}", "{0}\t{1}", "{0}\n{1}", "{1}\n{0}", "{0} ({1})", "{0} - {1}", "{0}; {1}"):
             yield Kind(f"{word} in {form!r}", f"Scramble: {FIRST}\n\n{form.format(OF_FIRST, word)}", [True])
     yield Kind("a solution, then its steps", f"Scramble: {FIRST}\nSolution: {OF_FIRST}\n{labelled}", [True])
-    yield Kind("steps on one line", f"{FIRST}\nSolution: {STEPS[0]} // EO {STEPS[1]} // DR {' '.join(STEPS[2:])}", [True])
+    yield Kind(
+        "steps on one line", f"{FIRST}\nSolution: {STEPS[0]} // EO {STEPS[1]} // DR {' '.join(STEPS[2:])}", [True]
+    )
 
 
 def verdict(kind: Kind) -> str:
@@ -69,7 +85,10 @@ def kinds(tally: Tally) -> None:
     verdicts: Dict[str, str] = {}
     for kind in [*listed(), *of_words()]:
         verdicts[kind.name] = verdict(kind)
-        tally.holds(f"{kind.name} isn't silently wrong: {verdicts[kind.name]}", verdicts[kind.name] not in ("silent", "right, in doubt"))
+        tally.holds(
+            f"{kind.name} isn't silently wrong: {verdicts[kind.name]}",
+            verdicts[kind.name] not in ("silent", "right, in doubt"),
+        )
     of_table = [verdicts[kind.name] for kind in listed()]
     # 32 of these were read right without the rules of the library, and 64 are to be
     tally.holds(f"at least 135 of the table are right: {of_table.count('right')}", of_table.count("right") >= 135)
@@ -87,7 +106,7 @@ def slips(tally: Tally) -> None:
         places = [at for sign, at in zip(solution.line, solution.places) if sign in "URFDLB"]
         for at in draw.sample(places, min(len(places), 5)):
             other = draw.choice([sign for sign in "URFDLB" if sign != kind.text[at]])
-            told = nissy.check_attempts(kind.text[:at] + other + kind.text[at + 1:])
+            told = nissy.check_attempts(kind.text[:at] + other + kind.text[at + 1 :])
             doubts += any(it.doubt for it in told)
             count += 1
             tally.holds(f"a slip in {kind.name} is seen", not any(it.check and it.check.solved for it in told))
@@ -96,13 +115,21 @@ def slips(tally: Tally) -> None:
 
 def doubts(tally: Tally) -> None:
     """Each reason for a doubt, and where it is seen."""
-    texts = {f"{FIRST} R U": ("another scramble", 1, 1), "R U F\n\nEO: D\n\nDR: L\n\nD L B": ("several solutions", 3, 5),
-             "R U F\n\nR U // premoves\nF' // EO": ("side", 3, 8), "R U F\n\nF' U' R LUL": ("letters", 3, 10),
-             "r u f\n\nF' U' R'": ("small letters", 1, 1), "R U F\n\nF' // EO U' R' D": ("comment", 3, 4),
-             "R U R U\n\n(U' R') x2": ("repetition", 3, 9), "R U R U\n\n(U' R')\u00d72": ("repetition", 3, 8),
-             "R U R U\n\nU' R' // 2x": ("repetition", 3, 7), "R U F\n\nF' [1] R'\n[1] = U' D D'": ("insertion", 3, 4),
-             "R U F\n\nF' R' *\n* = U' D D'": ("insertion", 3, 7), "R U F\n\nF' R' // Skelett": ("insertion", 3, 10),
-             "R U F\n\nAnna: F' U' R'\nBert: F' U' D": ("a part", 3, 7)}
+    texts = {
+        f"{FIRST} R U": ("another scramble", 1, 1),
+        "R U F\n\nEO: D\n\nDR: L\n\nD L B": ("several solutions", 3, 5),
+        "R U F\n\nR U // premoves\nF' // EO": ("side", 3, 8),
+        "R U F\n\nF' U' R LUL": ("letters", 3, 10),
+        "r u f\n\nF' U' R'": ("small letters", 1, 1),
+        "R U F\n\nF' // EO U' R' D": ("comment", 3, 4),
+        "R U R U\n\n(U' R') x2": ("repetition", 3, 9),
+        "R U R U\n\n(U' R')\u00d72": ("repetition", 3, 8),
+        "R U R U\n\nU' R' // 2x": ("repetition", 3, 7),
+        "R U F\n\nF' [1] R'\n[1] = U' D D'": ("insertion", 3, 4),
+        "R U F\n\nF' R' *\n* = U' D D'": ("insertion", 3, 7),
+        "R U F\n\nF' R' // Skelett": ("insertion", 3, 10),
+        "R U F\n\nAnna: F' U' R'\nBert: F' U' D": ("a part", 3, 7),
+    }
     for text, wanted in texts.items():
         (told,) = [it.doubt for it in nissy.check_attempts(text)]
         tally.equal(f"the doubt of {text!r}", told and (told.reason, told.place.line, told.place.column), wanted)
@@ -112,7 +139,18 @@ def doubts(tally: Tally) -> None:
 
 def times(tally: Tally) -> None:
     """A megabyte is read in a time by its length, on a processor, of which a busy machine has others' work too."""
-    for piece in ("1. R Q\n", "R\u2019 U Q ", "- ", "[0:12] ", "inverse ", "(1(1", "R' U' F ", "\r", "DR ", f"{FIRST}\n{OF_FIRST} // EO (5/5)\n\n"):
+    for piece in (
+        "1. R Q\n",
+        "R\u2019 U Q ",
+        "- ",
+        "[0:12] ",
+        "inverse ",
+        "(1(1",
+        "R' U' F ",
+        "\r",
+        "DR ",
+        f"{FIRST}\n{OF_FIRST} // EO (5/5)\n\n",
+    ):
         data = piece.encode() * (1_000_000 // len(piece.encode()))
         room = ctypes.create_string_buffer(88 * (data.count(b"\n") + data.count(b"\r") + 1))
         begun = time.process_time()
@@ -121,7 +159,9 @@ def times(tally: Tally) -> None:
     begun = time.process_time()
     for text in ("R U F\n\nR'" + "()" * 20_000, "1. R Q\n" * 8000):
         # each is checked when it is asked for
-        tally.equal(f"none of {text[:8]!r} and so on is solved", any(it.check for it in nissy.check_attempts(text)), False)
+        tally.equal(
+            f"none of {text[:8]!r} and so on is solved", any(it.check for it in nissy.check_attempts(text)), False
+        )
     tally.holds("forms and faults soon", time.process_time() - begun < 10)
 
 

@@ -22,8 +22,14 @@ from values import MOST, ON_A_LINE, ON_MANY, ON_TWO, STEPS, says, untyped
 def wrong_types(tally: Tally) -> None:
     """Values of a type that a call doesn't take, told in words of the caller's."""
     wide: Any = array.array("H", [82, 0x155])
-    kinds: List[Any] = [(None, "None"), (3, "int"), (["R"], "list"), (3.5, "float"), (wide, "items of 2 bytes each"),
-                        (memoryview(wide), "items of 2 bytes each")]
+    kinds: List[Any] = [
+        (None, "None"),
+        (3, "int"),
+        (["R"], "list"),
+        (3.5, "float"),
+        (wide, "items of 2 bytes each"),
+        (memoryview(wide), "items of 2 bytes each"),
+    ]
     for value, named in kinds:
         for call in ON_A_LINE.values():
             says(tally, TypeError, f"the line is a str or bytes, not {named}", lambda: call(value))
@@ -31,14 +37,27 @@ def wrong_types(tally: Tally) -> None:
             says(tally, TypeError, f"line 2: the line is a str or bytes, not {named}", lambda: list(many(["R", value])))
         says(tally, TypeError, f"the input is a str or bytes, not {named}", lambda: untyped.run(["invert"], value))
         says(tally, TypeError, f"a word is a str or bytes, not {named}", lambda: untyped.run(["invert", value]))
-        tally.holds("nor of two", all(raised(TypeError, lambda: pair(*given)) for pair in ON_TWO for given in ((value, "R"), ("R", value))))
+        tally.holds(
+            "nor of two",
+            all(raised(TypeError, lambda: pair(*given)) for pair in ON_TWO for given in ((value, "R"), ("R", value))),
+        )
     says(tally, TypeError, "the line so far is a str or bytes, not int", lambda: untyped.best("R", 3))
-    for value, named in (("R", "str"), (b"R", "bytes"), (bytearray(b"R"), "bytearray"), (memoryview(b"R"), "memoryview"), (3, "int"),
-                         (None, "None")):
+    for value, named in (
+        ("R", "str"),
+        (b"R", "bytes"),
+        (bytearray(b"R"), "bytearray"),
+        (memoryview(b"R"), "memoryview"),
+        (3, "int"),
+        (None, "None"),
+    ):
         for many, _ in ON_MANY:
             says(tally, TypeError, f"the lines are a list or another iterable, not {named}", lambda: many(value))
         says(tally, TypeError, f"the words are a list or another iterable, not {named}", lambda: untyped.run(value))
-    by_step: List[Callable[[Any], object]] = [lambda it: untyped.solve(it, "R"), lambda it: untyped.count_all(it, []), untyped.start_of]
+    by_step: List[Callable[[Any], object]] = [
+        lambda it: untyped.solve(it, "R"),
+        lambda it: untyped.count_all(it, []),
+        untyped.start_of,
+    ]
     for call in by_step:
         for value, named in ((3, "int"), (b"eofb", "bytes"), (None, "None"), (["eofb"], "list")):
             says(tally, TypeError, f"the step is a str, not {named}", lambda: call(value))
@@ -49,25 +68,39 @@ def wrong_types(tally: Tally) -> None:
 def numbers(tally: Tally) -> None:
     """Numbers out of their ranges, and what is no number."""
     calls: List[Tuple[str, int, Callable[[Any], object]]] = [
-        ("the limit", 20, lambda it: untyped.solve("eofb", "", it)), ("the limit", 20, lambda it: untyped.count("eofb", "", it)),
+        ("the limit", 20, lambda it: untyped.solve("eofb", "", it)),
+        ("the limit", 20, lambda it: untyped.count("eofb", "", it)),
         ("the limit", 20, lambda it: untyped.solve_all("eofb", [], it)),
-        ("the limit", 20, lambda it: untyped.solutions("eofb", "", limit=it)), ("the slack", 20, lambda it: untyped.solutions("eofb", "", slack=it)),
-        ("the slack", 20, lambda it: untyped.solve("eofb", "", 0, it)), ("the slack", 20, lambda it: untyped.count_all("eofb", [], 3, it)),
-        ("the slack", 20, lambda it: untyped.best("", slack=it)), ("nodes", MOST, lambda it: untyped.best("", nodes=it)),
+        ("the limit", 20, lambda it: untyped.solutions("eofb", "", limit=it)),
+        ("the slack", 20, lambda it: untyped.solutions("eofb", "", slack=it)),
+        ("the slack", 20, lambda it: untyped.solve("eofb", "", 0, it)),
+        ("the slack", 20, lambda it: untyped.count_all("eofb", [], 3, it)),
+        ("the slack", 20, lambda it: untyped.best("", slack=it)),
+        ("nodes", MOST, lambda it: untyped.best("", nodes=it)),
         ("most", MOST, lambda it: untyped.solve("eofb", "", most=it)),
         ("nodes", MOST, lambda it: untyped.count("eofb", "", nodes=it, partial=True)),
-        ("nodes", MOST, lambda it: untyped.solve_all("eofb", [], nodes=it)), ("most", MOST, lambda it: untyped.count_all("eofb", [], most=it)),
-        ("the state", MOST, lambda it: untyped.scramble(it, 1, 1)), ("the stream", MOST, lambda it: untyped.scrambles(1, it, 1, 1)),
-        ("the length", 256, lambda it: untyped.scramble(1, 1, it)), ("the length", 256, lambda it: untyped.scrambles(1, 1, it, 1)),
-        ("the count", 10_000, lambda it: untyped.scrambles(1, 1, 1, it))]
+        ("nodes", MOST, lambda it: untyped.solve_all("eofb", [], nodes=it)),
+        ("most", MOST, lambda it: untyped.count_all("eofb", [], most=it)),
+        ("the state", MOST, lambda it: untyped.scramble(it, 1, 1)),
+        ("the stream", MOST, lambda it: untyped.scrambles(1, it, 1, 1)),
+        ("the length", 256, lambda it: untyped.scramble(1, 1, it)),
+        ("the length", 256, lambda it: untyped.scrambles(1, 1, it, 1)),
+        ("the count", 10_000, lambda it: untyped.scrambles(1, 1, 1, it)),
+    ]
     for what, most, call in calls:
-        tally.holds(f"{what} may be {most:,}, 0 and True", not any(raised(ValueError, lambda: call(it)) for it in (most, 0, True)))
+        tally.holds(
+            f"{what} may be {most:,}, 0 and True",
+            not any(raised(ValueError, lambda: call(it)) for it in (most, 0, True)),
+        )
         for number in (-1, most + 1, most + 257, 2**64, 2**64 + 1, 2**70, 10**5000, -(10**5000)):
             says(tally, ValueError, f"{what} is a number from 0 to {most:,}", lambda: call(number))
         for it, named in (("3", "str"), (3.0, "float"), (b"3", "bytes"), ([3], "list")):
             says(tally, TypeError, f"{what} is an int, not {named}", lambda: call(it))
     says(tally, TypeError, "the limit is an int, not None", lambda: untyped.solve("eofb", "", None))
-    by_threads: List[Callable[[Any], Any]] = [lambda it: untyped.count_all("eofb", [], threads=it), lambda it: untyped.facts_all([], it)]
+    by_threads: List[Callable[[Any], Any]] = [
+        lambda it: untyped.count_all("eofb", [], threads=it),
+        lambda it: untyped.facts_all([], it),
+    ]
     for call in by_threads:
         tally.equal("threads", list(untyped.facts_all([], 1024)), [])
         says(tally, ValueError, "threads is a number from 1 to 1,024", lambda: call(0))
@@ -84,20 +117,38 @@ def bounds(tally: Tally) -> None:
         part = nissy.count("eofb", "R U F", slack=2, nodes=nodes, partial=True)
         some = nissy.solve("eofb", "R U F", slack=2, nodes=nodes, partial=True)
         tally.holds(f"{nodes} nodes aren't passed", part.cut and part.nodes <= nodes and part.length in (None, 1))
-        tally.equal("what was found until then", (some, some.cut, some.more, some.nodes), (found[:part.solutions], True, True, part.nodes))
+        tally.equal(
+            "what was found until then",
+            (some, some.cut, some.more, some.nodes),
+            (found[: part.solutions], True, True, part.nodes),
+        )
         cut = raised(nissy.Cut, lambda: nissy.count("eofb", "R U F", slack=2, nodes=nodes))
         tally.equal("the same raised", (cut.count, cut.solutions, cut.line), (part, [], None))
         cut = raised(nissy.Cut, lambda: nissy.solve("eofb", "R U F", 20, 2, nodes=nodes))
-        tally.equal("with solutions", (cut.count, cut.solutions, str(cut)), (part, some, f"the search was cut after {part.nodes:,} nodes"))
+        tally.equal(
+            "with solutions",
+            (cut.count, cut.solutions, str(cut)),
+            (part, some, f"the search was cut after {part.nodes:,} nodes"),
+        )
     begun = time.process_time()
-    tally.holds("the longest search of all ends", raised(nissy.Cut, lambda: nissy.count("eofb", "R", slack=20, nodes=1_000_000)))
+    tally.holds(
+        "the longest search of all ends", raised(nissy.Cut, lambda: nissy.count("eofb", "R", slack=20, nodes=1_000_000))
+    )
     tally.holds("soon", time.process_time() - begun < 20)
     many = list(nissy.count_all("eofb", ["R U F", "F", "R Q", "L D B"], slack=2, nodes=50))
-    tally.equal("many lines", [(type(it), getattr(it, "line")) for it in many],
-                [(nissy.Cut, 1), (nissy.Cut, 2), (nissy.LineFault, 3), (nissy.Cut, 4)])
-    tally.equal("in part", [it.cut for it in untyped.count_all("eofb", ["R U F", ""], nodes=15, partial=True)], [True, False])
-    tally.equal("solutions of many", [type(it) for it in nissy.solve_all("eofb", ["R U F", "", "R Q"], nodes=15)],
-                [nissy.Cut, nissy.Solutions, nissy.LineFault])
+    tally.equal(
+        "many lines",
+        [(type(it), getattr(it, "line")) for it in many],
+        [(nissy.Cut, 1), (nissy.Cut, 2), (nissy.LineFault, 3), (nissy.Cut, 4)],
+    )
+    tally.equal(
+        "in part", [it.cut for it in untyped.count_all("eofb", ["R U F", ""], nodes=15, partial=True)], [True, False]
+    )
+    tally.equal(
+        "solutions of many",
+        [type(it) for it in nissy.solve_all("eofb", ["R U F", "", "R Q"], nodes=15)],
+        [nissy.Cut, nissy.Solutions, nissy.LineFault],
+    )
     # by their types these have no cuts, and the last ones may have
     counts: Iterator[Union[nissy.Count, nissy.Fault]] = nissy.count_all("eofb", ["R U F"], nodes=15, partial=True)
     lists: Iterator[Union[nissy.Solutions, nissy.Fault]] = nissy.solve_all("eofb", ["R U F"], nodes=15, partial=True)

@@ -44,13 +44,24 @@ def iterables(tally: Tally) -> None:
     answers.close()
     tally.holds("an iterator that was closed is at its end", raised(StopIteration, lambda: next(answers)))
     tally.holds("arguments are judged at the call", raised(ValueError, lambda: untyped.solve_all("htr", [])))
-    tally.equal("a set, a tuple, a dict", [len(list(nissy.solve_all("eo", it))) for it in ({"R"}, ("R", "U"), {"R": 1})], [1, 2, 1])
+    tally.equal(
+        "a set, a tuple, a dict",
+        [len(list(nissy.solve_all("eo", it))) for it in ({"R"}, ("R", "U"), {"R": 1})],
+        [1, 2, 1],
+    )
     nested: Any = nissy.solve_all("drud-eofb", (eo for eo, in nissy.raising(nissy.solve_all("eofb", ["U", "R"]))))
     tally.equal("an iterator over another one", [it[0] for it in nested], ["", ""])
     for threads in (1, 2, 5):
-        tally.equal("of nothing", (list(nissy.count_all("eofb", [], threads=threads)), list(nissy.facts_all([], threads))), ([], []))
-        for kind, last, said in ((TypeError, 3, "line 21: the line is a str or bytes, not int"), (KeyError, KeyError("mine"), "'mine'"),
-                                 (TypeError, TypeError("mine"), "mine")):
+        tally.equal(
+            "of nothing",
+            (list(nissy.count_all("eofb", [], threads=threads)), list(nissy.facts_all([], threads))),
+            ([], []),
+        )
+        for kind, last, said in (
+            (TypeError, 3, "line 21: the line is a str or bytes, not int"),
+            (KeyError, KeyError("mine"), "'mine'"),
+            (TypeError, TypeError("mine"), "mine"),
+        ):
             answers = nissy.count_all("eofb", ended(20, last), threads=threads)
             tally.equal("those before the last one", [it[:2] for it in itertools.islice(answers, 20)], [(1, 2)] * 20)
             tally.equal("what is raised then", str(raised(kind, lambda: next(answers))), said)
@@ -76,17 +87,27 @@ def pairs(tally: Tally) -> None:
     tally.equal("nothing is taken before it is asked for", taken, [])
     tally.equal("the first two", (list(itertools.islice(answers, 2)), len(taken)), ([solved, unsolved], 2))
     first, second, last = answers
-    for fault, number, part, said in ((first, 3, "scramble", "line 3, scramble, column 3: not a move"),
-                                      (second, 4, "solution", "line 4, solution, column 3: not a move")):
-        tally.equal(f"the fault of {number}", (type(fault), fault.line, fault.part, str(fault)), (nissy.LineFault, number, part, said))
+    for fault, number, part, said in (
+        (first, 3, "scramble", "line 3, scramble, column 3: not a move"),
+        (second, 4, "solution", "line 4, solution, column 3: not a move"),
+    ):
+        tally.equal(
+            f"the fault of {number}",
+            (type(fault), fault.line, fault.part, str(fault)),
+            (nissy.LineFault, number, part, said),
+        )
         tally.equal("a copy of it", str(pickle.loads(pickle.dumps(fault))), said)
     tally.equal("the last one", last, solved)
     told: List[Any] = []
-    tally.equal("pairs of a list", list(nissy.check_all([("R", "R'")] * 2, progress=lambda *it: told.append(it))), [solved] * 2)
+    tally.equal(
+        "pairs of a list", list(nissy.check_all([("R", "R'")] * 2, progress=lambda *it: told.append(it))), [solved] * 2
+    )
     tally.equal("how many are told", told[-1], (2, 2))
-    for wrong, kind, words in (("R U", TypeError, "a scramble and a solution are a list or another iterable, not str"),
-                               (("R",), ValueError, "a scramble and a solution are two, not 1"),
-                               (("R", 1), TypeError, "the solution is a str or bytes, not int")):
+    for wrong, kind, words in (
+        ("R U", TypeError, "a scramble and a solution are a list or another iterable, not str"),
+        (("R",), ValueError, "a scramble and a solution are two, not 1"),
+        (("R", 1), TypeError, "the solution is a str or bytes, not int"),
+    ):
         answers = untyped.check_all([("R", "R'"), wrong])
         tally.equal("the one before", next(answers), solved)
         tally.equal(f"what is wrong with {wrong}", str(raised(kind, lambda: next(answers))), f"pair 2: {words}")
@@ -109,15 +130,25 @@ def are_gone() -> bool:
 
 def many(tally: Tally) -> None:
     """Many lines have the answers of each, in their order, by one thread and by several; other threads go on meanwhile, and none is left."""
-    lines: List[Any] = (["F", "R U F", ""] * 3000 + ["R Q", "(R (U))", "\u2019", "R\ud800", b"R\0", "(R\nU", "\n", b"R", bytearray(b"F B")]) * 3
-    calls: List[Any] = [(lambda threads: nissy.count_all("eofb", lines, threads=threads), lambda it: nissy.count("eofb", it)),
-                        (lambda threads: nissy.facts_all(iter(lines), threads), nissy.facts),
-                        (lambda threads: nissy.solve_all("eofb", lines, threads=threads), lambda it: nissy.solve("eofb", it))]
+    lines: List[Any] = (
+        ["F", "R U F", ""] * 3000
+        + ["R Q", "(R (U))", "\u2019", "R\ud800", b"R\0", "(R\nU", "\n", b"R", bytearray(b"F B")]
+    ) * 3
+    calls: List[Any] = [
+        (lambda threads: nissy.count_all("eofb", lines, threads=threads), lambda it: nissy.count("eofb", it)),
+        (lambda threads: nissy.facts_all(iter(lines), threads), nissy.facts),
+        (lambda threads: nissy.solve_all("eofb", lines, threads=threads), lambda it: nissy.solve("eofb", it)),
+    ]
     for call, alone in calls:
-        of_each = {str(line): plain(raised(nissy.LineFault, lambda: alone(line)) or alone(line)) for line in lines[-100:]}
+        of_each = {
+            str(line): plain(raised(nissy.LineFault, lambda: alone(line)) or alone(line)) for line in lines[-100:]
+        }
         for threads in (1, 2, 5):
             answers = list(call(threads))
-            tally.holds(f"{len(lines)} lines by {threads} threads", list(map(plain, answers)) == [of_each[str(line)] for line in lines])
+            tally.holds(
+                f"{len(lines)} lines by {threads} threads",
+                list(map(plain, answers)) == [of_each[str(line)] for line in lines],
+            )
             faulty = [at for at, it in enumerate(answers, 1) if isinstance(it, nissy.Fault)]
             tally.equal("the lines of faults", [answers[at - 1].line for at in faulty], faulty)
     counting, turns = threading.Thread(target=lambda: sum(1 for _ in nissy.count_all("eofb", ["R U F"] * 200_000))), 0
@@ -146,13 +177,20 @@ def refilled(tally: Tally) -> None:
             fixed[:] = line.ljust(8)
             yield memoryview(fixed)
 
-    calls: List[Any] = [nissy.facts_all, lambda it, **given: nissy.count_all("eofb", it, **given),
-                        lambda it, **given: nissy.solve_all("eofb", it, **given)]
+    calls: List[Any] = [
+        nissy.facts_all,
+        lambda it, **given: nissy.count_all("eofb", it, **given),
+        lambda it, **given: nissy.solve_all("eofb", it, **given),
+    ]
     for call, threads in itertools.product(calls, (1, 2, 5)):
         wanted = list(map(plain, call(lines)))
         for given in (in_one, in_view):
-            tally.holds(f"{given.__name__}, {threads} threads", list(map(plain, call(given(), threads=threads))) == wanted)
-    tally.equal("moves of them", [it.moves for it in nissy.facts_all(in_one()) if isinstance(it, nissy.Facts)][:4], [1, 1, 3, 0])
+            tally.holds(
+                f"{given.__name__}, {threads} threads", list(map(plain, call(given(), threads=threads))) == wanted
+            )
+    tally.equal(
+        "moves of them", [it.moves for it in nissy.facts_all(in_one()) if isinstance(it, nissy.Facts)][:4], [1, 1, 3, 0]
+    )
     says_of_third = str(raised(TypeError, lambda: list(untyped.facts_all(iter([b"R", bytearray(b"U"), 3])))))
     tally.equal("what is no line", says_of_third, "line 3: the line is a str or bytes, not int")
 
@@ -161,8 +199,11 @@ def progress(tally: Tally) -> None:
     """How many lines are done is told in the thread that asks, more and more often than once, and of how many where that is known; what is
     raised there ends the call."""
     lines: List[Any] = ["F", "R U F", "R Q", ""] * 5000
-    calls: List[Any] = [lambda it, **given: nissy.count_all("eofb", it, **given), lambda it, **given: nissy.solve_all("eofb", it, **given),
-                        nissy.facts_all]
+    calls: List[Any] = [
+        lambda it, **given: nissy.count_all("eofb", it, **given),
+        lambda it, **given: nissy.solve_all("eofb", it, **given),
+        nissy.facts_all,
+    ]
     told: List[Any] = []
 
     def tell(*given: object) -> None:
@@ -176,11 +217,16 @@ def progress(tally: Tally) -> None:
         wanted = list(map(plain, call(lines)))
         for given, count in ((lines, len(lines)), (iter(lines), None)):
             told.clear()
-            tally.holds("the answers are the same", list(map(plain, call(given, threads=threads, progress=tell))) == wanted)
+            tally.holds(
+                "the answers are the same", list(map(plain, call(given, threads=threads, progress=tell))) == wanted
+            )
             done, of, by = zip(*told)
             tally.equal("all are done in the end", told[-1][:2], (len(lines), len(lines)))
             tally.equal("of how many, and by whom", (set(of[:-1]), set(by)), ({count}, {threading.get_ident()}))
-            tally.holds("it never goes back, and is told in pieces", list(done) == sorted(done) and 0 < done[0] and 3 < len(done) < len(lines) // 4)
+            tally.holds(
+                "it never goes back, and is told in pieces",
+                list(done) == sorted(done) and 0 < done[0] and 3 < len(done) < len(lines) // 4,
+            )
         told.clear()
         answers = call(itertools.repeat("F"), threads=threads, progress=tell)
         tally.equal("nothing is told before it is asked for", told, [])
@@ -188,7 +234,9 @@ def progress(tally: Tally) -> None:
         answers.close()
         tally.equal("the first", told[0][:2], (1, None))
         told.clear()
-        tally.equal("of nothing", (list(call([], threads=threads, progress=tell)), [it[:2] for it in told]), ([], [(0, 0)]))
+        tally.equal(
+            "of nothing", (list(call([], threads=threads, progress=tell)), [it[:2] for it in told]), ([], [(0, 0)])
+        )
         answers = call(lines, threads=threads, progress=stop)
         tally.holds("what it raises", raised(InterruptedError, lambda: list(answers)))
         tally.holds("it ends there", raised(StopIteration, lambda: next(answers)))

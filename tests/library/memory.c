@@ -19,8 +19,8 @@ static const refusal NONE = {0, 0};
 static void answers(const run_row *row, refusal refused, size_t room, int status, const char *wanted_out, const char *wanted_err) {
     uint8_t out[256], err[NISSY_ERROR_ROOM];
     made = 0, refused_at = refused.number, onward = refused.onward, held = 0, most_held = 0;
-    nissy_run_answer got = nissy_run((const uint8_t *)row->words, row->words_length, (const uint8_t *)row->input, strlen(row->input), out, room,
-                                     err, sizeof err);
+    nissy_run_answer got =
+        nissy_run((const uint8_t *)row->words, row->words_length, (const uint8_t *)row->input, strlen(row->input), out, room, err, sizeof err);
     refused_at = 0;
     int is_cut = room < strlen(wanted_out);
     holds(got.status == status, "its status", name_of(row));
@@ -133,7 +133,11 @@ int main(void) {
     holds(most > 4, "a run takes memory for words and tables", "all runs");
     words_take_a_block_each();
     long_words_are_given_back("invert", sizeof "invert", 3);
-    long_words_are_given_back("solve\0eofb\0" "20", sizeof "solve\0eofb\0" "20", 5);
+    long_words_are_given_back("solve\0eofb\0"
+                              "20",
+                              sizeof "solve\0eofb\0"
+                                     "20",
+                              5);
     all_builds();
     others_take_none();
     return ended();

@@ -1,5 +1,6 @@
 /* The headers for C++: values out of strings, exceptions with their column, objects that are copied and shared by threads, the moves of a line,
-   names, and solutions one after another; `best` by best.hpp, text as solvers write it by written.hpp. It is linked with --wrap for malloc, realloc and free, by which the library's memory is refused. */
+   names, and solutions one after another; `best` by best.hpp, text as solvers write it by written.hpp. It is linked with --wrap for malloc, realloc
+   and free, by which the library's memory is refused. */
 #include "nissy_best.hpp"
 #include "nissy_names.hpp"
 #include "nissy_solutions.hpp"
@@ -69,10 +70,10 @@ void faults_are_thrown() {
             return std::string(out, out + nissy_fault_text(static_cast<std::uint8_t>(row.fault), out, sizeof out).length);
         }();
         const std::string place = "column " + std::to_string(row.column) + ": " + text;
-        for (const call &each : std::initializer_list<call>{
-                 [&] { nissy::invert(row.line); }, [&] { nissy::facelets(row.line); }, [&] { tables.solve(row.line); },
-                 [&] { tables.count(row.line); }, [&] { nissy::facts(row.line); }, [&] { nissy::tokens(row.line); },
-                 [&] { nissy::form_places(row.line); }, [&] { nissy::solutions(tables, row.line); }})
+        for (const call &each :
+             std::initializer_list<call>{[&] { nissy::invert(row.line); }, [&] { nissy::facelets(row.line); }, [&] { tables.solve(row.line); },
+                                         [&] { tables.count(row.line); }, [&] { nissy::facts(row.line); }, [&] { nissy::tokens(row.line); },
+                                         [&] { nissy::form_places(row.line); }, [&] { nissy::solutions(tables, row.line); }})
             has_fault(each, row.fault, row.column, "nissy: " + place);
         has_fault([&] { nissy::check(row.line, "("); }, row.fault, row.column, "nissy: scramble, " + place, 1);
         has_fault([&] { nissy::check("R", row.line); }, row.fault, row.column, "nissy: solution, " + place, 2);
@@ -96,9 +97,11 @@ void faults_are_thrown() {
 // A column in bytes as one in characters, of any text, and of the answers of many lines.
 void columns_are_counted() {
     // signs of one byte, two, three and four, and a byte that is none of UTF-8
-    static constexpr std::string_view TEXT = "R\xc3\xa9\xe2\x80\x99\xf0\x9f\x98\x80" "q\xff";
+    static constexpr std::string_view TEXT = "R\xc3\xa9\xe2\x80\x99\xf0\x9f\x98\x80"
+                                             "q\xff";
     static constexpr std::size_t PLACES[][2] = {{0, 0}, {1, 1}, {2, 2}, {4, 3}, {7, 4}, {11, 5}, {12, 6}, {13, 7}};
-    for (const auto &[column, place] : PLACES) holds(nissy::detail::character(TEXT, column) == place, "its place in characters", std::to_string(column).c_str());
+    for (const auto &[column, place] : PLACES)
+        holds(nissy::detail::character(TEXT, column) == place, "its place in characters", std::to_string(column).c_str());
     holds(nissy::detail::character({}, 0) == 0 && nissy::detail::character({}, 1) == 1, "nor behind the end of nothing", "");
     static constexpr std::string_view LINES = "R\nU2\xe2\x80\x99 q";
     const auto facts = nissy::facts_all(LINES);
@@ -116,7 +119,12 @@ void misuse_is_thrown() {
                                       std::numeric_limits<std::int64_t>::min(), std::numeric_limits<std::int64_t>::max()}) {
         throw_each<std::out_of_range>("a limit", {[&] { tables.solve("F", {number}); }, [&] { tables.count("F", {number}); },
                                                   [&] { tables.count_all("F", {number}); }, [&] { nissy::solutions(tables, "F", number); }});
-        throw_each<std::out_of_range>("a slack", {[&] { tables.solve("F", {20, number}); }, [&] { tables.count("F", {20, number}); },
+        throw_each<std::out_of_range>("a slack", {[&] {
+                                                      tables.solve("F", {20, number});
+                                                  },
+                                                  [&] {
+                                                      tables.count("F", {20, number});
+                                                  },
                                                   [&] { nissy::solutions(tables, "F", 20, number); }, [&] { nissy::best("R", "", number); }});
     }
     for (const std::uint64_t number : {std::uint64_t{10001}, std::uint64_t{0xffffffff}, std::uint64_t{1} << 32, (std::uint64_t{1} << 32) + 1})
@@ -124,8 +132,8 @@ void misuse_is_thrown() {
                                                               [&] { nissy::scrambles(1, 2, 3, number); }});
     throw_each<std::out_of_range>("257 turns", {[] { nissy::scramble(1, 2, 257); }, [] { nissy::scrambles(1, 2, 257, 0); }});
     throw_each<std::length_error>("16,777,217 blanks", {[&] { nissy::invert(blanks); }, [&] { tables.solve(blanks); }, [&] { tables.count(blanks); },
-                                                        [&] { nissy::check("R", blanks); }, [&] { nissy::facts(blanks); }, [&] { nissy::best(blanks); },
-                                                        [&] { nissy::facts_all(blanks)[0].value(); }});
+                                                        [&] { nissy::check("R", blanks); }, [&] { nissy::facts(blanks); },
+                                                        [&] { nissy::best(blanks); }, [&] { nissy::facts_all(blanks)[0].value(); }});
     const auto beside = nissy::facts_all(blanks + "\nR");
     holds(beside.at(1).value().moves == 1 && beside[0].text() == "line longer than 16777216 bytes", "another line behind them", "16,777,217 blanks");
 }
@@ -283,8 +291,7 @@ void threads_agree() {
     for (int &own : wrong)
         threads.emplace_back([&own] {
             for (int round = 0; round < 20; round++)
-                for (const search_row &row : SEARCHES)
-                    own += text_of(nissy::tables(row.step).solve(row.line, {row.limit, row.slack})) != row.text;
+                for (const search_row &row : SEARCHES) own += text_of(nissy::tables(row.step).solve(row.line, {row.limit, row.slack})) != row.text;
         });
     for (std::thread &thread : threads) thread.join();
     for (const int own : wrong) holds(own == 0, "each answer of a thread is that of its call", "threads");
@@ -296,10 +303,11 @@ int main() {
     // first, so that each step is built while others ask for it
     threads_agree();
     for (const search_row &row : SEARCHES) solves(nissy::tables(row.step), row);
-    for (const auto trial : {lines_are_read, faults_are_thrown, columns_are_counted, text_is_read, places_are_found, forms_are_found,
-                             attempts_are_read, attempts_are_checked, known_are_checked, pairs_are_checked, forms_are_placed,
-                             misuse_is_thrown, many_lines_are_answered, searches_are_cut, progress_is_told, best_is_stopped, all_have_their_best,
-                             many_rows_have_room, sides_are_listed, stickers_are_found, refused_memory_is_thrown, many_are_whole, objects_are_values})
+    for (const auto trial :
+         {lines_are_read,          faults_are_thrown,    columns_are_counted,      text_is_read,      places_are_found,    forms_are_found,
+          attempts_are_read,       attempts_are_checked, known_are_checked,        pairs_are_checked, forms_are_placed,    misuse_is_thrown,
+          many_lines_are_answered, searches_are_cut,     progress_is_told,         best_is_stopped,   all_have_their_best, many_rows_have_room,
+          sides_are_listed,        stickers_are_found,   refused_memory_is_thrown, many_are_whole,    objects_are_values})
         trial();
     holds(nissy_version() == NISSY_VERSION_NUMBER, "the library's", "version");
     return ended();

@@ -9,8 +9,8 @@ static const char LATE[] = "R R R R R R R R R R R R R R R R R R R R R";
 static nissy_search_answer behind(const nissy_tables *tables, const search_row *row, const char *after, size_t size, uint64_t most,
                                   uint64_t most_nodes, guarded out) {
     guarded line = copied(row->line, strlen(row->line)), turns = copied(after, size);
-    nissy_search_answer got = nissy_solve_after(tables, line.bytes, line.size, turns.bytes, turns.size, row->limit, row->slack, most,
-                                                most_nodes, out.bytes, out.size);
+    nissy_search_answer got =
+        nissy_solve_after(tables, line.bytes, line.size, turns.bytes, turns.size, row->limit, row->slack, most, most_nodes, out.bytes, out.size);
     let_go(line), let_go(turns);
     return got;
 }
@@ -96,8 +96,7 @@ static void others(void) {
     is_behind(&tables, "B", "");
     is_behind(&tables, "U D", "");
     is_behind(&tables, LATE, "");
-    for (size_t at = 0; at < sizeof NO_TURNS / sizeof *NO_TURNS; at++)
-        is_none(&tables, NO_TURNS[at], MOST, 0, NISSY_USAGE, NISSY_NO_FAULT, "F");
+    for (size_t at = 0; at < sizeof NO_TURNS / sizeof *NO_TURNS; at++) is_none(&tables, NO_TURNS[at], MOST, 0, NISSY_USAGE, NISSY_NO_FAULT, "F");
     is_none(&tables, "F", MOST + 1, 0, NISSY_USAGE, NISSY_NO_FAULT, "F");
     is_none(&tables, "F", MOST, MOST + 1, NISSY_USAGE, NISSY_NO_FAULT, "F");
     is_none(&none, "F", MOST, 0, NISSY_USAGE, NISSY_NO_FAULT, "F");

@@ -159,13 +159,16 @@ nissy.solve("eofb", "F")
 """
 
 # little memory, of which the solutions as strings need most; and none for what outgrows it
-LITTLE = LIMITED + """
+LITTLE = (
+    LIMITED
+    + """
 limited(60_000_000)
 print(nissy.run(["solve", "eofb", "20"], b"F\\n").out == b"F (1)\\nF' (1)\\n\\n", len(nissy.solve("eofb", "", 5, 20)))
 limited(20_000_000)
 print(without_memory(lambda: nissy.run(["near", "eofb", "7", "20"], b"\\n")), without_memory(lambda: nissy.solve("eofb", "", 7, 20)))
 print(nissy.solve("eofb", "F"), nissy.run(["steps"], room=5).out)
 """
+)
 
 # the tables of all steps, asked for twice: what they take, and that it is taken once
 MEMORY = """
@@ -185,12 +188,15 @@ print(10e6 < first - before < 20e6, resident() - first < 2e6)
 """
 
 # too little for the tables of a step, and then enough
-NO_TABLES = LIMITED + """
+NO_TABLES = (
+    LIMITED
+    + """
 limited(300_000)
 print(*(without_memory(lambda: nissy.count("dr-eofb", "")) for _ in range(2)), nissy.solve("eofb", "F"), sep="; ")
 limited(100_000_000)
 print(nissy.count("dr-eofb", "R U").solutions)
 """
+)
 
 USER = """
 from typing import List, Optional
@@ -225,18 +231,35 @@ NAMES_LIBRARY = "import nissy; print(nissy._library.LIBRARY._name)"
 NO_LIBRARY = "ImportError: nissy's library can't be loaded: "
 
 # a line each that mypy is to refuse
-WRONG_USES = ('nissy.solve("eofb", 3)', 'nissy.solve(3, "R")', 'nissy.count("eofb", "R").length + 1', 'nissy.solve("eofb", "R", "3")',
-              'nissy.solve("eofb", "R", "20")', 'nissy.solve_all("eofb", 3)', 'nissy.invert(["R"])', 'nissy.run(["steps"]).text',
-              'nissy.nothing', 'nissy.solve("eofb", "R")[0].moves', 'nissy.solve("eofd", "R")', 'nissy.count_all("htr", [])',
-              'nissy.start_of("eo fb")',
-              'next(nissy.count_all("eofb", [])).length', 'nissy.facts("R").bad_edges["x"]', 'nissy.facts("R").solved = True',
-              'nissy.check("R")', 'nissy.facts_all("R", threads="2").facts', 'nissy.count("eofb", "R", nodes="many")')
+WRONG_USES = (
+    'nissy.solve("eofb", 3)',
+    'nissy.solve(3, "R")',
+    'nissy.count("eofb", "R").length + 1',
+    'nissy.solve("eofb", "R", "3")',
+    'nissy.solve("eofb", "R", "20")',
+    'nissy.solve_all("eofb", 3)',
+    'nissy.invert(["R"])',
+    'nissy.run(["steps"]).text',
+    "nissy.nothing",
+    'nissy.solve("eofb", "R")[0].moves',
+    'nissy.solve("eofd", "R")',
+    'nissy.count_all("htr", [])',
+    'nissy.start_of("eo fb")',
+    'next(nissy.count_all("eofb", [])).length',
+    'nissy.facts("R").bad_edges["x"]',
+    'nissy.facts("R").solved = True',
+    'nissy.check("R")',
+    'nissy.facts_all("R", threads="2").facts',
+    'nissy.count("eofb", "R", nodes="many")',
+)
 
 
 def of_process(code: str, **named: str) -> str:
     """What a process of its own prints of this code, and what it says where it fails."""
     environment = {**os.environ, "PYTHONPATH": PYTHON, "PYTHONDONTWRITEBYTECODE": "1", **named}
-    done = subprocess.run([sys.executable, "-c", code], capture_output=True, text=True, env=environment, timeout=SECONDS, check=False)
+    done = subprocess.run(
+        [sys.executable, "-c", code], capture_output=True, text=True, env=environment, timeout=SECONDS, check=False
+    )
     return done.stdout if done.returncode == 0 else done.stdout + done.stderr
 
 
@@ -246,22 +269,35 @@ def processes(tally: Tally) -> None:
     tally.equal("a child of a process that builds", of_process(FORK), "0 ['R', \"R'\"]\n")
     tally.equal("parent and child", of_process(BOTH), "0 True\n")
     tally.equal("calls of a signal's handler", of_process(SIGNALS), "True True\n")
-    tally.equal("a handler's call while tables are built", of_process(SIGNAL_IN_BUILD), "['F', \"F'\"] [['B', \"B'\"]]\n")
+    tally.equal(
+        "a handler's call while tables are built", of_process(SIGNAL_IN_BUILD), "['F', \"F'\"] [['B', \"B'\"]]\n"
+    )
     tally.equal("Ctrl-C among many lines", of_process(INTERRUPTED), "True True 1\n")
     tally.equal("an iterator that is left", of_process(LEFT), "1\n")
     tally.equal("the tables of all steps take some 15 million bytes, once", of_process(MEMORY), "True True\n")
-    tally.equal("no memory for tables", of_process(NO_TABLES),
-                "no memory for the tables of dr-eofb; no memory for the tables of dr-eofb; ['F', \"F'\"]\n2\n")
+    tally.equal(
+        "no memory for tables",
+        of_process(NO_TABLES),
+        "no memory for the tables of dr-eofb; no memory for the tables of dr-eofb; ['F', \"F'\"]\n2\n",
+    )
     little = of_process(LITTLE).splitlines()
     tally.equal("little memory is enough", little[:1], ["True 148176"])
-    tally.holds("no memory for all solutions: " + str(little[1:2]), little[1:2] and little[1].count("bytes of output") == 2)
+    tally.holds(
+        "no memory for all solutions: " + str(little[1:2]), little[1:2] and little[1].count("bytes of output") == 2
+    )
     tally.equal("it goes on after that", little[2:], ["['F', \"F'\"] b'eofb\\n'"])
 
 
 def left_early(tally: Tally) -> None:
     """A filter whose reader has enough ends without a word."""
     filtered = [sys.executable, str(TOP / "examples/many_lines.py"), "eofb"]
-    with subprocess.Popen(filtered, stdin=subprocess.PIPE, stdout=subprocess.PIPE, stderr=subprocess.PIPE, env={**os.environ, "PYTHONPATH": PYTHON}) as it:
+    with subprocess.Popen(
+        filtered,
+        stdin=subprocess.PIPE,
+        stdout=subprocess.PIPE,
+        stderr=subprocess.PIPE,
+        env={**os.environ, "PYTHONPATH": PYTHON},
+    ) as it:
         assert it.stdin and it.stdout and it.stderr
         it.stdout.close()
         with contextlib.suppress(BrokenPipeError):
@@ -277,13 +313,19 @@ def libraries(tally: Tally) -> None:
         Path(room, "text.so").write_bytes(b"text")
         for file in ("none.so", "text.so"):
             said = of_process("import nissy", NISSY_LIBRARY=f"{room}/{file}").splitlines()
-            tally.holds(f"{file} is no library: {said[-1:]}", said and said[-1].startswith(f"{NO_LIBRARY}{room}/{file}: "))
+            tally.holds(
+                f"{file} is no library: {said[-1:]}", said and said[-1].startswith(f"{NO_LIBRARY}{room}/{file}: ")
+            )
             tally.holds("nothing else is said of it", not any(line.startswith("OSError") for line in said))
         said_last = of_process(NAMES_LIBRARY, NISSY_LIBRARY="", PYTHONPATH=room)
-        tally.holds("nor has the system one", f"{NO_LIBRARY}libnissy.so.2: " in said_last or said_last == "libnissy.so.2\n")
+        tally.holds(
+            "nor has the system one", f"{NO_LIBRARY}libnissy.so.2: " in said_last or said_last == "libnissy.so.2\n"
+        )
     said_last = of_process("import nissy", NISSY_LIBRARY="libc.so.6")
-    tally.holds("one without the calls is named",
-                said_last.endswith("ImportError: libc.so.6 has no nissy_run: it is older than this module\n"))
+    tally.holds(
+        "one without the calls is named",
+        said_last.endswith("ImportError: libc.so.6 has no nissy_run: it is older than this module\n"),
+    )
     with tempfile.TemporaryDirectory() as room:
         library = of_process(NAMES_LIBRARY).strip()
         for place in ("nissy", "lib/python3/dist-packages/nissy", "lib/python3.11/site-packages/nissy"):
@@ -293,7 +335,11 @@ def libraries(tally: Tally) -> None:
             shutil.copy(library, beside / "libnissy.so.2")
             code = f"import sys; sys.path.insert(0, {str(package.parent)!r}); {NAMES_LIBRARY}"
             found = of_process(code, NISSY_LIBRARY="").strip()
-            tally.equal(f"the library that stands with {place}", os.path.realpath(found), os.path.realpath(beside / "libnissy.so.2"))
+            tally.equal(
+                f"the library that stands with {place}",
+                os.path.realpath(found),
+                os.path.realpath(beside / "libnissy.so.2"),
+            )
 
 
 def types(tally: Tally) -> None:
@@ -303,13 +349,21 @@ def types(tally: Tally) -> None:
         return
 
     def complaints(folder: str, *words: str) -> str:
-        done = subprocess.run(["mypy", "--strict", "--no-error-summary", "--cache-dir", os.path.join(folder, "cache"), *words],
-                              capture_output=True, text=True, cwd=folder, env=dict(os.environ, MYPYPATH=PYTHON), check=False)
+        done = subprocess.run(
+            ["mypy", "--strict", "--no-error-summary", "--cache-dir", os.path.join(folder, "cache"), *words],
+            capture_output=True,
+            text=True,
+            cwd=folder,
+            env=dict(os.environ, MYPYPATH=PYTHON),
+            check=False,
+        )
         return done.stdout + done.stderr
 
     with tempfile.TemporaryDirectory() as folder:
         for version in ("3.7", "3.11"):
-            tally.equal(f"the package by Python {version}", complaints(folder, "--python-version", version, "-p", "nissy"), "")
+            tally.equal(
+                f"the package by Python {version}", complaints(folder, "--python-version", version, "-p", "nissy"), ""
+            )
         Path(folder, "user.py").write_text(USER)
         tally.equal("a user of it", complaints(folder, "user.py"), "")
         Path(folder, "wrong.py").write_text("import nissy\n" + "\n".join(WRONG_USES) + "\n")

@@ -20,8 +20,6 @@ static const run_row RUNS[] = {
 
 enum { RUN_COUNT = sizeof RUNS / sizeof *RUNS };
 
-static inline const char *name_of(const run_row *row) {
-    return row->words_length ? row->words : "no words";
-}
+static inline const char *name_of(const run_row *row) { return row->words_length ? row->words : "no words"; }
 
 #endif

@@ -51,9 +51,8 @@ static inline int is_answered(const search_row *row, const nissy_tables *tables)
     const uint8_t *line = (const uint8_t *)row->line;
     nissy_search_answer got = nissy_solve(tables, line, strlen(row->line), row->limit, row->slack, NISSY_ALL, NISSY_ALL, out, sizeof out);
     nissy_search_answer told = nissy_count(tables, line, strlen(row->line), row->limit, row->slack, NISSY_ALL, NISSY_ALL);
-    return got.status == NISSY_DONE && got.length == strlen(row->text) && memcmp(out, row->text, got.length) == 0 &&
-           got.least == row->least && told.status == NISSY_DONE && told.least == row->least && told.solutions == got.solutions &&
-           told.nodes == got.nodes;
+    return got.status == NISSY_DONE && got.length == strlen(row->text) && memcmp(out, row->text, got.length) == 0 && got.least == row->least &&
+           told.status == NISSY_DONE && told.least == row->least && told.solutions == got.solutions && told.nodes == got.nodes;
 }
 
 #endif

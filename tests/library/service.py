@@ -29,13 +29,46 @@ LONG = {"step": "eofb", "line": "R U F", "slack": "20"}
 
 # requests, and what a person says of them
 REQUESTS: List[Tuple[str, Dict[str, str], int, Dict[str, object]]] = [
-    ("/check", {"scramble": "R U", "solution": "U' R' x"}, 200, {"solved": True, "moves": 2, "forms": (), "foreign": []}),
-    ("/check", {"scramble": "R", "solution": "(R)"}, 200,
-     {"solved": True, "moves": 1, "forms": ("brackets",), "foreign": [{"text": "(", "character": 1}, {"text": ")", "character": 3}]}),
-    ("/check", {"scramble": "", "solution": "U2 M2\u2019Rw'"}, 200,
-     {"solved": False, "moves": 4, "forms": ("slices", "apostrophe", "half_prime"), "foreign": [{"text": "M2\u2019", "character": 4}]}),
-    ("/check", {"scramble": "R\u2019 Q", "solution": ""}, 400, {"error": "not a move", "line": "scramble", "character": 4}),
-    ("/check", {"scramble": "R", "solution": "\u2019"}, 400, {"error": "not a move", "line": "solution", "character": 1}),
+    (
+        "/check",
+        {"scramble": "R U", "solution": "U' R' x"},
+        200,
+        {"solved": True, "moves": 2, "forms": (), "foreign": []},
+    ),
+    (
+        "/check",
+        {"scramble": "R", "solution": "(R)"},
+        200,
+        {
+            "solved": True,
+            "moves": 1,
+            "forms": ("brackets",),
+            "foreign": [{"text": "(", "character": 1}, {"text": ")", "character": 3}],
+        },
+    ),
+    (
+        "/check",
+        {"scramble": "", "solution": "U2 M2\u2019Rw'"},
+        200,
+        {
+            "solved": False,
+            "moves": 4,
+            "forms": ("slices", "apostrophe", "half_prime"),
+            "foreign": [{"text": "M2\u2019", "character": 4}],
+        },
+    ),
+    (
+        "/check",
+        {"scramble": "R\u2019 Q", "solution": ""},
+        400,
+        {"error": "not a move", "line": "scramble", "character": 4},
+    ),
+    (
+        "/check",
+        {"scramble": "R", "solution": "\u2019"},
+        400,
+        {"error": "not a move", "line": "solution", "character": 1},
+    ),
     ("/check", {"scramble": "R"}, 400, {"error": "solution is missing"}),
     ("/search", {"step": "eofb", "line": "F"}, 200, {"cut": False, "first": ["F", "F'"], "solutions": 2}),
     ("/search", {"step": "eofb", "line": "F q"}, 400, {"error": "not a move", "character": 3}),
@@ -49,7 +82,15 @@ def requests_are_answered(tally: Tally) -> None:
     """Requests that a person can tell, also some with numbers or steps that there aren't."""
     for path, asked, status, told in REQUESTS:
         tally.equal(f"{path} {asked}", serve.answer(f"{path}?{urlencode(asked)}"), (status, told))
-    for more in ({"slack": "21"}, {"slack": "-1"}, {"slack": "x"}, {"slack": "9" * 5000}, {"step": "eofx"}, {"step": ""}, {"step": "\0"}):
+    for more in (
+        {"slack": "21"},
+        {"slack": "-1"},
+        {"slack": "x"},
+        {"slack": "9" * 5000},
+        {"step": "eofx"},
+        {"step": ""},
+        {"step": "\0"},
+    ):
         status, told = serve.answer("/search?" + urlencode({"step": "eofb", "line": "F", **more}))
         tally.holds(f"{more} is refused", status == 400 and set(told) == {"error"})
         tally.holds("in words of its own", "slack" not in more or told["error"] == "the slack is a number from 0 to 20")
@@ -57,15 +98,46 @@ def requests_are_answered(tally: Tally) -> None:
 
 def any_address_is_answered(tally: Tally) -> None:
     """Addresses that are none, and drawn ones, each of which has an answer of some kilobytes at most."""
-    draw, pieces = random.Random(72), ["http://", "[", "]", "//", "/check", "/search", "?", "&", "=", "scramble", "solution", "step", "line",
-                                       "eofb", "slack", "%", "%5B", "%ff", "#", ":", "@", "R", "(", ")", "\u00e9", "\u2100", "9" * 5000, ";", "\t"]
+    draw, pieces = random.Random(72), [
+        "http://",
+        "[",
+        "]",
+        "//",
+        "/check",
+        "/search",
+        "?",
+        "&",
+        "=",
+        "scramble",
+        "solution",
+        "step",
+        "line",
+        "eofb",
+        "slack",
+        "%",
+        "%5B",
+        "%ff",
+        "#",
+        ":",
+        "@",
+        "R",
+        "(",
+        ")",
+        "\u00e9",
+        "\u2100",
+        "9" * 5000,
+        ";",
+        "\t",
+    ]
     drawn = ["".join(draw.choices(pieces, k=draw.randrange(1, 12))) for _ in range(5000)]
     for address in ("http://[", "//[", "http://\u2100/", "/check?scramble=R&solution=%5B", "*", "", *drawn):
         status, told = serve.answer(address)
         tally.holds(f"{address} has an answer", status in (200, 400, 404) and len(json.dumps(told)) < 30_000)
     tally.equal("what is no address", serve.answer("http://[")[0], 400)
     told = serve.answer("/check?" + urlencode({"scramble": "R", "solution": "()" * 16_000}))[1]
-    tally.equal("the first of many places", told["foreign"], [{"text": "()"[at % 2], "character": at + 1} for at in range(20)])
+    tally.equal(
+        "the first of many places", told["foreign"], [{"text": "()"[at % 2], "character": at + 1} for at in range(20)]
+    )
 
 
 def asked(port: int, path: str, wanted: Dict[str, str]) -> Tuple[int, Dict[str, object]]:
@@ -90,7 +162,9 @@ def searches_are_cut(tally: Tally, port: int) -> None:
     clients = [threading.Thread(target=ask) for _ in range(CLIENTS)]
     for client in clients:
         client.start()
-    tally.equal("a check beside them", asked(port, "/check", {"scramble": "R", "solution": "R'"})[1].get("solved"), True)
+    tally.equal(
+        "a check beside them", asked(port, "/check", {"scramble": "R", "solution": "R'"})[1].get("solved"), True
+    )
     for client in clients:
         client.join()
     tally.equal("the longest search", told, [(200, True)] * CLIENTS)
@@ -102,7 +176,9 @@ def main() -> None:
     requests_are_answered(tally)
     any_address_is_answered(tally)
     environment = {**os.environ, "PYTHONPATH": str(TOP / "python")}
-    with subprocess.Popen([sys.executable, str(TOP / "examples/serve.py"), "0"], env=environment, stdout=subprocess.PIPE, text=True) as server:
+    with subprocess.Popen(
+        [sys.executable, str(TOP / "examples/serve.py"), "0"], env=environment, stdout=subprocess.PIPE, text=True
+    ) as server:
         assert server.stdout is not None
         port = int(server.stdout.readline())
         with without_imports(tally):

@@ -23,9 +23,9 @@ static nissy_sides_wanted all_of(uint8_t sides, uint8_t length) {
 /* A call with each buffer before memory that can't be touched. */
 static nissy_sides_answer listed(const nissy_tables *of_step, const char *scramble, const char *so_far, nissy_sides_wanted wanted, guarded room) {
     guarded first = copied(scramble, strlen(scramble)), second = copied(so_far, strlen(so_far)), asked = copied(&wanted, sizeof wanted);
-    nissy_sides_answer got = nissy_solve_sides(of_step, first.bytes, first.size, second.bytes, second.size,
-                                               (const nissy_sides_wanted *)(const void *)asked.bytes, (nissy_way_part *)(void *)room.bytes,
-                                               room.size / sizeof(nissy_way_part));
+    nissy_sides_answer got =
+        nissy_solve_sides(of_step, first.bytes, first.size, second.bytes, second.size, (const nissy_sides_wanted *)(const void *)asked.bytes,
+                          (nissy_way_part *)(void *)room.bytes, room.size / sizeof(nissy_way_part));
     let_go(first), let_go(second), let_go(asked);
     return got;
 }
@@ -36,7 +36,9 @@ static nissy_sides_answer listed(const nissy_tables *of_step, const char *scramb
 enum { SIDE_TEXT = 64, PAIR_TEXT = 2 * SIDE_TEXT + 4 };
 typedef char pair_text[PAIR_TEXT];
 
-static void add_turn(char *text, int turn) { sprintf(text + strlen(text), "%s%c%s", *text ? " " : "", "UDRLFB"[turn / 3], &"\0\0002\0'"[turn % 3 * 2]); }
+static void add_turn(char *text, int turn) {
+    sprintf(text + strlen(text), "%s%c%s", *text ? " " : "", "UDRLFB"[turn / 3], &"\0\0002\0'"[turn % 3 * 2]);
+}
 
 static void write_pair(pair_text out, const nissy_way_part *part) {
     char normal[SIDE_TEXT] = "", inverse[SIDE_TEXT] = "";
@@ -52,7 +54,8 @@ static int is_oriented(const char *scramble, int axis, const char *normal, const
     char so_far[64];
     uint8_t line[NISSY_LINE_ROOM];
     sprintf(so_far, *inverse ? "%s (%s)" : "%s", normal, inverse);
-    nissy_line_after_answer after = nissy_line_after((const uint8_t *)scramble, strlen(scramble), (const uint8_t *)so_far, strlen(so_far), line, sizeof line);
+    nissy_line_after_answer after =
+        nissy_line_after((const uint8_t *)scramble, strlen(scramble), (const uint8_t *)so_far, strlen(so_far), line, sizeof line);
     nissy_facts_answer facts = nissy_facts(line, after.length);
     return facts.axes[axis].bad_edges == 0;
 }
@@ -156,7 +159,8 @@ static void sides_are_the_lists(void) {
                 for (int turn = 0; turn < side->count; turn++) add_turn(text, side->turns[turn]);
                 sprintf(written + strlen(written), "%s (%d)\n", text, side->count);
             }
-            holds(got.rows == all.solutions && strlen(written) == all.length && memcmp(written, texts, all.length) == 0, "the list of a side", LINES[at]);
+            holds(got.rows == all.solutions && strlen(written) == all.length && memcmp(written, texts, all.length) == 0, "the list of a side",
+                  LINES[at]);
             let_go(room);
         }
 }
@@ -201,8 +205,10 @@ static void parts_make_the_whole(void) {
                 int is_more = !counts && places < left;
                 holds(got.status == NISSY_DONE && got.rows == rows && got.more == is_more, "its rows", "a part");
                 holds(got.solutions == (is_more ? passed + places : all.rows), "how many came", "a part");
-                holds(memcmp(room.bytes, whole.bytes + (rows ? passed : 0) * sizeof(nissy_way_part), rows * sizeof(nissy_way_part)) == 0, "each", "a part");
-                holds(are_all(room.bytes + rows * sizeof(nissy_way_part), room.size - rows * sizeof(nissy_way_part), UNTOUCHED), "the rest", "a part");
+                holds(memcmp(room.bytes, whole.bytes + (rows ? passed : 0) * sizeof(nissy_way_part), rows * sizeof(nissy_way_part)) == 0, "each",
+                      "a part");
+                holds(are_all(room.bytes + rows * sizeof(nissy_way_part), room.size - rows * sizeof(nissy_way_part), UNTOUCHED), "the rest",
+                      "a part");
                 let_go(room);
             }
     let_go(whole);
@@ -223,7 +229,8 @@ static void bounds_are_kept(void) {
 /* --- what is refused --- */
 
 static int is_refused(nissy_sides_answer got, int status, int line, int fault, unsigned column) {
-    return got.status == status && got.line == line && got.fault == fault && got.column == column && !got.more && !got.rows && !got.solutions && !got.nodes;
+    return got.status == status && got.line == line && got.fault == fault && got.column == column && !got.more && !got.rows && !got.solutions &&
+           !got.nodes;
 }
 
 static void what_is_wrong_is_refused(void) {

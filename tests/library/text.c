@@ -30,9 +30,7 @@ static void plain_is_of_the_text(guarded text, const char *name) {
     let_go(out), let_go(places);
 }
 
-static int ends_line(uint8_t byte) {
-    return byte == '\n' || byte == '\r';
-}
+static int ends_line(uint8_t byte) { return byte == '\n' || byte == '\r'; }
 
 /* Whether a line begins where the one before it ended, and has its parts in order. */
 static int is_line_of(guarded text, const nissy_text_line *line, uint64_t begin) {
@@ -79,8 +77,8 @@ static void moves_are_of_the_text(guarded text, const char *name) {
     uint64_t places[96 * MOST_PARTS];
     const nissy_text_answer got = nissy_text_lines(text.bytes, text.size, lines, 32 * MOST_PARTS);
     for (uint64_t at = 0; at < got.lines; at++) {
-        const nissy_plain_answer told = nissy_text_moves(text.bytes, text.size, lines + at, 1, NISSY_OF_STEPS, out, sizeof out, places, sizeof out,
-                                                         NULL, 0);
+        const nissy_plain_answer told =
+            nissy_text_moves(text.bytes, text.size, lines + at, 1, NISSY_OF_STEPS, out, sizeof out, places, sizeof out, NULL, 0);
         int is_right = told.status == NISSY_DONE && (lines[at].kind == NISSY_STEP_LINE || told.length == 0);
         const uint64_t skipped = lines[at].inverse && told.length > 0;
         for (uint64_t byte = skipped; byte + skipped < told.length; byte++) {
@@ -91,9 +89,10 @@ static void moves_are_of_the_text(guarded text, const char *name) {
 }
 
 static void drawn_texts(void) {
-    static const char *const PARTS[] = {"R U F", "\n", "\r\n", "\r", "// ", "EO: ", "Solution: ", "1. ", "#2 ", "R' U' F D R' U' F", "(", ")", "(2)",
-                                        "\xe2\x80\x99", "\xe2", "\xff", "\xc2\xa0", "`", ",", "DR", "F2L", "on inverse", " - ", "[0:12] ", "r u",
-                                        "Attempt 1 of 3", "\xf0\x9f\x8e\xb2", "", "E1 ", "23\n"};
+    static const char *const PARTS[] = {
+        "R U F", "\n",         "\r\n", "\r",           "// ",  "EO: ",           "Solution: ",       "1. ", "#2 ", "R' U' F D R' U' F",
+        "(",     ")",          "(2)",  "\xe2\x80\x99", "\xe2", "\xff",           "\xc2\xa0",         "`",   ",",   "DR",
+        "F2L",   "on inverse", " - ",  "[0:12] ",      "r u",  "Attempt 1 of 3", "\xf0\x9f\x8e\xb2", "",    "E1 ", "23\n"};
     enum { COUNT = sizeof PARTS / sizeof *PARTS };
     unsigned state = 1;
     for (int drawn = 0; drawn < DRAWN; drawn++) {
@@ -128,8 +127,8 @@ static void a_sheet(void) {
 static void moves_are(const char *text, const nissy_text_line *lines, size_t count, uint8_t which, const char *line, const uint64_t *places,
                       uint8_t left_out) {
     guarded read = copied(text, strlen(text)), out = untouched(strlen(line) + 3), of = guard(8 * (strlen(line) + 3));
-    const nissy_plain_answer got = nissy_text_moves(read.bytes, read.size, lines, count, which, out.bytes, out.size, (uint64_t *)(void *)of.bytes,
-                                                    strlen(line) + 3, NULL, 0);
+    const nissy_plain_answer got =
+        nissy_text_moves(read.bytes, read.size, lines, count, which, out.bytes, out.size, (uint64_t *)(void *)of.bytes, strlen(line) + 3, NULL, 0);
     holds(got.status == NISSY_DONE && got.length == strlen(line) && memcmp(out.bytes, line, got.length) == 0, "the moves", line);
     holds(memcmp(of.bytes, places, 8 * strlen(line)) == 0, "their places", line);
     holds(got.left_out == left_out, "what they leave out", line);
@@ -262,8 +261,8 @@ static void nothing(void) {
         uint8_t one;
         uint64_t other;
     };
-    const int is_whole = sizeof(nissy_text_line) == 88 && sizeof(nissy_text_answer) == 24 && sizeof(nissy_plain_answer) == 16 &&
-                         sizeof(nissy_moves_part) == 24;
+    const int is_whole =
+        sizeof(nissy_text_line) == 88 && sizeof(nissy_text_answer) == 24 && sizeof(nissy_plain_answer) == 16 && sizeof(nissy_moves_part) == 24;
     holds(is_whole || offsetof(struct aligned, other) != sizeof(uint64_t), "its size, if numbers are aligned to theirs", "each struct");
 }
 

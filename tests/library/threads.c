@@ -48,8 +48,8 @@ static void *call_all(void *of) {
     for (int round = 0; round < run_rounds * RUN_COUNT; round++) {
         const run_row *row = &RUNS[(round + part->first) % RUN_COUNT];
         uint8_t out[256], err[NISSY_ERROR_ROOM], line[NISSY_LINE_ROOM];
-        nissy_run_answer got = nissy_run((const uint8_t *)row->words, row->words_length, (const uint8_t *)row->input, strlen(row->input),
-                                         out, sizeof out, err, sizeof err);
+        nissy_run_answer got = nissy_run((const uint8_t *)row->words, row->words_length, (const uint8_t *)row->input, strlen(row->input), out,
+                                         sizeof out, err, sizeof err);
         wrong += got.status != row->status || got.out_length != strlen(row->out) || memcmp(out, row->out, got.out_length) != 0 ||
                  got.err_length != strlen(row->err) || memcmp(err, row->err, got.err_length) != 0;
         nissy_line_answer inverted = nissy_invert((const uint8_t *)"R U' F2", 7, line, sizeof line);

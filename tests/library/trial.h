@@ -51,9 +51,7 @@ static inline guarded guard(size_t size) {
     return made;
 }
 
-static inline void let_go(guarded buffer) {
-    munmap(buffer.mapped, buffer.mapped_size);
-}
+static inline void let_go(guarded buffer) { munmap(buffer.mapped, buffer.mapped_size); }
 
 /* A guarded copy. */
 static inline guarded copied(const void *bytes, size_t size) {
@@ -86,8 +84,8 @@ static inline int is_same(nissy_search_answer one, nissy_search_answer other) {
 
 static inline int is_same_axis(nissy_axis_facts one, nissy_axis_facts other) {
     return one.bad_edge_places == other.bad_edge_places && one.bad_corner_places == other.bad_corner_places &&
-           one.misplaced_edge_places == other.misplaced_edge_places && one.bad_edges == other.bad_edges &&
-           one.bad_corners == other.bad_corners && one.misplaced_edges == other.misplaced_edges;
+           one.misplaced_edge_places == other.misplaced_edge_places && one.bad_edges == other.bad_edges && one.bad_corners == other.bad_corners &&
+           one.misplaced_edges == other.misplaced_edges;
 }
 
 static inline int is_same_facts(nissy_facts_answer one, nissy_facts_answer other) {

@@ -36,9 +36,9 @@ static nissy_ways_wanted all_of(uint8_t slack) {
 static nissy_ways_answer best_of(const char *scramble, const char *so_far, nissy_ways_wanted wanted, guarded room) {
     guarded first = copied(scramble, strlen(scramble)), second = copied(so_far, strlen(so_far));
     guarded nine = copied(tables, sizeof tables), asked = copied(&wanted, sizeof wanted);
-    nissy_ways_answer got = nissy_best((const nissy_tables *)(const void *)nine.bytes, first.bytes, first.size, second.bytes, second.size,
-                                       (const nissy_ways_wanted *)(const void *)asked.bytes, (nissy_way *)(void *)room.bytes,
-                                       room.size / sizeof(nissy_way));
+    nissy_ways_answer got =
+        nissy_best((const nissy_tables *)(const void *)nine.bytes, first.bytes, first.size, second.bytes, second.size,
+                   (const nissy_ways_wanted *)(const void *)asked.bytes, (nissy_way *)(void *)room.bytes, room.size / sizeof(nissy_way));
     let_go(first), let_go(second), let_go(nine), let_go(asked);
     return got;
 }
@@ -69,9 +69,7 @@ static void add_row(char *text, const nissy_way *way) {
 }
 
 /* Behind its turns a side has 255. */
-static int is_whole(nissy_side_turns side) {
-    return side.count <= 20 && are_all(side.turns + side.count, 20u - side.count, 255);
-}
+static int is_whole(nissy_side_turns side) { return side.count <= 20 && are_all(side.turns + side.count, 20u - side.count, 255); }
 
 static int are_whole(const nissy_way *ways, uint64_t count) {
     for (uint64_t at = 0; at < count; at++) {
@@ -160,7 +158,8 @@ static void bounds_are_kept(void) {
 }
 
 static int is_refused(nissy_ways_answer got, int status, int line, int fault, unsigned column) {
-    return got.status == status && got.line == line && got.fault == fault && got.column == column && !got.next && !got.rows && !got.tried && !got.nodes;
+    return got.status == status && got.line == line && got.fault == fault && got.column == column && !got.next && !got.rows && !got.tried &&
+           !got.nodes;
 }
 
 static void what_is_wrong_is_refused(void) {
@@ -208,7 +207,8 @@ static void an_axis_asks_its_own_tables(void) {
             tables[at] = none;
             nissy_ways_answer got = best_of("R U F", "", wanted, other);
             tables[at] = right;
-            if (axes & own) holds(is_refused(got, NISSY_USAGE, 0, 0, 0), "tables that it asks", STEPS[at]);
+            if (axes & own)
+                holds(is_refused(got, NISSY_USAGE, 0, 0, 0), "tables that it asks", STEPS[at]);
             else {
                 holds(got.status == NISSY_DONE && got.rows == whole.rows && got.nodes == whole.nodes, "tables that it doesn't ask", STEPS[at]);
                 holds((whole.rows > 0) == (axes > 0) && memcmp(room.bytes, other.bytes, room.size) == 0, "the same rows", STEPS[at]);
@@ -225,7 +225,8 @@ static void rows_stay_after_faults(void) {
     wanted.there = best_of("R U F", "", wanted, room).rows;
     nissy_way was;
     memcpy(&was, room.bytes, sizeof was);
-    holds(wanted.there == 1 && best_of("q", "", wanted, room).status == NISSY_FAULT && memcmp(&was, room.bytes, sizeof was) == 0, "it stays", "a way");
+    holds(wanted.there == 1 && best_of("q", "", wanted, room).status == NISSY_FAULT && memcmp(&was, room.bytes, sizeof was) == 0, "it stays",
+          "a way");
     holds(best_of("R", "(F U) D", wanted, room).rows == 1, "it may go", "a way");
     let_go(room);
 }
@@ -239,11 +240,20 @@ static nissy_line_after_answer after(const char *scramble, const char *so_far, g
     return got;
 }
 
-/* A scramble, the moves so far, and the line, which is clean: a rotation renames what comes after it, also in brackets before it, and so does a slice. */
+/* A scramble, the moves so far, and the line, which is clean: a rotation renames what comes after it, also in brackets before it, and so does a
+ * slice. */
 static const char *const LINES[][3] = {
-    {"R U F", "", "R U F"}, {"", "", ""},           {"R U F", "F' (U)", "U' R U"},  {"R U", "(D F2) L (R')", "R F2 D' R U L"},
-    {"R U", "x U", "R U F"}, {"R U", "(B) x U", "U' R U F"}, {"R (F)", "U U", "R F' U2"},
-    {"x U", "F", "F D"},    {"", "M", "R L'"},      {"R U F", "F' U' (R)", ""},  {"R U F", "D (L2) U (B)", "B' R L2 U F U D"},
+    {"R U F", "", "R U F"},
+    {"", "", ""},
+    {"R U F", "F' (U)", "U' R U"},
+    {"R U", "(D F2) L (R')", "R F2 D' R U L"},
+    {"R U", "x U", "R U F"},
+    {"R U", "(B) x U", "U' R U F"},
+    {"R (F)", "U U", "R F' U2"},
+    {"x U", "F", "F D"},
+    {"", "M", "R L'"},
+    {"R U F", "F' U' (R)", ""},
+    {"R U F", "D (L2) U (B)", "B' R L2 U F U D"},
 };
 
 static void lines_are_written(void) {
@@ -264,7 +274,8 @@ static void lines_are_written(void) {
         const fault_row *row = &UNREAD[at];
         guarded out = untouched(8);
         nissy_line_after_answer one = after(row->line, "q", out), other = after("R", row->line, out);
-        holds(one.status == NISSY_FAULT && one.line == 1 && one.fault == row->fault && one.column == row->column && !one.length, "its fault", row->line);
+        holds(one.status == NISSY_FAULT && one.line == 1 && one.fault == row->fault && one.column == row->column && !one.length, "its fault",
+              row->line);
         holds(other.status == NISSY_FAULT && other.line == 2 && other.fault == row->fault && other.column == row->column, "its fault", row->line);
         holds(are_all(out.bytes, out.size, UNTOUCHED), "nothing is written", row->line);
         let_go(out);

@@ -37,7 +37,7 @@ void places_are_found() {
         std::size_t column; // in the line
         nissy::text_place place;
     };
-    static constexpr row ROWS[] = {{1, {3, 1, 4}}, {2, {4, 1, 5}}, {5, {7, 1, 7}}, {6, {8, 1, 8}}, {10, {13, 2, 1}}, {15, {18, 2, 3}},
+    static constexpr row ROWS[] = {{1, {3, 1, 4}},   {2, {4, 1, 5}},   {5, {7, 1, 7}},   {6, {8, 1, 8}},   {10, {13, 2, 1}}, {15, {18, 2, 3}},
                                    {18, {21, 3, 1}}, {20, {23, 4, 1}}, {21, {24, 4, 2}}, {24, {27, 4, 3}}, {99, {27, 4, 3}}};
     for (const auto &[column, place] : ROWS) {
         const nissy::fault fault(NISSY_NOT_A_MOVE, column, "");
@@ -174,9 +174,12 @@ void forms_are_placed() {
     const nissy::attempt_check it = nissy::check_attempts(TEXT).at(0);
     // those in brackets are inverted at the end: R' M U2 f' is L' x' U2 f'
     holds(it.check && !it.check->solved && it.check->moves == 5 && it.check->clean_moves == 3 && it.check->forms == 31, "its verdict", TEXT);
-    const nissy::form_in_text wanted[] = {{"R\xe2\x80\x99", NISSY_APOSTROPHE, {11, 3, 1}}, {"M", NISSY_SLICES, {16, 3, 4}},
-                                          {"(", NISSY_BRACKETS, {18, 3, 6}}, {"f", NISSY_LOWER_CASE, {19, 3, 7}},
-                                          {"U2\xe2\x80\x99", NISSY_APOSTROPHE + NISSY_HALF_PRIME, {21, 3, 9}}, {")", NISSY_BRACKETS, {26, 3, 12}}};
+    const nissy::form_in_text wanted[] = {{"R\xe2\x80\x99", NISSY_APOSTROPHE, {11, 3, 1}},
+                                          {"M", NISSY_SLICES, {16, 3, 4}},
+                                          {"(", NISSY_BRACKETS, {18, 3, 6}},
+                                          {"f", NISSY_LOWER_CASE, {19, 3, 7}},
+                                          {"U2\xe2\x80\x99", NISSY_APOSTROPHE + NISSY_HALF_PRIME, {21, 3, 9}},
+                                          {")", NISSY_BRACKETS, {26, 3, 12}}};
     const auto is = [](const nissy::form_in_text &one, const nissy::form_in_text &other) {
         return one.text == other.text && one.forms == other.forms && one.place == other.place;
     };

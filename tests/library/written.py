@@ -25,15 +25,25 @@ MARKED = "EO: R\u2019, U\u0301 q // to try"
 SHEET = "Hello\n1. R U\r\nEO: F // \U0001f600 D q\r\n\nSolution:\rF U\u2019 q\n// a try\n2. D"
 # attempts, each with what is told of it by hand: a check, a fault with the sign at which it stands, and such a sign of each form
 CHECKED: List[Tuple[str, Any, Any, List[Any]]] = [
-    ("1. R U F\nEO: F' U\u2032 R' // \U0001f600", (True, 3, 3, ("apostrophe",)), None, [("U\u2019", ("apostrophe",), "U\u2032", 2, 8)]),
+    (
+        "1. R U F\nEO: F' U\u2032 R' // \U0001f600",
+        (True, 3, 3, ("apostrophe",)),
+        None,
+        [("U\u2019", ("apostrophe",), "U\u2032", 2, 8)],
+    ),
     ("2. R U\nU' R // \u00e9", (False, 2, 2, ()), None, []),
     ("3. D", None, None, []),
     ("4. D q", None, (1, "scramble", 3, 3, "not a move", "q", 6, 6), []),
     ("5. R (U\nU' M // not read", None, (1, "scramble", 3, 3, "bracket not closed", "(", 7, 6), []),
     ("6. R\nR\u2019 F\u2032 Q // more", None, (2, "solution", 11, 7, "not a move", "Q", 10, 7), []),
     # M' r is R and two of M's quarters back, so r' M is L2 R as faces
-    ("7. M' r\nr' M // slices", (True, 3, 2, ("slices", "lower_case")), None,
-     [("r'", ("lower_case",), "r' M", 12, 1), ("M", ("slices",), "M //", 12, 4)])]
+    (
+        "7. M' r\nr' M // slices",
+        (True, 3, 2, ("slices", "lower_case")),
+        None,
+        [("r'", ("lower_case",), "r' M", 12, 1), ("M", ("slices",), "M //", 12, 4)],
+    ),
+]
 
 
 class Loud(str):
@@ -68,15 +78,26 @@ def attempts(tally: Tally) -> None:
     step = nissy.PlainLine("F ", (18, 19), ("labels", "comments"))
     solution = nissy.PlainLine("F U\u2019 q", (41, 42, 43, 44, 45, 46), ())
     second = nissy.Attempt("2.", nissy.PlainLine("D", (60,), ()), (), None, (), 0)
-    wanted = [nissy.Attempt("1.", nissy.PlainLine("R U", (9, 10, 11), ()), (step,), solution,
-                            (nissy.AttemptCandidate((solution,), solution, "Solution a try"),), 1), second]
+    wanted = [
+        nissy.Attempt(
+            "1.",
+            nissy.PlainLine("R U", (9, 10, 11), ()),
+            (step,),
+            solution,
+            (nissy.AttemptCandidate((solution,), solution, "Solution a try"),),
+            1,
+        ),
+        second,
+    ]
     for text in forms_of(SHEET):
         tally.equal(f"attempts of {type(text).__name__}", nissy.read_attempts(text), wanted)
     tally.equal("they can be pickled", pickle.loads(pickle.dumps(wanted)), wanted)
     tally.holds("they can be keys", {it: it.name for it in wanted}[second] == "2.")
     odds: List[Any] = [b"1. R \xff\n2. U\xff", "1. R \udcff\n2. U\udcff"]
     for odd in odds:
-        tally.equal("a byte that is no text", [it.scramble.line for it in nissy.read_attempts(odd)], ["R \udcff", "U\udcff"])
+        tally.equal(
+            "a byte that is no text", [it.scramble.line for it in nissy.read_attempts(odd)], ["R \udcff", "U\udcff"]
+        )
 
 
 def in_turn(tally: Tally) -> None:
@@ -86,13 +107,18 @@ def in_turn(tally: Tally) -> None:
     text[:] = b"D" * len(text)
     tally.equal("the same", [it.attempt for it in checked], read)
     tally.equal("their names", [it.name for it in read], ["1.", "2.", "3."])
-    tally.equal("the last, a part, and the other way round", (read[-1].name, len(read[1:]), [it.name for it in read[::-1]]),
-                ("3.", 2, ["3.", "2.", "1."]))
+    tally.equal(
+        "the last, a part, and the other way round",
+        (read[-1].name, len(read[1:]), [it.name for it in read[::-1]]),
+        ("3.", 2, ["3.", "2.", "1."]),
+    )
     tally.equal("a check alone, twice", (checked[1].place, checked[1]), (nissy.TextPlace(10, 2, 6), checked[1]))
     tally.holds("fewer aren't the same", read != read[:2])
     raised(IndexError, lambda: read[3])
     copied = pickle.loads(pickle.dumps(checked))
-    tally.holds("a copy is a list of the same", isinstance(copied, list) and copied == checked and repr(copied) == repr(checked))
+    tally.holds(
+        "a copy is a list of the same", isinstance(copied, list) and copied == checked and repr(copied) == repr(checked)
+    )
 
 
 def places(tally: Tally) -> None:
@@ -106,7 +132,18 @@ def places(tally: Tally) -> None:
     tally.equal("it can be pickled", pickle.loads(pickle.dumps(place)), place)
     text = "R\nU\r\nF\r\r\U0001f600 q"
     plain = nissy.plain_line(text)
-    wanted = [(0, 1, 1), (1, 1, 2), (2, 2, 1), (3, 2, 2), (5, 3, 1), (6, 3, 2), (7, 4, 1), (8, 5, 1), (9, 5, 2), (10, 5, 3)]
+    wanted = [
+        (0, 1, 1),
+        (1, 1, 2),
+        (2, 2, 1),
+        (3, 2, 2),
+        (5, 3, 1),
+        (6, 3, 2),
+        (7, 4, 1),
+        (8, 5, 1),
+        (9, 5, 2),
+        (10, 5, 3),
+    ]
     for at, line_at, column in wanted:
         where = nissy.place_of(nissy.LineFault(99, "", character=plain.places.index(at) + 1), plain, text)
         tally.equal(f"the line and column of {at}", where, (at, line_at, column))
@@ -126,20 +163,33 @@ def checks(tally: Tally) -> None:
     text = "\n".join(attempt for attempt, *_ in CHECKED)
     wanted, begin = [], 0
     for (attempt, check, fault, forms), name in zip(CHECKED, "1234567"):
+
         def place(sign: str, line_at: int, column: int) -> Any:
             return {"at": begin + attempt.index(sign), "line": line_at, "column": column}
 
         said = check and {"solved": check[0], "moves": check[1], "clean_moves": check[2], "forms": list(check[3])}
         of = fault and {"line": fault[0], "part": fault[1], "column": fault[2], "character": fault[3], "text": fault[4]}
         each = [{"text": it[0], "forms": list(it[1]), "place": place(*it[2:])} for it in forms]
-        wanted.append({"name": f"{name}.", "check": said, "fault": of, "place": fault and place(*fault[5:]), "forms": each, "doubt": None})
+        wanted.append(
+            {
+                "name": f"{name}.",
+                "check": said,
+                "fault": of,
+                "place": fault and place(*fault[5:]),
+                "forms": each,
+                "doubt": None,
+            }
+        )
         begin += len(attempt) + 1
     for form in forms_of(text):
         found = nissy.check_attempts(form)
         tally.equal(f"checks of {type(form).__name__}", [it.as_dict() for it in found], wanted)
         tally.equal("of these attempts", [it.attempt for it in found], nissy.read_attempts(text))
-    tally.equal("as values", [(it.check, [each[:2] for each in it.forms]) for it in found],
-                [(check, [each[:2] for each in forms]) for _, check, _, forms in CHECKED])
+    tally.equal(
+        "as values",
+        [(it.check, [each[:2] for each in it.forms]) for it in found],
+        [(check, [each[:2] for each in forms]) for _, check, _, forms in CHECKED],
+    )
     tally.equal("as JSON they stay", json.loads(json.dumps(wanted)), [it.as_dict() for it in found])
     tally.equal("they can be pickled", [it.as_dict() for it in pickle.loads(pickle.dumps(found))], wanted)
     tally.holds("no fault keeps its calls", all(it.fault is None or it.fault.__traceback__ is None for it in found))
@@ -151,7 +201,9 @@ def known(tally: Tally) -> None:
     scrambles: List[Any] = ["R", b"U", bytearray(b"F")]
     for form in forms_of(text):
         first, second, third = nissy.check_attempts(form, scrambles=iter(scrambles))
-        tally.equal("a fault of a solution", (str(first.fault), first.place), ("solution, column 6: not a move", (38, 2, 20)))
+        tally.equal(
+            "a fault of a solution", (str(first.fault), first.place), ("solution, column 6: not a move", (38, 2, 20))
+        )
         tally.equal("what is solved", second.check, (True, 1, 1, ("apostrophe",)))
         tally.equal("the scramble that it is of", second.attempt.scramble, ("U", (), ()))
         tally.equal("its forms", second.forms, (("U\u2019", ("apostrophe",), (16, 1, 17)),))
@@ -167,26 +219,53 @@ def odd_checks(tally: Tally) -> None:
     odds: List[Any] = [b"1. R \xff U\n2. D\nD'\xff // x", "1. R \udcff U\n2. D\nD'\udcff // x"]
     for odd in odds:
         first, second = nissy.check_attempts(odd)
-        tally.equal("a byte", (first.check, str(first.fault), first.place), (None, "scramble, column 3: not a move", (5, 1, 6)))
-        tally.equal("a later one", (second.check, str(second.fault), second.place), (None, "solution, column 3: not a move", (16, 3, 3)))
+        tally.equal(
+            "a byte", (first.check, str(first.fault), first.place), (None, "scramble, column 3: not a move", (5, 1, 6))
+        )
+        tally.equal(
+            "a later one",
+            (second.check, str(second.fault), second.place),
+            (None, "solution, column 3: not a move", (16, 3, 3)),
+        )
     (none,) = nissy.check_attempts("")
     tally.equal("no moves", none[1:], (None, None, None, (), None))
     long = "R" + "\U0001f600" * (16_777_216 // 4)
     fault = raised(nissy.Fault, lambda: nissy.check_attempts(long))
-    tally.equal("too many bytes", fault and (fault.text, fault.line, fault.part), ("a line has at most 16,777,216 bytes", 1, "scramble"))
+    tally.equal(
+        "too many bytes",
+        fault and (fault.text, fault.line, fault.part),
+        ("a line has at most 16,777,216 bytes", 1, "scramble"),
+    )
 
 
 def wrong_types(tally: Tally) -> None:
     """Values of a type that a call doesn't take, told in words of the caller's."""
     wide = array.array("H", [82, 0x155])
     fault, plain = nissy.LineFault(1, "not a move"), nissy.plain_line("q")
-    calls: List[Callable[[Any], object]] = [untyped.plain_line, untyped.read_attempts, untyped.check_attempts,
-                                           lambda it: untyped.place_of(fault, plain, it)]
-    kinds: List[Any] = [(None, "None"), (3, "int"), (["R"], "list"), (wide, "items of 2 bytes each"), (memoryview(wide), "items of 2 bytes each")]
+    calls: List[Callable[[Any], object]] = [
+        untyped.plain_line,
+        untyped.read_attempts,
+        untyped.check_attempts,
+        lambda it: untyped.place_of(fault, plain, it),
+    ]
+    kinds: List[Any] = [
+        (None, "None"),
+        (3, "int"),
+        (["R"], "list"),
+        (wide, "items of 2 bytes each"),
+        (memoryview(wide), "items of 2 bytes each"),
+    ]
     for value, named in kinds:
         for call in calls:
-            tally.equal("a text", str(raised(TypeError, lambda: call(value))), f"the text is a str or bytes, not {named}")
-    for value, named in ((None, "None"), (3, "int"), (nissy.Cut(nissy.Count(None, 0, 0, True)), "Cut"), (ValueError("q"), "ValueError")):
+            tally.equal(
+                "a text", str(raised(TypeError, lambda: call(value))), f"the text is a str or bytes, not {named}"
+            )
+    for value, named in (
+        (None, "None"),
+        (3, "int"),
+        (nissy.Cut(nissy.Count(None, 0, 0, True)), "Cut"),
+        (ValueError("q"), "ValueError"),
+    ):
         told = str(raised(TypeError, lambda: untyped.place_of(value, plain, "q")))
         tally.equal("a fault", told, f"what is found is a Fault or a FormPlace, not {named}")
     lines: List[Any] = [(None, "None"), ("q", "str"), (tuple(plain), "tuple"), (nissy.read_attempts("q")[0], "Attempt")]

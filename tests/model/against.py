@@ -49,10 +49,17 @@ def faults_everywhere(trial: Trial, every: int) -> None:
     """Each damage at each byte of one line of all kinds of items, and each byte value after each kind of beginning, or every so manieth."""
     whole = "R2\u2019 (Uw) x'2' M(r\u2019)".encode()
     runs = [("each byte", ["unniss"], b"F\n" + whole[:at]) for at in range(len(whole) + 1)]
-    runs += [("each byte", ["unniss"], whole[:at] + damage + whole[at:]) for at in range(len(whole) + 1) for damage in DAMAGES]
+    runs += [
+        ("each byte", ["unniss"], whole[:at] + damage + whole[at:])
+        for at in range(len(whole) + 1)
+        for damage in DAMAGES
+    ]
     beginnings = (b"", b"R", b"R\xe2", b"R2", b"R'", b"(", b"R\xe2\x80", b"R\xe2\x80\x99", b"(U", b"Rw", b"2")
-    runs += [("each byte value", ["invert"], before + bytes([byte]))
-             for byte in range(256) for before in (beginnings if byte % 4 == 0 else beginnings[:3])]
+    runs += [
+        ("each byte value", ["invert"], before + bytes([byte]))
+        for byte in range(256)
+        for before in (beginnings if byte % 4 == 0 else beginnings[:3])
+    ]
     for kind, words, data in runs[::every]:
         trial.compare("faults, " + kind, words, data)
 
@@ -66,8 +73,12 @@ def most_moves(trial: Trial, draw: Drawing, count: int) -> None:
             first = draw.randrange(len(words))
             last = draw.randrange(first, len(words))
             words = words[:first] + ["("] + words[first:last] + [")"] + words[last:]
-        text = draw.choice(["", "R\n", "\n\n"]) + draw.glued(words) + draw.choice(["", "", "q", ")", "(", "w", "\u2019"])
-        trial.compare("limit of 256 moves", [draw.choice(REWRITES)], (text + draw.choice(["", "\n", "\nU"])).encode(), at % 2 == 0)
+        text = (
+            draw.choice(["", "R\n", "\n\n"]) + draw.glued(words) + draw.choice(["", "", "q", ")", "(", "w", "\u2019"])
+        )
+        trial.compare(
+            "limit of 256 moves", [draw.choice(REWRITES)], (text + draw.choice(["", "\n", "\nU"])).encode(), at % 2 == 0
+        )
     for moves in (255, 256, 257):
         for words in (["solve", "eofb", "9"], ["count", "eofb", "9"], ["solve", "eo", "9"], ["count", "eo", "9"]):
             trial.compare("limit of 256 moves, steps", words + [" ".join(draw.moves(moves))])
@@ -80,7 +91,10 @@ def usage(trial: Trial, draw: Drawing, count: int) -> None:
         if kind < 0.4:
             words = [draw.choice(VOCABULARY) for _ in range(draw.randrange(0, 7))]
         elif kind < 0.7:
-            words = [draw.choice(["solve", "count", "near"]), draw.choice(list(solving.STEPS)[:3] + ["eo", "htr", "EOFB", ""])]
+            words = [
+                draw.choice(["solve", "count", "near"]),
+                draw.choice(list(solving.STEPS)[:3] + ["eo", "htr", "EOFB", ""]),
+            ]
             words += [draw.choice(NUMBERS) for _ in range(draw.randrange(0, 4))] + draw.choice([[], ["F"], ["F", "B"]])
         else:
             words = ["scramble"] + [draw.choice(NUMBERS) for _ in range(draw.choice([4, 4, 4, 4, 3, 5]))]
@@ -97,7 +111,9 @@ def scrambles(trial: Trial, draw: Drawing, count: int) -> None:
         stream = draw.choice([0, 1, most, 1 << 63, (1 << 63) - 1, draw.getrandbits(64), 54])
         length = draw.choice([0, 1, 2, 20, 25, 255, 256, draw.randrange(257)])
         numbers = [state, stream, length, draw.choice([0, 1, 2, 3, 10, draw.randrange(40)])]
-        trial.compare("scramble", ["scramble"] + [draw.choice(["", "", "0", "000"]) + str(number) for number in numbers], b"R\n")
+        trial.compare(
+            "scramble", ["scramble"] + [draw.choice(["", "", "0", "000"]) + str(number) for number in numbers], b"R\n"
+        )
     trial.compare("scramble", ["scramble", "7", "9", "1", "10000"])
     trial.compare("scramble", ["scramble", "7", "9", "256", "200"])
 
@@ -140,7 +156,10 @@ def failing_starts(trial: Trial, draw: Drawing, count: int) -> None:
         name = draw.choice(solving.DOMINOES)
         command = draw.choice(["solve", "count", "near"])
         words = [command, name, str(draw.randrange(0, 7))] + (["0"] if command == "near" else [])
-        lines = [draw.started(name, 3) for _ in range(draw.randrange(0, 3))] + [draw.line(8), draw.choice(["", "q", draw.line(4)])]
+        lines = [draw.started(name, 3) for _ in range(draw.randrange(0, 3))] + [
+            draw.line(8),
+            draw.choice(["", "q", draw.line(4)]),
+        ]
         trial.compare("failing starts", words, draw.ended(lines), draw.random() < 0.5)
 
 
@@ -193,16 +212,22 @@ def every_reduction(trial: Trial) -> None:
         words, distance = ["count", name, "20"], solving.step(name).goals[0].distance
         lines = list(lines_of_positions(solving.step(name)).items())
         for at in range(0, len(lines), AT_ONCE):
-            some = lines[at:at + AT_ONCE]
+            some = lines[at : at + AT_ONCE]
             answers = trial.run(words, "".join(line + "\n" for _, line in some).encode())[0].splitlines()
-            wrong = [line for (position, line), answer in zip(some, answers) if not answer.startswith(b"length %d " % distance[position])]
+            wrong = [
+                line
+                for (position, line), answer in zip(some, answers)
+                if not answer.startswith(b"length %d " % distance[position])
+            ]
             trial.check("every domino reduction", words, None, (len(answers), wrong[:3]), (len(some), []))
 
 
 def all_kinds(trial: Trial, draw: Drawing, scale: float) -> None:
     """Every kind of run, as often as the scale says."""
+
     def scaled(count: int) -> int:
         return max(1, int(count * scale))
+
     whole = scale >= 0.5
     solving.Bounds.looks, solving.Bounds.depth = (LOOKS, solving.FARTHEST) if whole else (8_000, 6)
     rewriting(trial, draw, scaled(1500))

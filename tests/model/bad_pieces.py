@@ -2,8 +2,18 @@
 from collections.abc import Iterable
 from typing import NamedTuple
 
-from cube import (DIRECTION_OF_FACE, NUMBER_OF_PLACE, ROTATION_BY_CENTRES, Effect, Move, brought_home, effect_of, inverse_effect,
-                  inverse_of, then)
+from cube import (
+    DIRECTION_OF_FACE,
+    NUMBER_OF_PLACE,
+    ROTATION_BY_CENTRES,
+    Effect,
+    Move,
+    brought_home,
+    effect_of,
+    inverse_effect,
+    inverse_of,
+    then,
+)
 from notation import clean, meaning, read, to_faces
 from solving import AXIS, STEPS, Domino, Places, flip_set, slice_set, twist_set
 
@@ -25,7 +35,9 @@ STICKERS = {piece: stickers(piece) for piece in EDGES + CORNERS}
 def misfits(pieces: Iterable[str], kept: Places, effect: Effect) -> tuple[str, ...]:
     """The places to which a cube has brought a sticker out of a set, or one into it that was outside."""
     origin = inverse_effect(effect)
-    return tuple(piece for piece in pieces if any((origin[place] in kept) != (place in kept) for place in STICKERS[piece]))
+    return tuple(
+        piece for piece in pieces if any((origin[place] in kept) != (place in kept) for place in STICKERS[piece])
+    )
 
 
 class OfAxis(NamedTuple):
@@ -49,15 +61,22 @@ class Seen(NamedTuple):
 def of_axis(axis: str, effect: Effect) -> OfAxis:
     """The bad pieces of a cube on an axis."""
     number = AXIS[axis]
-    return OfAxis(misfits(EDGES, flip_set(number), effect), misfits(CORNERS, twist_set(number), effect),
-                  misfits(EDGES, slice_set(number), effect))
+    return OfAxis(
+        misfits(EDGES, flip_set(number), effect),
+        misfits(CORNERS, twist_set(number), effect),
+        misfits(EDGES, slice_set(number), effect),
+    )
 
 
 def is_reached(name: str, axes: dict[str, OfAxis]) -> bool:
     """Whether one of a step's goals is there."""
     start, _, goals = STEPS[name]
-    return any(not (axes[axis].bad_corners or axes[axis].misplaced_edges or axes[str(start)].bad_edges) if kind is Domino
-               else not axes[axis].bad_edges for kind, axis in goals)
+    return any(
+        not (axes[axis].bad_corners or axes[axis].misplaced_edges or axes[str(start)].bad_edges)
+        if kind is Domino
+        else not axes[axis].bad_edges
+        for kind, axis in goals
+    )
 
 
 def weight(move: Move) -> int:
@@ -70,15 +89,25 @@ def seen(line: bytes) -> Seen:
     normal, bracketed = read(line)
     whole, effect = normal + inverse_of(bracketed), meaning(normal, bracketed)
     axes = {axis: of_axis(axis, brought_home(effect)) for axis in AXIS}
-    return Seen(effect in ROTATIONS, sum(map(weight, whole)), len(clean(to_faces(whole)[0])),
-                frozenset(name for name in STEPS if is_reached(name, axes)), axes)
+    return Seen(
+        effect in ROTATIONS,
+        sum(map(weight, whole)),
+        len(clean(to_faces(whole)[0])),
+        frozenset(name for name in STEPS if is_reached(name, axes)),
+        axes,
+    )
 
 
 def forms(line: bytes) -> tuple[str, ...]:
     """The forms of a line that the WCA's notation for solutions hasn't."""
     text = line.decode()
-    has = {"slices": set(text) & set("MES"), "lower_case": set(text) & set("udrlfb"), "brackets": "(" in text,
-           "apostrophe": "\u2019" in text, "half_prime": "2'" in text or "2\u2019" in text}
+    has = {
+        "slices": set(text) & set("MES"),
+        "lower_case": set(text) & set("udrlfb"),
+        "brackets": "(" in text,
+        "apostrophe": "\u2019" in text,
+        "half_prime": "2'" in text or "2\u2019" in text,
+    }
     return tuple(form for form, there in has.items() if there)
 
 

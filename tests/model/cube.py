@@ -12,23 +12,41 @@ Effect = list[int]
 
 CELLS = [(x, y, z) for x in (-1, 0, 1) for y in (-1, 0, 1) for z in (-1, 0, 1)]
 DIRECTIONS = [(1, 0, 0), (-1, 0, 0), (0, 1, 0), (0, -1, 0), (0, 0, 1), (0, 0, -1)]
-PLACES = [(cell, direction) for cell in CELLS for direction in DIRECTIONS
-          if sum(a * b for a, b in zip(cell, direction)) == 1]
+PLACES = [
+    (cell, direction) for cell in CELLS for direction in DIRECTIONS if sum(a * b for a, b in zip(cell, direction)) == 1
+]
 NUMBER_OF_PLACE = {place: number for number, place in enumerate(PLACES)}
 UNMOVED = list(range(54))
 
 # A clockwise quarter turn about each axis, as one looks from its positive end.
 QUARTER_TURN: list[Callable[[Vector], Vector]] = [
-    lambda v: (v[0], v[2], -v[1]), lambda v: (-v[2], v[1], v[0]), lambda v: (v[1], -v[0], v[2])]
+    lambda v: (v[0], v[2], -v[1]),
+    lambda v: (-v[2], v[1], v[0]),
+    lambda v: (v[1], -v[0], v[2]),
+]
 DIRECTION_OF_FACE = {"U": (0, 1, 0), "D": (0, -1, 0), "R": (1, 0, 0), "L": (-1, 0, 0), "F": (0, 0, 1), "B": (0, 0, -1)}
 FACE_OF_DIRECTION = {direction: face for face, direction in DIRECTION_OF_FACE.items()}
 
 # letters: the axis, the layers that turn, and how many clockwise quarters about the axis one quarter of the move is
 LAYERS: dict[str, tuple[int, tuple[int, ...], int]] = {
-    "R": (0, (1,), 1), "L": (0, (-1,), 3), "U": (1, (1,), 1), "D": (1, (-1,), 3), "F": (2, (1,), 1), "B": (2, (-1,), 3),
-    "Rw": (0, (0, 1), 1), "Lw": (0, (-1, 0), 3), "Uw": (1, (0, 1), 1), "Dw": (1, (-1, 0), 3),
-    "Fw": (2, (0, 1), 1), "Bw": (2, (-1, 0), 3), "M": (0, (0,), 3), "E": (1, (0,), 3), "S": (2, (0,), 1),
-    "x": (0, (-1, 0, 1), 1), "y": (1, (-1, 0, 1), 1), "z": (2, (-1, 0, 1), 1),
+    "R": (0, (1,), 1),
+    "L": (0, (-1,), 3),
+    "U": (1, (1,), 1),
+    "D": (1, (-1,), 3),
+    "F": (2, (1,), 1),
+    "B": (2, (-1,), 3),
+    "Rw": (0, (0, 1), 1),
+    "Lw": (0, (-1, 0), 3),
+    "Uw": (1, (0, 1), 1),
+    "Dw": (1, (-1, 0), 3),
+    "Fw": (2, (0, 1), 1),
+    "Bw": (2, (-1, 0), 3),
+    "M": (0, (0,), 3),
+    "E": (1, (0,), 3),
+    "S": (2, (0,), 1),
+    "x": (0, (-1, 0, 1), 1),
+    "y": (1, (-1, 0, 1), 1),
+    "z": (2, (-1, 0, 1), 1),
 }
 
 
@@ -100,9 +118,12 @@ def brought_home(effect: Effect) -> Effect:
 
 # The cells of each face at its first, third and seventh facelet, as one looks at it (U with B above, D with F above).
 FACE_CORNERS = {
-    "U": ((-1, 1, -1), (1, 1, -1), (-1, 1, 1)), "R": ((1, 1, 1), (1, 1, -1), (1, -1, 1)),
-    "F": ((-1, 1, 1), (1, 1, 1), (-1, -1, 1)), "D": ((-1, -1, 1), (1, -1, 1), (-1, -1, -1)),
-    "L": ((-1, 1, -1), (-1, 1, 1), (-1, -1, -1)), "B": ((1, 1, -1), (-1, 1, -1), (1, -1, -1)),
+    "U": ((-1, 1, -1), (1, 1, -1), (-1, 1, 1)),
+    "R": ((1, 1, 1), (1, 1, -1), (1, -1, 1)),
+    "F": ((-1, 1, 1), (1, 1, 1), (-1, -1, 1)),
+    "D": ((-1, -1, 1), (1, -1, 1), (-1, -1, -1)),
+    "L": ((-1, 1, -1), (-1, 1, 1), (-1, -1, -1)),
+    "B": ((1, 1, -1), (-1, 1, -1), (1, -1, -1)),
 }
 
 

@@ -10,15 +10,91 @@ LETTERS = "U D R L F B Uw Dw Rw Lw Fw Bw u d r l f b M E S x y z".split()
 FACES = "U D R L F B".split()
 SUFFIXES = ["", "", "2", "'", "2'", "\u2019", "2\u2019"]
 DAMAGES = [bytes([byte]) for byte in b"UwxM2'()Q \t\r\n3,.;-#/[]{}\0\x7f\x80\x99\xe2\xff\xc3"] + [
-    b"\xe2\x80", b"\xe2\x99", b"\xe2\x80\x98", b"\xe2\x80\x99", b"''", b"2'", b"'2", b"22", b"3", b"w", b"w'", b"((", b"))",
-    b"()", b"#R", b"//R", b"[R,U]"]
+    b"\xe2\x80",
+    b"\xe2\x99",
+    b"\xe2\x80\x98",
+    b"\xe2\x80\x99",
+    b"''",
+    b"2'",
+    b"'2",
+    b"22",
+    b"3",
+    b"w",
+    b"w'",
+    b"((",
+    b"))",
+    b"()",
+    b"#R",
+    b"//R",
+    b"[R,U]",
+]
 # In and out of range, with leading zeros, and what other programs take for a number.
-NUMBERS = ["0", "1", "2", "3", "20", "21", "00", "020", "0021", "+1", "-1", " 1", "1 ", "", "1.0", "0x1", "1e1", "a", "\u0661", "256", "257",
-           "10000", "10001", "18446744073709551615", "18446744073709551616", "0" * 40 + "5", "9" * 60, "1_0", "\u00b2", "4294967296",
-           "99999999999999999999"]
-VOCABULARY = ["invert", "unniss", "cleanup", "print", "solve", "count", "near", "scramble", "steps", "Invert", "help", "-h", "--help",
-              "--version", "", "solv", "solve ", " solve", "twophase", "eofb", "dr-eofb", "drud-eofb", "drud-eoud", "eo", "EO", "dr",
-              "htr", "R", "F", "(", ""] + NUMBERS
+NUMBERS = [
+    "0",
+    "1",
+    "2",
+    "3",
+    "20",
+    "21",
+    "00",
+    "020",
+    "0021",
+    "+1",
+    "-1",
+    " 1",
+    "1 ",
+    "",
+    "1.0",
+    "0x1",
+    "1e1",
+    "a",
+    "\u0661",
+    "256",
+    "257",
+    "10000",
+    "10001",
+    "18446744073709551615",
+    "18446744073709551616",
+    "0" * 40 + "5",
+    "9" * 60,
+    "1_0",
+    "\u00b2",
+    "4294967296",
+    "99999999999999999999",
+]
+VOCABULARY = [
+    "invert",
+    "unniss",
+    "cleanup",
+    "print",
+    "solve",
+    "count",
+    "near",
+    "scramble",
+    "steps",
+    "Invert",
+    "help",
+    "-h",
+    "--help",
+    "--version",
+    "",
+    "solv",
+    "solve ",
+    " solve",
+    "twophase",
+    "eofb",
+    "dr-eofb",
+    "drud-eofb",
+    "drud-eoud",
+    "eo",
+    "EO",
+    "dr",
+    "htr",
+    "R",
+    "F",
+    "(",
+    "",
+] + NUMBERS
 
 
 def is_outside(words: list[str], at: int) -> bool:
@@ -73,10 +149,10 @@ class Drawing(random.Random):
         if kind < 0.35:
             return data[:at] + self.choice(DAMAGES) + data[at:]
         if kind < 0.6:
-            return data[:at] + self.choice(DAMAGES) + data[at + 1:]
+            return data[:at] + self.choice(DAMAGES) + data[at + 1 :]
         if kind < 0.75:
-            return data[:at] + bytes([self.randrange(256)]) + data[at + 1:]
-        return data[:at] + data[at + 1:] if kind < 0.9 else data[:at]
+            return data[:at] + bytes([self.randrange(256)]) + data[at + 1 :]
+        return data[:at] + data[at + 1 :] if kind < 0.9 else data[:at]
 
     def started(self, name: str, most: int) -> str:
         """A line on which a step may start."""

@@ -22,11 +22,13 @@ from trial import LOOKS, Trial, seed_and_scale
 
 def parts_of(trial: Trial, draw: Drawing, scale: float) -> dict[str, list[Callable[[], None]]]:
     """What each part does."""
+
     def alone(*tries: Callable[[Trial], None]) -> list[Callable[[], None]]:
         return [partial(each, trial) for each in tries]
 
     def drawn(each: Callable[[Trial, Drawing, int], None], count: int) -> list[Callable[[], None]]:
         return [partial(each, trial, draw, max(1, int(count * scale)))]
+
     streams, inputs = hostile_streams, hostile_input
     return {
         "devices": alone(streams.full_devices, streams.odd_devices, streams.closed_streams),

@@ -42,8 +42,11 @@ class Traced:
 
     def on_stream(self, wanted: str, stream: int) -> list[tuple[int, int]]:
         """The calls of a name on a stream: how many of that name, and how many bytes."""
-        return [(nth, -1 if answer == "?" else int(answer, 0)) for name, nth, arguments, answer in self.calls
-                if name == wanted and arguments.split(",")[0].strip() == str(stream)]
+        return [
+            (nth, -1 if answer == "?" else int(answer, 0))
+            for name, nth, arguments, answer in self.calls
+            if name == wanted and arguments.split(",")[0].strip() == str(stream)
+        ]
 
     def own(self) -> int:
         """The index of the program's first own call: there it sets SIGPIPE aside."""
@@ -85,7 +88,7 @@ def short_writes(trial: Trial, words: list[str], data: bytes, write: tuple[int, 
     (nth, size), (output, fault, status) = write, model.run(words, data)
     for taken in {1, size // 2, size - 1} - {0, size, -1}:
         got = Traced(trial, words, data, "write:retval=%d:when=%d" % (taken, nth)).answer
-        expected = output[:sent] + output[sent + taken:], fault, status
+        expected = output[:sent] + output[sent + taken :], fault, status
         trial.check("a short write", words + [str(nth), str(taken)], data, got, expected)
 
 
@@ -120,7 +123,7 @@ def judge(trial: Trial, kind: str, traced: Traced, how: str, expected: Callable[
 def refused_others(trial: Trial, words: list[str], data: bytes) -> None:
     """Each other call of the program's own refused, once and from then on. What the system's loader does before isn't judged."""
     traced = Traced(trial, words, data)
-    for name, nth, _, _ in traced.calls[traced.own():]:
+    for name, nth, _, _ in traced.calls[traced.own() :]:
         if name in NOT_HERE:
             continue
         is_memory = name in ("mmap", "mremap", "munmap", "mprotect")
@@ -138,8 +141,16 @@ def refused_growths(trial: Trial, words: list[str], data: bytes) -> None:
         if at >= own and name in GROWING and arguments != "NULL":
             from_here = ["brk:retval=%s:when=%d+" % (old_break, seen["brk"] + 1)]
             from_here += ["%s:error=ENOMEM:when=%d+" % (call, seen[call] + 1) for call in ("mmap", "mremap")]
-            judge(trial, "every growth from one on refused", Traced(trial, words, data, *from_here), str(at), whole_answer_or_no_memory)
-            once = "brk:retval=%s:when=%d" % (old_break, nth) if name == "brk" else "%s:error=ENOMEM:when=%d" % (name, nth)
+            judge(
+                trial,
+                "every growth from one on refused",
+                Traced(trial, words, data, *from_here),
+                str(at),
+                whole_answer_or_no_memory,
+            )
+            once = (
+                "brk:retval=%s:when=%d" % (old_break, nth) if name == "brk" else "%s:error=ENOMEM:when=%d" % (name, nth)
+            )
             judge(trial, "one growth refused", Traced(trial, words, data, once), once, whole_answer_or_no_memory)
         if name in seen:
             seen[name] = nth
@@ -148,11 +159,21 @@ def refused_growths(trial: Trial, words: list[str], data: bytes) -> None:
 
 
 GROWTHS: list[Run] = [
-    (["invert"], b"R U\nF2\n"), (["cleanup"], b"R U\nF2\n"), (["print"], b""), (["steps"], b""),
-    (["scramble", "42", "54", "6", "1"], b""), (["invert", "R U' F2"], b""), (["unniss", " " * 120_000], b""),
-    (["solve", "eofb", "7", "F"], b""), (["solve", "eo", "7"], b"F\n"),
-    (["count", "dr-eofb", "5"], b"R U\n"), (["count", "drud-eorl", "5", "D"], b""), (["near", "dr-eoud", "2", "1", "R"], b""),
-    ([], b""), (["unniss"] + ["R"] * 200, b"")]
+    (["invert"], b"R U\nF2\n"),
+    (["cleanup"], b"R U\nF2\n"),
+    (["print"], b""),
+    (["steps"], b""),
+    (["scramble", "42", "54", "6", "1"], b""),
+    (["invert", "R U' F2"], b""),
+    (["unniss", " " * 120_000], b""),
+    (["solve", "eofb", "7", "F"], b""),
+    (["solve", "eo", "7"], b"F\n"),
+    (["count", "dr-eofb", "5"], b"R U\n"),
+    (["count", "drud-eorl", "5", "D"], b""),
+    (["near", "dr-eoud", "2", "1", "R"], b""),
+    ([], b""),
+    (["unniss"] + ["R"] * 200, b""),
+]
 
 
 def calls(trial: Trial, draw: Drawing) -> None:
@@ -160,19 +181,36 @@ def calls(trial: Trial, draw: Drawing) -> None:
     if not is_there(trial):
         print("skipped: no strace traces here, so no system call is refused")
         return
-    trial.awaits("a read refused", "a write refused", "a short write", "a text of faults refused", "another call refused",
-                 "one growth refused", "every growth from one on refused")
+    trial.awaits(
+        "a read refused",
+        "a write refused",
+        "a short write",
+        "a text of faults refused",
+        "another call refused",
+        "one growth refused",
+        "every growth from one on refused",
+    )
     for words, data, errors in (
-            (["invert"], b"R\nU\nF", ["EIO", "EINTR", "EAGAIN", "EISDIR"]), (["print"], lines(draw, 700, 6)[:9000] + b"\n", ["EIO", "EINTR"]),
-            (["solve", "eofb", "2"], b"F\nB\n(U)\nF", ["EIO"]), (["unniss"], b"R\nq\n", ["EIO"]), (["cleanup"], lines(draw, 500, 8), ["EIO"]),
-            (["count", "dr-eofb", "9"], b"R U\n\nL2 U" + b" " * 4100 + b"\nR", ["EIO"]), (["near", "eo", "2", "1"], b"F R U\nF B\nM", ["EIO"])):
+        (["invert"], b"R\nU\nF", ["EIO", "EINTR", "EAGAIN", "EISDIR"]),
+        (["print"], lines(draw, 700, 6)[:9000] + b"\n", ["EIO", "EINTR"]),
+        (["solve", "eofb", "2"], b"F\nB\n(U)\nF", ["EIO"]),
+        (["unniss"], b"R\nq\n", ["EIO"]),
+        (["cleanup"], lines(draw, 500, 8), ["EIO"]),
+        (["count", "dr-eofb", "9"], b"R U\n\nL2 U" + b" " * 4100 + b"\nR", ["EIO"]),
+        (["near", "eo", "2", "1"], b"F R U\nF B\nM", ["EIO"]),
+    ):
         refused_reads(trial, words, data, errors)
     for words, data, errors in (
-            (["solve", "eofb", "5", "F B"], b"", ["EIO", "EINTR", "EAGAIN", "ENOSPC"]), (["invert"], b"R\nU2\n\nM'\nq\n", ["EIO", "EINTR"]),
-            (["scramble", "1", "2", "30", "3"], b"", ["EIO", "ENOSPC"]), (["steps"], b"", ["EIO"]),
-            (["count", "drud-eofb", "5", "R U"], b"", ["EIO"]), (["near", "eo", "2", "1", "F R U"], b"", ["EIO"]),
-            (["cleanup"], lines(draw, 60, 6), ["EIO"]), (["print"], lines(draw, 100, 6), ["EIO"]),
-            (["unniss"], "\n".join([" ".join(draw.moves(256))] * 2).encode(), ["EIO"])):
+        (["solve", "eofb", "5", "F B"], b"", ["EIO", "EINTR", "EAGAIN", "ENOSPC"]),
+        (["invert"], b"R\nU2\n\nM'\nq\n", ["EIO", "EINTR"]),
+        (["scramble", "1", "2", "30", "3"], b"", ["EIO", "ENOSPC"]),
+        (["steps"], b"", ["EIO"]),
+        (["count", "drud-eofb", "5", "R U"], b"", ["EIO"]),
+        (["near", "eo", "2", "1", "F R U"], b"", ["EIO"]),
+        (["cleanup"], lines(draw, 60, 6), ["EIO"]),
+        (["print"], lines(draw, 100, 6), ["EIO"]),
+        (["unniss"], "\n".join([" ".join(draw.moves(256))] * 2).encode(), ["EIO"]),
+    ):
         refused_writes(trial, words, data, errors)
     for words in (["invert", "q"], ["solve"], ["solve", "drud-eofb", "5", "F"]):
         refused_faults(trial, words)

@@ -11,15 +11,23 @@ from trial import Trial
 # kilobytes in which no memory may be refused
 AMPLE = 60_000
 LIMITED: list[Run] = [
-    (["solve", "eofb", "7"], b"F\n"), (["count", "drud-eofb", "5"], b"R U\n"), (["near", "dr-eofb", "3", "1"], b"\n"),
-    (["invert", "R" + " " * 100_000], b""), (["invert"], b"R\n"), (["scramble", "1", "2", "256", "20"], b"")]
+    (["solve", "eofb", "7"], b"F\n"),
+    (["count", "drud-eofb", "5"], b"R U\n"),
+    (["near", "dr-eofb", "3", "1"], b"\n"),
+    (["invert", "R" + " " * 100_000], b""),
+    (["invert"], b"R\n"),
+    (["scramble", "1", "2", "256", "20"], b""),
+]
 
 
-def run_within(trial: Trial, kilobytes: int, words: list[str], data: bytes = b"",
-               environment: dict[str, str] | None = None) -> Answer:
+def run_within(
+    trial: Trial, kilobytes: int, words: list[str], data: bytes = b"", environment: dict[str, str] | None = None
+) -> Answer:
     """What the program answers in so much address space."""
+
     def cut() -> None:
         resource.setrlimit(resource.RLIMIT_AS, (kilobytes * 1024, kilobytes * 1024))
+
     return run_with(trial, words, data, before=cut, env=environment)
 
 

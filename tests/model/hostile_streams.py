@@ -20,15 +20,35 @@ from trial import TIMEOUT, Trial, ran
 # the words of a command, and its input, None if it has none of its own
 Run = tuple[list[str], bytes | None]
 WRITING: list[Run] = [
-    (["invert", "R U"], None), (["solve", "eofb", "5", "F B"], None), (["scramble", "1", "2", "20", "3"], None), (["steps"], None),
-    (["count", "eofb", "5", "F B"], None), (["near", "eofb", "3", "1", "F"], None), (["print", "R"], None),
-    (["cleanup", "R (x)"], None), (["invert"], b"R\nU\nF\n"), (["invert"], b"R\nU\nq\n"), (["solve", "eofb", "3"], b"R\nF\nB\n" * 50)]
-WRITING_NOTHING: list[Run] = [(["invert"], b""), (["solve", "eofb", "3"], b""), (["scramble", "1", "2", "3", "0"], None)]
+    (["invert", "R U"], None),
+    (["solve", "eofb", "5", "F B"], None),
+    (["scramble", "1", "2", "20", "3"], None),
+    (["steps"], None),
+    (["count", "eofb", "5", "F B"], None),
+    (["near", "eofb", "3", "1", "F"], None),
+    (["print", "R"], None),
+    (["cleanup", "R (x)"], None),
+    (["invert"], b"R\nU\nF\n"),
+    (["invert"], b"R\nU\nq\n"),
+    (["solve", "eofb", "3"], b"R\nF\nB\n" * 50),
+]
+WRITING_NOTHING: list[Run] = [
+    (["invert"], b""),
+    (["solve", "eofb", "3"], b""),
+    (["scramble", "1", "2", "3", "0"], None),
+]
 FAULTY: list[Run] = [
-    (["invert", "q"], None), ([], None), (["solve", "drud-eofb", "3", "F"], None), (["invert"], b" " * (model.MOST_INPUT + 1))]
+    (["invert", "q"], None),
+    ([], None),
+    (["solve", "drud-eofb", "3", "F"], None),
+    (["invert"], b" " * (model.MOST_INPUT + 1)),
+]
 LONG: list[Run] = [
-    (["near", "eofb", "3", "1", "F"], None), (["scramble", "1", "2", "256", "900"], None), (["invert"], b"R U F\n" * 40000),
-    (["solve", "eofb", "4"], b"F B\nR L\n" * 9000)]
+    (["near", "eofb", "3", "1", "F"], None),
+    (["scramble", "1", "2", "256", "900"], None),
+    (["invert"], b"R U F\n" * 40000),
+    (["solve", "eofb", "4"], b"F B\nR L\n" * 9000),
+]
 ENDLESS_MEMORY = 12_000
 
 
@@ -36,13 +56,16 @@ def pipes(trial: Trial, draw: Drawing, count: int) -> None:
     """A few bytes at a time."""
     for _ in range(count):
         give, take = draw.choice([1, 2, 3, 7, 100, 1000, 4095, 4096, 4097, 8192]), draw.choice([1, 3, 10, 100, 5000])
-        data = lines(draw, draw.randrange(1, 30 if min(give, take) < 100 else 1200), 8) + draw.choice([b"", b"\n", b"\nq\nR", b"\n(R"])
+        data = lines(draw, draw.randrange(1, 30 if min(give, take) < 100 else 1200), 8) + draw.choice(
+            [b"", b"\n", b"\nq\nR", b"\n(R"]
+        )
         words = [draw.choice(model.REWRITES)] if draw.random() < 0.8 else ["solve", draw.choice(["eofb", "eo"]), "4"]
         delay = draw.choice([0, 0, 0.001, 0.01])
 
         def pause() -> None:
             if delay and draw.random() < 0.2:
                 time.sleep(delay)
+
         got = Trickle(trial, words, data, give, take).run(pause)
         trial.check("pipes, a few bytes at a time", words, data, got, model.run(words, data))
 
@@ -65,8 +88,11 @@ def full_devices(trial: Trial) -> None:
     for words, data in FAULTY:
         _, fault, status = model.run(words, data or b"")
         odd: list[tuple[str, dict[str, Any], bytes]] = [
-            ("faults, all full", {"stdout": full, "stderr": full}, b""), ("faults, output full", {"stdout": full}, fault),
-            ("faults, standard error full", {"stderr": full}, b""), ("faults, standard error closed", {"closed": [2]}, b"")]
+            ("faults, all full", {"stdout": full, "stderr": full}, b""),
+            ("faults, output full", {"stdout": full}, fault),
+            ("faults, standard error full", {"stderr": full}, b""),
+            ("faults, standard error closed", {"closed": [2]}, b""),
+        ]
         for kind, streams, wanted in odd:
             trial.check(kind, words, data, run_with(trial, words, data, **streams), (b"", wanted, status))
     os.close(full)
@@ -75,10 +101,12 @@ def full_devices(trial: Trial) -> None:
 
 def odd_devices(trial: Trial) -> None:
     """A folder and devices as the input."""
+
     def with_input(kind: str, words: list[str], name: str, expected: Answer) -> None:
         stream = os.open(name, os.O_RDONLY)
         trial.check(kind, words, b"", run_with(trial, words, stdin=stream), expected)
         os.close(stream)
+
     for words in (["invert"], ["print"], ["solve", "eofb", "3"], ["count", "drud-eofb", "3"]):
         with_input("a folder as input", words, trial.room.name, (b"", CANNOT_READ, 3))
     for words in (["steps"], ["scramble", "1", "2", "3", "4"], ["invert", "R"], ["solve", "eofb", "3", "F"]):
@@ -92,11 +120,15 @@ def closed_streams(trial: Trial) -> None:
     """Streams that are closed, or open the other way."""
     unreadable, unwritable = os.open("/dev/null", os.O_WRONLY), os.open("/dev/null", os.O_RDONLY)
     cases: list[tuple[list[str], dict[str, Any], Answer]] = [
-        (["invert"], {"closed": [0]}, (b"", CANNOT_READ, 3)), (["invert"], {"stdin": unreadable}, (b"", CANNOT_READ, 3)),
-        (["invert", "R"], {"closed": [1]}, (b"", CANNOT_WRITE, 3)), (["invert", "R"], {"stdout": unwritable}, (b"", CANNOT_WRITE, 3)),
+        (["invert"], {"closed": [0]}, (b"", CANNOT_READ, 3)),
+        (["invert"], {"stdin": unreadable}, (b"", CANNOT_READ, 3)),
+        (["invert", "R"], {"closed": [1]}, (b"", CANNOT_WRITE, 3)),
+        (["invert", "R"], {"stdout": unwritable}, (b"", CANNOT_WRITE, 3)),
         (["solve", "eofb", "5", "F B"], {"closed": [1]}, (b"", CANNOT_WRITE, 3)),
         (["steps"], {"closed": [0, 1]}, (b"", CANNOT_WRITE, 3)),
-        (["invert"], {"closed": [0, 1, 2]}, (b"", b"", 3)), (["invert", "q"], {"closed": [0, 1, 2]}, (b"", b"", 1))]
+        (["invert"], {"closed": [0, 1, 2]}, (b"", b"", 3)),
+        (["invert", "q"], {"closed": [0, 1, 2]}, (b"", b"", 1)),
+    ]
     for words, options, expected in cases:
         trial.check("closed streams", words, b"", run_with(trial, words, **options), expected)
     os.close(unreadable)
@@ -131,17 +163,21 @@ def gone_readers(trial: Trial, draw: Drawing, count: int) -> None:
             output += piece
         os.close(reading)
         got = (output,) + ended(process)
-        expected = (whole[:len(output)], CANNOT_WRITE, 3)
+        expected = (whole[: len(output)], CANNOT_WRITE, 3)
         # what fits into the pipe is written before the reader goes
-        if len(whole) <= 4096 + take and got == (whole[:len(output)], b"", 0):
+        if len(whole) <= 4096 + take and got == (whole[: len(output)], b"", 0):
             expected = got
         trial.check("a reader that goes away", words + [str(take)], data, got, expected)
 
 
 def file_limits(trial: Trial, draw: Drawing, count: int) -> None:
     """A file that may not grow further: a short write, then a refused one."""
-    commands = [(["scramble", "1", "2", "50", "300"], None), (["invert"], b"R U F\n" * 3000), (["solve", "eofb", "5", "F B"], None),
-                (["print"], b"R U F\nM\n" * 100)]
+    commands = [
+        (["scramble", "1", "2", "50", "300"], None),
+        (["invert"], b"R U F\n" * 3000),
+        (["solve", "eofb", "5", "F B"], None),
+        (["print"], b"R U F\nM\n" * 100),
+    ]
     for _ in range(count):
         words, data = draw.choice(commands)
         whole = model.run(words, data or b"")[0]
@@ -150,6 +186,7 @@ def file_limits(trial: Trial, draw: Drawing, count: int) -> None:
         def cut() -> None:
             signal.signal(signal.SIGXFSZ, signal.SIG_IGN)
             resource.setrlimit(resource.RLIMIT_FSIZE, (size, size))
+
         with open(trial.path("output"), "wb") as file:
             _, fault, status = run_with(trial, words, data, before=cut, stdout=file)
         with open(trial.path("output"), "rb") as written:
@@ -173,13 +210,20 @@ def endless_output(trial: Trial) -> None:
         with open("/proc/%d/status" % process.pid, encoding="ascii", errors="replace") as file:
             peak = re.search(r"VmHWM:\s+(\d+)", file.read())
         os.close(reading)
-        got = (output[:len(beginning)],) + ended(process) + (peak is not None and int(peak[1]) < ENDLESS_MEMORY,)
-        trial.check("output without end", ["near", name, "20", "20", text], b"", got, (beginning, CANNOT_WRITE, 3, True))
+        got = (output[: len(beginning)],) + ended(process) + (peak is not None and int(peak[1]) < ENDLESS_MEMORY,)
+        trial.check(
+            "output without end", ["near", name, "20", "20", text], b"", got, (beginning, CANNOT_WRITE, 3, True)
+        )
 
 
 def endless_input(trial: Trial) -> None:
     """A writer that never ends is stopped by the limit."""
-    for text, words in ((b"y\n", ["invert"]), (b"R", ["invert"]), (b"\n", ["cleanup"]), (b"F\n", ["count", "eofb", "3"])):
+    for text, words in (
+        (b"y\n", ["invert"]),
+        (b"R", ["invert"]),
+        (b"\n", ["cleanup"]),
+        (b"F\n", ["count", "eofb", "3"]),
+    ):
         process = started(trial, words, stdin=subprocess.PIPE, stdout=subprocess.DEVNULL)
         assert process.stdin is not None
         piece, sent = text * (65536 // len(text)), 0
@@ -201,10 +245,15 @@ def not_ready(trial: Trial) -> None:
         os.set_blocking(reading, False)
         if data:
             os.write(writing, data)
-        trial.check("input that isn't ready", words, data, run_with(trial, words, stdin=reading), model.run(words, data, True))
+        trial.check(
+            "input that isn't ready", words, data, run_with(trial, words, stdin=reading), model.run(words, data, True)
+        )
         os.close(reading)
         os.close(writing)
-    for words, beginning in ((["scramble", "1", "2", "256", "100"],) * 2, (["near", "eofb", "4", "4", ""], ["near", "eofb", "3", "3", ""])):
+    for words, beginning in (
+        (["scramble", "1", "2", "256", "100"],) * 2,
+        (["near", "eofb", "4", "4", ""], ["near", "eofb", "3", "3", ""]),
+    ):
         whole = model.run(beginning)[0]
         reading, writing = small_pipe()
         os.set_blocking(writing, False)
@@ -212,7 +261,7 @@ def not_ready(trial: Trial) -> None:
         os.close(writing)
         output = read_all(reading)
         got = output, fault, status, 0 < len(output) < 10_000
-        trial.check("output that isn't ready", words, b"", got, (whole[:len(output)], CANNOT_WRITE, 3, True))
+        trial.check("output that isn't ready", words, b"", got, (whole[: len(output)], CANNOT_WRITE, 3, True))
 
 
 def silent_terminal() -> tuple[int, int]:
@@ -249,7 +298,9 @@ def line_by_line(trial: Trial) -> None:
             else:
                 os.close(writing)
             rest, fault = process.communicate(timeout=TIMEOUT)
-            trial.check("line by line, " + kind, words, b"", (got, rest, fault, process.returncode), (expected, b"", b"", 0))
+            trial.check(
+                "line by line, " + kind, words, b"", (got, rest, fault, process.returncode), (expected, b"", b"", 0)
+            )
             if kind == "terminal":
                 os.close(writing)
 
@@ -257,9 +308,14 @@ def line_by_line(trial: Trial) -> None:
 def odd_starts(trial: Trial) -> None:
     """An own name that is empty or alone, words that aren't UTF-8, and a small stack."""
     usage = (b"", model.USAGE, 2)
-    for own_words, expected in (([b"", b"invert", b"R"], (b"R'\n", b"", 0)), ([b"nissy"], usage), ([b"nissy", b"invert", b"R\xff"], usage),
-                            ([b"nissy", b"\xe2\x80"], usage), ([b"nissy", b"unniss", b"R\xe2\x80", b"U"], usage),
-                            ([b"nissy", b"solve", b"eofb", b"\xb2", b"F"], usage)):
+    for own_words, expected in (
+        ([b"", b"invert", b"R"], (b"R'\n", b"", 0)),
+        ([b"nissy"], usage),
+        ([b"nissy", b"invert", b"R\xff"], usage),
+        ([b"nissy", b"\xe2\x80"], usage),
+        ([b"nissy", b"unniss", b"R\xe2\x80", b"U"], usage),
+        ([b"nissy", b"solve", b"eofb", b"\xb2", b"F"], usage),
+    ):
         got = ran(own_words, executable=trial.program, stdin=subprocess.DEVNULL)
         trial.check("odd starts", [str(word) for word in own_words], b"", got, expected)
     words = ["near", "eofb", "20", "0", "F B R U F"]

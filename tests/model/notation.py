@@ -7,8 +7,15 @@ from cube import Effect, Move, effect_of, inverse_effect, rotation_of, then
 MOST_MOVES = 256
 
 EXPANSION = {
-    "Rw": ["L", "x"], "Lw": ["R", "x'"], "Uw": ["D", "y"], "Dw": ["U", "y'"], "Fw": ["B", "z"], "Bw": ["F", "z'"],
-    "M": ["R", "L'", "x'"], "E": ["U", "D'", "y'"], "S": ["F'", "B", "z"],
+    "Rw": ["L", "x"],
+    "Lw": ["R", "x'"],
+    "Uw": ["D", "y"],
+    "Dw": ["U", "y'"],
+    "Fw": ["B", "z"],
+    "Bw": ["F", "z'"],
+    "M": ["R", "L'", "x'"],
+    "E": ["U", "D'", "y'"],
+    "S": ["F'", "B", "z"],
 }
 # After a rotation the letter of a face stands for another face of the cube as it was held before.
 RENAMED = {"x": dict(zip("UFDBRL", "FDBURL")), "y": dict(zip("UFDBRL", "URDLBF")), "z": dict(zip("UFDBRL", "LFRBUD"))}
@@ -67,9 +74,9 @@ def clean(faces: list[Move]) -> list[Move]:
             continue
         if last[0] == turn[0]:
             quarters = (last[1] + turn[1]) % 4
-            faces[at:at + 2] = [(last[0], quarters)] if quarters else []
+            faces[at : at + 2] = [(last[0], quarters)] if quarters else []
         else:
-            faces[at:at + 2] = [turn, last]
+            faces[at : at + 2] = [turn, last]
         at = max(at - 1, 0)
     return faces
 

@@ -44,7 +44,9 @@ def kind_of(cell: Vector) -> int:
 
 def twist_set(axis: int) -> Places:
     """The corner stickers on the two faces of an axis."""
-    return frozenset(number for number, (cell, direction) in enumerate(PLACES) if kind_of(cell) == 3 and direction[axis])
+    return frozenset(
+        number for number, (cell, direction) in enumerate(PLACES) if kind_of(cell) == 3 and direction[axis]
+    )
 
 
 def slice_set(axis: int) -> Places:
@@ -55,8 +57,11 @@ def slice_set(axis: int) -> Places:
 def flip_set(axis: int) -> Places:
     """One sticker of each edge, such that turns other than quarter turns on the axis keep the set."""
     other = 0 if axis == 1 else 1
-    return frozenset(number for number, (cell, direction) in enumerate(PLACES)
-                     if kind_of(cell) == 2 and (direction[other] or (cell[other] == 0 and direction[axis])))
+    return frozenset(
+        number
+        for number, (cell, direction) in enumerate(PLACES)
+        if kind_of(cell) == 2 and (direction[other] or (cell[other] == 0 and direction[axis]))
+    )
 
 
 TURNS_OF = {"all": TURNS}
@@ -146,7 +151,9 @@ class Domino:
     def __init__(self, axis: str, turns: str) -> None:
         self.turns = [TURNS.index(turn) for turn in TURNS_OF[turns]]
         self.twist, self.slice = coordinate("twist", axis), coordinate("slice", axis)
-        self.tables = [([twist * SLICES for twist in self.twist.after[index]], self.slice.after[index]) for index in self.turns]
+        self.tables = [
+            ([twist * SLICES for twist in self.twist.after[index]], self.slice.after[index]) for index in self.turns
+        ]
         self.deepest = Bounds.depth
         self.distance = self.cached("domino-%s-%s-%d" % (axis, turns, self.deepest))
 

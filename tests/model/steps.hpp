@@ -82,7 +82,8 @@ std::array<Cube, 18> all_turns() {
 
 const std::array<Cube, 18> TURN = all_turns();
 
-// A step in the frame of its own axes: which turn of the frame each turn is, so that the orientation is seen by F and B, and the reduction by U and D.
+// A step in the frame of its own axes: which turn of the frame each turn is, so that the orientation is seen by F and B, and the reduction by U and
+// D.
 struct Step {
     int edges, axis; // of the orientation; of the reduction, or -1
     std::array<int, 18> framed;
@@ -114,7 +115,9 @@ Step step_of(int edges, int axis) {
 bool is_oriented(const Cube &cube) {
     return std::all_of(cube.flip.begin(), cube.flip.end(), [](int flip) { return flip == 0; });
 }
-int bad_corners(const Cube &cube) { return int(std::count_if(cube.twist.begin(), cube.twist.end(), [](int twist) { return twist != 0; })); }
+int bad_corners(const Cube &cube) {
+    return int(std::count_if(cube.twist.begin(), cube.twist.end(), [](int twist) { return twist != 0; }));
+}
 int misplaced_edges(const Cube &cube) {
     return 2 * int(std::count_if(cube.edge.begin(), cube.edge.begin() + 8, [](int piece) { return piece >= 8; }));
 }

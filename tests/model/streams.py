@@ -29,14 +29,22 @@ def started(trial: Trial, words: list[str], **streams: Any) -> Process:
     return Process([trial.program] + words, bufsize=0, **chosen)
 
 
-def run_with(trial: Trial, words: list[str], data: bytes | None = None, closed: Iterable[int] = (),
-             before: Callable[[], object] | None = None, **streams: Any) -> Answer:
+def run_with(
+    trial: Trial,
+    words: list[str],
+    data: bytes | None = None,
+    closed: Iterable[int] = (),
+    before: Callable[[], object] | None = None,
+    **streams: Any
+) -> Answer:
     """Output, text of faults and status with the streams given, some closed, and something done before the program begins."""
+
     def prepare() -> None:
         if before:
             before()
         for stream in closed:
             os.close(stream)
+
     if data is not None:
         streams["stdin"] = subprocess.PIPE
     process = started(trial, words, preexec_fn=prepare, **streams)
@@ -102,7 +110,7 @@ class Trickle:
             self.giving = False
             return
         try:
-            self.sent += os.write(self.input.fileno(), self.data[self.sent:self.sent + self.give])
+            self.sent += os.write(self.input.fileno(), self.data[self.sent : self.sent + self.give])
         except BlockingIOError:
             pass
         except BrokenPipeError:

@@ -130,7 +130,10 @@ class Trial:
         """Shows the counts and, as the last line, how many kinds passed and failed, as one does that was left out wholly; the status."""
         failed = [kind for kind in self.counts if self.differences[kind] or not self.counts[kind]]
         for kind in sorted(self.counts):
-            print("%7d runs: %s%s" % (self.counts[kind], kind, ", %d DIFFERENT" % self.differences[kind] if self.differences[kind] else ""))
+            print(
+                "%7d runs: %s%s"
+                % (self.counts[kind], kind, ", %d DIFFERENT" % self.differences[kind] if self.differences[kind] else "")
+            )
         left_out = ", %d left out, too large for the model" % self.skipped if self.skipped else ""
         print("%d runs in %.0f s%s" % (sum(self.counts.values()), time.time() - self.began, left_out))
         print("%d passed, %d failed" % (len(self.counts) - len(failed), len(failed)))

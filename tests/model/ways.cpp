@@ -26,7 +26,9 @@ struct Pair {
     int length() const { return int(normal.size() + inverse.size()); }
 };
 
-bool may_follow(int last, int turn) { return last < 0 || (face_of(last) != face_of(turn) && !(axis_of(last) == axis_of(turn) && face_of(turn) < face_of(last))); }
+bool may_follow(int last, int turn) {
+    return last < 0 || (face_of(last) != face_of(turn) && !(axis_of(last) == axis_of(turn) && face_of(turn) < face_of(last)));
+}
 
 Cube after_normal(const Step &step, Cube cube, const Turns &turns) {
     for (int turn : turns) cube = then(cube, TURN[step.framed[turn]]);
@@ -329,7 +331,8 @@ std::vector<Row> reduced(const Question &question, const std::vector<int> &held)
             const Cube start = after_normal(step, solved(), question.cube);
             for (const Pair &pair : solutions(step, start, question.slack)) {
                 if (!stands(pair, step.last_axis())) continue;
-                const bool is_earlier = std::any_of(held.begin(), held.begin() + long(at), [&](int edges) { return keeps(pair.normal, edges) && keeps(pair.inverse, edges); });
+                const bool is_earlier = std::any_of(held.begin(), held.begin() + long(at),
+                                                    [&](int edges) { return keeps(pair.normal, edges) && keeps(pair.inverse, edges); });
                 if (is_earlier) continue;
                 Row best{NO_TOTAL, pair.length(), bad_corners(start), misplaced_edges(start), held[at], axis, {}, {}};
                 for (const Pair &dr : members(pair, step.last_axis())) {
@@ -370,7 +373,8 @@ Turns read(const std::string &text) {
 }
 std::string written(const Turns &turns) {
     std::string text;
-    for (int turn : turns) text += std::string(text.empty() ? "" : " ") + FACES[size_t(face_of(turn))] + (turn % 3 == 1 ? "2" : turn % 3 == 2 ? "'" : "");
+    for (int turn : turns)
+        text += std::string(text.empty() ? "" : " ") + FACES[size_t(face_of(turn))] + (turn % 3 == 1 ? "2" : turn % 3 == 2 ? "'" : "");
     return text;
 }
 
@@ -386,8 +390,9 @@ int main() {
         size_t number = 0;
         for (const Row &row : rows_of(question)) {
             if (number++ == question.rows || row.total > question.total) break;
-            std::cout << row.total << ' ' << row.length << ' ' << row.corners << ' ' << row.edges << ' ' << names[size_t(row.axis)] << ' ' << names[size_t(row.reduction)]
-                      << " | " << written(row.eo.normal) << " | " << written(row.eo.inverse) << " | " << written(row.dr.normal) << " | " << written(row.dr.inverse) << '\n';
+            std::cout << row.total << ' ' << row.length << ' ' << row.corners << ' ' << row.edges << ' ' << names[size_t(row.axis)] << ' '
+                      << names[size_t(row.reduction)] << " | " << written(row.eo.normal) << " | " << written(row.eo.inverse) << " | "
+                      << written(row.dr.normal) << " | " << written(row.dr.inverse) << '\n';
         }
         std::cout << std::endl;
     }

@@ -11,11 +11,15 @@ from instructions import COMPARISONS, LOADS, STORES, Tried, on_memory
 LOCALS = "(local i64 i64 i32 i32 i32 i32 i32 i64)"
 COUNTERS = ("6", "7", "8")
 SIZE = "(i64.const 64)"
-FUNCTION = (f"{LOCALS} (global.set 0 (local.tee 9 (i64.sub (global.get 0) {SIZE})))"
-            f" (memory.fill (local.get 9) (i32.const 7) {SIZE}) {{statement}} {{more}} {{i64}}"
-            f" (global.set 0 (i64.add (local.get 9) {SIZE}))")
-LOOP = ("(local.set COUNTER (i32.const 0)) (loop {statement}"
-        " (br_if 0 (i32.lt_u (local.tee COUNTER (i32.add (local.get COUNTER) (i32.const 1))) (i32.const {round}))))")
+FUNCTION = (
+    f"{LOCALS} (global.set 0 (local.tee 9 (i64.sub (global.get 0) {SIZE})))"
+    f" (memory.fill (local.get 9) (i32.const 7) {SIZE}) {{statement}} {{more}} {{i64}}"
+    f" (global.set 0 (i64.add (local.get 9) {SIZE}))"
+)
+LOOP = (
+    "(local.set COUNTER (i32.const 0)) (loop {statement}"
+    " (br_if 0 (i32.lt_u (local.tee COUNTER (i32.add (local.get COUNTER) (i32.const 1))) (i32.const {round}))))"
+)
 EDGES = (0, 1, -1, 2, 7, 31, 32, 63, 64, 127, 128, 255, 256, 4095, 4096, 32767, 65535, 2**31 - 1, -(2**31))
 MOST_DEPTH = 4
 # a value of the kind K, at any depth: a literal, or a local
@@ -23,22 +27,39 @@ VALUES = ["(K.const {K number})", "(local.get {K local})"]
 # one that holds others: calculated, divided by a number above 0, chosen, kept in a local, of a block that may be left
 # early, read from memory
 WHOLE_VALUES = [
-    "(K.{plain} {K} {K})", "(K.{plain} {K} {K})", "(K.{divide} {K} (K.or (K.and {K} (K.const 32767)) (K.const 1)))",
-    "(K.{count} {K})", "(select {K} {K} {i32})", "(local.tee {K local} {K})",
+    "(K.{plain} {K} {K})",
+    "(K.{plain} {K} {K})",
+    "(K.{divide} {K} (K.or (K.and {K} (K.const 32767)) (K.const 1)))",
+    "(K.{count} {K})",
+    "(select {K} {K} {i32})",
+    "(local.tee {K local} {K})",
     "(if (result K) {i32} (then {statement} {K}) (else {K}))",
     "(block (result K) (br_if 0 {K} {i32}) (drop) {statement} {K})",
-    "(K.{K load} {place})", "(K.{K load} offset=@BEGIN (i64.and {i64} (i64.const 7)))",
+    "(K.{K load} {place})",
+    "(K.{K load} offset=@BEGIN (i64.and {i64} (i64.const 7)))",
 ]
 # of one kind alone: compared, of another width, or of a call
 OF_KIND = {
-    "i32": ["(i32.{compare} {i32} {i32})", "(i64.{compare} {i64} {i64})", "(i32.eqz {i32})", "(i64.eqz {i64})",
-            "(i32.wrap_i64 {i64})", "(i32.wrap_i64 {call})"],
+    "i32": [
+        "(i32.{compare} {i32} {i32})",
+        "(i64.{compare} {i64} {i64})",
+        "(i32.eqz {i32})",
+        "(i64.eqz {i64})",
+        "(i32.wrap_i64 {i64})",
+        "(i32.wrap_i64 {call})",
+    ],
     "i64": ["(i64.extend_i32_s {i32})", "(i64.extend_i32_u {i32})", "(i64.extend32_s {i64})", "{call}"],
 }
-STATEMENTS = ["(local.set {i32 local} {i32})", "(local.set {i64 local} {i64})", "(i32.{i32 store} {place} {i32})",
-              "(i64.{i64 store} {place} {i64})"]
+STATEMENTS = [
+    "(local.set {i32 local} {i32})",
+    "(local.set {i64 local} {i64})",
+    "(i32.{i32 store} {place} {i32})",
+    "(i64.{i64 store} {place} {i64})",
+]
 WHOLE_STATEMENTS = [
-    "(if {i32} (then {statement}))", "(if {i32} (then {statement}) (else {statement}))", "{loop}",
+    "(if {i32} (then {statement}))",
+    "(if {i32} (then {statement}) (else {statement}))",
+    "{loop}",
     "(memory.fill {bytes} {i32} {few})",
     "(block (block {statement} (block (br_table {labels} {i32})) {statement}) {statement})",
     "(memory.copy {bytes} (i64.add (local.get {address}) (i64.const {offset})) {few})",
@@ -46,12 +67,20 @@ WHOLE_STATEMENTS = [
 RULES = {
     # an address with an offset, within the memory or the stack; bytes of the memory, and how many
     "place": ["offset={offset} (i64.add (local.get {address}) (i64.and {i64} (i64.const 15)))"],
-    "bytes": ["(i64.add (local.get 0) {few})"], "few": ["(i64.and {i64} (i64.const 15))"],
-    "address": ["0", "9"], "offset": list("01234567"), "round": list("1234"),
-    "i64 local": list("123"), "i32 local": list("45"),
-    "labels": [" ".join(["{label}"] * count) for count in range(1, 6)], "label": list("012"), "compare": COMPARISONS,
-    "plain": "add sub mul and or xor shl shr_s shr_u rotl rotr".split(), "divide": "div_s div_u rem_s rem_u".split(),
-    "count": "clz ctz popcnt extend8_s extend16_s".split(), **{f"{kind} load": LOADS[kind] for kind in LOADS},
+    "bytes": ["(i64.add (local.get 0) {few})"],
+    "few": ["(i64.and {i64} (i64.const 15))"],
+    "address": ["0", "9"],
+    "offset": list("01234567"),
+    "round": list("1234"),
+    "i64 local": list("123"),
+    "i32 local": list("45"),
+    "labels": [" ".join(["{label}"] * count) for count in range(1, 6)],
+    "label": list("012"),
+    "compare": COMPARISONS,
+    "plain": "add sub mul and or xor shl shr_s shr_u rotl rotr".split(),
+    "divide": "div_s div_u rem_s rem_u".split(),
+    "count": "clz ctz popcnt extend8_s extend16_s".split(),
+    **{f"{kind} load": LOADS[kind] for kind in LOADS},
     **{f"{kind} store": STORES[kind] for kind in STORES},
 }
 

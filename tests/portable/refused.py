@@ -31,34 +31,57 @@ REFUSED = {
     "constants that aren't moved as the stack is": "(memory i64 1) (global (mut i64) (i64.const 7))",
     "f: a local that is no whole number": MEMORY + '(func $f (export "f") (local f32))',
     "f: a number with a fraction: the instruction 0x44": MEMORY + '(func $f (export "f") (drop (f64.const 1)))',
-    "f: a number with a fraction: the instruction 0x2b": MEMORY + '(func $f (export "f") (drop (f64.load (i64.const 0))))',
+    "f: a number with a fraction: the instruction 0x2b": MEMORY
+    + '(func $f (export "f") (drop (f64.load (i64.const 0))))',
     "f: a vector: the instruction 0xfd": MEMORY + '(func $f (export "f") (drop (v128.const i64x2 1 2)))',
-    "f: memory that threads share: the instruction 0xfe": MEMORY + '(func $f (export "f") (drop (i32.atomic.load (i64.const 0))))',
-    "f: a memory that grows: the instruction 0x40": MEMORY + '(func $f (export "f") (drop (memory.grow (i64.const 1))))',
+    "f: memory that threads share: the instruction 0xfe": MEMORY
+    + '(func $f (export "f") (drop (i32.atomic.load (i64.const 0))))',
+    "f: a memory that grows: the instruction 0x40": MEMORY
+    + '(func $f (export "f") (drop (memory.grow (i64.const 1))))',
     "f: the size of a memory of its own: the instruction 0x3f": MEMORY + '(func $f (export "f") (drop (memory.size)))',
-    "f: a call by a table: the instruction 0x11": MEMORY + '(table 1 funcref) (func $f (export "f") (call_indirect (i32.const 0)))',
+    "f: a call by a table: the instruction 0x11": MEMORY
+    + '(table 1 funcref) (func $f (export "f") (call_indirect (i32.const 0)))',
     "f: a call in the place of the caller: the instruction 0x12": MEMORY + '(func $f (export "f") (return_call $f))',
-    "f: a table: the instruction 0x25": MEMORY + '(table 1 funcref) (func $f (export "f") (drop (table.get 0 (i32.const 0))))',
-    "f: constants that are copied or dropped: the instruction 0xfc09": MEMORY + '(data (i64.const @BEGIN) "a") (func $f (export "f") (data.drop 0))',
+    "f: a table: the instruction 0x25": MEMORY
+    + '(table 1 funcref) (func $f (export "f") (drop (table.get 0 (i32.const 0))))',
+    "f: constants that are copied or dropped: the instruction 0xfc09": MEMORY
+    + '(data (i64.const @BEGIN) "a") (func $f (export "f") (data.drop 0))',
     "f: an exception: the instruction 0x8": MEMORY + '(tag) (func $f (export "f") (throw 0))',
-    "f: state that stays between calls: global 1": MEMORY + '(global (mut i32) (i32.const 0)) (func $f (export "f") (global.set 1 (i32.const 1)))',
-    "f: a constant that changes": MEMORY + '(data (i64.const @BEGIN) "abcd") (func $f (export "f") (i32.store (i64.const @BEGIN) (i32.const 1)))',
-    "f: a number that isn't moved as the constants are": MEMORY + '(data (i64.const @BEGIN) "a") (func $f (export "f") (drop (i64.const @OTHER)))',
-    "f: an address of 32 bits": MEMORY + '(data (i64.const @BEGIN) "a") (func $f (export "f") (drop (i32.const @BEGIN)))',
+    "f: state that stays between calls: global 1": MEMORY
+    + '(global (mut i32) (i32.const 0)) (func $f (export "f") (global.set 1 (i32.const 1)))',
+    "f: a constant that changes": MEMORY
+    + '(data (i64.const @BEGIN) "abcd") (func $f (export "f") (i32.store (i64.const @BEGIN) (i32.const 1)))',
+    "f: a number that isn't moved as the constants are": MEMORY
+    + '(data (i64.const @BEGIN) "a") (func $f (export "f") (drop (i64.const @OTHER)))',
+    "f: an address of 32 bits": MEMORY
+    + '(data (i64.const @BEGIN) "a") (func $f (export "f") (drop (i32.const @BEGIN)))',
     "f: two modules that differ in more than the addresses of constants": MEMORY + '(func $f (export "f") @FLIP)',
     "constants that aren't moved as they should be": MEMORY + '(data (i64.const @BEGIN) "@LETTER")',
-    "f: a stack pointer that is moved to a place that isn't known": MEMORY + '(func $f (export "f") (param i64) (global.set 0 (local.get 0)))',
-    "f: a stack pointer that is read when it was moved": MEMORY + '(func $f (export "f") (global.set 0 (i64.sub (global.get 0) (i64.const 16)))'
-                                                                 " (drop (global.get 0)))",
+    "f: a stack pointer that is moved to a place that isn't known": MEMORY
+    + '(func $f (export "f") (param i64) (global.set 0 (local.get 0)))',
+    "f: a stack pointer that is read when it was moved": MEMORY
+    + '(func $f (export "f") (global.set 0 (i64.sub (global.get 0) (i64.const 16)))'
+    " (drop (global.get 0)))",
     "functions that call themselves, no one knows how deep: f": MEMORY + '(func $f (export "f") (call $f))',
 }
-FLAGS = ["--enable-memory64", "--enable-multi-memory", "--enable-threads", "--enable-tail-call", "--enable-exceptions", "--debug-names"]
+FLAGS = [
+    "--enable-memory64",
+    "--enable-multi-memory",
+    "--enable-threads",
+    "--enable-tail-call",
+    "--enable-exceptions",
+    "--debug-names",
+]
 HEADER = "typedef struct answer {\n    uint8_t status;\n    uint64_t length; /* a comment */\n} answer;\nanswer nissy_one(const uint8_t *line, size_t length);\n"
 
 
 def module(text: str, begin: int, room: Path) -> bytes:
     """Returns the module of a text with its constants at a place."""
-    turned = {"@BEGIN": str(begin), "@OTHER": str(2 * begin), "@FLIP": "(drop (i32.const 1))" if begin == 16 else "(nop)"}
+    turned = {
+        "@BEGIN": str(begin),
+        "@OTHER": str(2 * begin),
+        "@FLIP": "(drop (i32.const 1))" if begin == 16 else "(nop)",
+    }
     turned["@LETTER"] = "a" if begin == 16 else "b"
     for old, new in turned.items():
         text = text.replace(old, new)
@@ -93,12 +116,20 @@ def main() -> None:
         room = Path(folder)
         for wanted, text in REFUSED.items():
             tally.equal("why a module is refused", why_refused(module(text, 16, room), module(text, 64, room)), wanted)
-        whole = module(MEMORY + '(func $f (export "f") (param i32) (drop (i32.add (local.get 0) (i32.const 9))))', 16, room)
-        tally.equal("why the same one twice is", why_refused(whole, whole), "constants that aren't moved as the stack is")
+        whole = module(
+            MEMORY + '(func $f (export "f") (param i32) (drop (i32.add (local.get 0) (i32.const 9))))', 16, room
+        )
+        tally.equal(
+            "why the same one twice is", why_refused(whole, whole), "constants that aren't moved as the stack is"
+        )
         # 8 bytes say that it is a module, and a section that is whole may be the last one
         cut = {why_refused(whole[:length], whole) for length in range(len(whole))} - {""}
-        known = {"a module that is cut off", "a file that is no WebAssembly module", "a first global that is no stack pointer",
-                 "constants that aren't moved as the stack is"}
+        known = {
+            "a module that is cut off",
+            "a file that is no WebAssembly module",
+            "a first global that is no stack pointer",
+            "constants that aren't moved as the stack is",
+        }
         tally.equal("why one that was cut is", cut - known, set())
         tally.holds("one that was cut is refused as such", "a module that is cut off" in cut)
         right = "(param i64 i64 i64)"
@@ -106,11 +137,21 @@ def main() -> None:
         unlike = "nissy_one has not the same parameters in the header and in the module"
         tally.equal("one with other parameters", why_uncalled(HEADER, room, "(param i64 i64)"), unlike)
         more = HEADER + "uint8_t nissy_two(void);\n"
-        tally.equal("one that the module hasn't", why_uncalled(more, room, right), "calls of the header that the module hasn't: nissy_two")
+        tally.equal(
+            "one that the module hasn't",
+            why_uncalled(more, room, right),
+            "calls of the header that the module hasn't: nissy_two",
+        )
         pointer = HEADER + "const char *nissy_text(void);\n"
-        tally.equal("one that returns a pointer", why_uncalled(pointer, room, right), "calls that aren't declared in one form with the others: nissy_text")
+        tally.equal(
+            "one that returns a pointer",
+            why_uncalled(pointer, room, right),
+            "calls that aren't declared in one form with the others: nissy_text",
+        )
         two = HEADER.replace("uint8_t status;", "uint8_t status, fault;")
-        tally.equal("two fields in one", why_uncalled(two, room, right), "a field of another form: uint8_t status, fault;")
+        tally.equal(
+            "two fields in one", why_uncalled(two, room, right), "a field of another form: uint8_t status, fault;"
+        )
         hand = HEADER.replace("const uint8_t *line", "struct other *line")
         why = "nissy_one takes struct other *line: such a call is written by hand, in portable/calls.c"
         tally.equal("one that takes something else", why_uncalled(hand, room, right), why)

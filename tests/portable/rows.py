@@ -29,7 +29,15 @@ TRAPS = ("i32_div_s", "i64_div_u", "i32_rem_u", "i64_rem_s", "never")
 
 def compiled(compiler: Compiler, room: Path) -> str:
     """Compiles the program, and returns what the compiler says against it."""
-    words = [*compiler.words, "-Wno-unused-function", "-Wno-unused-label", f"-I{room}", str(room / "driver.c"), "-o", str(room / compiler.name)]
+    words = [
+        *compiler.words,
+        "-Wno-unused-function",
+        "-Wno-unused-label",
+        f"-I{room}",
+        str(room / "driver.c"),
+        "-o",
+        str(room / compiler.name),
+    ]
     ran = subprocess.run(words, stdout=subprocess.PIPE, stderr=subprocess.STDOUT, text=True, check=False)
     return ran.stdout if ran.returncode else ""
 
@@ -81,7 +89,9 @@ def main() -> None:
         here = [it for it in COMPILERS if shutil.which(it.words[0]) and it.can_run()]
         for name in sorted({it.name for it in COMPILERS} - {it.name for it in here}):
             print(f"skipped: the small modules by {name}, which isn't here")
-        for compiler, wrong in zip(here, side_by_side(tally, 4, lambda it: try_by(it, room, functions, calls, wanted), here)):
+        for compiler, wrong in zip(
+            here, side_by_side(tally, 4, lambda it: try_by(it, room, functions, calls, wanted), here)
+        ):
             tally.holds(f"{compiler.name}, {len(calls)} calls of {len(functions)} functions: {wrong}", not wrong)
         try_traps(tally, room, functions, [row for row, it in zip(rows, said) if it == "trap"])
     tally.end()

@@ -14,7 +14,21 @@ BEGINS = (65536, 131072)
 POINTER_AT = 16
 STACK_BYTES = 4096
 LEVELS = {"deep": 16}
-EDGES = (0, 1, 3, 31, 33, 63, 255, 0x80000000, 0xFFFFFFFF, 0x123456789ABCDEF0, 0x8000000000000000, 0xFFFFFFFFFFFFFFFF, 0xDEADBEEFCAFEBABE)
+EDGES = (
+    0,
+    1,
+    3,
+    31,
+    33,
+    63,
+    255,
+    0x80000000,
+    0xFFFFFFFF,
+    0x123456789ABCDEF0,
+    0x8000000000000000,
+    0xFFFFFFFFFFFFFFFF,
+    0xDEADBEEFCAFEBABE,
+)
 MASK = (1 << 64) - 1
 # Translates by the tools of a folder, so that a wrong copy of them can be tried.
 TRANSLATE = """
@@ -89,7 +103,11 @@ def node_words() -> list[str]:
 def module_text(functions: list[Tried], begin: int) -> str:
     """Returns a module with its constants at a place, as wat2wasm reads it."""
     data = bytes(range(100, 100 + POINTER_AT)) + struct.pack("<Q", begin + 5) + b"\x80\xff\x7f"
-    text = "\n".join(it.text() for it in functions).replace("@BEGIN", str(begin)).replace("@POINTER", str(begin + POINTER_AT))
+    text = (
+        "\n".join(it.text() for it in functions)
+        .replace("@BEGIN", str(begin))
+        .replace("@POINTER", str(begin + POINTER_AT))
+    )
     told = "".join(f"\\{byte:02x}" for byte in data)
     return f'(module (memory (export "memory") i64 4) (global (mut i64) (i64.const {begin})) (data (i64.const {begin}) "{told}")\n{text})\n'
 
@@ -100,19 +118,33 @@ def make_modules(functions: list[Tried], room: Path) -> list[Path]:
     for begin in BEGINS:
         (room / f"{begin}.wat").write_text(module_text(functions, begin))
         made.append(room / f"{begin}.wasm")
-        subprocess.run(["wat2wasm", "--enable-memory64", "--debug-names", room / f"{begin}.wat", "-o", made[-1]], check=True)
+        subprocess.run(
+            ["wat2wasm", "--enable-memory64", "--debug-names", room / f"{begin}.wat", "-o", made[-1]], check=True
+        )
     return made
 
 
 def translate(modules: list[Path], tools: Path, made: Path) -> subprocess.CompletedProcess[str]:
     """Translates two modules by the tools of a folder."""
-    words = [sys.executable, "-c", TRANSLATE, str(tools), *map(str, modules), str(made), *(f"{name}={level}" for name, level in LEVELS.items())]
+    words = [
+        sys.executable,
+        "-c",
+        TRANSLATE,
+        str(tools),
+        *map(str, modules),
+        str(made),
+        *(f"{name}={level}" for name, level in LEVELS.items()),
+    ]
     return subprocess.run(words, stdout=subprocess.PIPE, stderr=subprocess.STDOUT, text=True, check=False)
 
 
 def call_in_c(it: Tried) -> str:
     """Returns the call of a function in C."""
-    words = ["sp", "at", "a"] if it.is_on_memory else ["sp", *("(uint32_t)" * (kind == "i32") + word for kind, word in zip(it.params, "ab"))]
+    words = (
+        ["sp", "at", "a"]
+        if it.is_on_memory
+        else ["sp", *("(uint32_t)" * (kind == "i32") + word for kind, word in zip(it.params, "ab"))]
+    )
     return f"r = w_{it.name}({', '.join(words)});"
 
 
@@ -129,7 +161,10 @@ def rows_of(functions: list[Tried], seed: int, count: int) -> list[Row]:
     for at, it in enumerate(functions):
         others = EDGES if len(it.params) == 2 and not it.is_on_memory else (0,)
         rows += [(at, a, b) for a in EDGES for b in others]
-        rows += [(at, draw.getrandbits(64) >> draw.randrange(64), draw.getrandbits(64) >> draw.randrange(64)) for _ in range(count)]
+        rows += [
+            (at, draw.getrandbits(64) >> draw.randrange(64), draw.getrandbits(64) >> draw.randrange(64))
+            for _ in range(count)
+        ]
     return rows
 
 

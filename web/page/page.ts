@@ -10,7 +10,7 @@ import { NextFocus, type Where } from "./state/next-focus.js";
 import { DeskStrip, type Keeping } from "./cards/desk-strip.js";
 import { KeptCandidates } from "./cards/kept.js";
 import { LineSoFar } from "./cards/line.js";
-import { withOthers } from "./state/candidates.js";
+import { withOthers } from "./state/kept-lines.js";
 import { Seen, WayBack, dropAddress, keepPlace, placeIn } from "./state/history.js";
 import { refreshRows } from "./shared/rows.js";
 import { ScrambleField, type ScrambleChange } from "./cards/scramble.js";

@@ -1,6 +1,6 @@
 // The card of the candidates that are kept: each with its moves, what it reaches, its case and a note.
 import { Stopped } from "../../module/shared/faults.js";
-import { nameOf, withStar } from "../state/candidates.js";
+import { nameOf, withStar } from "../state/kept-lines.js";
 import { fitsAddress, type Candidate, type List, type State } from "../state/address.js";
 import { lastOf, present } from "../shared/certain.js";
 import { copy, fmcOfAll, setUps } from "../shared/copying.js";

@@ -2,7 +2,7 @@
 // browser keeps it, for all pages that it has open; what it refuses lasts as long as the page.
 import { addressOf, fitsAddress, hasLines, readAddress, type State } from "./address.js";
 import { fieldsOf } from "../shared/certain.js";
-import { joinedStates } from "./candidates.js";
+import { joinedStates } from "./kept-lines.js";
 import { placeIn, type Place } from "./history.js";
 import { store, stored } from "./storage.js";
 import type { Written } from "../answers/read-lines.js";
