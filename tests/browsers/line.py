@@ -8,11 +8,14 @@ from wanted import Position, answer
 # what the page asks of the engine comes late
 SLOW = """const { postMessage } = Worker.prototype;
     Worker.prototype.postMessage = function (...words) { setTimeout(() => postMessage.apply(this, words), 500); }"""
-# until it is let go on
+# what is asked of the line comes once it is let go on
 HELD = """const { postMessage } = Worker.prototype;
     window.held = [];
-    Worker.prototype.postMessage = function (...words) { window.held.push(() => postMessage.apply(this, words)); };
-    window.goOn = () => { Worker.prototype.postMessage = postMessage; window.held.forEach((each) => each()); }"""
+    Worker.prototype.postMessage = function (...words) {
+        const send = () => postMessage.apply(this, words);
+        if (words[0].request?.call === "examine") window.held.push(send); else send();
+    };
+    window.goOn = () => { Worker.prototype.postMessage = postMessage; window.held.forEach((send) => send()); }"""
 WRITTEN = "#scramble=" + EXAMPLE.replace(" ", "_").replace("'", "-")
 BLUR = "document.activeElement.blur()"
 # a step of the line is edited
