@@ -10,7 +10,7 @@ const TEXTS = 20_000;
 const SIDES = ["normal", "inverse"];
 // signs that an address has for itself, that it escapes, of two units, and halves of such
 const SIGNS = [..."RUF'2()_-~.,;&=#%+ \u2019\u00e9\u754c", "\u{1f9e9}", "\ud83e", "\udde9", "%ED%A0%80", "%F0%9F%A7%A9", "%"];
-const PIECES = ["&scramble=", "&steps=", "&side=", "&list=", "&kept=", "normal.", "inverse.", "eofb", "R_U", "all", ...SIGNS];
+const PIECES = ["&scramble=", "&steps=", "&side=", "&list=", "&longer=", "&kept=", "normal.", "inverse.", "eofb", "R_U", "all", ...SIGNS];
 
 const some = (all, most) => Array.from({ length: drawn(most) }, () => all[drawn(all.length)]);
 const one = (all) => all[drawn(all.length)];
@@ -30,6 +30,7 @@ const drawnState = () => ({
   side: one(SIDES),
   list: drawn(2) === 0 ? null : drawnList(),
   kept: Array.from({ length: drawn(3) }, () => ({ parts: [{ normal: "R", inverse: "" }, ...drawnParts()], note: some(SIGNS, 5).join(""), next: "" })),
+  longer: drawn(4),
 });
 
 /** A text whose lone halves of pairs are what stands for them. */
