@@ -236,7 +236,7 @@ def is_chosen(tally: Tally, browser: Browser) -> None:
     tally.equal("though it may go on by itself", browser.value("best-further"), "some")
     begins(browser, "R U F")
     tally.holds(
-        "as it does with few", browser.until(f"return {NOTE}.startsWith('Up to 2 longer: ')") and browser.until(ENDED)
+        "as it does with few", browser.until(f"return {NOTE}.includes('Up to 2 longer: ')") and browser.until(ENDED)
     )
     begins(browser, FLIPPED)
     browser.choose("best-further", "all")
