@@ -98,7 +98,8 @@ enum nissy_moves_of {
 typedef struct nissy_moves_part {
     uint64_t begin; /* with their brackets, in bytes that are written, from 0 */
     uint64_t end;
-    uint8_t left_out; /* what this line has left out, in its label and its comment too */
+    uint8_t left_out;  /* what this line has left out, in its label and its comment too */
+    uint8_t unused[7]; /* nothing, so that it has one size on all systems */
 } nissy_moves_part;
 
 /* Writes the moves of those of some lines that are wanted, one of nissy_moves_of, as one line for the other calls, and for each byte of it its

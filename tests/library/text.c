@@ -174,10 +174,12 @@ static void moves_of_a_sheet(void) {
     moves_are(TEXT, lines, 8, NISSY_OF_EACH_STEP, "(R' )\nL \nD\xe2\x80\x99\nB", STEPS,
               NISSY_LABELS | NISSY_COMMENTS | NISSY_NUMBERS_OF_MOVES | NISSY_LINE_NUMBERS);
     moves_are(TEXT, lines, 8, NISSY_OF_SOLUTION, "D\xe2\x80\x99 B", SOLUTION, NISSY_LABELS);
-    static const nissy_moves_part OF_SCRAMBLE[] = {{0, 3, 0}, {4, 6, NISSY_COMMAS}};
-    static const nissy_moves_part OF_STEPS[] = {
-        {0, 5, NISSY_LABELS | NISSY_COMMENTS}, {6, 8, NISSY_LINE_NUMBERS | NISSY_NUMBERS_OF_MOVES}, {9, 13, NISSY_LABELS}, {14, 15, 0}};
-    static const nissy_moves_part OF_SOLUTION[] = {{0, 4, NISSY_LABELS}, {5, 6, 0}};
+    static const nissy_moves_part OF_SCRAMBLE[] = {{0, 3, 0, {0}}, {4, 6, NISSY_COMMAS, {0}}};
+    static const nissy_moves_part OF_STEPS[] = {{0, 5, NISSY_LABELS | NISSY_COMMENTS, {0}},
+                                                {6, 8, NISSY_LINE_NUMBERS | NISSY_NUMBERS_OF_MOVES, {0}},
+                                                {9, 13, NISSY_LABELS, {0}},
+                                                {14, 15, 0, {0}}};
+    static const nissy_moves_part OF_SOLUTION[] = {{0, 4, NISSY_LABELS, {0}}, {5, 6, 0, {0}}};
     parts_are(TEXT, lines, 8, NISSY_OF_SCRAMBLE, OF_SCRAMBLE, 2);
     for (size_t most = 0; most <= 4; most++) parts_are(TEXT, lines, 8, NISSY_OF_STEPS, OF_STEPS, most);
     parts_are(TEXT, lines, 8, NISSY_OF_EACH_STEP, OF_STEPS, 4);

@@ -20,7 +20,8 @@ for (const [, name, body] of headers.replace(/\/\*[\s\S]*?\*\//g, "").matchAll(/
     const bits = /^uint(\d+)_t$/.exec(type)?.[1];
     const { bytes, alignment } = bits ? { bytes: bits / 8, alignment: bits / 8 } : structs.get(type) ?? { bytes: 8, alignment: 8 };
     const at = Math.ceil(made.bytes / alignment) * alignment;
-    fields[inCamelCase(field)] = [at, bytes];
+    // what only fills a struct is nobody's
+    if (field !== "unused") fields[inCamelCase(field)] = [at, bytes];
     Object.assign(made, { bytes: at + bytes * count, alignment: Math.max(made.alignment, alignment) });
   }
   made.bytes = Math.ceil(made.bytes / made.alignment) * made.alignment;
