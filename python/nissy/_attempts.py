@@ -278,6 +278,7 @@ class Found(NamedTuple):
 
 
 def attempts_of(whole: Written) -> Lazily[Found]:
+    """Returns the attempts of a text, at least one."""
     reader = Reader(whole, whole.data)
     attempts = reader.attempts()
     if not attempts:
