@@ -66,8 +66,6 @@ LOAD = {
     0x2D: (I32, 1, False),
     0x2E: (I32, 2, True),
     0x2F: (I32, 2, False),
-}
-LOAD |= {
     0x30: (I64, 1, True),
     0x31: (I64, 1, False),
     0x32: (I64, 2, True),

@@ -17,6 +17,15 @@ IDLE = """
         && document.querySelector("[aria-busy=true]:not([hidden], #best, #best-body)") === null"""
 # the best are looked for by themselves, and most of the page doesn't wait for them
 BEST = "return document.querySelector('#best[aria-busy=true], #best-body[aria-busy=true]') === null"
+# what the page asks of the engine by a call comes once it is let go on
+HELD = """const { postMessage } = Worker.prototype;
+    window.held = [];
+    Worker.prototype.postMessage = function (...words) {
+        const send = () => postMessage.apply(this, words);
+        if (words[0].request?.call === "%s") window.held.push(send); else send();
+    };
+    window.goOn = () => { Worker.prototype.postMessage = postMessage; window.held.forEach((send) => send()); };
+"""
 # a method with its words, and each look with what is wanted of it
 Step = tuple[Any, ...]
 # what may be looked for by a short name, beside what `look` says

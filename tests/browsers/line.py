@@ -1,5 +1,5 @@
 """What is done with the line so far: it is copied and read again, edited and played, by keys too, and how it ends."""
-from browser import Browser, Keys
+from browser import HELD, Browser, Keys
 from kept import KEPT_SAID
 from steps import ADDRESS, EXAMPLE
 from tally import Tally
@@ -8,14 +8,6 @@ from wanted import Position, answer
 # what the page asks of the engine comes late
 SLOW = """const { postMessage } = Worker.prototype;
     Worker.prototype.postMessage = function (...words) { setTimeout(() => postMessage.apply(this, words), 500); }"""
-# what is asked of the line comes once it is let go on
-HELD = """const { postMessage } = Worker.prototype;
-    window.held = [];
-    Worker.prototype.postMessage = function (...words) {
-        const send = () => postMessage.apply(this, words);
-        if (words[0].request?.call === "examine") window.held.push(send); else send();
-    };
-    window.goOn = () => { Worker.prototype.postMessage = postMessage; window.held.forEach((send) => send()); }"""
 WRITTEN = "#scramble=" + EXAMPLE.replace(" ", "_").replace("'", "-")
 BLUR = "document.activeElement.blur()"
 # a step of the line is edited
@@ -93,7 +85,7 @@ def takes_away(tally: Tally, browser: Browser) -> None:
 def edits_early(tally: Tally, browser: Browser) -> None:
     """A step may be edited before the engine says what it reaches."""
     browser.open("#scramble=R_U_F")
-    browser.script(HELD)
+    browser.script(HELD % "examine")
     browser.submit("own", "F' L")
     browser.until("return all('#line-list li').length === 1")
     browser.script("document.querySelector('#line-list button').click()")

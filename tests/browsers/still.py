@@ -1,7 +1,7 @@
 """Nothing moves under a finger: what the browser says of shifts of the layout, from the first answer on and while an address is opened."""
 import time
 
-from browser import Browser
+from browser import HELD, Browser
 from looks import SCRAMBLE
 from tally import Tally, made_again
 
@@ -55,12 +55,6 @@ SLOW = """const { postMessage } = Worker.prototype;
     Worker.prototype.postMessage = function (...words) {
         setTimeout(() => postMessage.apply(this, words), words[0].request?.call === "rowsOfList" ? window.later : 0);
     }"""
-# they come once they are let
-HOLD = """const { postMessage } = Worker.prototype;
-    Worker.prototype.postMessage = function (...words) {
-        if (words[0].request?.call !== "rowsOfList") return postMessage.apply(this, words);
-        window.release = () => postMessage.apply(this, words);
-    };"""
 PLACES = """return [part('bar').getBoundingClientRect().bottom,
     ...['#solutions-heading', '#solutions-groups .take'].map((each) => document.querySelector(each).getBoundingClientRect())
         .flatMap(({ top, bottom }) => [top, bottom]), innerHeight]"""
@@ -213,12 +207,12 @@ def waits(tally: Tally, browser: Browser) -> None:
     """A list that takes long doesn't hold the page, and what is pressed meanwhile stays where it is."""
     browser.go(SCRAMBLE)
     browser.wait_best()
-    browser.script(HOLD + TAKE)
+    browser.script(HELD % "rowsOfList" + TAKE)
     tally.holds("it may be pressed before there is a list", browser.until("return window.frames_seen.at(-1)[0]"))
     tally.equal("which isn't there yet", browser.script("return window.frames_seen.at(-1)[2]"), 0)
     scroll = browser.script("return scrollY")
     for kind in ("mousePressed", "mouseReleased"):
         browser.command("Input.dispatchMouseEvent", type=kind, x=2, y=300, button="left", clickCount=1)
-    browser.script("window.release()")
+    browser.script("window.goOn()")
     browser.settle("return document.querySelector('#solutions-groups .take') !== null")
     tally.equal("it comes, and the page stays", browser.script("return scrollY"), scroll)
