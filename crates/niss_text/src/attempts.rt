@@ -208,27 +208,29 @@ pub fn put_attempts(text: &[u8], end: usize, so_far: Progress, lines: &mut [Text
     }
 }
 
-/// Writes the lines of a text from a place up to another one, as they are if a scramble stands before them: those of a
-/// solution up to the next scramble, and then those of attempts.
+/// Writes the lines of a text from a place up to another one, or up to the next scramble, as those that follow a
+/// scramble.
 pub fn put_solution(text: &[u8], end: usize, so_far: Progress, lines: &mut [TextLine]) -> Progress
     requires begin { so_far.at ≤ end }
     requires end { end ≤ length text.now }
     ensures more { so_far.lines ≤ result.lines }
-    ensures further { (end ≤ result.at) × (result.at ≤ length text.now) }
+    ensures within { (so_far.at ≤ result.at) × (result.at ≤ length text.now) }
 {
     let length = length_behind_scramble(&text[so_far.at..end]);
-    let (count, at) = if length > 0 {
-        let attempt = solution_alone(&text[so_far.at..so_far.at + length]);
-        put_attempt(text, so_far.at, &attempt, lines, so_far.lines)
-    } else {
-        (so_far.lines, so_far.at)
-    };
-    let solution = Progress {
+    if length == 0 {
+        return Progress {
+            attempts: 1,
+            at: so_far.at,
+            lines: so_far.lines,
+        };
+    }
+    let attempt = solution_alone(&text[so_far.at..so_far.at + length]);
+    let (count, at) = put_attempt(text, so_far.at, &attempt, lines, so_far.lines);
+    Progress {
         at,
         lines: count,
         attempts: 1,
-    };
-    put_attempts(text, end, solution, lines)
+    }
 }
 
 /// An attempt without its scramble.

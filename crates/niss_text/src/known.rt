@@ -19,8 +19,9 @@ pub struct KnownPart {
     /// Where its head stands; both are 0 if it has none.
     pub name_begin: usize,
     pub name_end: usize,
-    /// Which of the lines is its first one, and which the first one after it.
+    /// Which of the lines is its first one, which the first one after those of its solution, and which that after all.
     pub first_line: usize,
+    pub solution_end: usize,
     pub end_line: usize,
 }
 
@@ -96,13 +97,15 @@ impl Reading {
             lines: self.read.lines,
             attempts: 0,
         };
-        let read = put_solution(text, end, from, lines);
+        let solution = put_solution(text, end, from, lines);
+        let read = put_attempts(text, end, solution, lines);
         let known = KnownPart {
             scramble: scramble_of_number(part.number),
             begin: part.begin,
             name_begin: part.name_begin,
             name_end: part.name_end,
             first_line: self.read.lines,
+            solution_end: solution.lines,
             end_line: read.lines,
         };
         put_part(parts, self.parts, known);
