@@ -1,7 +1,7 @@
 //! The calls that read text as solvers write it.
 ghost use Rattle.std.specs.Prelude.{◌≡◌, ◌≤◌, ◌<◌, ◌*◌, length, take, drop};
 ghost use Rattle.niss_text.specs.Plain.{IsPlain};
-ghost use Rattle.niss_text.specs.Lines.{Covers, Counts};
+ghost use Rattle.niss_text.specs.Lines.{Covers, Counts, Takes};
 ghost use Rattle.niss_text.specs.Moves.{WritesMoves};
 ghost use Rattle.niss_text.specs.Known.{AreKnown};
 
@@ -63,6 +63,7 @@ pub extern "C" fn nissy_known_lines(
     ensures few { (result.lines ≤ length text.now) × (result.parts ≤ length text.now) }
     ensures fits { result.status ≡ 0 → (result.lines ≤ length lines.old) × (result.parts ≤ length parts.old) }
     ensures room { length text.now ≤ length lines.old → length text.now ≤ length parts.old → result.status ≡ 0 }
+    ensures takes { result.status ≡ 0 → Takes text.now 0 (take result.lines lines.new) (length text.now) }
     ensures known { result.status ≡ 0 → AreKnown (length counts.old) (take result.parts parts.new) }
     ensures behind { drop result.parts parts.new ≡ drop result.parts parts.old }
 {

@@ -1,6 +1,6 @@
 //! The attempts of a text as solvers write it: which of its lines are scrambles, steps and notes.
 ghost use Rattle.std.specs.Prelude.{◌≡◌, ◌≤◌, ◌<◌, ◌+◌, length, take, drop, set};
-ghost use Rattle.niss_text.specs.Lines.{IsLine, Covers, Counts};
+ghost use Rattle.niss_text.specs.Lines.{IsLine, Covers, Counts, Takes};
 
 use crate::doubts::judged;
 use crate::groups::{Group, Solutions};
@@ -121,6 +121,8 @@ fn put_attempt(
     ensures further { (begin < result.1) × (result.1 ≤ length text.now) }
     ensures covers { Covers text.now 0 (take written lines.old) begin → result.0 ≤ length lines.new →
         Covers text.now 0 (take result.0 lines.new) result.1 }
+    ensures takes { Takes text.now 0 (take written lines.old) begin → result.0 ≤ length lines.new →
+        Takes text.now 0 (take result.0 lines.new) result.1 }
     ensures counts { Counts text.now 0 written begin → Counts text.now 0 result.0 result.1 }
     ensures behind { drop result.0 lines.new ≡ drop result.0 lines.old }
 {
@@ -181,6 +183,8 @@ pub fn put_attempts(text: &[u8], end: usize, so_far: Progress, lines: &mut [Text
     ensures further { (end ≤ result.at) × ((so_far.at ≤ result.at) × (result.at ≤ length text.now)) }
     ensures covers { Covers text.now 0 (take so_far.lines lines.old) so_far.at → result.lines ≤ length lines.new →
         Covers text.now 0 (take result.lines lines.new) result.at }
+    ensures takes { Takes text.now 0 (take so_far.lines lines.old) so_far.at → result.lines ≤ length lines.new →
+        Takes text.now 0 (take result.lines lines.new) result.at }
     ensures counts { Counts text.now 0 so_far.lines so_far.at → Counts text.now 0 result.lines result.at }
     ensures behind { drop result.lines lines.new ≡ drop result.lines lines.old }
 {
@@ -215,6 +219,8 @@ pub fn put_solution(text: &[u8], end: usize, so_far: Progress, lines: &mut [Text
     requires end { end ≤ length text.now }
     ensures more { so_far.lines ≤ result.lines }
     ensures within { (so_far.at ≤ result.at) × (result.at ≤ length text.now) }
+    ensures takes { Takes text.now 0 (take so_far.lines lines.old) so_far.at → result.lines ≤ length lines.new →
+        Takes text.now 0 (take result.lines lines.new) result.at }
 {
     let length = length_behind_scramble(&text[so_far.at..end]);
     if length == 0 {

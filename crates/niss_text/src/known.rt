@@ -2,6 +2,7 @@
 //! lines are after that scramble.
 ghost use Rattle.std.specs.Prelude.{◌≡◌, ◌≤◌, ◌<◌, ◌+◌, ◌⊎◌, length, drop, set, take};
 ghost use Rattle.niss_text.specs.Known.{AreKnown};
+ghost use Rattle.niss_text.specs.Lines.{Takes};
 
 use crate::attempts::{Progress, put_attempts, put_solution};
 use crate::parts::{Part, first_part, has_head};
@@ -65,7 +66,8 @@ fn scramble_of_number(number: Option<usize>) -> usize {
 impl Reading {
     /// Before the first part.
     fn nothing() -> Reading
-        ensures { (result.read.at ≡ 0) × (result.parts ≡ 0) }
+        ensures begin { (result.read.at ≡ 0) × (result.read.lines ≡ 0) }
+        ensures none { result.parts ≡ 0 }
     {
         Reading {
             read: Progress::nothing(),
@@ -75,6 +77,7 @@ impl Reading {
     }
 
     /// With one more part.
+    #[tactic(auto, using(crate::proofs::LineLemmas::takes_further))]
     fn with(
         self,
         text: &[u8],
@@ -86,7 +89,9 @@ impl Reading {
         requires room { self.parts < usize.MAX }
         ensures at { result.read.at ≤ length text.now }
         ensures one { result.parts ≤ self.parts + 1 }
-        ensures more { self.parts ≤ result.parts }
+        ensures more { (self.parts ≤ result.parts) × (self.read.lines ≤ result.read.lines) }
+        ensures takes { Takes text.now 0 (take self.read.lines lines.old) self.read.at → result.read.lines ≤ length lines.new →
+            Takes text.now 0 (take result.read.lines lines.new) result.read.at }
         ensures behind_parts { drop result.parts parts.new ≡ drop result.parts parts.old }
     {
         // the parts follow one another
@@ -128,6 +133,7 @@ fn read_parts(
     requires { count ≤ length lines.old }
     ensures at { result.read.at ≤ length text.now }
     ensures few { result.parts ≤ count }
+    ensures takes { result.read.lines ≤ length lines.new → Takes text.now 0 (take result.read.lines lines.new) result.read.at }
     ensures behind_parts { drop result.parts parts.new ≡ drop result.parts parts.old }
 {
     let mut seen = Reading::nothing();
@@ -182,6 +188,7 @@ fn assign(parts: &mut [KnownPart], is_in_order: bool, counts: &mut [u64])
 /// A part is of the scramble of its number, if no other one has that; of as many parts as scrambles without any number
 /// each is of the scramble in its place. As many lines and parts as the text has bytes are room enough; the counts are
 /// written in any case.
+#[tactic(auto, using(crate::proofs::LineLemmas::takes_further))]
 pub fn known_lines(
     text: &[u8],
     lines: &mut [TextLine],
@@ -191,6 +198,7 @@ pub fn known_lines(
     ensures few { (result.lines ≤ length text.now) × (result.parts ≤ length text.now) }
     ensures fits { result.status ≡ 0 → (result.lines ≤ length lines.old) × (result.parts ≤ length parts.old) }
     ensures room { length text.now ≤ length lines.old → length text.now ≤ length parts.old → result.status ≡ 0 }
+    ensures takes { result.status ≡ 0 → Takes text.now 0 (take result.lines lines.new) (length text.now) }
     ensures known { result.status ≡ 0 → AreKnown (length counts.old) (take result.parts parts.new) }
     ensures behind { drop result.parts parts.new ≡ drop result.parts parts.old }
 {

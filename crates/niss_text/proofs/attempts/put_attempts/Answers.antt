@@ -15,6 +15,7 @@ loop-at-preserved c =
       more = omega (arith, inv.more, told.more.0);
       few = told.more.1;
       covers = λ begun room. told.covers (inv.covers begun (omega (arith, room, same, told.more.0))) room;
+      takes = λ begun room. told.takes (inv.takes begun (omega (arith, room, same, told.more.0))) room;
       counts = λ begun. told.counts (inv.counts begun);
       behind = told.behind ∙ more_behind c.loop-at.lines c.args.lines.now c.loop-at.count c.put_attempt-more.result.0 told.more.0 inv.behind;
     }
