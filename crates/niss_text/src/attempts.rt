@@ -255,19 +255,6 @@ fn solution_alone(text: &[u8]) -> Attempt
     }
 }
 
-/// The number of the status if that many lines are to be written, and that many have room.
-pub fn status_of_lines(count: usize, room: usize) -> u8
-    ensures done { count ≤ room → result ≡ 0 }
-    ensures room { room < count → result ≡ 4 }
-{
-    let status = if count > room {
-        Status::NoRoom
-    } else {
-        Status::Done
-    };
-    status.number()
-}
-
 /// Tells of each line of a text what it is, as long as there is room: the answer has how many lines there are, and says
 /// `NoRoom` if these are more than have room. A text has no more lines than bytes. What follows them stays as it is.
 pub fn text_lines(text: &[u8], lines: &mut [TextLine]) -> TextAnswer
@@ -279,8 +266,13 @@ pub fn text_lines(text: &[u8], lines: &mut [TextLine]) -> TextAnswer
     ensures behind { drop result.lines lines.new ≡ drop result.lines lines.old }
 {
     let read = put_attempts(text, text.len(), Progress::nothing(), lines);
+    let status = if read.lines > lines.len() {
+        Status::NoRoom
+    } else {
+        Status::Done
+    };
     TextAnswer {
-        status: status_of_lines(read.lines, lines.len()),
+        status: status.number(),
         lines: read.lines,
         attempts: read.attempts,
     }

@@ -1,4 +1,4 @@
-use Rattle.std.proofs.Common.{◌≡◌, ◌≤◌, ℕ, List, take, length, subst, sym, arith}
+use Rattle.std.proofs.Common.{◌≡◌, ℕ, List, take, length, subst, sym, arith}
 use Rattle.niss_text.specs.Lines.{Covers, Counts}
 use Rattle.niss_text.proofs.LineLemmas.{covers_none, counts_none}
 use Rattle.niss_text.specs.declared.text_line.TextLine.{TextLine}

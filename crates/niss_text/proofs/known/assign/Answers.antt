@@ -1,6 +1,4 @@
-use Rattle.std.proofs.Common.{◌≡◌, ℕ, length, take, subst, sym, arith, rules}
-use Rattle.std.proofs.lemmas.List.{length-set}
-use Rattle.niss_text.specs.Known.{AreKnown}
+use Rattle.std.proofs.Common.{length, arith, rules}
 use Rattle.niss_text.proofs.KnownLemmas.{known_none, known_next}
 use Rattle.niss_text.proofs.known.assign.Goals as goal
 

@@ -1,4 +1,4 @@
-use Rattle.std.proofs.Common.{◌≡◌, ◌-◌, ◌≤◌, length, take}
+use Rattle.std.proofs.Common.{◌-◌, ◌≤◌, length, take}
 use Rattle.niss_text.specs.Known.{AreKnown}
 use Rattle.niss_text.proofs.known.assign.Given as goal
 

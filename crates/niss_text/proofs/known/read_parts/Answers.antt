@@ -1,4 +1,4 @@
-use Rattle.std.proofs.Common.{◌≡◌, ◌≤◌, ℕ, length, take, drop, ap, sym, subst, refl, ◌∙◌, arith}
+use Rattle.std.proofs.Common.{◌≡◌, ◌≤◌, ℕ, length, take, sym, subst, refl, ◌∙◌, arith}
 use Rattle.niss_text.specs.Lines.{Takes}
 use Rattle.niss_text.proofs.LineLemmas.{takes_none, more_behind}
 use Rattle.niss_text.proofs.known.read_parts.Goals as goal
