@@ -92,9 +92,9 @@ nissy_text_answer nissy_text_lines(const uint8_t *text, size_t text_length, niss
 /* A part of a text that has only solutions, of scrambles that are known: what stands under a head, or in a block between blank lines if no line has
  * a head and several scrambles are known. */
 typedef struct nissy_known_part {
-    uint64_t scramble;     /* which of the scrambles it is of, from 0, or NISSY_NO_SCRAMBLE */
-    uint64_t begin;        /* where its first line begins that isn't blank, in bytes of the text */
-    uint64_t name_begin;   /* where its head stands; both are 0 if it has none */
+    uint64_t scramble;   /* which of the scrambles it is of, from 0, or NISSY_NO_SCRAMBLE */
+    uint64_t begin;      /* where its first line begins that isn't blank, in bytes of the text */
+    uint64_t name_begin; /* where its head stands; both are 0 if it has none */
     uint64_t name_end;
     uint64_t first_line;   /* which of the lines that are told is its first one, from 0 */
     uint64_t solution_end; /* which is the first after those of the solution: from there on it has attempts with other scrambles */
