@@ -58,10 +58,10 @@ const OF_STEP = 3;
 export const MOVES_OF = { scramble: 0, steps: 1, solution: 2, eachStep: 3 };
 
 /** Which lines have such, in the same order, by what is told and where that of a line stands. */
-const isStep = (told: Uint8Array, at: number) => LINE_READ.kind(told, at) === OF_STEP;
+const isStepLine = (told: Uint8Array, at: number) => LINE_READ.kind(told, at) === OF_STEP;
 const IS_WANTED: ((told: Uint8Array, at: number) => boolean)[] = [
-  (told, at) => LINE_READ.kind(told, at) === OF_SCRAMBLE, isStep,
-  (told, at) => isStep(told, at) && LINE_READ.solution(told, at) === 1, isStep,
+  (told, at) => LINE_READ.kind(told, at) === OF_SCRAMBLE, isStepLine,
+  (told, at) => isStepLine(told, at) && LINE_READ.solution(told, at) === 1, isStepLine,
 ];
 
 /** The bytes that end a line, two of which may end one together. */
